@@ -1,0 +1,49 @@
+-- The program's faults: the status of each, its line, and when it may come.
+use Rattle.std.specs.Prelude.{ℕ, ◌≡◌, ◌<◌, ◌≤◌, List, [], ◌∷◌, length, codes, Option, IfSome}
+use Rattle.std.specs.Fmt.{decimal}
+use Rattle.mdf_format.specs.Cause.{Rose}
+use Rattle.mdf_gate.specs.Recording.{HasNoOpened}
+use Rattle.mdf_gate.specs.declared.answer.GateFault.{GateFault}
+use Rattle.mdf_gate.specs.declared.answer.GateFault.TheVariants.{NotOpened}
+use Rattle.mdf_disk.specs.declared.load.LoadFault.{LoadFault}
+use Rattle.mdf_disk.specs.declared.load.LoadFault.TheVariants as load
+use Rattle.mdf_cli.specs.Texts.{line}
+use Rattle.mdf_cli.specs.declared.fault.Fault.{Fault}
+use Rattle.mdf_cli.specs.declared.fault.Fault.TheVariants.{Gate, Device, InputOver, Memory}
+
+abbrev pub fault_status : Fault → ℕ
+fault_status (Gate fault) = 3
+fault_status Device = 4
+fault_status (InputOver size limit) = 5
+fault_status Memory = 7
+
+abbrev pub gate_line : GateFault → List ℕ
+gate_line NotOpened = line (codes "not opened" ∷ [])
+
+abbrev pub input_over_line : ℕ → ℕ → List ℕ
+input_over_line size limit = line (codes "input over " ∷ decimal size ∷ codes " " ∷ decimal limit ∷ [])
+
+abbrev pub fault_line : Fault → List ℕ
+fault_line (Gate fault) = gate_line fault
+fault_line Device = line (codes "device fault" ∷ [])
+fault_line (InputOver size limit) = input_over_line size limit
+fault_line Memory = line (codes "want of memory" ∷ [])
+
+-- how many bytes an input file has at most
+abbrev pub INPUT_LIMIT : ℕ
+INPUT_LIMIT = 536870912
+
+-- The fault comes only where this holds of the input file, where its disk tells it, and of the counts of faults of
+-- that disk before and after.
+abbrev pub InputFaultComes : Option (List ℕ) → ℕ → ℕ → Fault → Type 0
+InputFaultComes content before now (Gate NotOpened) = IfSome content (λ file. HasNoOpened file × (length file ≤ INPUT_LIMIT))
+InputFaultComes content before now Device = Rose before now
+InputFaultComes content before now (InputOver size limit) =
+    (limit ≡ INPUT_LIMIT) × (limit < size) × IfSome content (λ file. size ≡ length file)
+InputFaultComes content before now Memory = Unit {0}
+
+-- the fault of a file that could not be read whole
+abbrev pub fault_of_load : LoadFault → Fault
+fault_of_load load.Failed = Device
+fault_of_load (load.TooLong size limit) = InputOver size limit
+fault_of_load load.Memory = Memory

@@ -1,0 +1,16 @@
+-- The command words, without the program's name.
+use Rattle.std.specs.Prelude.{◌≡◌, ◌⊎◌, List, [], ◌∷◌, ℕ, Option, None, Some, codes}
+use Rattle.mdf_disk.specs.declared.role.Role.{Role}
+use Rattle.mdf_disk.specs.declared.role.Role.TheVariants.{Read}
+
+-- `opened IN`
+abbrev pub AsksOpened : List (List ℕ) → List ℕ → Type 0
+AsksOpened words input = words ≡ codes "opened" ∷ input ∷ []
+
+-- no command of the table
+pub record IsUsage (words : List (List ℕ)) : Type 0 where
+  pub not_opened : (input : List ℕ) → ¬ AsksOpened words input
+
+-- the input disk was asked for nothing, or for the input that the words name, to be read
+abbrev pub AsksInput : List (List ℕ) → Option (List ℕ × Role) → Type 0
+AsksInput words asked = (asked ≡ None) ⊎ ((input : List ℕ) × AsksOpened words input × (asked ≡ Some (input, Read)))

@@ -1,0 +1,4 @@
+pub mod Patches
+pub mod Images
+mod Tapes
+mod Moments

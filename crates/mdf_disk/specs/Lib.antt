@@ -1,0 +1,9 @@
+pub mod Story
+pub mod Crash
+pub mod Calls
+pub mod Tape
+pub mod Image
+pub mod Load
+pub mod Memory
+pub mod Fuse
+pub mod Asked

@@ -1,0 +1,64 @@
+ghost use Rattle.std.specs.Prelude.{◌≡◌, ◌≤◌, ◌<◌, ◌^◌, IsSome, IfSome, IfOk, OnOk, IfErr, length};
+ghost use Rattle.mdf_format.specs.Cause.{HasCause};
+ghost use Rattle.mdf_disk.specs.declared.load.LoadFault.TheVariants.{Failed as DeviceFailed, Memory as NoMemory};
+ghost use Rattle.mdf_disk.specs.Load.{LoadCause};
+
+use crate::Disk;
+use mdf_num::{Bytes, Failed};
+use std::alloc::{AllocError, Global};
+use thiserror::Error;
+
+/// Why a file could not be read whole.
+#[derive(Clone, Copy, Debug, PartialEq, Eq, Error)]
+pub enum LoadFault {
+    /// The disk failed.
+    #[error("the device failed")]
+    Failed,
+    /// The file has more bytes than the limit. Nothing of it was read.
+    #[error("{size} bytes are over the limit of {limit}")]
+    TooLong { size: u64, limit: u64 },
+    /// Want of memory.
+    #[error("want of memory")]
+    Memory,
+}
+
+impl From<Failed> for LoadFault {
+    ghost from_gives = { λ _ fault. fault ≡ DeviceFailed };
+
+    fn from(_: Failed) -> Self {
+        LoadFault::Failed
+    }
+}
+
+impl From<AllocError> for LoadFault {
+    ghost from_gives = { λ _ fault. fault ≡ NoMemory };
+
+    fn from(_: AllocError) -> Self {
+        LoadFault::Memory
+    }
+}
+
+/// Reads the whole file: its size once, and then all of it in one read.
+///
+/// # Errors
+/// `TooLong` exactly where the size answered is over the limit; no byte is read then. `Failed` where the disk failed.
+/// `Memory` for want of memory.
+pub fn read_whole<D: Disk>(alloc: Global, disk: &mut D, limit: u64) -> Result<Bytes, LoadFault>
+    requires { IsSome (D.asked disk.old) }
+    ensures bytes { IfOk result (λ bytes. IfSome (D.content disk.old) (λ file. bytes ≡ file)) }
+    ensures short { IfOk result (λ bytes. length bytes ≤ limit) }
+    ensures cause { IfErr result (LoadCause (D.content disk.old) (D.faults disk.old) (D.faults disk.new) limit) }
+    ensures later { D.faults disk.old ≤ D.faults disk.new }
+    ensures asked { D.asked disk.new ≡ D.asked disk.old }
+    ensures content { D.content disk.new ≡ D.content disk.old }
+    ensures story { D.story disk.new ≡ D.story disk.old }
+    ensures moment { D.moment disk.old ≤ D.moment disk.new }
+{
+    let size = disk.size()?;
+    if size > limit {
+        return Err(LoadFault::TooLong { size, limit });
+    }
+    let mut bytes = vec![in alloc; 0u8; size as usize]?;
+    disk.read_at(0, &mut bytes)?;
+    Ok(Bytes::from_vec(bytes))
+}

@@ -1,0 +1,8 @@
+/// What a disk is attached for.
+#[derive(Clone, Copy, Debug, PartialEq, Eq)]
+pub enum Role {
+    /// To read a file that is there.
+    Read,
+    /// To make a new file; a name that is taken is a fault.
+    Create,
+}

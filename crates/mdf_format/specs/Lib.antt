@@ -1,0 +1,7 @@
+pub mod Number
+pub mod Cause
+pub mod Identification
+pub mod Block
+pub mod Recording
+pub mod Field
+pub mod Value

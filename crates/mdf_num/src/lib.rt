@@ -1,0 +1,16 @@
+//! Numbers in bytes, and small lists that contracts see as what they hold.
+//!
+//! Every number of an MDF file is little-endian. What allocates takes the allocator first and keeps it.
+#![tactic(auto)]
+
+mod bytes;
+mod failure;
+mod fault;
+mod number;
+mod rows;
+
+pub use bytes::Bytes;
+pub use failure::{Failed, Memory};
+pub use fault::{FaultCount, FaultPlan};
+pub use number::{align8, put_u16, put_u32, put_u64, u16_at, u32_at, u64_at};
+pub use rows::{Numbers, Rows};

@@ -1,0 +1,9 @@
+//! Tests of the crates below the program: calls that succeed, worked examples, and faults. What is proved needs none.
+#![tactic(auto)]
+
+#[cfg(test)]
+mod disks;
+#[cfg(test)]
+mod lists;
+#[cfg(test)]
+mod streams;
