@@ -13,8 +13,8 @@ mod tests;
 
 use file_disk::FileDisk;
 use gate::Open;
-use mdf_num::{Bytes, Memory, Numbers, Rows};
-use mdf_port::{MemorySource, StdSink};
+use mdf_num::{Bytes, Memory, Rows};
+use mdf_port::{StdSink, StdSource};
 use run::run;
 use std::alloc::Global;
 use std::env;
@@ -52,7 +52,7 @@ fn main(rt: HostRuntime) -> ExitCode {
     let Ok(words) = words(&rt) else {
         return ExitCode::from(report::report(&mut sink, b"want of memory\n", 7));
     };
-    let mut source = MemorySource::new(Bytes::empty(alloc), Numbers::empty(alloc));
+    let mut source = StdSource::new(rt.stdin());
     let mut second = FileDisk::new(&rt);
     let finished = run(
         &rt,

@@ -11,6 +11,7 @@ use std::sync::Wait;
 use std::test::Fail;
 use std::thread::Threads;
 
+mod files;
 mod recordings;
 
 fn words(alloc: Global, texts: &[&str]) -> Result<Rows<Bytes>, Fail> {

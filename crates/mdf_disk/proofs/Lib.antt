@@ -1,4 +1,5 @@
 pub mod Patches
+pub mod Crash
 pub mod Images
 mod Tapes
 mod Moments

@@ -1,2 +1,4 @@
 pub mod formers
 pub mod Plan
+pub mod Halt
+pub mod Span

@@ -52,6 +52,20 @@ impl Bytes {
         Ok(())
     }
 
+    /// Adds bytes at the end and more bytes behind them, both or neither. After an error the list is as before.
+    pub fn push_pair(&mut self, first: &[u8], second: &[u8]) -> Result<(), Memory>
+        ensures ok { OnOk result (self.new ≡ self.old ++ first.now ++ second.now) }
+        ensures err { OnErr result (self.new ≡ self.old) }
+    {
+        let len = self.items.len();
+        self.items.extend_from_slice(first)?;
+        if self.items.extend_from_slice(second).is_err() {
+            self.items.truncate(len);
+            return Err(Memory);
+        }
+        Ok(())
+    }
+
     pub fn as_slice(&self) -> &[u8]
         ensures { result.now ≡ self.now }
     {

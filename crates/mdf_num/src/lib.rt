@@ -6,11 +6,15 @@
 mod bytes;
 mod failure;
 mod fault;
+mod halt;
 mod number;
 mod rows;
+mod span;
 
 pub use bytes::Bytes;
 pub use failure::{Failed, Memory};
 pub use fault::{FaultCount, FaultPlan};
+pub use halt::{Halt, Stop};
 pub use number::{align8, put_u16, put_u32, put_u64, u16_at, u32_at, u64_at};
 pub use rows::{Numbers, Rows};
+pub use span::{SliceSpan, Span};

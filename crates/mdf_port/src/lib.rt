@@ -10,4 +10,4 @@ mod source;
 
 pub use memory::{MemorySink, MemorySource};
 pub use sink::{Sink, StdSink, give_all};
-pub use source::Source;
+pub use source::{Source, StdSource, TakeFault, take_all};

@@ -1,8 +1,13 @@
-ghost use Rattle.std.specs.Prelude.{◌≡◌, ◌≤◌, ◌<◌, Option, List, ℕ, length, IfOk};
-ghost use Rattle.std.specs.Io.KnownBytes.{ReadConsumes};
+ghost use Rattle.std.specs.Prelude.{◌≡◌, ◌≤◌, ◌<◌, ◌+◌, [], Option, List, ℕ, Some, length, IfOk, IfErr, IfSome, OnOk, OnErr};
+ghost use Rattle.std.specs.Io.KnownBytes.{ReadConsumes, Consumes, IsAtEnd};
 ghost use Rattle.mdf_format.specs.Cause.{HasCause};
+ghost use Rattle.mdf_port.specs.declared.source.TakeFault.TheVariants.{Failed as SourceFailed, Memory as NoMemory};
+ghost use Rattle.mdf_port.specs.Source.{TakeCause, TakesFront};
 
-use mdf_num::Failed;
+use mdf_num::{Bytes, Failed, FaultCount, Memory};
+use std::alloc::Global;
+use std::io::Read;
+use thiserror::Error;
 
 /// What bytes are taken from.
 pub trait Source {
@@ -25,4 +30,98 @@ pub trait Source {
     /// How often the source has failed.
     fn faults(&self) -> u64
         ensures { result ≡ faults self.now };
+}
+
+/// Why a source could not be taken whole.
+#[derive(Clone, Copy, Debug, PartialEq, Eq, Error)]
+pub enum TakeFault {
+    /// The source failed.
+    #[error("the source failed")]
+    Failed,
+    /// The source has more bytes than the limit.
+    #[error("more than {limit} bytes")]
+    TooLong { limit: u64 },
+    /// Want of memory.
+    #[error("want of memory")]
+    Memory,
+}
+
+impl From<Failed> for TakeFault {
+    ghost from_gives = { λ _ fault. fault ≡ SourceFailed };
+
+    fn from(_: Failed) -> Self {
+        TakeFault::Failed
+    }
+}
+
+impl From<Memory> for TakeFault {
+    ghost from_gives = { λ _ fault. fault ≡ NoMemory };
+
+    fn from(_: Memory) -> Self {
+        TakeFault::Memory
+    }
+}
+
+/// Takes all that is left, at most `limit` bytes.
+///
+/// # Errors
+/// `TooLong` exactly where more than the limit is left. `Failed` where the source failed. `Memory` for want of memory.
+/// Then a front of what was left has been taken.
+pub fn take_all<S: Source>(alloc: Global, source: &mut S, limit: u64) -> Result<Bytes, TakeFault>
+    ensures all { IfOk result (λ bytes. Consumes (S.left source.old) (S.left source.new) bytes) }
+    ensures end { OnOk result (IsAtEnd (S.left source.new)) }
+    ensures short { IfOk result (λ bytes. length bytes ≤ limit) }
+    ensures front { OnErr result (TakesFront (S.left source.old) (S.left source.new)) }
+    ensures cause { IfErr result (TakeCause (S.left source.old) (S.faults source.old) (S.faults source.new) limit) }
+    ensures later { S.faults source.old ≤ S.faults source.new }
+{
+    let mut all = Bytes::empty(alloc);
+    let mut buf = [0u8; 4096];
+    'taking: loop {
+        let count = source.take(&mut buf)?;
+        if count == 0 {
+            return Ok(all);
+        }
+        let len = all.as_slice().len() as u64;
+        if count as u64 > limit - len {
+            return Err(TakeFault::TooLong { limit });
+        }
+        all.push_slice(&buf[..count])?;
+    }
+}
+
+/// A source over a reader of std.
+#[derive(Drop)]
+pub struct StdSource<R> {
+    reader: R,
+    faults: FaultCount,
+}
+
+impl<R: Read> StdSource<R> {
+    pub fn new(reader: R) -> StdSource<R>
+        ensures left { ⟦<StdSource<R> as Source>⟧.left result ≡ R.remaining reader }
+        ensures faults { ⟦<StdSource<R> as Source>⟧.faults result ≡ 0 }
+    {
+        StdSource {
+            reader,
+            faults: FaultCount::zero(),
+        }
+    }
+}
+
+impl<R: Read> Source for StdSource<R> {
+    ghost left = { λ s. R.remaining s.reader };
+
+    ghost faults = { λ s. s.faults };
+
+    fn take(&mut self, buf: &mut [u8]) -> Result<usize, Failed> {
+        match self.reader.read(buf) {
+            Ok(n) => Ok(n),
+            Err(_) => Err(self.faults.fail()),
+        }
+    }
+
+    fn faults(&self) -> u64 {
+        self.faults.get()
+    }
 }

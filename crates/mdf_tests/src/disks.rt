@@ -5,39 +5,46 @@ use mdf_num::{Bytes, Failed, Numbers};
 use std::alloc::Global;
 use std::test::Fail;
 
-fn name(alloc: Global) -> Result<Bytes, Fail> {
+pub fn name(alloc: Global) -> Result<Bytes, Fail> {
     Ok(Bytes::from_slice(alloc, b"file")?)
 }
 
-// The call, and its images by the picks 0 to 3. The file is made by a write of `ab` (call 1), a sync (2) and a write
-// of `xy` from place 1 on (3).
-const IMAGES: [(u64, [&[u8]; 4]); 3] = [
-    (1, [b"", b"ab", b"\xFF\xFF", b"##"]),
-    (2, [b"", b"ab", b"\xFF\xFF", b"##"]),
-    (3, [b"ab", b"axy", b"a\xFF\xFF", b"a##"]),
+/// What a crash inside a recorded call may leave.
+pub fn image(alloc: Global, disk: &MemoryDisk, call: u64, pick: u8) -> Result<Bytes, Fail> {
+    if call >= disk.calls() || pick >= 4 {
+        return Ok(Bytes::from_slice(alloc, b"no such image")?);
+    }
+    Ok(disk.image(call, pick)?)
+}
+
+// The call, the pick and the image. The file is made by a write of `ab` (call 1), a sync (2), a write of `x` over its
+// first byte (3) and a sync (4).
+const IMAGES: [(u64, u8, &[u8]); 12] = [
+    (1, 0, b""),
+    (1, 1, b"ab"),
+    (1, 2, b"\xFF\xFF"),
+    (1, 3, b"##"),
+    (2, 0, b""),
+    (2, 1, b"ab"),
+    (3, 0, b"ab"),
+    (3, 1, b"xb"),
+    (3, 2, b"\xFFb"),
+    (3, 3, b"#b"),
+    (4, 0, b"ab"),
+    (4, 1, b"xb"),
 ];
 
 #[test]
-fn images_of_writes_and_a_sync(rt: HostRuntime) -> Result<(), Fail> {
+fn images_of_writes_and_syncs(rt: HostRuntime) -> Result<(), Fail> {
     let mut disk = MemoryDisk::new(rt.alloc());
-    disk.attach(name(rt.alloc())?, Role::Create)?;
-    disk.write_at(0, b"ab")?;
-    disk.sync()?;
-    assert!(rt; disk.bytes().len() == 2);
-    disk.write_at(1, b"xy")?;
-    assert!(rt; disk.calls() == 4);
-    assert_eq!(rt; disk.moment(), 3);
-    for (call, images) in IMAGES {
-        for pick in 0..4u8 {
-            if call < disk.calls() && (pick as usize) < images.len() {
-                let image = disk.image(call, pick)?;
-                assert_eq!(rt;
-                    image.as_slice(),
-                    images[pick as usize],
-                    "call {call}, pick {pick}"
-                );
-            }
-        }
+    make(name(rt.alloc())?, &mut disk)?;
+    assert_eq!(rt; disk.moment(), 4);
+    for (call, pick, left) in IMAGES {
+        assert_eq!(rt;
+            image(rt.alloc(), &disk, call, pick)?.as_slice(),
+            left,
+            "call {call}, pick {pick}"
+        );
     }
     Ok(())
 }
@@ -46,15 +53,13 @@ fn images_of_writes_and_a_sync(rt: HostRuntime) -> Result<(), Fail> {
 fn what_a_crash_left_is_read_again(rt: HostRuntime) -> Result<(), Fail> {
     let alloc = rt.alloc();
     let mut disk = MemoryDisk::new(alloc);
-    disk.attach(name(alloc)?, Role::Create)?;
-    disk.write_at(0, b"abc")?;
-    assert!(rt; disk.calls() == 2);
-    let mut left = MemoryDisk::holding(alloc, disk.image(1, 3)?);
+    make(name(alloc)?, &mut disk)?;
+    let mut left = MemoryDisk::holding(alloc, image(alloc, &disk, 3, 3)?);
     left.attach(name(alloc)?, Role::Read)?;
-    let bytes = read_whole(alloc, &mut left, 3)?;
-    assert_eq!(rt; bytes.as_slice(), b"###".as_slice());
-    let long = read_whole(alloc, &mut left, 2).map(|_| ());
-    assert_eq!(rt; long, Err(LoadFault::TooLong { size: 3, limit: 2 }));
+    let bytes = read_whole(alloc, &mut left, 2)?;
+    assert_eq!(rt; bytes.as_slice(), b"#b".as_slice());
+    let long = read_whole(alloc, &mut left, 1).map(|_| ());
+    assert_eq!(rt; long, Err(LoadFault::TooLong { size: 2, limit: 1 }));
     Ok(())
 }
 
@@ -125,12 +130,8 @@ fn a_failed_write_counts_as_one_in_flight(rt: HostRuntime) -> Result<(), Fail> {
     let mut failing = Numbers::empty(alloc);
     failing.push(3)?;
     disk.fail_at(failing);
-    disk.attach(name(alloc)?, Role::Create)?;
-    disk.write_at(0, b"ab")?;
-    disk.sync()?;
-    assert_eq!(rt; disk.write_at(0, b"x").is_err(), true);
+    assert_eq!(rt; make(name(alloc)?, &mut disk).is_err(), true);
     assert_eq!(rt; disk.bytes(), b"ab".as_slice());
-    assert!(rt; disk.calls() == 4);
-    assert_eq!(rt; disk.image(3, 2)?.as_slice(), b"\xFFb".as_slice());
+    assert_eq!(rt; image(alloc, &disk, 3, 2)?.as_slice(), b"\xFFb".as_slice());
     Ok(())
 }

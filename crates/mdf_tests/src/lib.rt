@@ -6,4 +6,6 @@ mod disks;
 #[cfg(test)]
 mod lists;
 #[cfg(test)]
+mod seals;
+#[cfg(test)]
 mod streams;

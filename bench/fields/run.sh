@@ -1,0 +1,48 @@
+#!/usr/bin/env bash
+# Times ten million reads and ten million writes of fields of bits, of every width from 1 to 64 and in both orders, by
+# mdf_bits and by the same loop in C. Prints the best time of each in milliseconds, and their ratio.
+#
+# usage: bench/fields/run.sh [RUNS]
+#
+# It is run by hand and is no part of the gate. It needs rt and a C compiler, and works in a folder of its own. The
+# two programs print the sum of the numbers that they read, which has to be the same.
+set -euo pipefail
+
+here="$(cd "$(dirname "$0")" && pwd)"
+top="$(cd "$here/../.." && pwd)"
+runs="${1:-15}"
+work="$(mktemp -d)"
+trap 'rm -rf "$work"' EXIT
+
+mkdir -p "$work/crates/bench_fields/src"
+cp -r "$top/crates/mdf_format" "$top/crates/mdf_bits" "$work/crates/"
+cp "$here/program.rt.txt" "$work/crates/bench_fields/src/main.rt"
+printf '%s\n' 'mdf_format:' 'mdf_bits: mdf_format' 'bench_fields: mdf_bits' > "$work/crates.txt"
+if ! (cd "$work/crates/bench_fields" && rt run) > "$work/log" 2>&1; then
+    cat "$work/log" >&2
+    exit 1
+fi
+"${CC:-cc}" -O2 -o "$work/twin" "$here/twin.c"
+
+# the best time of a program, in microseconds
+best() {
+    local least=0 start end
+    for _ in $(seq "$runs"); do
+        start="$(date +%s%N)"
+        "$1" > /dev/null
+        end="$(date +%s%N)"
+        local time=$(((end - start) / 1000))
+        if ((least == 0 || time < least)); then
+            least="$time"
+        fi
+    done
+    echo "$least"
+}
+
+ours="$work/crates/bench_fields/out/bench_fields"
+if [ "$("$ours")" != "$("$work/twin")" ]; then
+    echo "the two programs read different numbers" >&2
+    exit 1
+fi
+awk -v ours="$(best "$ours")" -v twin="$(best "$work/twin")" \
+    'BEGIN { printf "mdf_bits %.0f ms, C %.0f ms, ratio %.2f\n", ours / 1000, twin / 1000, ours / twin }'

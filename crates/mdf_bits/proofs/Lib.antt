@@ -1,0 +1,7 @@
+mod BitLists
+mod Bits
+mod Masks
+mod Orders
+mod Powers
+pub mod Spots
+mod Steps

@@ -1,0 +1,17 @@
+use Rattle.std.proofs.Common.{◌/◌, ◌%◌, slice_index_or, ◌∙◌, arith}
+use Rattle.std.proofs.lemmas.Nat.Bits.{bit_at_set_same, bit_at_set_other}
+use Rattle.std.specs.Int.{w8}
+use Rattle.mdf_bits.proofs.Bits.{bit_of-set, bit_of-set_other}
+use Rattle.mdf_bits.proofs.bit.set.Goals as goal
+
+pub returns-clause-set : goal.returns-clause-set
+returns-clause-set c =
+    let bytes = c.args.bytes.now in
+    let p = c.args.position in
+    bit_of-set bytes p _ c.requires ∙ bit_at_set_same w8 (slice_index_or bytes (p / 8) 0) (p % 8) (omega arith)
+
+pub returns-clause-other_bits : goal.returns-clause-other_bits
+returns-clause-other_bits c =
+    let bytes = c.args.bytes.now in
+    let p = c.args.position in
+    bit_of-set_other bytes p _ c.requires (λ i within apart. bit_at_set_other w8 (slice_index_or bytes (p / 8) 0) (p % 8) (omega arith) i apart)

@@ -1,0 +1,64 @@
+// Bytes of either order as a word, and a word with some of its bits replaced.
+ghost use Rattle.std.specs.Prelude.{◌≡◌, ℕ, ◌+◌, ◌-◌, ◌*◌, ◌^◌, ◌≤◌, ◌<◌, length, if◌then◌else◌};
+ghost use Rattle.std.specs.Int.{bit_at};
+ghost use Rattle.mdf_format.specs.Field.{bit_of, lowest_first};
+
+/// Where byte `i` of `len` bytes stands, counted from the lowest one.
+fn byte_place(len: usize, big: bool, i: usize) -> usize
+    requires { i < len }
+    ensures { result ≡ (if big then len - 1 - i else i) }
+{
+    if big { len - 1 - i } else { i }
+}
+
+/// The number that the bytes are.
+pub(crate) fn word_of(bytes: &[u8], big: bool) -> u128
+    requires { length bytes.now ≤ 16 }
+    ensures bits { (k : ℕ) → bit_at result k ≡ bit_of (lowest_first big bytes.now) k }
+    ensures fits { result < 2 ^ (8 * length bytes.now) }
+{
+    let mut word = 0;
+    for i in (0..bytes.len()).rev() {
+        word = (word << 8) | bytes[byte_place(bytes.len(), big, i)] as u128;
+    }
+    word
+}
+
+/// Writes the number into all of the bytes.
+pub(crate) fn put_word(bytes: &mut [u8], big: bool, word: u128)
+    requires { word < 2 ^ (8 * length bytes.old) }
+    ensures bits { (k : ℕ) → bit_of (lowest_first big bytes.new) k ≡ bit_at word k }
+    ensures len { length bytes.new ≡ length bytes.old }
+{
+    let mut rest = word;
+    for i in 0..bytes.len() {
+        let place = byte_place(bytes.len(), big, i);
+        bytes[place] = (rest & 0xff) as u8;
+        rest >>= 8;
+    }
+}
+
+/// The `bits` bits of the word from `bit` on, as a number.
+pub(crate) fn bits_from(word: u128, bit: u8, bits: u8) -> u64
+    requires in_byte { bit ≤ 7 }
+    requires in_word { bits ≤ 64 }
+    ensures bits { (k : ℕ) → k < bits → bit_at result k ≡ bit_at word (bit + k) }
+    ensures fits { result < 2 ^ bits }
+{
+    let mask = (1 << bits) - 1;
+    ((word >> bit) & mask) as u64
+}
+
+/// The word with the `bits` bits from `bit` on replaced by those of `value`.
+pub(crate) fn with_bits(word: u128, bit: u8, bits: u8, value: u64) -> u128
+    requires in_byte { bit ≤ 7 }
+    requires in_word { bits ≤ 64 }
+    requires fits { value < 2 ^ bits }
+    ensures inside { (k : ℕ) → k < bits → bit_at result (bit + k) ≡ bit_at value k }
+    ensures below { (k : ℕ) → k < bit → bit_at result k ≡ bit_at word k }
+    ensures above { (k : ℕ) → bit + bits ≤ k → bit_at result k ≡ bit_at word k }
+    ensures fits { (n : ℕ) → bit + bits ≤ n → word < 2 ^ n → result < 2 ^ n }
+{
+    let mask = ((1u128 << bits) - 1) << bit;
+    (word & !mask) | ((value as u128) << bit)
+}

@@ -1,0 +1,172 @@
+-- Loops along links: what is read so far, with what the rest of the chain gives.
+use Rattle.std.proofs.Common.{◌≡◌, ◌≢◌, ◌-◌, ℕ, zero, suc, List, [], ◌∷◌, ◌++◌, map, Option, Ok, Err, refl, sym, ◌∙◌, ap, subst, inl, inr, arith, append_assoc, append-nil}
+use Rattle.std.proofs.lemmas.Bool.{eqb-true, eq-eqb, ne_eqb, cond-true, cond-false}
+use Rattle.std.specs.Prelude.{nat_eq}
+use Rattle.std.specs.List.{AllByRecursion}
+use Rattle.mdf_format.specs.Block.{link_at, IsBlock, IsChain}
+use Rattle.mdf_format.specs.declared.kind.Kind.{Kind}
+use Rattle.mdf_num.specs.declared.halt.Halt.{Halt}
+use Rattle.mdf_block.specs.declared.what.What.{What}
+use Rattle.mdf_block.specs.declared.place.BlockAt.{BlockAt}
+use Rattle.mdf_block.specs.Refusal.{Refusal, TooMany, Read, ◌>>=◌, Halts}
+use Rattle.mdf_block.specs.Block.{block}
+use Rattle.mdf_block.specs.Chain.{Step, chain, full}
+use Rattle.mdf_block.proofs.Refusals.{bind_ok, halts_then}
+use Rattle.mdf_block.proofs.Wholes.{chosen}
+
+-- what was read so far, and then the rest
+abbrev pub with_front : {A S : Type 0} → List A → Read (List A × ℕ × S) → Read (List A × ℕ × S)
+with_front front read = read >>= λ rest. Ok (front ++ rest.0, rest.1, rest.2)
+
+ok_injective : {A : Type 0} (x y : A) → ◌≡◌ {A = Read A} (Ok x) (Ok y) → x ≡ y
+ok_injective x y same = cc
+
+with_none : {A S : Type 0} (read : Read (List A × ℕ × S)) → with_front [] read ≡ read
+with_none (Ok x) = refl
+with_none (Err refusal) = refl
+
+front_moves : {A S : Type 0} (rows : List A) (x : A) (read : Read (List A × ℕ × S))
+    → with_front rows (read >>= λ rest. Ok (x ∷ rest.0, rest.1, rest.2)) ≡ with_front (rows ++ x ∷ []) read
+front_moves {A} rows x (Ok rest) = ap (λ (xs : List A). Ok (xs, rest.1, rest.2)) (sym (append_assoc rows (x ∷ []) rest.0))
+front_moves rows x (Err refusal) = refl
+
+module _ {A S : Type 0} (step : Step A S) (full_at : ℕ → Read (List A × ℕ × S)) where
+  -- the loop begins
+  pub begins : (room at : ℕ) (left : S) → with_front [] (chain step full_at room at left) ≡ chain step full_at room at left
+  begins room at left = with_none (chain step full_at room at left)
+
+  -- the link is 0
+  pub is_done : (rows : List A) (room at : ℕ) (left : S) → at ≡ 0
+      → with_front rows (chain step full_at room at left) ≡ Ok (rows, room, left)
+  unfolding chain
+  is_done rows zero at left none =
+      ap (with_front rows) (cond-true (nat_eq at 0) _ _ (eq-eqb at 0 none)) ∙ ap (λ (xs : List A). Ok (xs, 0, left)) (append-nil rows)
+  is_done rows (suc room) at left none =
+      ap (with_front rows) (cond-true (nat_eq at 0) _ _ (eq-eqb at 0 none)) ∙ ap (λ (xs : List A). Ok (xs, suc room, left)) (append-nil rows)
+
+  -- no more may come
+  pub is_full : (rows : List A) (room at : ℕ) (left : S) → room ≡ 0 → at ≢ 0
+      → with_front rows (chain step full_at room at left) ≡ with_front rows (full_at at)
+  unfolding chain
+  is_full rows zero at left none some = ap (with_front rows) (cond-false (nat_eq at 0) _ _ (ne_eqb at 0 some))
+  is_full rows (suc room) at left none some = absurd (omega (arith, none))
+
+  -- one more was read
+  pub goes_on : (rows : List A) (room at : ℕ) (left : S) (x : A) (next : ℕ) (rest : S) → room ≢ 0 → at ≢ 0
+      → step at left ≡ Ok (x, next, rest)
+      → with_front rows (chain step full_at room at left) ≡ with_front (rows ++ x ∷ []) (chain step full_at (room - 1) next rest)
+  unfolding chain
+  goes_on rows zero at left x next rest more some found = absurd (more refl)
+  goes_on rows (suc room) at left x next rest more some found =
+      let one_less : suc room - 1 ≡ room = omega arith in
+      ap (with_front rows) (cond-false (nat_eq at 0) _ _ (ne_eqb at 0 some))
+      ∙ ap (λ (read : Read (A × ℕ × S)). with_front rows
+      (read >>= λ found. chain step full_at room found.1 found.2 >>= λ rest. Ok (found.0 ∷ rest.0, rest.1, rest.2))) found
+      ∙ front_moves rows x (chain step full_at room next rest)
+      ∙ ap (λ (n : ℕ). with_front (rows ++ x ∷ []) (chain step full_at n next rest)) (sym one_less)
+
+  -- the next one is refused
+  pub ends : {E : Type 0} (refusal : E → Option Refusal) (halt : Halt E) (rows : List A) (room at : ℕ) (left : S) → room ≢ 0 → at ≢ 0
+      → Halts refusal halt (step at left) → (whole : Read (List A × ℕ × S))
+      → with_front rows (chain step full_at room at left) ≡ whole → Halts refusal halt whole
+  unfolding chain
+  ends refusal halt rows zero at left more some halted whole is = absurd (more refl)
+  ends refusal halt rows (suc room) at left more some halted whole is =
+      let first = halts_then refusal halt (step at left)
+      (λ found. chain step full_at room found.1 found.2 >>= λ rest. Ok (found.0 ∷ rest.0, rest.1, rest.2)) halted in
+      let second : Halts refusal halt (chain step full_at (suc room) at left) =
+      subst (Halts refusal halt) (sym (cond-false (nat_eq at 0) _ _ (ne_eqb at 0 some))) first in
+      let third = halts_then refusal halt (chain step full_at (suc room) at left)
+      (λ rest. Ok (rows ++ rest.0, rest.1, rest.2)) second in
+      subst (Halts refusal halt) is third
+
+  -- the block past the count is refused
+  pub ends_full : {E : Type 0} (refusal : E → Option Refusal) (halt : Halt E) (rows : List A) (room at : ℕ) (left : S) → room ≡ 0 → at ≢ 0
+      → Halts refusal halt (full_at at) → (whole : Read (List A × ℕ × S))
+      → with_front rows (chain step full_at room at left) ≡ whole → Halts refusal halt whole
+  ends_full refusal halt rows room at left none some halted whole is =
+      subst (Halts refusal halt) (sym (is_full rows room at left none some) ∙ is)
+      (halts_then refusal halt (full_at at) (λ rest. Ok (rows ++ rest.0, rest.1, rest.2)) halted)
+
+-- the refusals of the block past the count
+pub full_halts : {E : Type 0} (A : Type 0) (refusal : E → Option Refusal) (halt : Halt E) (what : What) (kind : Kind) (f : List ℕ) (at : ℕ)
+    → Halts refusal halt (block f at kind) → Halts refusal halt (full {A = A} what kind f at)
+unfolding full
+full_halts A refusal halt what kind f at halted = halts_then refusal halt (block f at kind) (λ _. Err (TooMany what at)) halted
+
+pub full_many : (A : Type 0) (what : What) (kind : Kind) (f : List ℕ) (at : ℕ) (b : BlockAt) → block f at kind ≡ Ok b
+    → full {A = A} what kind f at ≡ Err (TooMany what at)
+unfolding full
+full_many A what kind f at b found = ap (λ (read : Read BlockAt). read >>= λ _. Err (TooMany what at)) found
+
+-- it finds nothing
+pub full_none : (A : Type 0) (what : What) (kind : Kind) (f : List ℕ) (at : ℕ) (x : A) → full what kind f at ≡ Ok x → ⊥
+unfolding full
+full_none A what kind f at x found =
+    let parts = bind_ok (block f at kind) (λ _. Err (TooMany what at)) x found in
+    let wrong : ◌≡◌ {A = Read A} (Err (TooMany what at)) (Ok x) = parts.2 in cc
+
+-- a step reads a block of the kind where it stands, and goes on along its first link
+pub record Follows {A S : Type 0} (f : List ℕ) (kind : Kind) (place : A → ℕ) (step : Step A S) : Type 0 where
+  pub there : (at : ℕ) (left : S) (x : A) (next : ℕ) (rest : S) → step at left ≡ Ok (x, next, rest)
+      → (place x ≡ at) × IsBlock f at kind × (next ≡ link_at f at 0)
+
+-- the rest behind an item
+abbrev rest_of : {A S : Type 0} → Step A S → (ℕ → Read (List A × ℕ × S)) → ℕ → A × ℕ × S → Read (List A × ℕ × S)
+rest_of step full_at room found = chain step full_at room found.1 found.2 >>= λ rest. Ok (found.0 ∷ rest.0, rest.1, rest.2)
+
+-- what is found along the links is the chain
+pub chain_found : {A S : Type 0} (f : List ℕ) (kind : Kind) (place : A → ℕ) (step : Step A S) (full_at : ℕ → Read (List A × ℕ × S))
+    → Follows f kind place step → ((at : ℕ) (y : List A × ℕ × S) → full_at at ≡ Ok y → ⊥)
+    → (room at : ℕ) (left : S) (found : List A × ℕ × S) → chain step full_at room at left ≡ Ok found
+    → IsChain f at kind (map place found.0)
+unfolding chain IsChain
+chain_found {A} {S} f kind place step full_at follows none zero at left found is =
+    elim (chosen (nat_eq at 0) (Ok ([], zero, left)) (full_at at) (Ok found) is) [
+      | inl last ↦
+          let same : ([], zero, left) ≡ found = ok_injective _ _ last.1 in
+          subst (λ (y : List A × ℕ × S). IsChain f at kind (map place y.0)) same (eqb-true at 0 last.0)
+      | inr more ↦ absurd (none at found more.1)
+    ]
+chain_found {A} {S} f kind place step full_at follows none (suc room) at left found is =
+    elim (chosen (nat_eq at 0) (Ok ([], suc room, left)) (step at left >>= rest_of step full_at room) (Ok found) is) [
+      | inl last ↦
+          let same : ([], suc room, left) ≡ found = ok_injective _ _ last.1 in
+          subst (λ (y : List A × ℕ × S). IsChain f at kind (map place y.0)) same (eqb-true at 0 last.0)
+      | inr more ↦
+          let parts = bind_ok (step at left) (rest_of step full_at room) found more.1 in
+          let there = follows.there at left parts.0.0 parts.0.1 parts.0.2 parts.1 in
+          let rest = bind_ok (chain step full_at room parts.0.1 parts.0.2) (λ rest. Ok (parts.0.0 ∷ rest.0, rest.1, rest.2)) found parts.2 in
+          let behind = chain_found f kind place step full_at follows none room parts.0.1 parts.0.2 rest.0 rest.1 in
+          let same : (parts.0.0 ∷ rest.0.0, rest.0.1, rest.0.2) ≡ found = ok_injective _ _ rest.2 in
+          subst (λ (y : List A × ℕ × S). IsChain f at kind (map place y.0)) same
+          (there.0, there.1, subst (λ (next : ℕ). IsChain f next kind (map place rest.0.0)) there.2 behind)
+    ]
+
+-- what holds of each item that a step reads holds of all that are found
+pub chain_each : {A S : Type 0} (step : Step A S) (full_at : ℕ → Read (List A × ℕ × S)) (P : A → Type 0)
+    → ((at : ℕ) (left : S) (x : A) (next : ℕ) (rest : S) → step at left ≡ Ok (x, next, rest) → P x)
+    → ((at : ℕ) (y : List A × ℕ × S) → full_at at ≡ Ok y → ⊥)
+    → (room at : ℕ) (left : S) (found : List A × ℕ × S) → chain step full_at room at left ≡ Ok found
+    → AllByRecursion P found.0
+unfolding chain
+chain_each {A} {S} step full_at P item none zero at left found is =
+    elim (chosen (nat_eq at 0) (Ok ([], zero, left)) (full_at at) (Ok found) is) [
+      | inl last ↦
+          let same : ([], zero, left) ≡ found = ok_injective _ _ last.1 in
+          subst (λ (y : List A × ℕ × S). AllByRecursion P y.0) same tt
+      | inr more ↦ absurd (none at found more.1)
+    ]
+chain_each {A} {S} step full_at P item none (suc room) at left found is =
+    elim (chosen (nat_eq at 0) (Ok ([], suc room, left)) (step at left >>= rest_of step full_at room) (Ok found) is) [
+      | inl last ↦
+          let same : ([], suc room, left) ≡ found = ok_injective _ _ last.1 in
+          subst (λ (y : List A × ℕ × S). AllByRecursion P y.0) same tt
+      | inr more ↦
+          let parts = bind_ok (step at left) (rest_of step full_at room) found more.1 in
+          let here = item at left parts.0.0 parts.0.1 parts.0.2 parts.1 in
+          let rest = bind_ok (chain step full_at room parts.0.1 parts.0.2) (λ rest. Ok (parts.0.0 ∷ rest.0, rest.1, rest.2)) found parts.2 in
+          let behind = chain_each step full_at P item none room parts.0.1 parts.0.2 rest.0 rest.1 in
+          let same : (parts.0.0 ∷ rest.0.0, rest.0.1, rest.0.2) ≡ found = ok_injective _ _ rest.2 in
+          subst (λ (y : List A × ℕ × S). AllByRecursion P y.0) same (here, behind)
+    ]

@@ -1,0 +1,11 @@
+pub mod Names
+pub mod Parts
+pub mod Wholes
+pub mod Zeros
+pub mod Refusals
+pub mod Notes
+pub mod Chains
+pub mod Eachs
+pub mod Laying
+pub mod Standing
+pub mod Laid

@@ -1,0 +1,48 @@
+-- Parts of parts of a file, and the least body of a kind.
+use Rattle.std.proofs.Common.{◌≡◌, ◌+◌, ◌-◌, ◌/◌, ◌≤◌, ◌↔◌, ℕ, IsTrue, List, [], take, drop, refl, sym, ◌∙◌, ap, arith, lit≤}
+use Rattle.std.proofs.Math.Dec.{leb}
+use Rattle.std.proofs.lemmas.Bool.{leb-true, le-leb}
+use Rattle.std.proofs.lemmas.List.{drop-take, take-take, drop-drop}
+use Rattle.mdf_format.specs.Number.{le_number, bytes_at}
+use Rattle.mdf_format.specs.Block.{least_body, body_at, body_size, links_at, header_size}
+use Rattle.mdf_format.specs.declared.kind.Kind.{Kind}
+use Rattle.mdf_format.specs.declared.kind.Kind.TheVariants.{Hd, Fh, Dg, Cg, Cn, Cc, Si, Tx, Md, Dt, Dl, Sd, At}
+
+-- bytes of a part of the file are bytes of the file
+pub bytes_at-bytes_at : (n m k at : ℕ) (f : List ℕ) → k + n ≤ m → bytes_at n (bytes_at m f at) k ≡ bytes_at n f (at + k)
+bytes_at-bytes_at n m k at f within =
+    let whole : m ≡ k + (m - k) = omega arith in
+    let room : n ≤ m - k = omega arith in
+    ap (λ (count : ℕ). take n (drop k (take count (drop at f)))) whole
+    ∙ ap (take n) (drop-take k (m - k) (drop at f))
+    ∙ take-take n (m - k) (drop k (drop at f)) room
+    ∙ ap (take n) (drop-drop k at f)
+
+-- only a CCBLOCK's least body hangs on its body
+pub least_body-other : (kind : Kind) (body : List ℕ) → (kind ≡ Cc → ⊥) → least_body kind body ≡ least_body kind []
+least_body-other Hd body other = refl
+least_body-other Fh body other = refl
+least_body-other Dg body other = refl
+least_body-other Cg body other = refl
+least_body-other Cn body other = refl
+least_body-other Cc body other = absurd (other refl)
+least_body-other Si body other = refl
+least_body-other Tx body other = refl
+least_body-other Md body other = refl
+least_body-other Dt body other = refl
+least_body-other Dl body other = refl
+least_body-other Sd body other = refl
+least_body-other At body other = refl
+
+-- the values of a CCBLOCK fit into its body
+pub values_fit : (f : List ℕ) (at values len place : ℕ) → len ≡ body_size f at → place ≡ at + header_size (links_at f at)
+    → 24 ≤ len → values ≡ le_number (bytes_at 2 (bytes_at 8 f place) 6)
+    → IsTrue (leb values ((len - 24) / 8)) ↔ (least_body Cc (body_at f at) ≤ body_size f at)
+values_fit f at values len place is_len is_place least is_values =
+    let near = bytes_at-bytes_at 2 8 6 place f (lit≤ tt) in
+    let far = bytes_at-bytes_at 2 (body_size f at) 6 (at + header_size (links_at f at)) f (omega (arith, is_len, least)) in
+    let same : values ≡ le_number (bytes_at 2 (body_at f at) 6) =
+    is_values ∙ ap le_number near ∙ ap (λ (p : ℕ). le_number (bytes_at 2 f (p + 6))) is_place ∙ ap le_number (sym far) in (
+      λ fits. omega (arith, leb-true values ((len - 24) / 8) fits, same, is_len),
+      λ fits. le-leb values ((len - 24) / 8) (omega (arith, fits, same, is_len)),
+    )

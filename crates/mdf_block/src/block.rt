@@ -1,0 +1,114 @@
+ghost use Rattle.std.specs.Prelude.{◌≡◌, ◌≤◌, ◌↔◌, ℕ, List, [], Some, length, IfOk, IfErr, IfSome, MatchOption, IsTrue};
+ghost use Rattle.mdf_format.specs.Block.{least_body, body_at, body_size, IsBlock};
+ghost use Rattle.mdf_num.specs.Halt.{StopCause, HaltCause};
+ghost use Rattle.mdf_block.specs.Refusal.{Gives, GivesOf};
+ghost use Rattle.mdf_block.specs.Block.{the_block, block, block_refusal, HasNoBlock, IsAboutData, IsInside, IsFilled};
+
+use crate::field::u16_field;
+use crate::name::{has_name_in, is_compressed_in, least_body, least_links, name_of};
+use crate::word::{body_in, u64_in};
+use crate::{BlockAt, BlockFault};
+use mdf_format::Kind;
+use mdf_num::{Halt, SliceSpan, Span, Stop};
+
+/// Whether the body has the least bytes of its kind, the values of a CCBLOCK among them.
+fn is_filled_in<P: Span>(span: &mut P, block: &BlockAt) -> Result<bool, Stop>
+    requires { IsInside (P.size span.old) block.now }
+    ensures filled { IfOk result (λ b. (f : List ℕ) → P.bytes span.old ≡ Some f → block.now ≡ the_block f block.now.at block.now.kind →
+        (IsTrue b ↔ (least_body block.now.kind (body_at f block.now.at) ≤ body_size f block.now.at))) }
+    ensures least { IfOk result (λ b. IsTrue b → least_body block.now.kind [] ≤ block.now.body_len) }
+    ensures same { P.bytes span.new ≡ P.bytes span.old }
+    ensures size { P.size span.new ≡ P.size span.old }
+    ensures cause { StopCause P.may_want (P.faults span.old) (P.faults span.new) result }
+{
+    if block.body_len < least_body(block.kind) {
+        return Ok(false);
+    }
+    match block.kind {
+        Kind::Cc => {
+            let mut front = [0u8; 8];
+            body_in(span, block, &mut front)?;
+            let values = u16_field(&front, 6) as u64;
+            Ok(values <= (block.body_len - 24) / 8)
+        }
+        _ => Ok(true),
+    }
+}
+
+/// The block of this kind that stands whole at `at`, if one does.
+pub(crate) fn whole_in<P: Span>(span: &mut P, at: u64, want: Kind) -> Result<Option<BlockAt>, Stop>
+    ensures found { IfOk result (λ found. (f : List ℕ) → P.bytes span.old ≡ Some f →
+        MatchOption found (¬ IsBlock f at want) (λ b. IsBlock f at want × (b ≡ the_block f at want))) }
+    ensures inside { IfOk result (λ found. IfSome found (IsInside (P.size span.old))) }
+    ensures filled { IfOk result (λ found. IfSome found (IsFilled want)) }
+    ensures same { P.bytes span.new ≡ P.bytes span.old }
+    ensures size { P.size span.new ≡ P.size span.old }
+    ensures cause { StopCause P.may_want (P.faults span.old) (P.faults span.new) result }
+{
+    let len = span.len();
+    if at % 8 != 0 || at > len || len - at < 24 {
+        return Ok(None);
+    }
+    if !has_name_in(span, at, &name_of(want))? {
+        return Ok(None);
+    }
+    let size = u64_in(span, at + 8)?;
+    let links = u64_in(span, at + 16)?;
+    if size < 24 || size > len - at || links > (size - 24) / 8 || links < least_links(want) {
+        return Ok(None);
+    }
+    let block = BlockAt {
+        at,
+        kind: want,
+        links,
+        body_at: at + 24 + 8 * links,
+        body_len: size - 24 - 8 * links,
+    };
+    if !is_filled_in(span, &block)? {
+        return Ok(None);
+    }
+    Ok(Some(block))
+}
+
+/// The block of the kind that is wanted at `at`, read through a span.
+///
+/// # Errors
+/// `Compressed` where a DZBLOCK or an HLBLOCK is named and data is wanted, else `Bad` where no block of that kind
+/// stands whole there with the least links and the least body of its kind; and the span's own.
+pub fn block_in<P: Span>(span: &mut P, at: u64, want: Kind) -> Result<BlockAt, Halt<BlockFault>>
+    ensures found { (f : List ℕ) → P.bytes span.old ≡ Some f → Gives block_refusal result (block f at want) }
+    ensures data { IfErr result (IsAboutData want) }
+    ensures inside { IfOk result (IsInside (P.size span.old)) }
+    ensures filled { IfOk result (IsFilled want) }
+    ensures same { P.bytes span.new ≡ P.bytes span.old }
+    ensures size { P.size span.new ≡ P.size span.old }
+    ensures cause { HaltCause P.may_want (P.faults span.old) (P.faults span.new) result }
+{
+    if is_compressed_in(span, at, want)? {
+        return Err(Halt::Fault(BlockFault::Compressed { at }));
+    }
+    match whole_in(span, at, want)? {
+        Some(block) => Ok(block),
+        None => Err(Halt::Fault(BlockFault::Bad { at, want })),
+    }
+}
+
+/// The block of the kind that is wanted at `at`.
+///
+/// # Errors
+/// `Compressed` exactly where `at` is a multiple of 8, a DZBLOCK or an HLBLOCK is named there, and data is wanted.
+/// Otherwise `Bad` exactly where no block of that kind stands whole there with the least links and the least body of
+/// its kind.
+pub fn block_at(bytes: &[u8], at: u64, want: Kind) -> Result<BlockAt, BlockFault>
+    ensures found { IfOk result (λ b. IsBlock bytes.now at want × (b ≡ the_block bytes.now at want)) }
+    ensures refused { IfErr result (HasNoBlock bytes.now at want) }
+    ensures exact { GivesOf block_refusal result (block bytes.now at want) }
+    ensures inside { IfOk result (IsInside (length bytes.now)) }
+    ensures filled { IfOk result (IsFilled want) }
+{
+    match block_in(&mut SliceSpan::new(bytes), at, want) {
+        Ok(block) => Ok(block),
+        Err(Halt::Fault(fault)) => Err(fault),
+        Err(_) => unreachable!(),
+    }
+}

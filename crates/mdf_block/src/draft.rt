@@ -1,0 +1,106 @@
+ghost use Rattle.std.specs.Prelude.{◌≡◌, ◌+◌, ◌^◌, ◌<◌, ◌≤◌, [], ◌∷◌, ◌++◌, length, IfOk, OnOk, OnErr};
+ghost use Rattle.mdf_block.specs.Draft.{Placed, unlinked, end_of, address_of, written, HasLink, with_link, AllStand};
+
+use crate::Link;
+use crate::item::Item;
+use crate::work::{bytes_of, links_of, room_of, set_link};
+use mdf_format::Kind;
+use mdf_num::{Bytes, Memory};
+use std::alloc::Global;
+use std::marker::Model;
+
+/// A file to be written: blocks behind the 64 bytes of the identification, each at the next multiple of 8. Contracts
+/// see it as the list of its blocks.
+#[derive(Drop)]
+pub struct Draft {
+    items: Vec<Item>,
+    end: u64,
+}
+
+impl Model for Draft {
+    ghost use Rattle.std.specs.Prelude.{List, map, ◌<◌, ◌^◌};
+    ghost use Rattle.mdf_block.specs.Draft.{Placed};
+    ghost use Rattle.mdf_block.specs.Item.{placed_of, AreLaidOut};
+
+    ghost Value = { List Placed };
+
+    ghost view = { λ d. map placed_of d.items.items };
+
+    ghost invariant = { λ d. AreLaidOut 64 d.items.items d.end × (d.end < 2 ^ 62) };
+}
+
+impl Draft {
+    /// No block. It takes no memory.
+    pub fn new(alloc: Global) -> Draft
+        ensures { result ≡ [] }
+    {
+        Draft {
+            items: Vec::new(alloc),
+            end: 64,
+        }
+    }
+
+    /// Places a block with all its links 0, and answers its number. After an error the draft is as before.
+    pub fn place(&mut self, kind: Kind, links: u32, body: Bytes) -> Result<u32, Memory>
+        requires few { length self.old + 1 < 2 ^ 32 }
+        requires room { end_of (self.old ++ unlinked kind links body ∷ []) < 2 ^ 62 }
+        ensures ok { OnOk result (self.new ≡ self.old ++ unlinked kind links body ∷ []) }
+        ensures number { IfOk result (λ n. n ≡ length self.old) }
+        ensures err { OnErr result (self.new ≡ self.old) }
+    {
+        let number = self.items.len() as u32;
+        let links = links_of(*self.items.allocator(), links)?;
+        let item = Item {
+            kind,
+            at: self.end,
+            links,
+            body,
+        };
+        let room = room_of(&item);
+        self.items.push(item)?;
+        self.end += room;
+        Ok(number)
+    }
+
+    /// Makes link `k` of block `from` name block `to`. A number at or past the count of blocks names the end.
+    pub fn link(&mut self, from: u32, k: u32, to: u32)
+        requires { HasLink self.old from k }
+        ensures { self.new ≡ with_link self.old from k (Link.Block to) }
+    {
+        set_link(&mut self.items, from, k, Link::Block(to));
+    }
+
+    /// Makes link `k` of block `from` name the address that `end` gives when the bytes are written.
+    pub fn link_end(&mut self, from: u32, k: u32)
+        requires { HasLink self.old from k }
+        ensures { self.new ≡ with_link self.old from k Link.End }
+    {
+        set_link(&mut self.items, from, k, Link::End);
+    }
+
+    /// The address of block `n`.
+    pub fn address(&self, n: u32) -> u64
+        requires { n < length self.now }
+        ensures { result ≡ address_of self.now n }
+    {
+        self.items[n as usize].at
+    }
+
+    /// The address behind the last block and its filler.
+    pub fn end(&self) -> u64
+        ensures end { result ≡ end_of self.now }
+        ensures small { result < 2 ^ 62 }
+    {
+        self.end
+    }
+
+    /// The whole file: these 64 bytes, and each block at its address with its links, its body, and zero bytes as
+    /// filler.
+    pub fn bytes(&self, ident: &[u8; 64]) -> Result<Bytes, Memory>
+        ensures is { IfOk result (λ bytes. bytes ≡ written ident.now self.now) }
+        ensures len { IfOk result (λ bytes. length bytes ≡ end_of self.now) }
+        ensures stand { IfOk result (λ bytes. AllStand bytes self.now) }
+    {
+        bytes_of(*self.items.allocator(), ident, &self.items, self.end)
+    }
+}

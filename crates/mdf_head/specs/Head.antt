@@ -1,0 +1,90 @@
+-- The header and the file history, each with its comments.
+use Rattle.std.specs.Prelude.{ℕ, ◌≡◌, List, slice_index, map, ℤ, Option, Some, None, Ok}
+use Rattle.std.specs.List.{AllByRecursion}
+use Rattle.mdf_format.specs.Number.{le_number, bytes_at}
+use Rattle.mdf_format.specs.Field.{signed_number}
+use Rattle.mdf_format.specs.Block.{link_at, body_at, IsBlock, IsChain}
+use Rattle.mdf_format.specs.declared.kind.Kind.TheVariants.{Hd, Fh}
+use Rattle.mdf_block.specs.declared.what.What.TheVariants as whats
+use Rattle.mdf_block.specs.declared.note.Note.{Note}
+use Rattle.mdf_block.specs.Refusal.{Refusal, Bad, TooMany, Read, ◌>>=◌}
+use Rattle.mdf_block.specs.Block.{block, body_of}
+use Rattle.mdf_block.specs.Text.{note, IsNote}
+use Rattle.mdf_block.specs.Chain.{Step, chain, full}
+use Rattle.mdf_head.specs.declared.entry.Head.{Head}
+use Rattle.mdf_head.specs.declared.entry.History.{History}
+use Rattle.mdf_head.specs.declared.fault.HeadFault.{HeadFault}
+use Rattle.mdf_head.specs.declared.fault.HeadFault.TheVariants as faults
+
+-- a signed number of 16 bits in a body
+abbrev pub signed_at : List ℕ → ℕ → ℤ
+signed_at body at = signed_number 16 (le_number (bytes_at 2 body at))
+
+-- an entry of the history, from its body
+abbrev pub the_history : ℕ → List ℕ → Note → History
+the_history at body comment = record {
+  at = at;
+  time = le_number (bytes_at 8 body 0);
+  zone = signed_at body 8;
+  daylight = signed_at body 10;
+  flags = slice_index body 12;
+  comment = comment;
+}
+
+-- the header, from its body
+abbrev pub the_head : List ℕ → Note → ℕ → Head
+the_head body comment first_dg = record {
+  start = le_number (bytes_at 8 body 0);
+  zone = signed_at body 8;
+  daylight = signed_at body 10;
+  time_flags = slice_index body 12;
+  time_class = slice_index body 13;
+  flags = slice_index body 14;
+  angle = le_number (bytes_at 8 body 16);
+  distance = le_number (bytes_at 8 body 24);
+  comment = comment;
+  first_dg = first_dg;
+}
+
+-- an entry at an address: its block, then its comment
+unfoldable pub history : List ℕ → Step History ℕ
+history file at left = do
+  b ← block file at Fh
+  comment ← note file (link_at file b.at 1) left
+  Ok (the_history b.at (body_of file b) comment.0, link_at file b.at 0, comment.1)
+
+-- the whole history from an address on: at most 65,535 entries
+abbrev pub histories : List ℕ → ℕ → ℕ → Read (List History × ℕ × ℕ)
+histories file at left = chain (history file) (full whats.Fh Fh file) 65535 at left
+
+-- the header: its block, then its comment; with it the address of the first entry of the history
+unfoldable pub header : List ℕ → ℕ → Read (Head × ℕ × ℕ)
+header file left = do
+  b ← block file 64 Hd
+  comment ← note file (link_at file b.at 5) left
+  Ok (the_head (body_of file b) comment.0 (link_at file b.at 0), link_at file b.at 1, comment.1)
+
+-- the header and the history
+unfoldable pub head : List ℕ → ℕ → Read ((Head × List History) × ℕ)
+head file left = do
+  first ← header file left
+  entries ← histories file first.1 first.2
+  Ok ((first.0, entries.0), entries.2)
+
+abbrev pub head_refusal : HeadFault → Option Refusal
+head_refusal (faults.Bad at want) = Some (Bad at want)
+head_refusal (faults.TooMany what at) = Some (TooMany what at)
+head_refusal faults.Memory = None
+
+-- an entry as it stands in the file
+pub record IsHistory (file : List ℕ) (entry : History) : Type 0 where
+  pub fields : entry ≡ the_history entry.at (body_at file entry.at) entry.comment
+  pub comment : IsNote file (link_at file entry.at 1) entry.comment
+
+-- the header and the history as they stand in the file
+pub record IsHead (file : List ℕ) (head : Head) (rows : List History) : Type 0 where
+  pub block : IsBlock file 64 Hd
+  pub fields : head ≡ the_head (body_at file 64) head.comment (link_at file 64 0)
+  pub comment : IsNote file (link_at file 64 5) head.comment
+  pub chain : IsChain file (link_at file 64 1) Fh (map (λ entry. entry.at) rows)
+  pub entries : AllByRecursion (IsHistory file) rows

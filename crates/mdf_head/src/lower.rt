@@ -1,0 +1,65 @@
+ghost use Rattle.std.specs.Prelude.{◌≡◌, ℕ, List, Some, false, true, IfOk};
+ghost use Rattle.mdf_num.specs.Halt.{HaltCause};
+ghost use Rattle.mdf_block.specs.Refusal.{Gives};
+ghost use Rattle.mdf_block.specs.Block.{block, is_data, IsInside, IsFilled};
+ghost use Rattle.mdf_block.specs.Text.{note};
+ghost use Rattle.mdf_head.specs.Head.{head_refusal};
+
+use crate::HeadFault;
+use mdf_block::{BlockAt, BlockFault, Kind, Note, NoteFault, What, block_in, noted_in};
+use mdf_num::{Halt, Span};
+use std::alloc::Global;
+
+/// A block of a kind that holds no data, with the faults of this crate.
+pub(crate) fn block_of<P: Span>(
+    span: &mut P,
+    at: u64,
+    want: Kind,
+) -> Result<BlockAt, Halt<HeadFault>>
+    requires { is_data want ≡ false }
+    ensures found { (f : List ℕ) → P.bytes span.old ≡ Some f → Gives head_refusal result (block f at want) }
+    ensures inside { IfOk result (IsInside (P.size span.old)) }
+    ensures filled { IfOk result (IsFilled want) }
+    ensures same { P.bytes span.new ≡ P.bytes span.old }
+    ensures size { P.size span.new ≡ P.size span.old }
+    ensures cause { HaltCause P.may_want (P.faults span.old) (P.faults span.new) result }
+{
+    match block_in(span, at, want) {
+        Ok(block) => Ok(block),
+        Err(Halt::Fault(BlockFault::Bad { at, want })) => Err(Halt::Fault(HeadFault::Bad {
+            at,
+            want,
+        })),
+        Err(Halt::Fault(BlockFault::Compressed { .. })) => unreachable!(),
+        Err(Halt::Failed) => Err(Halt::Failed),
+        Err(Halt::Memory) => Err(Halt::Memory),
+    }
+}
+
+/// The text that a link names, with the faults of this crate.
+pub(crate) fn text_of<P: Span>(
+    alloc: Global,
+    span: &mut P,
+    at: u64,
+    left: u64,
+) -> Result<(Note, u64), Halt<HeadFault>>
+    ensures found { (f : List ℕ) → P.bytes span.old ≡ Some f → Gives head_refusal result (note f at left) }
+    ensures same { P.bytes span.new ≡ P.bytes span.old }
+    ensures size { P.size span.new ≡ P.size span.old }
+    ensures cause { HaltCause true (P.faults span.old) (P.faults span.new) result }
+{
+    match noted_in(alloc, span, at, left) {
+        Ok(found) => Ok(found),
+        Err(Halt::Fault(NoteFault::Bad { at })) => Err(Halt::Fault(HeadFault::Bad {
+            at,
+            want: Kind::Tx,
+        })),
+        Err(Halt::Fault(NoteFault::TooMany { at })) => Err(Halt::Fault(HeadFault::TooMany {
+            what: What::Text,
+            at,
+        })),
+        Err(Halt::Fault(NoteFault::Memory)) => Err(Halt::Memory),
+        Err(Halt::Failed) => Err(Halt::Failed),
+        Err(Halt::Memory) => Err(Halt::Memory),
+    }
+}

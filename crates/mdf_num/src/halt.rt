@@ -1,0 +1,49 @@
+ghost use Rattle.std.specs.Prelude.{◌≡◌};
+
+use crate::Memory;
+use thiserror::Error;
+
+/// Why a span did not fill a buffer.
+#[derive(Clone, Copy, Debug, PartialEq, Eq, Error)]
+pub enum Stop {
+    /// The device below failed. The span's count of faults says that it did.
+    #[error("a device failed")]
+    Failed,
+    /// Want of memory.
+    #[error("want of memory")]
+    Memory,
+}
+
+/// Why a reader over a span stopped. Want of memory is never inside the fault.
+#[derive(Debug, PartialEq, Eq, Drop)]
+pub enum Halt<E> {
+    /// What the bytes themselves are refused for.
+    Fault(E),
+    /// The device below failed. The span's count of faults says that it did.
+    Failed,
+    /// Want of memory.
+    Memory,
+}
+
+impl<E> From<Stop> for Halt<E> {
+    ghost use Rattle.mdf_num.specs.Halt.{halt_of};
+
+    ghost from_gives = { λ stop halt. halt ≡ halt_of E stop };
+
+    fn from(stop: Stop) -> Self {
+        match stop {
+            Stop::Failed => Halt::Failed,
+            Stop::Memory => Halt::Memory,
+        }
+    }
+}
+
+impl<E> From<Memory> for Halt<E> {
+    ghost use Rattle.mdf_num.specs.Halt.{memory_halt};
+
+    ghost from_gives = { λ _ halt. halt ≡ memory_halt E };
+
+    fn from(_: Memory) -> Self {
+        Halt::Memory
+    }
+}

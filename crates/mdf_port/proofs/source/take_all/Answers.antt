@@ -1,0 +1,18 @@
+use Rattle.std.proofs.Common.{take, ◌++◌}
+use Rattle.std.proofs.lemmas.Result.{err_from_is_err_and}
+use Rattle.mdf_port.proofs.Streams.{consumes_more}
+use Rattle.mdf_port.proofs.source.take_all.Goals as goal
+
+pub returns-then-count-limit-clause-front : goal.returns-then-count-limit-clause-front
+returns-then-count-limit-clause-front g c = (
+  c.taking.all ++ take c.in_ok-count.count c.take.new.buf,
+  consumes_more _ _ _ _ _ c.taking.invariant.taken c.in_ok-count.ensures.taken.0,
+)
+
+pub returns-in_err-push_slice-clause-front : goal.returns-in_err-push_slice-clause-front
+returns-in_err-push_slice-clause-front g c =
+    let p = err_from_is_err_and c.from_residual-in_err-push_slice.result c.from_residual-in_err-push_slice.ensures.1 in
+    rw p.1 (
+      c.taking.all ++ take c.in_ok-count.count c.take.new.buf,
+      consumes_more _ _ _ _ _ c.taking.invariant.taken c.in_ok-count.ensures.taken.0,
+    )

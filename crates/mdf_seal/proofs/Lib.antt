@@ -1,0 +1,2 @@
+mod Shut
+mod Finish

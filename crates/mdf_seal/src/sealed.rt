@@ -1,0 +1,111 @@
+ghost use Rattle.std.specs.Prelude.{◌≡◌, ◌+◌, ◌≤◌, ◌<◌, ◌^◌, ◌++◌, ◌⊎◌, List, ℕ, [], length, IsSome, IfSome, IfOk, OnOk};
+ghost use Rattle.std.specs.Option.{option_map};
+ghost use Rattle.mdf_format.specs.Cause.{HasCause};
+ghost use Rattle.mdf_disk.specs.Crash.{Adds, NowHas};
+ghost use Rattle.mdf_seal.specs.Images.{IsShut, IsClosed, IsWholeButFirst};
+
+use mdf_disk::Disk;
+use mdf_num::Failed;
+
+/// A file that is being written under a seal: its first byte, which is kept back, and how many bytes were given. The
+/// disk stands beside it, and nobody else acts on that disk between two of its calls.
+#[derive(Drop)]
+pub struct Sealed {
+    first: Option<u8>,
+    length: u64,
+}
+
+/// Writes bytes at the end of a file, whose length is `at`. Where there are none it makes no call.
+fn append<D: Disk>(disk: &mut D, at: u64, bytes: &[u8]) -> Result<(), Failed>
+    requires attached { IsSome (D.asked disk.old) }
+    requires end { IfSome (D.content disk.old) (λ file. length file ≡ at) }
+    requires some { 1 ≤ at }
+    requires shut { NowHas (D.story disk.old) IsShut }
+    ensures content { OnOk result (D.content disk.new ≡ option_map (λ file. file ++ bytes.now) (D.content disk.old)) }
+    ensures shut { OnOk result (NowHas (D.story disk.new) IsShut) }
+    ensures any_moment { Adds (D.story disk.old) (D.story disk.new) IsClosed }
+    ensures none { bytes.now ≡ [] → disk.new ≡ disk.old }
+    ensures cause { HasCause (D.faults disk.old) (D.faults disk.new) result }
+    ensures asked { D.asked disk.new ≡ D.asked disk.old }
+{
+    if bytes.is_empty() {
+        return Ok(());
+    }
+    disk.write_at(at, bytes)
+}
+
+impl Sealed {
+    ghost use Rattle.mdf_seal.specs.Seal.{Seals, IsBlank, IsKept};
+
+    /// Begins a file: writes a closed byte and syncs.
+    ///
+    /// # Errors
+    /// `Failed` where the disk failed.
+    pub fn begin<D: Disk>(disk: &mut D) -> Result<Sealed, Failed>
+        requires attached { IsSome (D.asked disk.old) }
+        requires blank { IsBlank (D.content disk.old) (D.story disk.old) }
+        ensures ok { IfOk result (λ seal. Seals seal (D.content disk.new) (D.story disk.new) []) }
+        ensures any_moment { Adds (D.story disk.old) (D.story disk.new) (λ file. length file ≤ 1) }
+        ensures cause { HasCause (D.faults disk.old) (D.faults disk.new) result }
+        ensures asked { D.asked disk.new ≡ D.asked disk.old }
+    {
+        disk.write_at(0, &[0])?;
+        disk.sync()?;
+        Ok(Sealed {
+            first: None,
+            length: 0,
+        })
+    }
+
+    /// Appends bytes, keeping the very first one back. Where there are none to write it makes no call.
+    ///
+    /// # Errors
+    /// `Failed` where the disk failed.
+    pub fn give<D: Disk>(&mut self, disk: &mut D, bytes: &[u8]) -> Result<(), Failed>
+        requires attached { IsSome (D.asked disk.old) }
+        requires sealed { (given : List ℕ) × Seals self.old (D.content disk.old) (D.story disk.old) given
+            × (length given + length bytes.now < 2 ^ 62) }
+        ensures ok { (given : List ℕ) → Seals self.old (D.content disk.old) (D.story disk.old) given
+            → OnOk result (Seals self.new (D.content disk.new) (D.story disk.new) (given ++ bytes.now)) }
+        ensures any_moment { Adds (D.story disk.old) (D.story disk.new) IsClosed }
+        ensures none { bytes.now ≡ [] → disk.new ≡ disk.old }
+        ensures cause { HasCause (D.faults disk.old) (D.faults disk.new) result }
+        ensures asked { D.asked disk.new ≡ D.asked disk.old }
+    {
+        let [first, rest @ ..] = bytes else {
+            return Ok(());
+        };
+        if self.first.is_some() {
+            append(disk, self.length, bytes)?;
+        } else {
+            append(disk, 1, rest)?;
+            self.first = Some(*first);
+        }
+        self.length += bytes.len() as u64;
+        Ok(())
+    }
+
+    /// Ends the file: syncs, writes the first byte, and syncs.
+    ///
+    /// # Errors
+    /// `Failed` where the disk failed.
+    pub fn finish<D: Disk>(self, disk: &mut D) -> Result<(), Failed>
+        requires attached { IsSome (D.asked disk.old) }
+        requires sealed { (given : List ℕ) × Seals self (D.content disk.old) (D.story disk.old) given
+            × (1 ≤ length given) }
+        ensures ok { (given : List ℕ) → Seals self (D.content disk.old) (D.story disk.old) given
+            → OnOk result (IsKept (D.content disk.new) (D.story disk.new) given) }
+        ensures any_moment { (given : List ℕ) → Seals self (D.content disk.old) (D.story disk.old) given
+            → Adds (D.story disk.old) (D.story disk.new) (λ file. IsClosed file ⊎ IsWholeButFirst given file) }
+        ensures cause { HasCause (D.faults disk.old) (D.faults disk.new) result }
+        ensures asked { D.asked disk.new ≡ D.asked disk.old }
+    {
+        let Some(first) = self.first else {
+            return Ok(());
+        };
+        // The rest has to be kept before the first byte is written.
+        disk.sync()?;
+        disk.write_at(0, &[first])?;
+        disk.sync()
+    }
+}

@@ -1,0 +1,28 @@
+ghost use Rattle.std.specs.Prelude.{◌≡◌, ◌≤◌, ◌<◌, ◌^◌, length, IsSome, OnOk};
+ghost use Rattle.mdf_format.specs.Cause.{HasCause};
+ghost use Rattle.mdf_disk.specs.Crash.{Adds};
+ghost use Rattle.mdf_seal.specs.Images.{IsSealedImage};
+ghost use Rattle.mdf_seal.specs.Seal.{IsBlank, IsKept};
+
+use crate::Sealed;
+use mdf_disk::Disk;
+use mdf_num::Failed;
+
+/// Writes a whole file under a seal, on a disk that is attached with an empty file.
+///
+/// # Errors
+/// `Failed` where the disk failed.
+pub fn write_sealed<D: Disk>(disk: &mut D, bytes: &[u8]) -> Result<(), Failed>
+    requires attached { IsSome (D.asked disk.old) }
+    requires blank { IsBlank (D.content disk.old) (D.story disk.old) }
+    requires some { 1 ≤ length bytes.now }
+    requires short { length bytes.now < 2 ^ 62 }
+    ensures ok { OnOk result (IsKept (D.content disk.new) (D.story disk.new) bytes.now) }
+    ensures any_moment { Adds (D.story disk.old) (D.story disk.new) (IsSealedImage bytes.now) }
+    ensures cause { HasCause (D.faults disk.old) (D.faults disk.new) result }
+    ensures asked { D.asked disk.new ≡ D.asked disk.old }
+{
+    let mut seal = Sealed::begin(disk)?;
+    seal.give(disk, bytes)?;
+    seal.finish(disk)
+}
