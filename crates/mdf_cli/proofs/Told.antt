@@ -2,8 +2,8 @@
 use Rattle.std.proofs.Common.{◌≡◌, ◌≤◌, ℕ, List, [], ◌∷◌, length, get_or, Option, Some, None, subst, arith}
 use Rattle.std.specs.Prelude.{IfSome}
 use Rattle.mdf_gate.specs.Recording.{HasNoOpened}
+use Rattle.mdf_gate.specs.Fault.{HasFault}
 use Rattle.mdf_gate.specs.declared.answer.GateFault.{GateFault}
-use Rattle.mdf_gate.specs.declared.answer.GateFault.TheVariants.{NotOpened}
 use Rattle.mdf_cli.specs.Words.{IsUsage}
 use Rattle.mdf_cli.specs.Commands.{Asks}
 use Rattle.mdf_cli.specs.declared.command.Command.{Command}
@@ -17,9 +17,9 @@ of_file None bytes P same holds = tt
 of_file (Some file) bytes P same holds = subst P same holds
 
 pub gate_comes : (told : Option (List ℕ)) (before now : ℕ) (bytes : List ℕ) (fault : GateFault) → IfSome told (λ file. bytes ≡ file)
-    → HasNoOpened bytes → length bytes ≤ INPUT_LIMIT → InputFaultComes told before now (Gate fault)
-gate_comes told before now bytes NotOpened same none short =
-    of_file told bytes (λ file. HasNoOpened file × (length file ≤ INPUT_LIMIT)) same (none, short)
+    → HasFault bytes fault → HasNoOpened bytes → length bytes ≤ INPUT_LIMIT → InputFaultComes told before now (Gate fault)
+gate_comes told before now bytes fault same has none short =
+    of_file told bytes (λ file. HasFault file fault × HasNoOpened file × (length file ≤ INPUT_LIMIT)) same (has, none, short)
 
 -- a list of two
 pub two_items : (xs : List (List ℕ)) (a b : List ℕ) → length xs ≡ 2 → a ≡ get_or xs 0 a → b ≡ get_or xs 1 b → xs ≡ a ∷ b ∷ []

@@ -2,9 +2,11 @@
 use Rattle.std.specs.Prelude.{ℕ, ◌≡◌, ◌<◌, ◌≤◌, List, [], ◌∷◌, length, codes, Option, IfSome}
 use Rattle.std.specs.Fmt.{decimal}
 use Rattle.mdf_format.specs.Cause.{Rose}
+use Rattle.mdf_format.specs.Block.{name_of}
 use Rattle.mdf_gate.specs.Recording.{HasNoOpened}
+use Rattle.mdf_gate.specs.Fault.{HasFault}
 use Rattle.mdf_gate.specs.declared.answer.GateFault.{GateFault}
-use Rattle.mdf_gate.specs.declared.answer.GateFault.TheVariants.{NotOpened}
+use Rattle.mdf_gate.specs.declared.answer.GateFault.TheVariants.{NotMdf, Version, NotRecording, Bad}
 use Rattle.mdf_disk.specs.declared.load.LoadFault.{LoadFault}
 use Rattle.mdf_disk.specs.declared.load.LoadFault.TheVariants as load
 use Rattle.mdf_cli.specs.Texts.{line}
@@ -18,7 +20,10 @@ fault_status (InputOver size limit) = 5
 fault_status Memory = 7
 
 abbrev pub gate_line : GateFault → List ℕ
-gate_line NotOpened = line (codes "not opened" ∷ [])
+gate_line NotMdf = line (codes "not MDF" ∷ [])
+gate_line (Version ver) = line (codes "version " ∷ decimal ver ∷ [])
+gate_line (NotRecording std custom) = line (codes "not a recording " ∷ decimal std ∷ codes " " ∷ decimal custom ∷ [])
+gate_line (Bad at want) = line (codes "block at " ∷ decimal at ∷ codes " is not " ∷ name_of want ∷ [])
 
 abbrev pub input_over_line : ℕ → ℕ → List ℕ
 input_over_line size limit = line (codes "input over " ∷ decimal size ∷ codes " " ∷ decimal limit ∷ [])
@@ -36,7 +41,8 @@ INPUT_LIMIT = 536870912
 -- The fault comes only where this holds of the input file, where its disk tells it, and of the counts of faults of
 -- that disk before and after.
 abbrev pub InputFaultComes : Option (List ℕ) → ℕ → ℕ → Fault → Type 0
-InputFaultComes content before now (Gate NotOpened) = IfSome content (λ file. HasNoOpened file × (length file ≤ INPUT_LIMIT))
+InputFaultComes content before now (Gate fault) =
+    IfSome content (λ file. HasFault file fault × HasNoOpened file × (length file ≤ INPUT_LIMIT))
 InputFaultComes content before now Device = Rose before now
 InputFaultComes content before now (InputOver size limit) =
     (limit ≡ INPUT_LIMIT) × (limit < size) × IfSome content (λ file. size ≡ length file)

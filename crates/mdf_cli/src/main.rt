@@ -3,7 +3,6 @@
 
 mod command;
 mod fault;
-mod file_disk;
 mod gate;
 mod opened;
 mod report;
@@ -11,8 +10,8 @@ mod run;
 #[cfg(test)]
 mod tests;
 
-use file_disk::FileDisk;
 use gate::Open;
+use mdf_hostfile::FileDisk;
 use mdf_num::{Bytes, Memory, Rows};
 use mdf_port::{StdSink, StdSource};
 use run::run;

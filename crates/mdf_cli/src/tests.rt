@@ -11,7 +11,6 @@ use std::sync::Wait;
 use std::test::Fail;
 use std::thread::Threads;
 
-mod files;
 mod recordings;
 
 fn words(alloc: Global, texts: &[&str]) -> Result<Rows<Bytes>, Fail> {
@@ -73,13 +72,15 @@ where
 
 // The length of the recording of two blocks and the part that is put into it, and what `opened` prints, with its
 // status.
-const ROWS: [(usize, Part, &str, u8); 6] = [
+const ROWS: [(usize, Part, &str, u8); 8] = [
     (233, (232, b"\0"), "blocks 0 bytes 0\n", 0),
     (313, (0, b""), "blocks 2 bytes 26\n", 0),
     (313, (272, b"\""), "blocks 1 bytes 10\n", 0),
     (312, (0, b""), "blocks 2 bytes 26\n", 0),
-    (313, (0, b"\0"), "not opened\n", 3),
-    (313, (274, b"X"), "not opened\n", 3),
+    (313, (0, b"\0"), "not MDF\n", 3),
+    (313, (274, b"X"), "block at 272 is not ##DT\n", 3),
+    (313, (28, b"\xA4"), "version 420\n", 3),
+    (313, (62, b"\x02"), "not a recording 33 2\n", 3),
 ];
 
 /// A disk that holds the recording of two blocks.

@@ -1,1 +1,2 @@
 mod Units
+mod Missing

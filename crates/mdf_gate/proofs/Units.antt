@@ -1,6 +1,8 @@
 -- Units one behind the other, counted.
-use Rattle.std.proofs.Common.{◌≡◌, ◌⊎◌, inl, inr, ⊎_elim, ℕ, ◌+◌, List, [], ◌∷◌, ◌++◌, length, sum_by, refl, sym, ◌∙◌, ap, subst, arith, length-append}
+use Rattle.std.proofs.Common.{◌≡◌, ◌⊎◌, inl, inr, ⊎_elim, ℕ, ◌+◌, List, [], ◌∷◌, ◌++◌, length, sum_by, refl, sym, ◌∙◌, ap, subst, drop, arith, length-append, length-drop}
+use Rattle.std.proofs.lemmas.List.{length-take-le}
 use Rattle.std.proofs.lemmas.List.Sums.{sum_by_push}
+use Rattle.mdf_format.specs.Block.{size_at, links_at, header_size, body_size}
 use Rattle.mdf_format.specs.Recording.{IsOpenPlace, IsUnit, AreUnits, unit_data, next_place}
 use Rattle.mdf_gate.specs.Scan.{HasOpenEnd}
 
@@ -51,3 +53,12 @@ stuck file first place blocks bytes come is_open none others last are =
     no_more : (rest : List (List ℕ)) → AreUnits file place rest last → IsOpenPlace file last
     no_more [] at_end = subst (IsOpenPlace file) (sym at_end) is_open
     no_more (body ∷ rest) more = absurd (none more.0)
+
+-- where a unit ends, and how long its data are
+pub unit_end : (file : List ℕ) (place : ℕ) → IsUnit file place → place + header_size (links_at file place) + body_size file place ≡ place + size_at file place
+unit_end file place unit = omega (arith, unit.headed)
+
+pub length-unit_data : (file : List ℕ) (place : ℕ) → IsUnit file place → length (unit_data file place) ≡ body_size file place
+length-unit_data file place unit =
+    length-take-le (body_size file place) (drop (place + header_size (links_at file place)) file)
+    (omega (arith, unit.headed, unit.whole, length-drop (place + header_size (links_at file place)) file))

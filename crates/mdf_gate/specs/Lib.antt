@@ -1,3 +1,4 @@
 pub mod Recording
 pub mod Opened
 pub mod Scan
+pub mod Fault

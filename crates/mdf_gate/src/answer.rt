@@ -1,3 +1,5 @@
+use mdf_format::Kind;
+use mdf_head::IdentFault;
 use thiserror::Error;
 
 /// What is opened of a recording.
@@ -16,7 +18,30 @@ pub struct Opened {
 /// Why a file has no opened blocks.
 #[derive(Clone, Copy, Debug, PartialEq, Eq, Error)]
 pub enum GateFault {
-    /// It is no recording, or no whole block stands at an open place.
-    #[error("not opened")]
-    NotOpened,
+    /// It does not begin with an identification (IDBLOCK).
+    #[error("not MDF")]
+    NotMdf,
+    /// Its version is none of 4.00 to 4.19.
+    #[error("version {ver}")]
+    Version { ver: u16 },
+    /// It is finalized, or its custom word is not that of a recording.
+    #[error("not a recording")]
+    NotRecording { std: u16, custom: u16 },
+    /// No whole block of this kind stands where the form of a recording wants one.
+    #[error("no whole block of the kind that is wanted at {at}")]
+    Bad { at: u64, want: Kind },
+}
+
+impl From<IdentFault> for GateFault {
+    ghost use Rattle.std.specs.Prelude.{◌≡◌};
+    ghost use Rattle.mdf_gate.specs.Fault.{fault_of_ident};
+
+    ghost from_gives = { λ ident fault. fault ≡ fault_of_ident ident };
+
+    fn from(fault: IdentFault) -> Self {
+        match fault {
+            IdentFault::NotMdf => GateFault::NotMdf,
+            IdentFault::Version { ver } => GateFault::Version { ver },
+        }
+    }
 }

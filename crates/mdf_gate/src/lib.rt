@@ -3,7 +3,6 @@
 #![tactic(auto)]
 
 mod answer;
-mod block;
 mod recording;
 mod scan;
 

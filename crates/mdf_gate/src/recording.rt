@@ -1,42 +1,30 @@
-ghost use Rattle.std.specs.Prelude.{◌≡◌, ◌≤◌, ◌^◌, ◌↔◌, length, IsTrue, IfOk, OnOk, OnErr};
-ghost use Rattle.mdf_format.specs.Identification.{IsMdf, HasReadVersion, IsInRecordingForm};
+ghost use Rattle.std.specs.Prelude.{◌≡◌, ◌↔◌, length, IsTrue, IfOk, IfErr, OnOk, OnErr};
+ghost use Rattle.mdf_gate.specs.declared.answer.GateFault.TheVariants.{Bad};
+ghost use Rattle.mdf_format.specs.Block.{IsBlock};
+ghost use Rattle.mdf_block.specs.Block.{the_block, IsInside, IsFilled};
 ghost use Rattle.mdf_gate.specs.Recording.{IsPlace, IsRecording, first_place};
+ghost use Rattle.mdf_gate.specs.Fault.{HasFault};
 
 use crate::GateFault;
-use crate::block::{is_block, link};
+use mdf_block::{BlockAt, block_at, link_of};
 use mdf_format::Kind;
-use mdf_num::u16_at;
+use mdf_head::ident;
 
 /// The address of the header.
 const HEADER: u64 = 64;
 
-/// Whether the file begins with an identification, of a finalized file or of one that is not.
-fn is_mdf(bytes: &[u8]) -> bool
-    ensures { IsTrue result ↔ IsMdf bytes.now }
+/// The block of a kind that the form of a recording wants at an address.
+pub fn wanted_block(bytes: &[u8], at: u64, want: Kind) -> Result<BlockAt, GateFault>
+    ensures found { IfOk result (λ block. IsBlock bytes.now at want × (block ≡ the_block bytes.now at want)) }
+    ensures inside { IfOk result (IsInside (length bytes.now)) }
+    ensures filled { IfOk result (IsFilled want) }
+    ensures fault { IfErr result (λ fault. fault ≡ Bad at want) }
+    ensures none { OnErr result (¬ IsBlock bytes.now at want) }
 {
-    if bytes.len() < 64 {
-        return false;
+    match block_at(bytes, at, want) {
+        Ok(block) => Ok(block),
+        Err(_) => Err(GateFault::Bad { at, want }),
     }
-    let mark = &bytes[..8];
-    mark == b"MDF     ".as_slice() || mark == b"UnFinMF ".as_slice()
-}
-
-/// Whether the version is one that is read, 4.0 to 4.19.
-fn has_read_version(bytes: &[u8]) -> bool
-    requires { 64 ≤ length bytes.now }
-    ensures { IsTrue result ↔ HasReadVersion bytes.now }
-{
-    let version = u16_at(bytes, 28).unwrap_or(0);
-    400 <= version && version <= 419
-}
-
-/// Whether the file is unfinalized and its custom word names the form of a recording.
-fn is_in_recording_form(bytes: &[u8]) -> bool
-    requires { 64 ≤ length bytes.now }
-    ensures { IsTrue result ↔ IsInRecordingForm bytes.now }
-{
-    let custom = u16_at(bytes, 62).unwrap_or(0);
-    &bytes[..8] == b"UnFinMF ".as_slice() && custom == 1
 }
 
 /// Whether data can begin at this place.
@@ -51,21 +39,25 @@ fn is_place(place: u64) -> bool
 pub fn first_place(bytes: &[u8]) -> Result<u64, GateFault>
     ensures recording { OnOk result (IsRecording bytes.now) }
     ensures place { IfOk result (λ place. place ≡ first_place bytes.now) }
+    ensures fault { IfErr result (HasFault bytes.now) }
     ensures none { OnErr result (¬ IsRecording bytes.now) }
 {
-    if !is_mdf(bytes) || !has_read_version(bytes) || !is_in_recording_form(bytes) {
-        return Err(GateFault::NotOpened);
+    let id = ident(bytes)?;
+    if id.finalized || id.custom_flags != 1 {
+        return Err(GateFault::NotRecording {
+            std: id.std_flags,
+            custom: id.custom_flags,
+        });
     }
-    if !is_block(bytes, HEADER, Kind::Hd, b"##HD", 6, 32) {
-        return Err(GateFault::NotOpened);
-    }
-    let group = link(bytes, HEADER, 0);
-    if !is_block(bytes, group, Kind::Dg, b"##DG", 4, 8) {
-        return Err(GateFault::NotOpened);
-    }
-    let place = link(bytes, group, 2);
+    let header = wanted_block(bytes, HEADER, Kind::Hd)?;
+    let group_at = link_of(bytes, &header, 0);
+    let group = wanted_block(bytes, group_at, Kind::Dg)?;
+    let place = link_of(bytes, &group, 2);
     if !is_place(place) {
-        return Err(GateFault::NotOpened);
+        return Err(GateFault::Bad {
+            at: place,
+            want: Kind::Dt,
+        });
     }
     Ok(place)
 }

@@ -1,12 +1,14 @@
-ghost use Rattle.std.specs.Prelude.{◌≡◌, ◌+◌, ◌≤◌, ◌<◌, ◌^◌, ◌↔◌, List, ℕ, length, IsTrue, IfOk, OnErr};
-ghost use Rattle.mdf_format.specs.Recording.{IsOpenPlace, IsUnit, unit_data, next_place};
-ghost use Rattle.mdf_gate.specs.Opened.{IsCountOf};
+ghost use Rattle.std.specs.Prelude.{◌≡◌, ◌+◌, ◌≤◌, ◌<◌, ◌^◌, ◌↔◌, List, ℕ, length, IsTrue, IfOk, IfErr, OnErr};
+ghost use Rattle.mdf_format.specs.Number.{aligned};
+ghost use Rattle.mdf_format.specs.Recording.{IsOpenPlace};
 ghost use Rattle.mdf_gate.specs.Recording.{HasNoOpened};
-ghost use Rattle.mdf_gate.specs.Scan.{AreCounted, HasOpenEnd};
+ghost use Rattle.mdf_gate.specs.Opened.{IsCountOf};
+ghost use Rattle.mdf_gate.specs.Fault.{HasFault};
+ghost use Rattle.mdf_gate.specs.Scan.{AreCounted, HasOpenEnd, IsStuckAt};
 
-use crate::block::{body_size, is_block, size};
-use crate::recording::first_place;
+use crate::recording::{first_place, wanted_block};
 use crate::{GateFault, Opened};
+use mdf_block::BlockAt;
 use mdf_format::Kind;
 use mdf_num::align8;
 
@@ -17,32 +19,25 @@ fn is_open(bytes: &[u8], place: u64) -> bool
     place < bytes.len() as u64 && bytes[place as usize] == b'#'
 }
 
-/// Whether a unit stands at a place.
-fn is_unit(bytes: &[u8], place: u64) -> bool
-    ensures { IsTrue result ↔ IsUnit bytes.now place }
-{
-    is_block(bytes, place, Kind::Dt, b"##DT", 0, 0)
-}
-
-/// Counts the unit at a place too, and goes to the place behind it.
-fn count_unit(bytes: &[u8], count: Opened) -> Opened
-    requires unit { IsUnit bytes.now count.next }
-    requires short { length bytes.now ≤ 2 ^ 63 }
+/// Counts a unit too, and goes to the place behind it.
+fn count_unit(count: Opened, unit: BlockAt) -> Opened
+    requires there { count.next + 24 ≤ unit.body_at }
+    requires short { unit.body_at + unit.body_len ≤ 2 ^ 63 }
     requires blocks { count.blocks ≤ count.next }
     requires bytes { count.bytes ≤ count.next }
     ensures blocks { result.blocks ≡ count.blocks + 1 }
-    ensures bytes { result.bytes ≡ count.bytes + length (unit_data bytes.now count.next) }
+    ensures bytes { result.bytes ≡ count.bytes + unit.body_len }
     ensures first { result.first ≡ count.first }
-    ensures next { result.next ≡ next_place bytes.now count.next }
+    ensures next { result.next ≡ aligned (unit.body_at + unit.body_len) }
     ensures later { count.next + 24 ≤ result.next }
     ensures still_blocks { result.blocks ≤ result.next }
     ensures still_bytes { result.bytes ≤ result.next }
 {
     Opened {
         blocks: count.blocks + 1,
-        bytes: count.bytes + body_size(bytes, count.next),
+        bytes: count.bytes + unit.body_len,
         first: count.first,
-        next: align8(count.next + size(bytes, count.next)),
+        next: align8(unit.body_at + unit.body_len),
     }
 }
 
@@ -51,6 +46,7 @@ fn scan(bytes: &[u8], first: u64) -> Result<Opened, GateFault>
     requires { length bytes.now ≤ 2 ^ 63 }
     ensures counted { IfOk result (AreCounted bytes.now first) }
     ensures from { IfOk result (λ count. count.first ≡ first) }
+    ensures stuck { IfErr result (IsStuckAt bytes.now first) }
     ensures no_unit { OnErr result (HasOpenEnd bytes.now first) }
 {
     let mut count = Opened {
@@ -60,10 +56,8 @@ fn scan(bytes: &[u8], first: u64) -> Result<Opened, GateFault>
         next: first,
     };
     while is_open(bytes, count.next) {
-        if !is_unit(bytes, count.next) {
-            return Err(GateFault::NotOpened);
-        }
-        count = count_unit(bytes, count);
+        let unit = wanted_block(bytes, count.next, Kind::Dt)?;
+        count = count_unit(count, unit);
     }
     Ok(count)
 }
@@ -72,10 +66,14 @@ fn scan(bytes: &[u8], first: u64) -> Result<Opened, GateFault>
 /// memory.
 ///
 /// # Errors
-/// `NotOpened` exactly where the file is no recording, or no whole block stands at an open place.
+/// The first of these that fails, in this order: `NotMdf` exactly where no identification stands at the start,
+/// `Version` where its version is not read, `NotRecording` where it is not that of a recording, and `Bad` where no
+/// whole block of the kind stands at the address: the header at 64, the first data group, a data link that is a
+/// place, and a data block at each open place.
 pub fn opened(bytes: &[u8]) -> Result<Opened, GateFault>
     requires { length bytes.now ≤ 2 ^ 63 }
     ensures opened { IfOk result (IsCountOf bytes.now) }
+    ensures fault { IfErr result (HasFault bytes.now) }
     ensures not_opened { OnErr result (HasNoOpened bytes.now) }
 {
     let first = first_place(bytes)?;

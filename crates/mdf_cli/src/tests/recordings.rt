@@ -1,3 +1,4 @@
+use mdf_format::Kind;
 use mdf_gate::{GateFault, Opened, opened};
 use std::alloc::Global;
 use std::test::Fail;
@@ -85,38 +86,106 @@ fn opened_blocks_and_their_places(rt: HostRuntime) -> Result<(), Fail> {
     Ok(())
 }
 
-// What is broken; the length of the file and the part that is put into it.
-const BROKEN: [(&str, usize, Part); 18] = [
-    ("a zero first byte", 313, (0, b"\0")),
-    ("a finalized file", 313, (0, b"MDF     ")),
-    ("a part of an identification", 63, (0, b"")),
-    ("version 399", 313, (28, b"\x8F")),
-    ("version 420", 313, (28, b"\xA4")),
-    ("another custom word", 313, (62, b"\x02")),
-    ("no header", 313, (66, b"X")),
-    ("a header with 5 links", 313, (80, b"\x05")),
-    ("no data group", 313, (88, b"\0")),
-    ("a data group at no multiple of 8", 313, (88, b"\xA9")),
-    ("another block for the data group", 313, (171, b"T")),
-    ("a data group that is too short", 313, (176, b"\x37")),
-    (
-        "a link to the data group near the greatest number",
-        313,
-        (88, b"\xF8\xFF\xFF\xFF\xFF\xFF\xFF\xFF"),
-    ),
-    ("no data link", 313, (208, b"\0")),
-    ("a data link at no multiple of 8", 313, (208, b"\xE9")),
-    ("an open place without a block", 313, (274, b"X")),
-    ("an opened block that passes the end", 313, (280, b"\x2A")),
-    ("an opened block that is cut", 311, (0, b"")),
-];
+const HEADER: GateFault = GateFault::Bad {
+    at: 64,
+    want: Kind::Hd,
+};
+
+const fn no_group(at: u64) -> GateFault {
+    GateFault::Bad { at, want: Kind::Dg }
+}
+
+const fn no_data(at: u64) -> GateFault {
+    GateFault::Bad { at, want: Kind::Dt }
+}
 
 #[test]
 fn what_is_no_recording_is_refused(rt: HostRuntime) -> Result<(), Fail> {
-    for (broken, length, change) in BROKEN {
+    // What is broken; the length of the file and the part that is put into it; the fault.
+    let broken: [(&str, usize, Part, GateFault); 18] = [
+        ("a zero first byte", 313, (0, b"\0"), GateFault::NotMdf),
+        (
+            "a part of an identification",
+            63,
+            (0, b""),
+            GateFault::NotMdf,
+        ),
+        (
+            "version 399",
+            313,
+            (28, b"\x8F"),
+            GateFault::Version { ver: 399 },
+        ),
+        (
+            "version 420",
+            313,
+            (28, b"\xA4"),
+            GateFault::Version { ver: 420 },
+        ),
+        (
+            "a finalized file",
+            313,
+            (0, b"MDF     "),
+            GateFault::NotRecording { std: 33, custom: 1 },
+        ),
+        (
+            "another custom word",
+            313,
+            (62, b"\x02"),
+            GateFault::NotRecording { std: 33, custom: 2 },
+        ),
+        ("no header", 313, (66, b"X"), HEADER),
+        ("a header with 5 links", 313, (80, b"\x05"), HEADER),
+        ("no data group", 313, (88, b"\0"), no_group(0)),
+        (
+            "a data group at no multiple of 8",
+            313,
+            (88, b"\xA9"),
+            no_group(169),
+        ),
+        (
+            "another block for the data group",
+            313,
+            (171, b"T"),
+            no_group(168),
+        ),
+        (
+            "a data group that is too short",
+            313,
+            (176, b"\x37"),
+            no_group(168),
+        ),
+        (
+            "an address near 2^64",
+            313,
+            (88, b"\xF8\xFF\xFF\xFF\xFF\xFF\xFF\xFF"),
+            no_group(0xFFFF_FFFF_FFFF_FFF8),
+        ),
+        ("no data link", 313, (208, b"\0"), no_data(0)),
+        (
+            "a data link at no multiple of 8",
+            313,
+            (208, b"\xE9"),
+            no_data(233),
+        ),
+        (
+            "an open place without a block",
+            313,
+            (274, b"X"),
+            no_data(272),
+        ),
+        (
+            "an opened block that passes the end",
+            313,
+            (280, b"\x2A"),
+            no_data(272),
+        ),
+        ("an opened block that is cut", 311, (0, b""), no_data(272)),
+    ];
+    for (what, length, change, fault) in broken {
         let file = recording(rt.alloc(), length, change)?;
         assert!(rt; file.len() <= 313);
-        assert_eq!(rt; opened(&file), Err(GateFault::NotOpened), "{broken}");
+        assert_eq!(rt; opened(&file), Err(fault), "{what}");
     }
     Ok(())
 }

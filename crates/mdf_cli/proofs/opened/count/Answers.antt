@@ -10,7 +10,8 @@ returns-in_err-opened-clause-comes g c =
     let p = err_from_is_err_and c.from_residual-in_err-opened.result c.from_residual-in_err-opened.ensures.1 in
     let same = rw c.in_ok-attach.ensures.content at c.in_ok-bytes.ensures.bytes in
     let none = rw c.as_slice.ensures at c.in_err-opened.ensures.not_opened in
-    rw (p.1, p.2) (gate_comes _ (g.A.Disk.faults c.args.first.now) (g.A.Disk.faults c.read_whole.new.disk) _ c.in_err-opened.field-0.0 same none c.in_ok-bytes.ensures.short)
+    let has = rw c.as_slice.ensures at c.in_err-opened.ensures.fault in
+    rw (p.1, p.2) (gate_comes _ (g.A.Disk.faults c.args.first.now) (g.A.Disk.faults c.read_whole.new.disk) _ c.in_err-opened.field-0.0 same has none c.in_ok-bytes.ensures.short)
 
 pub returns-clause-comes : goal.returns-clause-comes
 returns-clause-comes g c =

@@ -1,4 +1,4 @@
-use crate::file_disk::FileDisk;
+use super::FileDisk;
 use mdf_disk::{Disk, Role, read_whole};
 use mdf_num::Bytes;
 use std::test::Fail;
