@@ -1,6 +1,6 @@
 use super::*;
 use mdf_block::{Draft, Kind, Note};
-use mdf_num::{Bytes, FaultCount, Halt, Memory, Span, Stop};
+use mdf_num::{Bytes, FaultCount, Halt, Memory, Rows, Span, Stop};
 use std::alloc::Global;
 use std::test::Fail;
 
@@ -191,33 +191,42 @@ fn the_first_fault_is_answered(rt: HostRuntime) -> Result<(), Fail> {
     Ok(())
 }
 
+// What a reader answers over a span that stops after so many calls, and how many faults that span then counts.
+fn stopped(
+    alloc: Global,
+    bytes: &[u8],
+    calls: u64,
+    stop: Stop,
+) -> (Result<(Head, Rows<History>), Halt<HeadFault>>, u64) {
+    let mut span = Stopping {
+        bytes,
+        calls,
+        stop,
+        faults: FaultCount::zero(),
+    };
+    let mut budget = 100;
+    let answer = read_head_in(alloc, &mut span, &mut budget);
+    (answer, span.faults())
+}
+
 #[test]
-fn a_span_that_stops_stops_the_reader(rt: HostRuntime) -> Result<(), Fail> {
+fn a_span_that_fails_stops_the_reader(rt: HostRuntime) -> Result<(), Fail> {
     let bytes = written(rt.alloc(), None)?;
-    for (stop, faults) in [(Stop::Failed, 1u64), (Stop::Memory, 0)] {
-        let mut calls = 0;
-        while calls < 30 {
-            let mut span = Stopping {
-                bytes: bytes.as_slice(),
-                calls,
-                stop,
-                faults: FaultCount::zero(),
-            };
-            let mut budget = 100;
-            let answer = read_head_in(rt.alloc(), &mut span, &mut budget);
-            if answer.is_ok() {
-                assert!(rt; calls > 20);
-                break;
-            }
-            if let Stop::Failed = stop {
-                assert!(rt; matches!(answer, Err(Halt::Failed)));
-            } else {
-                assert!(rt; matches!(answer, Err(Halt::Memory)));
-            }
-            assert_eq!(rt; budget, 100);
-            assert_eq!(rt; span.faults(), faults);
-            calls += 1;
-        }
+    for calls in 0..20 {
+        let (answer, faults) = stopped(rt.alloc(), bytes.as_slice(), calls, Stop::Failed);
+        assert!(rt; matches!(answer, Err(Halt::Failed)));
+        assert_eq!(rt; faults, 1);
+    }
+    Ok(())
+}
+
+#[test]
+fn a_span_that_wants_memory_stops_the_reader(rt: HostRuntime) -> Result<(), Fail> {
+    let bytes = written(rt.alloc(), None)?;
+    for calls in 0..20 {
+        let (answer, faults) = stopped(rt.alloc(), bytes.as_slice(), calls, Stop::Memory);
+        assert!(rt; matches!(answer, Err(Halt::Memory)));
+        assert_eq!(rt; faults, 0);
     }
     Ok(())
 }
@@ -249,17 +258,19 @@ fn the_identification_is_read(rt: HostRuntime) -> Result<(), Fail> {
 }
 
 #[test]
-fn other_files_are_refused(rt: HostRuntime) -> Result<(), Fail> {
+fn other_versions_are_refused(rt: HostRuntime) -> Result<(), Fail> {
     for ver in [399u16, 420, 0, u16::MAX, 300] {
-        assert_eq!(rt;
-            ident(&first(b"MDF     ", ver)),
-            Err(IdentFault::Version { ver })
-        );
-        assert_eq!(rt; ident(&first(b"MDF4    ", ver)), Err(IdentFault::NotMdf));
+        let answer = ident(&first(b"MDF     ", ver));
+        assert_eq!(rt; answer, Err(IdentFault::Version { ver }));
     }
-    let whole = first(b"MDF     ", 410);
-    assert_eq!(rt; ident(&whole[..63]), Err(IdentFault::NotMdf));
+    Ok(())
+}
+
+#[test]
+fn other_names_are_refused(rt: HostRuntime) -> Result<(), Fail> {
     assert_eq!(rt; ident(&[]), Err(IdentFault::NotMdf));
+    assert_eq!(rt; ident(&[0; 63]), Err(IdentFault::NotMdf));
+    assert_eq!(rt; ident(&first(b"MDF4    ", 410)), Err(IdentFault::NotMdf));
     assert_eq!(rt; ident(&first(b"UnFinMF\0", 410)), Err(IdentFault::NotMdf));
     Ok(())
 }
