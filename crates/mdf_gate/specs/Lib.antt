@@ -2,3 +2,5 @@ pub mod Recording
 pub mod Opened
 pub mod Scan
 pub mod Fault
+pub mod Gated
+pub mod Images
