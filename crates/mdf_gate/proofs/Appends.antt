@@ -69,7 +69,7 @@ adds_after (Some s) new (Some file) clock first blocks place body agrees rests o
     (adds file (rests_kept (Some s) file clock first blocks place agrees rests) rests.rests.ends))
 
 -- no moment is as late as the present one
-none_later : (past : List Moment) (t : ℕ) (file : List ℕ) → length past ≤ t → LeftInOne past t file → ⊥
+pub none_later : (past : List Moment) (t : ℕ) (file : List ℕ) → length past ≤ t → LeftInOne past t file → ⊥
 none_later [] t file late left = left
 none_later (moment ∷ past) t file late left = ⊎_elim (λ now. absurd (omega (arith, late, now.0))) (none_later past t file (omega (arith, late))) left
 

@@ -1,11 +1,17 @@
 -- What a crash may leave while a head is written under a seal.
-use Rattle.std.proofs.Common.{◌≡◌, inl, inr, ⊎_elim, ℕ, ◌≤◌, ◌<◌, List, [], ◌∷◌, ◌++◌, length, drop, get_or, codes, sym, ◌∙◌, ap, subst, arith, length-append}
+use Rattle.std.proofs.Common.{◌≡◌, inl, inr, ⊎_elim, ℕ, ◌≤◌, ◌<◌, List, [], ◌∷◌, ◌++◌, length, take, drop, get_or, codes, Option, Some, None, sym, ◌∙◌, ap, subst, arith, length-append}
 use Rattle.std.proofs.lemmas.List.{take_at, drop_more, get_or-take, get_or-drop, get_or_append_left}
 use Rattle.std.proofs.lemmas.Bool.{cases_eq}
 use Rattle.mdf_format.specs.Number.{bytes_at}
 use Rattle.mdf_seal.specs.Images.{IsClosed, IsWholeButFirst}
 use Rattle.mdf_gate.specs.Gated.{IsRecordingHead}
-use Rattle.mdf_gate.specs.Images.{IsBegun, Opens}
+use Rattle.mdf_disk.specs.Story.{Moment, Story, MayLeave, Agrees, LeftSince, settled}
+use Rattle.mdf_disk.specs.Crash.{Adds, HoldsSince}
+use Rattle.mdf_disk.proofs.Crash.{settled_leaves}
+use Rattle.mdf_seal.specs.Seal.{IsBlank, IsKept}
+use Rattle.std.specs.Prelude.{IfSome}
+use Rattle.mdf_gate.specs.Images.{IsBegun, Opens, head_of}
+use Rattle.mdf_gate.proofs.Appends.{none_later}
 use Rattle.mdf_gate.proofs.Resting.{rests_opens, head_rests}
 
 -- a byte of the mark
@@ -57,3 +63,26 @@ module _ (head : List ℕ) (recording : IsRecordingHead head) where
       (λ unfinalized. absurd (other (in_mark file (codes "UnFinMF ") 0 (omega arith) unfinalized)))
       mdf.marked))
       (cases_eq (get_or file 0 0) 85)
+
+-- each file that a crash since the head was begun leaves, where the disk had an empty file
+pub begun_since : (head : List ℕ) (old new : Option Story) (content : Option (List ℕ)) (clock first : ℕ) → Agrees old content clock → IsBlank content old
+    → Adds old new (IsBegun head) → IfSome new (λ s. head_of new first ≡ head) → HoldsSince new clock (IsBegun (head_of new first))
+begun_since head old None content clock first agrees blank adds is = λ file left. absurd left
+begun_since head None (Some new) content clock first agrees blank adds is = λ file left.
+    subst (λ h. IsBegun h file) (sym is) (⊎_elim (λ none. absurd none) (λ begun. begun) (adds clock file left))
+begun_since head (Some old) (Some new) content clock first agrees blank adds is = λ file left.
+    subst (λ h. IsBegun h file) (sym is) (⊎_elim (from_blank file) (λ begun. begun) (adds clock file left)) where
+      short : (file : List ℕ) → MayLeave (settled []) file → length file ≤ 1
+      short file leaves = omega (arith, ap length (settled_leaves [] file leaves))
+
+      from_blank : (file : List ℕ) → LeftSince (Some old) clock file → IsBegun head file
+      from_blank file left = ⊎_elim
+          (λ now. short_begun head file (short file (subst (λ m. MayLeave m file) blank.kept now.1)))
+          (λ before. absurd (none_later old.past clock file (omega (arith, agrees.moment_is)) before)) left
+
+-- the head of a file that is kept with its closed gate
+pub kept_head : (head : List ℕ) (content : Option (List ℕ)) (story : Option Story) → IsKept content story (head ++ 0 ∷ [])
+    → IfSome story (λ s. head_of story (length head) ≡ head)
+kept_head head content None kept = tt
+kept_head head content (Some s) kept =
+    ap (λ (m : Moment). take (length head) m.content) kept.kept ∙ take_at head (0 ∷ []) (length head) (omega arith)

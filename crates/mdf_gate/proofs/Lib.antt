@@ -5,5 +5,6 @@ mod Left
 mod Resting
 mod Stages
 mod Buffers
+pub mod Carrying
 mod Begun
 pub mod Appends

@@ -4,3 +4,4 @@ pub mod Scan
 pub mod Fault
 pub mod Gated
 pub mod Images
+pub mod Carried

@@ -73,6 +73,7 @@ impl<D: Disk> GatedFile<D> {
         ensures content { IfOk result (λ file. IfSome (D.content file.disk) (λ bytes. bytes ≡ head.now ++ 0 ∷ [])) }
         ensures head { IfOk result (λ file. IfSome (D.story file.disk) (λ _. head_of (D.story file.disk) file.first ≡ head.now)) }
         ensures any_moment { Adds (D.story disk) (D.story (disk_of result)) (IsBegun head.now) }
+        ensures begun { IfOk result (λ file. HoldsSince (D.story file.disk) file.start (IsBegun (head_of (D.story file.disk) file.first))) }
         ensures cause { HasCause (D.faults disk) (D.faults (disk_of result)) result }
         ensures asked { D.asked (disk_of result) ≡ D.asked disk }
         ensures moment { D.moment disk ≤ D.moment (disk_of result) }
