@@ -1,4 +1,5 @@
 ghost use Rattle.std.specs.Prelude.{◌≡◌, ◌+◌, ◌≤◌, ◌<◌, ◌^◌, ℕ, List, [], ◌∷◌, ◌++◌, true, false, length, All, sum_by, drop, IfOk, IfErr};
+ghost use Rattle.mdf_format.specs.Cause.{Rose};
 ghost use Rattle.mdf_disk.specs.Crash.{HoldsSince};
 ghost use Rattle.mdf_layout.specs.Layout.{AreDisjoint};
 ghost use Rattle.mdf_layout.specs.Record.{SampleFits, encoded_size, cost_of, history_cost, history_size};
@@ -155,6 +156,7 @@ impl<D: Disk, V: Shown> Book<D, V> {
         ensures history { result.1.items ≡ self.history }
         ensures marks { result.2.items ≡ self.marks }
         ensures view { result.3 ≡ self.view }
+        ensures within { history_cost self.terms.layouts self.history ≤ self.terms.session_limit }
         ensures kept { IsKept self.terms (D.story self.disk) (D.moment self.disk) self.history self.marks }
     {
         let Book { front, file } = self;
@@ -232,7 +234,8 @@ impl<D: Disk, V: Shown> Book<D, V> {
 
     /// Whether a call was answered by a fault of the disk, which is where its file has failed.
     pub fn stopped(&self) -> bool
-        ensures { result ≡ self.now.stopped }
+        ensures stopped { result ≡ self.now.stopped }
+        ensures cause { self.now.stopped ≡ true → Rose self.now.terms.faults (D.faults self.now.disk) }
     {
         self.file.failed()
     }

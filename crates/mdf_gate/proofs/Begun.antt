@@ -6,9 +6,9 @@ use Rattle.mdf_format.specs.Number.{bytes_at}
 use Rattle.mdf_seal.specs.Images.{IsClosed, IsWholeButFirst}
 use Rattle.mdf_gate.specs.Gated.{IsRecordingHead}
 use Rattle.mdf_disk.specs.Story.{Moment, Story, MayLeave, Agrees, LeftSince, settled}
-use Rattle.mdf_disk.specs.Crash.{Adds, HoldsSince}
+use Rattle.mdf_disk.specs.Crash.{Adds, NowHas, HoldsSince}
 use Rattle.mdf_disk.proofs.Crash.{settled_leaves}
-use Rattle.mdf_seal.specs.Seal.{IsBlank, IsKept}
+use Rattle.mdf_seal.specs.Seal.{IsKept}
 use Rattle.std.specs.Prelude.{IfSome}
 use Rattle.mdf_gate.specs.Images.{IsBegun, Opens, head_of}
 use Rattle.mdf_gate.proofs.Appends.{none_later}
@@ -64,21 +64,27 @@ module _ (head : List ℕ) (recording : IsRecordingHead head) where
       mdf.marked))
       (cases_eq (get_or file 0 0) 85)
 
--- each file that a crash since the head was begun leaves, where the disk had an empty file
-pub begun_since : (head : List ℕ) (old new : Option Story) (content : Option (List ℕ)) (clock first : ℕ) → Agrees old content clock → IsBlank content old
-    → Adds old new (IsBegun head) → IfSome new (λ s. head_of new first ≡ head) → HoldsSince new clock (IsBegun (head_of new first))
-begun_since head old None content clock first agrees blank adds is = λ file left. absurd left
-begun_since head None (Some new) content clock first agrees blank adds is = λ file left.
-    subst (λ h. IsBegun h file) (sym is) (⊎_elim (λ none. absurd none) (λ begun. begun) (adds clock file left))
-begun_since head (Some old) (Some new) content clock first agrees blank adds is = λ file left.
-    subst (λ h. IsBegun h file) (sym is) (⊎_elim (from_blank file) (λ begun. begun) (adds clock file left)) where
-      short : (file : List ℕ) → MayLeave (settled []) file → length file ≤ 1
-      short file leaves = omega (arith, ap length (settled_leaves [] file leaves))
+-- each file that a crash since the head was begun leaves, where a crash could leave the empty file alone before
+pub begun_holds : (head : List ℕ) (old new : Option Story) (content : Option (List ℕ)) (clock : ℕ) → Agrees old content clock
+    → NowHas old (λ moment. moment ≡ settled []) → Adds old new (IsBegun head) → HoldsSince new clock (IsBegun head)
+begun_holds head None new content clock agrees blank adds = λ file left. ⊎_elim (λ none. absurd none) (λ begun. begun) (adds clock file left)
+begun_holds head (Some old) new content clock agrees blank adds = λ file left.
+    ⊎_elim (from_blank file) (λ begun. begun) (adds clock file left)
+  where
+    short : (file : List ℕ) → MayLeave (settled []) file → length file ≤ 1
+    short file leaves = omega (arith, ap length (settled_leaves [] file leaves))
 
-      from_blank : (file : List ℕ) → LeftSince (Some old) clock file → IsBegun head file
-      from_blank file left = ⊎_elim
-          (λ now. short_begun head file (short file (subst (λ m. MayLeave m file) blank.kept now.1)))
-          (λ before. absurd (none_later old.past clock file (omega (arith, agrees.moment_is)) before)) left
+    from_blank : (file : List ℕ) → LeftSince (Some old) clock file → IsBegun head file
+    from_blank file left = ⊎_elim
+        (λ now. short_begun head file (short file (subst (λ m. MayLeave m file) blank now.1)))
+        (λ before. absurd (none_later old.past clock file (omega (arith, agrees.moment_is)) before))
+        left
+
+-- the same of the head that the file has now
+pub begun_since : (head : List ℕ) (new : Option Story) (clock first : ℕ) → IfSome new (λ s. head_of new first ≡ head)
+    → HoldsSince new clock (IsBegun head) → HoldsSince new clock (IsBegun (head_of new first))
+begun_since head None clock first is holds = λ file left. absurd left
+begun_since head (Some new) clock first is holds = λ file left. subst (λ h. IsBegun h file) (sym is) (holds file left)
 
 -- the head of a file that is kept with its closed gate
 pub kept_head : (head : List ℕ) (content : Option (List ℕ)) (story : Option Story) → IsKept content story (head ++ 0 ∷ [])

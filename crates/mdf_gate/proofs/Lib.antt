@@ -6,5 +6,5 @@ mod Resting
 mod Stages
 mod Buffers
 pub mod Carrying
-mod Begun
+pub mod Begun
 pub mod Appends

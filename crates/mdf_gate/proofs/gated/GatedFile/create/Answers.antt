@@ -2,7 +2,7 @@ use Rattle.std.proofs.Common.{◌≡◌, ◌%◌, ◌++◌, [], ◌∷◌, ℕ, 
 use Rattle.std.specs.Prelude.{IsSome}
 use Rattle.mdf_disk.specs.Crash.{HoldsSince}
 use Rattle.mdf_gate.specs.Images.{IsBegun, head_of}
-use Rattle.mdf_gate.proofs.Begun.{begun_since, kept_head}
+use Rattle.mdf_gate.proofs.Begun.{begun_holds, begun_since, kept_head}
 use Rattle.mdf_gate.proofs.Resting.{head_rests}
 use Rattle.mdf_gate.proofs.Appends.{kept_rests}
 use Rattle.mdf_gate.proofs.gated.GatedFile.create.Goals as goal
@@ -37,5 +37,5 @@ returns-clause-begun g c =
     let story = g.D.Disk.story c.write_head.new.disk in
     let head = c.args.head.now in
     subst (λ (t : ℕ). HoldsSince story t (IsBegun (head_of story (length head)))) (sym c.moment-start.ensures)
-    (begun_since head (g.D.Disk.story c.args.disk) story (g.D.Disk.content c.args.disk) _ (length head) (g.met.D.Disk.agrees c.args.disk) c.requires.blank
-    c.write_head.ensures.any_moment (kept_head head (g.D.Disk.content c.write_head.new.disk) story c.in-Ok.ensures.ok))
+    (begun_since head story _ (length head) (kept_head head (g.D.Disk.content c.write_head.new.disk) story c.in-Ok.ensures.ok)
+    (begun_holds head (g.D.Disk.story c.args.disk) story (g.D.Disk.content c.args.disk) _ (g.met.D.Disk.agrees c.args.disk) c.requires.blank.kept c.write_head.ensures.any_moment))
