@@ -7,7 +7,7 @@ use Rattle.mdf_layout.specs.declared.sample.Sample.{Sample}
 use Rattle.book_owned.specs.declared.mark.Mark.{Mark}
 
 -- What no call of a book changes: the layouts of its groups, its limits in bytes, which view it has; and of its file the
--- head, the disk's moment and count of faults when it was made, and what the disk was asked for.
+-- head, the disk's moment and count of faults when it was made, whether the disk tells its story, and what it was asked for.
 pub record Terms : Type 0 where
   pub layouts : List Layout
   pub block_limit : ℕ
@@ -16,6 +16,7 @@ pub record Terms : Type 0 where
   pub head : List ℕ
   pub start : ℕ
   pub faults : ℕ
+  pub told : Bool
   pub asked : Option (List ℕ × Role)
 
 -- the accepted samples, the marks, whether a fault of the disk stopped it, the terms, the disk and the view

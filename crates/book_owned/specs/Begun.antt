@@ -1,5 +1,5 @@
 -- What a book begins with.
-use Rattle.std.specs.Prelude.{ℕ, ◌≡◌, ◌≤◌, ◌<◌, ◌^◌, false, List, [], ◌∷◌, length, All, sum_by, Option}
+use Rattle.std.specs.Prelude.{ℕ, ◌≡◌, ◌≤◌, ◌<◌, ◌^◌, false, List, [], ◌∷◌, length, All, sum_by, Option, is_some}
 use Rattle.mdf_disk.specs.Story.{Story}
 use Rattle.mdf_disk.specs.Crash.{HoldsSince}
 use Rattle.mdf_disk.specs.declared.role.Role.{Role}
@@ -41,5 +41,6 @@ pub record HasBegun {D V : Type 0} (story : D → Option Story) (moment : D → 
     head = head_of (story file.disk) file.first;
     start = file.start;
     faults = file.faults;
+    told = is_some (story file.disk);
     asked = asked file.disk;
   }

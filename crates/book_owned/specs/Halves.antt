@@ -1,5 +1,5 @@
 -- The halves of a book: what it holds in memory, and its file.
-use Rattle.std.specs.Prelude.{ℕ, ◌≡◌, ◌≢◌, ◌+◌, ◌^◌, ◌≤◌, false, List, [], ◌∷◌, ◌++◌, length, take, drop, All, sum_by, Option}
+use Rattle.std.specs.Prelude.{ℕ, ◌≡◌, ◌≢◌, ◌+◌, ◌^◌, ◌≤◌, false, List, [], ◌∷◌, ◌++◌, length, take, drop, All, sum_by, Option, is_some}
 use Rattle.std.specs.List.{concat}
 use mathlib.Core.List.{IsPrefix}
 use Rattle.mdf_disk.specs.Story.{Story}
@@ -24,6 +24,7 @@ terms_of asked story which front file = record {
   head = head_of (story file.disk) file.first;
   start = file.start;
   faults = file.faults;
+  told = is_some (story file.disk);
   asked = asked file.disk;
 }
 

@@ -1,12 +1,12 @@
 -- What a book keeps of its file, whatever happens.
-use Rattle.std.specs.Prelude.{ℕ, ◌≤◌, ◌⊎◌, List, length, All, Option, is_some}
+use Rattle.std.specs.Prelude.{ℕ, ◌≤◌, ◌⊎◌, List, length, take, All, Option, is_some}
 use Rattle.mdf_disk.specs.Story.{Story}
 use Rattle.mdf_disk.specs.Crash.{HoldsSince}
 use Rattle.mdf_layout.specs.Layout.{Layout}
 use Rattle.mdf_layout.specs.declared.sample.Sample.{Sample}
 use Rattle.mdf_gate.specs.Images.{IsNotMdf}
-use Rattle.mdf_gate.specs.Carried.{Carries}
-use Rattle.book_owned.specs.Marks.{AreRising}
+use Rattle.mdf_gate.specs.Carried.{Carries, IsCarried}
+use Rattle.book_owned.specs.Marks.{AreRising, durable}
 use Rattle.book_owned.specs.Account.{Terms}
 use Rattle.book_owned.specs.declared.mark.Mark.{Mark}
 
@@ -31,3 +31,7 @@ pub record IsKept (terms : Terms) (story : Option Story) (clock : ℕ) (history 
   pub marks_hold : MarksHold terms.layouts terms.head story clock history marks
   pub start_holds : StartHolds terms.layouts terms.head story terms.start history
   pub marks_rise : AreRising (is_some story) marks
+
+-- the data of the file's opened blocks are the records of the durable samples
+abbrev pub HoldsDurable : Terms → List Sample → List Mark → List ℕ → Type 0
+HoldsDurable terms history marks file = IsCarried terms.layouts file (take (durable marks) history)

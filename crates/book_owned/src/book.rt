@@ -1,4 +1,4 @@
-ghost use Rattle.std.specs.Prelude.{◌≡◌, ◌+◌, ◌≤◌, ◌<◌, ◌^◌, ℕ, List, [], ◌∷◌, ◌++◌, true, false, length, All, sum_by, drop, IfOk, IfErr};
+ghost use Rattle.std.specs.Prelude.{◌≡◌, ◌+◌, ◌≤◌, ◌<◌, ◌^◌, ℕ, List, [], ◌∷◌, ◌++◌, true, false, length, All, sum_by, drop, is_some, IfOk, IfErr, IfSome};
 ghost use Rattle.mdf_format.specs.Cause.{Rose};
 ghost use Rattle.mdf_disk.specs.Crash.{HoldsSince};
 ghost use Rattle.mdf_layout.specs.Layout.{AreDisjoint};
@@ -52,7 +52,7 @@ fn buffers(alloc: Global, block_limit: u32) -> Result<(Block, Vec<u8>, Marks), M
 impl<D: Disk, V: Shown> Book<D, V> {
     ghost use Rattle.book_owned.specs.Marks.{last_mark, durable};
     ghost use Rattle.book_owned.specs.Account.{Account, Steps};
-    ghost use Rattle.book_owned.specs.Kept.{IsKept};
+    ghost use Rattle.book_owned.specs.Kept.{HoldsDurable, IsKept};
     ghost use Rattle.book_owned.specs.Begun.{IsNewFile, IsAdmissible, HasBegun};
     ghost use Rattle.book_owned.specs.Answers.{AppendAnswers, FlushAnswers, accepted_by};
 
@@ -157,6 +157,9 @@ impl<D: Disk, V: Shown> Book<D, V> {
         ensures marks { result.2.items ≡ self.marks }
         ensures view { result.3 ≡ self.view }
         ensures within { history_cost self.terms.layouts self.history ≤ self.terms.session_limit }
+        ensures asked { D.asked self.disk ≡ self.terms.asked }
+        ensures told { is_some (D.story self.disk) ≡ self.terms.told }
+        ensures content { self.stopped ≡ false → IfSome (D.content self.disk) (HoldsDurable self.terms self.history self.marks) }
         ensures kept { IsKept self.terms (D.story self.disk) (D.moment self.disk) self.history self.marks }
     {
         let Book { front, file } = self;

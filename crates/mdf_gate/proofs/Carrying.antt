@@ -1,8 +1,10 @@
 -- What a file carries, of a longer history and of fewer samples.
-use Rattle.std.proofs.Common.{◌≡◌, ◌≤◌, ◌⊎◌, ℕ, List, [], ◌∷◌, ◌++◌, length, take, drop, refl, sym, ◌∙◌, ap, subst, inl, inr, ⊎_elim, arith, append_assoc, length-append}
+use Rattle.std.proofs.Common.{◌≡◌, ◌≤◌, ◌⊎◌, ℕ, List, [], ◌∷◌, ◌++◌, length, take, drop, Option, Some, None, refl, sym, ◌∙◌, ap, subst, inl, inr, ⊎_elim, arith, append_assoc, length-append}
 use Rattle.std.proofs.lemmas.List.{take-append-drop, length-take-le, append-nil}
 use Rattle.std.proofs.lemmas.List.Folds.{concat-append}
+use Rattle.std.specs.Prelude.{IfSome}
 use Rattle.std.specs.List.{concat}
+use Rattle.mdf_disk.specs.Story.{Story}
 use mathlib.Core.List.{IsPrefix}
 use Rattle.mdf_layout.specs.Layout.{Layout}
 use Rattle.mdf_layout.specs.Record.{AreRecords}
@@ -10,7 +12,9 @@ use Rattle.mdf_layout.specs.declared.sample.Sample.{Sample}
 use Rattle.mdf_layout.proofs.Records.{are_records-append, no_records}
 use Rattle.mdf_gate.specs.Recording.{IsOpened}
 use Rattle.mdf_gate.specs.Images.{IsNotMdf, IsBegun, OpensEither}
-use Rattle.mdf_gate.specs.Carried.{Carries}
+use Rattle.mdf_gate.specs.Carried.{Carries, IsCarried}
+use Rattle.mdf_gate.specs.Gated.{RestsOn}
+use Rattle.mdf_gate.proofs.Resting.{rests_opens}
 
 -- a list begins itself, and a beginning of a beginning begins the whole
 pub prefix_self : {A : Type 0} (xs : List A) → IsPrefix xs xs
@@ -87,3 +91,10 @@ module _ (layouts : List Layout) (head : List ℕ) where
   pub carries_begun : (history : List Sample) (file : List ℕ) → IsBegun head file → IsNotMdf file ⊎ Carries layouts head history 0 file
   carries_begun history file begun =
       ⊎_elim inl (λ h. inr (carries_opened history [] [] file h.0 h.1 (no_records layouts) (history, refl))) begun
+
+-- the content of a file at rest carries the samples of its blocks
+pub rests_carry : (layouts : List Layout) (content : Option (List ℕ)) (story : Option Story) (first place : ℕ) (blocks : List (List ℕ)) (samples : List Sample)
+    → RestsOn content story first blocks place → AreRecords layouts (concat blocks) samples → IfSome content (λ file. IsCarried layouts file samples)
+rests_carry layouts None story first place blocks samples rests records = tt
+rests_carry layouts (Some file) story first place blocks samples rests records =
+    record { blocks = blocks; opened = (rests_opens first blocks place file rests.rests).1; records = records }
