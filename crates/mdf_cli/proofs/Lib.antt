@@ -1,1 +1,5 @@
+mod Keeps
+mod Marking
+mod Pieces
+mod Recording
 mod Told

@@ -7,7 +7,7 @@ use Rattle.mdf_gate.specs.declared.answer.GateFault.{GateFault}
 use Rattle.mdf_cli.specs.Words.{IsUsage}
 use Rattle.mdf_cli.specs.Commands.{Asks}
 use Rattle.mdf_cli.specs.declared.command.Command.{Command}
-use Rattle.mdf_cli.specs.declared.command.Command.TheVariants.{Opened}
+use Rattle.mdf_cli.specs.declared.command.Command.TheVariants.{Opened, Record}
 use Rattle.mdf_cli.specs.Faults.{INPUT_LIMIT, InputFaultComes}
 use Rattle.mdf_cli.specs.declared.fault.Fault.TheVariants.{Gate}
 
@@ -31,3 +31,4 @@ two_items (x ∷ y ∷ z ∷ xs) a b long first second = absurd (omega arith)
 -- words that name a command aren't wrong
 pub not_usage : (words : List (List ℕ)) (command : Command) → Asks words command → ¬ IsUsage words
 not_usage words (Opened input) asks usage = usage.not_opened input.now asks
+not_usage words (Record output) asks usage = usage.not_record output.now asks

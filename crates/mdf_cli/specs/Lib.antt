@@ -3,3 +3,10 @@ pub mod Commands
 pub mod Faults
 pub mod Texts
 pub mod Opened
+pub mod Head
+pub mod Drive
+pub mod Script
+pub mod Finish
+pub mod Record
+pub mod Recorded
+pub mod Kept

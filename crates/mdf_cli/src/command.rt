@@ -9,6 +9,8 @@ use mdf_num::{Bytes, Rows};
 pub enum Command<'a> {
     /// `opened IN`
     Opened { input: &'a Bytes },
+    /// `record OUT`
+    Record { output: &'a Bytes },
 }
 
 /// The command that the words name, if any.
@@ -17,6 +19,9 @@ pub fn command_of(words: &Rows<Bytes>) -> Option<Command<'_>>
 {
     match words.as_slice() {
         [name, input] if name.as_slice() == b"opened".as_slice() => Some(Command::Opened { input }),
+        [name, output] if name.as_slice() == b"record".as_slice() => {
+            Some(Command::Record { output })
+        }
         _ => None,
     }
 }

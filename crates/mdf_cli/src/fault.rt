@@ -1,27 +1,37 @@
-ghost use Rattle.std.specs.Prelude.{◌≡◌, IfOk};
-ghost use Rattle.std.specs.String.{string_bytes};
+ghost use Rattle.std.specs.Prelude.{◌≡◌};
 ghost use Rattle.mdf_cli.specs.declared.fault.Fault.TheVariants.{Gate, Device, Memory as NoMemory};
-ghost use Rattle.mdf_cli.specs.Faults.{fault_of_load, gate_line, input_over_line};
+ghost use Rattle.mdf_cli.specs.Faults.{fault_of_load, fault_of_script, fault_of_take, gate_line};
 ghost use Rattle.mdf_format.specs.Block.{name_of};
-ghost use Rattle.mdf_gate.specs.declared.answer.GateFault.TheVariants.{Version, NotRecording, Bad};
+ghost use Rattle.mdf_cli.specs.Texts.{Gives};
 
+use crate::report::Piece::{Number, Text};
+use crate::report::give_line;
+use acq_script::ScriptFault;
 use mdf_disk::LoadFault;
 use mdf_format::Kind;
 use mdf_gate::GateFault;
 use mdf_num::{Failed, Memory};
-use std::alloc::{AllocError, Global};
+use mdf_port::{Sink, TakeFault};
 
 /// Why a command ends with a status other than 0.
 #[derive(Clone, Copy, Debug, PartialEq, Eq)]
 pub enum Fault {
     /// The input has no opened blocks.
     Gate(GateFault),
+    /// The source of the script failed.
+    Source,
     /// A disk failed.
     Device,
     /// The input has more bytes than an input may have.
     InputOver { size: u64, limit: u64 },
+    /// The script has more bytes than a script may have.
+    ScriptOver { limit: u64 },
+    /// The next sample would pass the session limit: what the history costs, what the sample costs, and the limit.
+    SessionFull { held: u64, size: u64, limit: u64 },
     /// Want of memory.
     Memory,
+    /// No rule admits this line of the script after the lines before it, counted from 1.
+    Script { line: u64 },
 }
 
 impl Fault {
@@ -33,80 +43,100 @@ impl Fault {
     {
         match self {
             Fault::Gate(_) => 3,
+            Fault::Source => 2,
             Fault::Device => 4,
-            Fault::InputOver { .. } => 5,
+            Fault::InputOver { .. } | Fault::ScriptOver { .. } | Fault::SessionFull { .. } => 5,
             Fault::Memory => 7,
+            Fault::Script { .. } => 8,
         }
     }
 
-    /// The line that is printed.
-    pub fn line(&self, alloc: Global) -> Result<String, AllocError>
-        ensures { IfOk result (λ text. string_bytes text ≡ fault_line self.now) }
+    /// Gives the line that is printed. It takes no memory.
+    pub fn give<K: Sink>(&self, sink: &mut K) -> Result<(), Failed>
+        ensures { Gives (fault_line self.now) (K.held sink.old) (K.held sink.new) (K.faults sink.old) (K.faults sink.new) result }
     {
         match self {
-            Fault::Gate(fault) => gate_line(alloc, *fault),
-            Fault::Device => String::from_str(alloc, "device fault\n"),
-            Fault::InputOver { size, limit } => input_over_line(alloc, *size, *limit),
-            Fault::Memory => String::from_str(alloc, "want of memory\n"),
+            Fault::Gate(fault) => give_gate_line(sink, *fault),
+            Fault::Device => give_line(sink, &[Text(b"device fault")]),
+            Fault::InputOver { size, limit } => give_line(
+                sink,
+                &[
+                    Text(b"input over "),
+                    Number(*size),
+                    Text(b" "),
+                    Number(*limit),
+                ],
+            ),
+            Fault::Source => give_line(sink, &[Text(b"source fault")]),
+            Fault::ScriptOver { limit } => {
+                give_line(sink, &[Text(b"script over "), Number(*limit)])
+            }
+            Fault::SessionFull { held, size, limit } => give_line(
+                sink,
+                &[
+                    Text(b"session full "),
+                    Number(*held),
+                    Text(b" "),
+                    Number(*size),
+                    Text(b" "),
+                    Number(*limit),
+                ],
+            ),
+            Fault::Memory => give_line(sink, &[Text(b"want of memory")]),
+            Fault::Script { line } => give_line(sink, &[Text(b"script line "), Number(*line)]),
         }
     }
 }
 
 /// The four bytes that name a kind of block.
-fn name_of(kind: Kind) -> &'static str
+fn name_of(kind: Kind) -> &'static [u8]
     ensures { result.now ≡ name_of kind }
 {
     match kind {
-        Kind::Hd => "##HD",
-        Kind::Fh => "##FH",
-        Kind::Dg => "##DG",
-        Kind::Cg => "##CG",
-        Kind::Cn => "##CN",
-        Kind::Cc => "##CC",
-        Kind::Si => "##SI",
-        Kind::Tx => "##TX",
-        Kind::Md => "##MD",
-        Kind::Dt => "##DT",
-        Kind::Dl => "##DL",
-        Kind::Sd => "##SD",
-        Kind::At => "##AT",
+        Kind::Hd => b"##HD",
+        Kind::Fh => b"##FH",
+        Kind::Dg => b"##DG",
+        Kind::Cg => b"##CG",
+        Kind::Cn => b"##CN",
+        Kind::Cc => b"##CC",
+        Kind::Si => b"##SI",
+        Kind::Tx => b"##TX",
+        Kind::Md => b"##MD",
+        Kind::Dt => b"##DT",
+        Kind::Dl => b"##DL",
+        Kind::Sd => b"##SD",
+        Kind::At => b"##AT",
     }
 }
 
-fn version_line(alloc: Global, ver: u16) -> Result<String, AllocError>
-    ensures { IfOk result (λ text. string_bytes text ≡ gate_line (Version ver)) }
-{
-    format!(in alloc; "version {ver}\n")
-}
-
-fn form_line(alloc: Global, std: u16, custom: u16) -> Result<String, AllocError>
-    ensures { IfOk result (λ text. string_bytes text ≡ gate_line (NotRecording std custom)) }
-{
-    format!(in alloc; "not a recording {std} {custom}\n")
-}
-
-fn block_line(alloc: Global, at: u64, want: Kind) -> Result<String, AllocError>
-    ensures { IfOk result (λ text. string_bytes text ≡ gate_line (Bad at want)) }
-{
-    let name = name_of(want);
-    format!(in alloc; "block at {at} is not {name}\n")
-}
-
-fn gate_line(alloc: Global, fault: GateFault) -> Result<String, AllocError>
-    ensures { IfOk result (λ text. string_bytes text ≡ gate_line fault) }
+/// Gives the line of an input that is no recording.
+fn give_gate_line<K: Sink>(sink: &mut K, fault: GateFault) -> Result<(), Failed>
+    ensures { Gives (gate_line fault) (K.held sink.old) (K.held sink.new) (K.faults sink.old) (K.faults sink.new) result }
 {
     match fault {
-        GateFault::NotMdf => String::from_str(alloc, "not MDF\n"),
-        GateFault::Version { ver } => version_line(alloc, ver),
-        GateFault::NotRecording { std, custom } => form_line(alloc, std, custom),
-        GateFault::Bad { at, want } => block_line(alloc, at, want),
+        GateFault::NotMdf => give_line(sink, &[Text(b"not MDF")]),
+        GateFault::Version { ver } => {
+            give_line(sink, &[Text(b"version "), Number(u64::from(ver))])
+        }
+        GateFault::NotRecording { std, custom } => give_line(
+            sink,
+            &[
+                Text(b"not a recording "),
+                Number(u64::from(std)),
+                Text(b" "),
+                Number(u64::from(custom)),
+            ],
+        ),
+        GateFault::Bad { at, want } => give_line(
+            sink,
+            &[
+                Text(b"block at "),
+                Number(at),
+                Text(b" is not "),
+                Text(name_of(want)),
+            ],
+        ),
     }
-}
-
-fn input_over_line(alloc: Global, size: u64, limit: u64) -> Result<String, AllocError>
-    ensures { IfOk result (λ text. string_bytes text ≡ input_over_line size limit) }
-{
-    format!(in alloc; "input over {size} {limit}\n")
 }
 
 impl From<GateFault> for Fault {
@@ -142,5 +172,28 @@ impl From<Memory> for Fault {
 
     fn from(_: Memory) -> Self {
         Fault::Memory
+    }
+}
+
+impl From<TakeFault> for Fault {
+    ghost from_gives = { λ take fault. fault ≡ fault_of_take take };
+
+    fn from(fault: TakeFault) -> Self {
+        match fault {
+            TakeFault::Failed => Fault::Source,
+            TakeFault::TooLong { limit } => Fault::ScriptOver { limit },
+            TakeFault::Memory => Fault::Memory,
+        }
+    }
+}
+
+impl From<ScriptFault> for Fault {
+    ghost from_gives = { λ script fault. fault ≡ fault_of_script script };
+
+    fn from(fault: ScriptFault) -> Self {
+        match fault {
+            ScriptFault::Line { line } => Fault::Script { line },
+            ScriptFault::Memory => Fault::Memory,
+        }
     }
 }

@@ -2,14 +2,18 @@
 #![tactic(auto)]
 
 mod command;
+mod drive;
 mod fault;
 mod gate;
+mod head;
 mod opened;
+mod record;
 mod report;
 mod run;
 #[cfg(test)]
 mod tests;
 
+use fault::Fault;
 use gate::Open;
 use mdf_hostfile::FileDisk;
 use mdf_num::{Bytes, Memory, Rows};
@@ -49,7 +53,8 @@ fn main(rt: HostRuntime) -> ExitCode {
     let alloc = rt.alloc();
     let mut sink = StdSink::new(rt.stdout());
     let Ok(words) = words(&rt) else {
-        return ExitCode::from(report::report(&mut sink, b"want of memory\n", 7));
+        let given = Fault::Memory.give(&mut sink);
+        return ExitCode::from(report::status_after(given, 7));
     };
     let mut source = StdSource::new(rt.stdin());
     let mut second = FileDisk::new(&rt);

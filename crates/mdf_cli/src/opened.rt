@@ -1,18 +1,18 @@
-ghost use Rattle.std.specs.Prelude.{◌≡◌, ◌≤◌, ◌⊎◌, ℕ, List, Option, Some, None, Result, IfOk};
-ghost use Rattle.std.specs.String.{string_bytes};
+ghost use Rattle.std.specs.Prelude.{◌≡◌, ◌≤◌, ◌⊎◌, ℕ, List, Option, Some, None, Result};
 ghost use Rattle.mdf_disk.specs.declared.role.Role.TheVariants.{Read};
 ghost use Rattle.mdf_gate.specs.declared.answer.Opened.{Opened};
 ghost use Rattle.mdf_cli.specs.declared.fault.Fault.{Fault};
-ghost use Rattle.mdf_cli.specs.Texts.{Prints};
-ghost use Rattle.mdf_cli.specs.Opened.{OpenedComes, EndsOpened, opened_line, opened_text, opened_status};
+ghost use Rattle.mdf_cli.specs.Texts.{Gives};
+ghost use Rattle.mdf_cli.specs.Opened.{OpenedComes, EndsOpened, opened_text, opened_status};
 
 use crate::fault::Fault;
-use crate::report::report;
+use crate::report::Piece::{Number, Text};
+use crate::report::{give_line, status_after};
 use mdf_disk::{Disk, Role, read_whole};
 use mdf_gate::{Opened, opened};
-use mdf_num::Bytes;
+use mdf_num::{Bytes, Failed};
 use mdf_port::Sink;
-use std::alloc::{AllocError, Global};
+use std::alloc::Global;
 
 /// How many bytes an input file has at most.
 const INPUT_LIMIT: u64 = 536_870_912;
@@ -29,22 +29,22 @@ fn count<A: Disk>(alloc: Global, input: &Bytes, first: &mut A) -> Result<Opened,
     Ok(opened(bytes.as_slice())?)
 }
 
-/// The text and the status with which the command ends.
-fn text(alloc: Global, end: &Result<Opened, Fault>) -> Result<String, AllocError>
-    ensures { IfOk result (λ text. string_bytes text ≡ opened_text end.now) }
+/// Gives the line with which the command ends.
+fn give_end<K: Sink>(sink: &mut K, end: &Result<Opened, Fault>) -> Result<(), Failed>
+    ensures { Gives (opened_text end.now) (K.held sink.old) (K.held sink.new) (K.faults sink.old) (K.faults sink.new) result }
 {
     match end {
-        Ok(count) => opened_line(alloc, *count),
-        Err(fault) => fault.line(alloc),
+        Ok(count) => give_line(
+            sink,
+            &[
+                Text(b"blocks "),
+                Number(count.blocks),
+                Text(b" bytes "),
+                Number(count.bytes),
+            ],
+        ),
+        Err(fault) => fault.give(sink),
     }
-}
-
-fn opened_line(alloc: Global, count: Opened) -> Result<String, AllocError>
-    ensures { IfOk result (λ text. string_bytes text ≡ opened_line count) }
-{
-    let blocks = count.blocks;
-    let bytes = count.bytes;
-    format!(in alloc; "blocks {blocks} bytes {bytes}\n")
 }
 
 fn status(end: &Result<Opened, Fault>) -> u8
@@ -65,8 +65,6 @@ pub fn run_opened<K: Sink, A: Disk>(alloc: Global, input: &Bytes, sink: &mut K, 
     ensures content { A.content first.new ≡ A.content first.old }
 {
     let end = count(alloc, input, first);
-    match text(alloc, &end) {
-        Ok(text) => report(sink, text.as_bytes(), status(&end)),
-        Err(_) => report(sink, b"want of memory\n", 7),
-    }
+    let given = give_end(sink, &end);
+    status_after(given, status(&end))
 }
