@@ -1,0 +1,4 @@
+mod Rows
+mod Extras
+mod Onces
+mod Stands

@@ -1,0 +1,4 @@
+pub mod Link
+pub mod Channel
+pub mod Group
+pub mod Standing
