@@ -2,3 +2,4 @@ mod Rows
 mod Extras
 mod Onces
 mod Stands
+mod Plans

@@ -2,3 +2,4 @@ pub mod Link
 pub mod Channel
 pub mod Group
 pub mod Standing
+pub mod Planned
