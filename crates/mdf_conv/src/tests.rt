@@ -69,14 +69,10 @@ const LINEAR: [u8; 40] = [
 // A conversion with a unit, an inverse and three references: a text, nothing and a conversion of two numbers.
 fn written(alloc: Global) -> Result<Bytes, Memory> {
     let mut draft = Draft::new(alloc);
-    let plain = Bytes::from_slice(alloc, &PLAIN)?;
-    let linear = Bytes::from_slice(alloc, &LINEAR)?;
-    let unit = Bytes::from_slice(alloc, b"km/h\0\0\0\0")?;
-    let words = Bytes::from_slice(alloc, b"<p/>")?;
-    let outer = draft.place(Kind::Cc, 7, plain)?;
-    let inner = draft.place(Kind::Cc, 4, linear)?;
-    let tx = draft.place(Kind::Tx, 0, unit)?;
-    let md = draft.place(Kind::Md, 0, words)?;
+    let outer = draft.place(Kind::Cc, 7, Bytes::from_slice(alloc, &PLAIN)?)?;
+    let inner = draft.place(Kind::Cc, 4, Bytes::from_slice(alloc, &LINEAR)?)?;
+    let tx = draft.place(Kind::Tx, 0, Bytes::from_slice(alloc, b"km/h\0\0\0\0")?)?;
+    let md = draft.place(Kind::Md, 0, Bytes::from_slice(alloc, b"<p/>")?)?;
     draft.link(outer, 1, tx);
     draft.link(outer, 3, inner);
     draft.link(outer, 4, md);
@@ -125,12 +121,11 @@ fn a_conversion_reads_back_equal(rt: HostRuntime) -> Result<(), Fail> {
 // Five conversions, each but the last referring to the next one, and the last one to itself where `loops` says so.
 fn nested(alloc: Global, loops: bool) -> Result<Bytes, Memory> {
     let mut draft = Draft::new(alloc);
-    let body = Bytes::from_slice(alloc, &PLAIN)?;
-    let one = draft.place(Kind::Cc, 5, body.copy()?)?;
-    let two = draft.place(Kind::Cc, 5, body.copy()?)?;
-    let three = draft.place(Kind::Cc, 5, body.copy()?)?;
-    let four = draft.place(Kind::Cc, 5, body.copy()?)?;
-    let five = draft.place(Kind::Cc, 5, body)?;
+    let one = draft.place(Kind::Cc, 5, Bytes::from_slice(alloc, &PLAIN)?)?;
+    let two = draft.place(Kind::Cc, 5, Bytes::from_slice(alloc, &PLAIN)?)?;
+    let three = draft.place(Kind::Cc, 5, Bytes::from_slice(alloc, &PLAIN)?)?;
+    let four = draft.place(Kind::Cc, 5, Bytes::from_slice(alloc, &PLAIN)?)?;
+    let five = draft.place(Kind::Cc, 5, Bytes::from_slice(alloc, &PLAIN)?)?;
     draft.link(one, 4, two);
     draft.link(two, 4, three);
     draft.link(three, 4, four);
@@ -202,12 +197,13 @@ fn hostile_numbers_are_refused(rt: HostRuntime) -> Result<(), Fail> {
 // A source with a name and a path, whose comment is a conversion where `wrong` says so.
 fn sourced(alloc: Global, wrong: bool) -> Result<Bytes, Memory> {
     let mut draft = Draft::new(alloc);
-    let body = Bytes::from_slice(alloc, &[2, 3, 1, 0, 0, 0, 0, 0])?;
-    let name = Bytes::from_slice(alloc, b"engine\0\0")?;
-    let plain = Bytes::from_slice(alloc, &PLAIN)?;
-    let si = draft.place(Kind::Si, 3, body)?;
-    let tx = draft.place(Kind::Tx, 0, name)?;
-    let cc = draft.place(Kind::Cc, 4, plain)?;
+    let si = draft.place(
+        Kind::Si,
+        3,
+        Bytes::from_slice(alloc, &[2, 3, 1, 0, 0, 0, 0, 0])?,
+    )?;
+    let tx = draft.place(Kind::Tx, 0, Bytes::from_slice(alloc, b"engine\0\0")?)?;
+    let cc = draft.place(Kind::Cc, 4, Bytes::from_slice(alloc, &PLAIN)?)?;
     draft.link(si, 0, tx);
     draft.link(si, 1, tx);
     if wrong {
