@@ -1,2 +1,10 @@
 mod Units
 mod Missing
+mod Fronts
+mod Left
+mod Resting
+mod Stages
+mod Buffers
+pub mod Carrying
+pub mod Begun
+pub mod Appends

@@ -1,4 +1,4 @@
-ghost use Rattle.std.specs.Prelude.{◌≡◌, ◌+◌, ◌≤◌, ◌<◌, ◌^◌, ◌++◌, ◌⊎◌, List, ℕ, [], length, IsSome, IfSome, IfOk, OnOk};
+ghost use Rattle.std.specs.Prelude.{◌≡◌, ◌+◌, ◌≤◌, ◌<◌, ◌^◌, ◌++◌, ◌⊎◌, List, ℕ, [], length, is_some, IsSome, IfSome, IfOk, OnOk};
 ghost use Rattle.std.specs.Option.{option_map};
 ghost use Rattle.mdf_format.specs.Cause.{HasCause};
 ghost use Rattle.mdf_disk.specs.Crash.{Adds, NowHas};
@@ -27,6 +27,8 @@ fn append<D: Disk>(disk: &mut D, at: u64, bytes: &[u8]) -> Result<(), Failed>
     ensures none { bytes.now ≡ [] → disk.new ≡ disk.old }
     ensures cause { HasCause (D.faults disk.old) (D.faults disk.new) result }
     ensures asked { D.asked disk.new ≡ D.asked disk.old }
+    ensures moment { D.moment disk.old ≤ D.moment disk.new }
+    ensures told { is_some (D.story disk.new) ≡ is_some (D.story disk.old) }
 {
     if bytes.is_empty() {
         return Ok(());
@@ -48,6 +50,8 @@ impl Sealed {
         ensures any_moment { Adds (D.story disk.old) (D.story disk.new) (λ file. length file ≤ 1) }
         ensures cause { HasCause (D.faults disk.old) (D.faults disk.new) result }
         ensures asked { D.asked disk.new ≡ D.asked disk.old }
+        ensures moment { D.moment disk.old ≤ D.moment disk.new }
+        ensures told { is_some (D.story disk.new) ≡ is_some (D.story disk.old) }
     {
         disk.write_at(0, &[0])?;
         disk.sync()?;
@@ -71,6 +75,8 @@ impl Sealed {
         ensures none { bytes.now ≡ [] → disk.new ≡ disk.old }
         ensures cause { HasCause (D.faults disk.old) (D.faults disk.new) result }
         ensures asked { D.asked disk.new ≡ D.asked disk.old }
+        ensures moment { D.moment disk.old ≤ D.moment disk.new }
+        ensures told { is_some (D.story disk.new) ≡ is_some (D.story disk.old) }
     {
         let [first, rest @ ..] = bytes else {
             return Ok(());
@@ -99,6 +105,8 @@ impl Sealed {
             → Adds (D.story disk.old) (D.story disk.new) (λ file. IsClosed file ⊎ IsWholeButFirst given file) }
         ensures cause { HasCause (D.faults disk.old) (D.faults disk.new) result }
         ensures asked { D.asked disk.new ≡ D.asked disk.old }
+        ensures moment { D.moment disk.old ≤ D.moment disk.new }
+        ensures told { is_some (D.story disk.new) ≡ is_some (D.story disk.old) }
     {
         let Some(first) = self.first else {
             return Ok(());

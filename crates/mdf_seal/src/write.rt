@@ -1,4 +1,4 @@
-ghost use Rattle.std.specs.Prelude.{◌≡◌, ◌≤◌, ◌<◌, ◌^◌, length, IsSome, OnOk};
+ghost use Rattle.std.specs.Prelude.{◌≡◌, ◌≤◌, ◌<◌, ◌^◌, length, is_some, IsSome, OnOk};
 ghost use Rattle.mdf_format.specs.Cause.{HasCause};
 ghost use Rattle.mdf_disk.specs.Crash.{Adds};
 ghost use Rattle.mdf_seal.specs.Images.{IsSealedImage};
@@ -21,6 +21,8 @@ pub fn write_sealed<D: Disk>(disk: &mut D, bytes: &[u8]) -> Result<(), Failed>
     ensures any_moment { Adds (D.story disk.old) (D.story disk.new) (IsSealedImage bytes.now) }
     ensures cause { HasCause (D.faults disk.old) (D.faults disk.new) result }
     ensures asked { D.asked disk.new ≡ D.asked disk.old }
+    ensures moment { D.moment disk.old ≤ D.moment disk.new }
+    ensures told { is_some (D.story disk.new) ≡ is_some (D.story disk.old) }
 {
     let mut seal = Sealed::begin(disk)?;
     seal.give(disk, bytes)?;

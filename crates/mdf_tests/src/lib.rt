@@ -2,7 +2,11 @@
 #![tactic(auto)]
 
 #[cfg(test)]
+mod books;
+#[cfg(test)]
 mod disks;
+#[cfg(test)]
+mod layouts;
 #[cfg(test)]
 mod lists;
 #[cfg(test)]

@@ -1,0 +1,6 @@
+pub mod Parts
+pub mod Numerals
+pub mod Plans
+pub mod Entries
+pub mod Sounds
+pub mod Steps

@@ -1,0 +1,14 @@
+-- A line as the code has it.
+use Rattle.acq_script.specs.Text.{words_left}
+use Rattle.acq_script.specs.Line as said
+use Rattle.acq_script.specs.declared.line.Line.{Line}
+use Rattle.acq_script.specs.declared.line.Line.TheVariants.{Passed, Group, Channel, Begin, Sample, Flush, End}
+
+abbrev pub seen : Line → said.Line
+seen Passed = said.Passed
+seen (Group source name) = said.Group source name.now
+seen (Channel name master) = said.Channel name.now master
+seen Begin = said.Begin
+seen (Sample group values) = said.Sample group (words_left values)
+seen (Flush source) = said.Flush source
+seen End = said.End

@@ -1,0 +1,21 @@
+//! The script of a recording: which channels its group has, and the samples of its source in order.
+//!
+//! A script is lines, each ended by LF, of words with one blank between them. So far it has one group of one source,
+//! whose channels are 64-bit unsigned numbers.
+#![tactic(auto)]
+
+mod fault;
+mod line;
+mod number;
+mod plan;
+mod read;
+mod sample;
+mod script;
+mod stage;
+#[cfg(test)]
+mod tests;
+mod text;
+
+pub use fault::ScriptFault;
+pub use read::read_script;
+pub use script::{Plan, Script, Task};

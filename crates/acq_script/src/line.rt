@@ -1,0 +1,144 @@
+ghost use Rattle.std.specs.Prelude.{◌≡◌};
+ghost use Rattle.std.specs.Option.{option_map};
+ghost use Rattle.acq_script.specs.Text.{words_left};
+ghost use Rattle.acq_script.specs.Line.{line_of, worded, group_of, channel_of, master_of, flush_of, alone};
+ghost use Rattle.acq_script.specs.View.{seen};
+
+use crate::number::number_of;
+use crate::text::{cut, is_end, is_name};
+
+/// What one line of a script says.
+#[derive(Clone, Copy)]
+pub(crate) enum Line<'a> {
+    /// An empty line or a comment.
+    Passed,
+    /// The next group.
+    Group {
+        source: u64,
+        name: &'a [u8],
+    },
+    /// The next channel of the last group.
+    Channel {
+        name: &'a [u8],
+        master: bool,
+    },
+    /// The end of the plan.
+    Begin,
+    /// A sample, with the words of its values.
+    Sample {
+        group: u64,
+        values: Option<&'a [u8]>,
+    },
+    /// A source flushes.
+    Flush {
+        source: u64,
+    },
+    /// The end of the script.
+    End,
+}
+
+/// The line of these words behind `group`.
+#[tactic(auto, unfolding(crate::specs::Line::group_of))]
+fn group_of(words: Option<&[u8]>) -> Option<Line<'_>>
+    ensures { option_map seen result ≡ group_of (words_left words.entry) }
+{
+    let (source, words) = cut(words?, b' ');
+    let (name, words) = cut(words?, b' ');
+    if !is_name(name) || !is_end(words) {
+        return None;
+    }
+    let source = number_of(source)?;
+    Some(Line::Group { source, name })
+}
+
+/// Whether the words behind a channel's type make it the master, if they are admitted.
+#[tactic(auto, unfolding(crate::specs::Line::master_of))]
+fn master_of(words: Option<&[u8]>) -> Option<bool>
+    ensures { result ≡ master_of (words_left words.entry) }
+{
+    let Some(text) = words else {
+        return Some(false);
+    };
+    let (word, words) = cut(text, b' ');
+    if word != b"master".as_slice() || !is_end(words) {
+        return None;
+    }
+    Some(true)
+}
+
+/// The line of these words behind `channel`.
+#[tactic(auto, unfolding(crate::specs::Line::channel_of))]
+fn channel_of(words: Option<&[u8]>) -> Option<Line<'_>>
+    ensures { option_map seen result ≡ channel_of (words_left words.entry) }
+{
+    let (name, words) = cut(words?, b' ');
+    let (kind, words) = cut(words?, b' ');
+    if !is_name(name) || kind != b"u64".as_slice() {
+        return None;
+    }
+    let master = master_of(words)?;
+    Some(Line::Channel { name, master })
+}
+
+/// The line of these words behind `!`.
+#[tactic(auto, unfolding(crate::specs::Line::flush_of))]
+fn flush_of(words: Option<&[u8]>) -> Option<Line<'_>>
+    ensures { option_map seen result ≡ flush_of (words_left words.entry) }
+{
+    let (source, words) = cut(words?, b' ');
+    if !is_end(words) {
+        return None;
+    }
+    let source = number_of(source)?;
+    Some(Line::Flush { source })
+}
+
+/// A line of one word.
+#[tactic(auto, unfolding(crate::specs::Line::alone))]
+fn alone<'a>(line: Line<'a>, words: Option<&[u8]>) -> Option<Line<'a>>
+    ensures { option_map seen result ≡ alone (seen line.entry) (words_left words.entry) }
+{
+    if !is_end(words) {
+        return None;
+    }
+    Some(line)
+}
+
+/// The line of these words.
+#[tactic(auto, unfolding(crate::specs::Line::worded))]
+fn worded<'a>(word: &[u8], words: Option<&'a [u8]>) -> Option<Line<'a>>
+    ensures { option_map seen result ≡ worded word.now (words_left words.entry) }
+{
+    if word == b"group".as_slice() {
+        return group_of(words);
+    }
+    if word == b"channel".as_slice() {
+        return channel_of(words);
+    }
+    if word == b"begin".as_slice() {
+        return alone(Line::Begin, words);
+    }
+    if word == b"!".as_slice() {
+        return flush_of(words);
+    }
+    if word == b"end".as_slice() {
+        return alone(Line::End, words);
+    }
+    let group = number_of(word)?;
+    Some(Line::Sample {
+        group,
+        values: words,
+    })
+}
+
+/// What a line says, which is given without its LF. None where it is no line of a script.
+#[tactic(auto, unfolding(crate::specs::Line::line_of))]
+pub(crate) fn line_of(text: &[u8]) -> Option<Line<'_>>
+    ensures { option_map seen result ≡ line_of text.now }
+{
+    if text.is_empty() || text[0] == b';' {
+        return Some(Line::Passed);
+    }
+    let (word, words) = cut(text, b' ');
+    worded(word, words)
+}

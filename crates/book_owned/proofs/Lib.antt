@@ -1,0 +1,8 @@
+mod Costs
+mod Encoded
+mod Flushing
+mod Keeping
+mod Lasts
+mod Putting
+mod Showing
+mod Turning

@@ -1,0 +1,22 @@
+use Rattle.std.proofs.Common.{◌∷◌, [], ◌++◌, ◌∙◌, ap, sym, subst, refl}
+use Rattle.mdf_disk.specs.Crash.{HoldsSince}
+use Rattle.mdf_gate.specs.Images.{head_of, Opens}
+use Rattle.book_owned.specs.Begun.{IsAdmissible}
+use Rattle.book_owned.proofs.Putting.{book_begun}
+use Rattle.book_owned.proofs.book.Book.begin.Goals as goal
+
+pub invariant_of-result : goal.invariant_of-result
+invariant_of-result g c =
+    let created = c.requires.created in
+    let at_first = subst (λ t. HoldsSince (g.D.Disk.story c.args.file.disk) t (Opens (head_of (g.D.Disk.story c.args.file.disk) c.args.file.first) []))
+    c.moment.ensures.moment (c.moment.ensures.leaves [] created.rests) in
+    book_begun g.D.Disk.content g.D.Disk.story g.D.Disk.moment g.D.Disk.asked g.V.Shown.shows g.V.Shown.hands g.V.Shown.count g.V.Shown.which _ c.args.file created
+    (subst (λ limit. IsAdmissible c.args.shapes limit c.args.session_limit) (sym c.in-Ok.ensures.block.1) c.requires.admissible)
+    c.empty.ensures
+    (c.put.ensures.items ∙ ap (λ ms. ms ++ record { moment = c.moment.result; through = 0 } ∷ []) c.in-Ok.ensures.marks.0
+    ∙ ap (λ t. record { moment = t; through = 0 } ∷ []) c.moment.ensures.moment)
+    refl c.in-Ok.ensures.block.0 (c.in-Ok.ensures.scratch ∙ sym c.in-Ok.ensures.block.1)
+    c.requires.nothing_shown.0 c.requires.nothing_shown.1 c.requires.nothing_handed at_first
+
+pub returns-clause-kept : goal.returns-clause-kept
+returns-clause-kept g c = (invariant_of-result g c).back.kept

@@ -1,0 +1,15 @@
+use Rattle.std.proofs.Common.{◌∙◌, ap, subst, take}
+use Rattle.std.specs.Prelude.{IfSome}
+use Rattle.mdf_gate.proofs.Carrying.{rests_carry}
+use Rattle.book_owned.specs.Kept.{HoldsDurable}
+use Rattle.book_owned.specs.Marks.{durable}
+use Rattle.book_owned.proofs.book.Book.close.Goals as goal
+
+pub returns-clause-content : goal.returns-clause-content
+returns-clause-content g c = λ going.
+    let front = c.self.inside.front in
+    let file = c.self.inside.file in
+    let written = c.self.invariant.back.written (ap (λ a. a.stopped) c.self.view_is ∙ going) in
+    subst (λ a. IfSome (g.D.Disk.content a.disk) (HoldsDurable a.terms a.history a.marks)) c.self.view_is
+    (rests_carry front.shapes (g.D.Disk.content file.disk) (g.D.Disk.story file.disk) file.first file.place written.blocks
+    (take (durable front.marks.items) front.history.items) written.rests written.records)

@@ -1,0 +1,37 @@
+-- What a book keeps of its file, whatever happens.
+use Rattle.std.specs.Prelude.{ℕ, ◌≤◌, ◌⊎◌, List, length, take, All, Option, is_some}
+use Rattle.mdf_disk.specs.Story.{Story}
+use Rattle.mdf_disk.specs.Crash.{HoldsSince}
+use Rattle.mdf_layout.specs.Layout.{Layout}
+use Rattle.mdf_layout.specs.declared.sample.Sample.{Sample}
+use Rattle.mdf_gate.specs.Images.{IsNotMdf}
+use Rattle.mdf_gate.specs.Carried.{Carries, IsCarried}
+use Rattle.book_owned.specs.Marks.{AreRising, durable}
+use Rattle.book_owned.specs.Account.{Terms}
+use Rattle.book_owned.specs.declared.mark.Mark.{Mark}
+
+-- Each crash since the mark's moment leaves a file that begins with the head and carries a beginning of the history with
+-- at least so many samples as the mark has.
+pub record MarkHolds (layouts : List Layout) (head : List ℕ) (story : Option Story) (clock : ℕ) (history : List Sample) (mark : Mark) : Type 0 where
+  pub past : mark.moment ≤ clock
+  pub within : mark.through ≤ length history
+  pub carries : HoldsSince story mark.moment (Carries layouts head history mark.through)
+
+-- of each mark
+abbrev pub MarksHold : List Layout → List ℕ → Option Story → ℕ → List Sample → List Mark → Type 0
+MarksHold layouts head story clock history marks = All (MarkHolds layouts head story clock history) marks
+
+-- Each crash since the file was begun leaves no MDF file, or one that begins with the head and carries a beginning of
+-- the history.
+abbrev pub StartHolds : List Layout → List ℕ → Option Story → ℕ → List Sample → Type 0
+StartHolds layouts head story start history =
+    HoldsSince story start (λ file. IsNotMdf file ⊎ Carries layouts head history 0 file)
+
+pub record IsKept (terms : Terms) (story : Option Story) (clock : ℕ) (history : List Sample) (marks : List Mark) : Type 0 where
+  pub marks_hold : MarksHold terms.layouts terms.head story clock history marks
+  pub start_holds : StartHolds terms.layouts terms.head story terms.start history
+  pub marks_rise : AreRising (is_some story) marks
+
+-- the data of the file's opened blocks are the records of the durable samples
+abbrev pub HoldsDurable : Terms → List Sample → List Mark → List ℕ → Type 0
+HoldsDurable terms history marks file = IsCarried terms.layouts file (take (durable marks) history)

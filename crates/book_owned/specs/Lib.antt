@@ -1,0 +1,7 @@
+pub mod Marks
+pub mod Account
+pub mod Kept
+pub mod Answers
+pub mod Halves
+pub mod Begun
+pub mod Hand

@@ -1,0 +1,110 @@
+ghost use Rattle.std.specs.Prelude.{◌≡◌, ◌+◌, ◌≤◌, ◌≢◌, false, [], length, OnOk, IfErr, IfSome, IfNone};
+ghost use Rattle.mdf_layout.specs.Record.{SampleFits, encoded_size};
+ghost use Rattle.book_owned.specs.Halves.{IsBook, IsCounted};
+ghost use Rattle.book_owned.specs.Hand.{Hands, IsHandFault, HasWritten, Takes, Refuses};
+
+use crate::fault::Fault;
+use crate::front::{last_mark, publish};
+use crate::{Append, Front, Mark, Shown};
+use mdf_disk::Disk;
+use mdf_gate::GatedFile;
+use mdf_layout::Sample;
+use std::sync::Wait;
+use std::thread::Threads;
+
+/// Hands the pending records over to the file, and marks what is durable then. It takes no memory.
+fn hand_over<D: Disk, V: Shown>(front: &mut Front<V>, file: &mut GatedFile<D>) -> Result<(), Fault>
+    requires book { IsBook D.content D.story D.moment D.asked V.shows V.hands V.count V.which front.old file.old }
+    requires going { file.old.failed ≡ false }
+    requires some { front.old.block.bytes ≢ [] }
+    ensures book { IsBook D.content D.story D.moment D.asked V.shows V.hands V.count V.which front.new file.new }
+    ensures hands { Hands D.story D.asked V.which front.old file.old front.new file.new }
+    ensures written { OnOk result (HasWritten D.moment front.old file.old front.new file.new) }
+    ensures view { front.new.view ≡ front.old.view }
+    ensures fault { IfErr result (IsHandFault D.faults front.old file.old front.new file.new) }
+{
+    let before = file.faults();
+    let Ok(()) = file.append(&mut front.block) else {
+        return Err(Fault {
+            before,
+            after: file.faults(),
+        });
+    };
+    front.marks.put(Mark {
+        moment: file.moment(),
+        through: front.history.len(),
+    });
+    Ok(())
+}
+
+/// Hands the pending records over where there are any.
+pub(crate) fn write_pending<D: Disk, V: Shown>(
+    front: &mut Front<V>,
+    file: &mut GatedFile<D>,
+) -> Result<(), Fault>
+    requires book { IsBook D.content D.story D.moment D.asked V.shows V.hands V.count V.which front.old file.old }
+    requires going { file.old.failed ≡ false }
+    ensures book { IsBook D.content D.story D.moment D.asked V.shows V.hands V.count V.which front.new file.new }
+    ensures hands { Hands D.story D.asked V.which front.old file.old front.new file.new }
+    ensures written { OnOk result (HasWritten D.moment front.old file.old front.new file.new) }
+    ensures view { front.new.view ≡ front.old.view }
+    ensures fault { IfErr result (IsHandFault D.faults front.old file.old front.new file.new) }
+{
+    if front.block.is_empty() {
+        return Ok(());
+    }
+    hand_over(front, file)
+}
+
+/// Makes room for a record of so many bytes: where it would pass the block limit, the pending ones are handed over and
+/// published.
+pub(crate) fn make_room<D: Disk, V: Shown, R: Threads + Wait + Sync>(
+    front: &mut Front<V>,
+    file: &mut GatedFile<D>,
+    rt: &R,
+    size: u64,
+) -> Result<(), Fault>
+    requires book { IsBook D.content D.story D.moment D.asked V.shows V.hands V.count V.which front.old file.old }
+    requires going { file.old.failed ≡ false }
+    requires small { size ≤ front.old.block.limit }
+    ensures book { IsBook D.content D.story D.moment D.asked V.shows V.hands V.count V.which front.new file.new }
+    ensures hands { Hands D.story D.asked V.which front.old file.old front.new file.new }
+    ensures going { OnOk result (file.new.failed ≡ false) }
+    ensures room { OnOk result (length front.new.block.bytes + size ≤ front.new.block.limit) }
+    ensures fault { IfErr result (IsHandFault D.faults front.old file.old front.new file.new) }
+{
+    if front.block.len() as u64 + size <= front.block.limit() as u64 {
+        return Ok(());
+    }
+    write_pending(front, file)?;
+    publish(front, rt);
+    Ok(())
+}
+
+/// Why a sample is not taken, before anything changes.
+pub(crate) fn refusal<D: Disk, V>(
+    front: &Front<V>,
+    file: &GatedFile<D>,
+    sample: &Sample,
+) -> Option<Append>
+    requires counted { IsCounted front.now }
+    requires fits { SampleFits front.now.shapes sample.now }
+    requires size { encoded_size front.now.shapes sample.now ≤ front.now.block.limit }
+    ensures none { IfNone result (Takes front.now file.now sample.now) }
+    ensures refused { IfSome result (Refuses front.now file.now sample.now) }
+{
+    if file.failed() {
+        return Some(Append::Stopped {
+            mark: last_mark(&front.marks),
+        });
+    }
+    let size = front.shapes.cost_of(sample);
+    if front.held + size > front.session_limit {
+        return Some(Append::SessionFull {
+            held: front.held,
+            size,
+            limit: front.session_limit,
+        });
+    }
+    None
+}

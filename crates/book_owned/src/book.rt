@@ -1,0 +1,245 @@
+ghost use Rattle.std.specs.Prelude.{◌≡◌, ◌+◌, ◌≤◌, ◌<◌, ◌^◌, ℕ, List, [], ◌∷◌, ◌++◌, true, false, length, All, sum_by, drop, is_some, IfOk, IfErr, IfSome};
+ghost use Rattle.mdf_format.specs.Cause.{Rose};
+ghost use Rattle.mdf_disk.specs.Crash.{HoldsSince};
+ghost use Rattle.mdf_layout.specs.Layout.{AreDisjoint};
+ghost use Rattle.mdf_layout.specs.Record.{SampleFits, encoded_size, cost_of, history_cost, history_size};
+ghost use Rattle.mdf_gate.specs.Gated.{RestsOn};
+ghost use Rattle.mdf_gate.specs.Images.{head_of, IsBegun};
+
+use crate::back::{make_room, refusal, write_pending};
+use crate::front::{accept, last_mark, publish, reserve};
+use crate::{Append, Flush, Front, Mark, Marks, Shown};
+use mdf_disk::Disk;
+use mdf_gate::{Block, GatedFile};
+use mdf_layout::{Reserved, Sample, Samples, Shapes};
+use mdf_num::Memory;
+use std::alloc::Global;
+use std::marker::Model;
+use std::sync::Wait;
+use std::thread::Threads;
+
+/// A recording in progress: the accepted samples, and the file that holds them.
+pub struct Book<D: Disk, V: Shown> {
+    front: Front<V>,
+    file: GatedFile<D>,
+}
+
+impl<D: Disk, V: Shown> Model for Book<D, V> {
+    ghost use Rattle.book_owned.specs.Account.{Account};
+    ghost use Rattle.book_owned.specs.Halves.{IsBook, terms_of};
+
+    ghost Value = { Account D V };
+
+    ghost view = { λ b. record { history = b.front.history.items; marks = b.front.marks.items; stopped = b.file.failed; terms = terms_of D.asked D.story V.which b.front b.file; disk = b.file.disk; view = b.front.view } };
+
+    ghost invariant = { λ b. IsBook D.content D.story D.moment D.asked V.shows V.hands V.count V.which b.front b.file };
+}
+
+/// The buffers of a book: that of a block, one for a record, and the list of marks with room for one.
+fn buffers(alloc: Global, block_limit: u32) -> Result<(Block, Vec<u8>, Marks), Memory>
+    requires { 1 ≤ block_limit }
+    ensures block { IfOk result (λ parts. (parts.0.bytes ≡ []) × (parts.0.limit ≡ block_limit)) }
+    ensures scratch { IfOk result (λ parts. length parts.1.items ≡ block_limit) }
+    ensures marks { IfOk result (λ parts. (parts.2.items ≡ []) × (1 ≤ parts.2.spare)) }
+{
+    let block = Block::with_limit(alloc, block_limit)?;
+    let scratch = Vec::from_elem(alloc, 0, block_limit as usize)?;
+    let mut marks = Marks::empty(alloc);
+    marks.reserve(1)?;
+    Ok((block, scratch, marks))
+}
+
+impl<D: Disk, V: Shown> Book<D, V> {
+    ghost use Rattle.book_owned.specs.Marks.{last_mark, durable};
+    ghost use Rattle.book_owned.specs.Account.{Account, Steps};
+    ghost use Rattle.book_owned.specs.Kept.{HoldsDurable, IsKept};
+    ghost use Rattle.book_owned.specs.Begun.{IsNewFile, IsAdmissible, HasBegun};
+    ghost use Rattle.book_owned.specs.Answers.{AppendAnswers, FlushAnswers, accepted_by};
+
+    /// Begins a book over a file that was just created. It makes the first mark, with no sample.
+    ///
+    /// # Errors
+    /// Want of memory, with the file and the view.
+    pub fn begin(
+        alloc: Global,
+        file: GatedFile<D>,
+        shapes: Shapes,
+        block_limit: u32,
+        session_limit: u64,
+        view: V,
+    ) -> Result<Book<D, V>, (Memory, GatedFile<D>, V)>
+        requires created { IsNewFile D.content D.story file }
+        requires admissible { IsAdmissible shapes block_limit session_limit }
+        requires nothing_shown { (V.shows view []) × (V.count view ≡ 0) }
+        requires nothing_handed { (handed : List Sample) → V.hands view handed → handed ≡ [] }
+        ensures begun { IfOk result (λ book. HasBegun D.story D.moment D.asked V.which file shapes block_limit session_limit view book) }
+        ensures kept { IfOk result (λ book. IsKept book.terms (D.story book.disk) (D.moment book.disk) book.history book.marks) }
+        ensures handed_back { IfErr result (λ parts. (parts.1 ≡ file) × (parts.2 ≡ view)) }
+    {
+        let Ok((block, scratch, mut marks)) = buffers(alloc, block_limit) else {
+            return Err((Memory, file, view));
+        };
+        marks.put(Mark {
+            moment: file.moment(),
+            through: 0,
+        });
+        Ok(Book {
+            front: Front {
+                shapes,
+                history: Samples::empty(alloc),
+                marks,
+                held: 0,
+                block,
+                scratch,
+                session_limit,
+                view,
+            },
+            file,
+        })
+    }
+
+    /// Accepts a sample. Where its record would pass the block limit the pending ones are handed over first.
+    pub fn append<R: Threads + Wait + Sync>(&mut self, rt: &R, sample: Sample) -> Append
+        requires fits { SampleFits self.old.terms.layouts sample }
+        requires size { encoded_size self.old.terms.layouts sample ≤ self.old.terms.block_limit }
+        ensures steps { Steps self.old self.new (accepted_by result sample) }
+        ensures answer { AppendAnswers D.faults self.old self.new sample result }
+        ensures kept { IsKept self.new.terms (D.story self.new.disk) (D.moment self.new.disk) self.new.history self.new.marks }
+    {
+        if let Some(refused) = refusal(&self.front, &self.file, &sample) {
+            return refused;
+        }
+        let Ok(()) = reserve(&mut self.front) else {
+            return Append::Memory;
+        };
+        let size = self.front.shapes.encoded_size(&sample);
+        if let Err(fault) = make_room(&mut self.front, &mut self.file, rt, size) {
+            return Append::DiskFault {
+                before: fault.before,
+                after: fault.after,
+            };
+        }
+        let place = self.front.history.len();
+        accept(&mut self.front, sample);
+        Append::Accepted { place }
+    }
+
+    /// Makes all accepted samples durable, and publishes them. With nothing pending it makes no call of the disk and no
+    /// mark.
+    pub fn flush<R: Threads + Wait + Sync>(&mut self, rt: &R) -> Flush<V::Note>
+        ensures steps { Steps self.old self.new [] }
+        ensures answer { FlushAnswers D.faults D.moment V.count self.old self.new result }
+        ensures kept { IsKept self.new.terms (D.story self.new.disk) (D.moment self.new.disk) self.new.history self.new.marks }
+    {
+        if self.file.failed() {
+            return Flush::Stopped {
+                mark: last_mark(&self.front.marks),
+            };
+        }
+        if let Err(fault) = write_pending(&mut self.front, &mut self.file) {
+            return Flush::DiskFault {
+                before: fault.before,
+                after: fault.after,
+            };
+        }
+        publish(&mut self.front, rt);
+        Flush::Done {
+            through: self.front.history.len(),
+            shown: self.front.view.shown(),
+            note: self.front.view.told(),
+        }
+    }
+
+    /// Hands everything back, without a call of the disk: the disk, the history, the marks and the view.
+    pub fn close(self) -> (D, Samples, Marks, V)
+        ensures disk { result.0 ≡ self.disk }
+        ensures history { result.1.items ≡ self.history }
+        ensures marks { result.2.items ≡ self.marks }
+        ensures view { result.3 ≡ self.view }
+        ensures within { history_cost self.terms.layouts self.history ≤ self.terms.session_limit }
+        ensures asked { D.asked self.disk ≡ self.terms.asked }
+        ensures told { is_some (D.story self.disk) ≡ self.terms.told }
+        ensures content { self.stopped ≡ false → IfSome (D.content self.disk) (HoldsDurable self.terms self.history self.marks) }
+        ensures kept { IsKept self.terms (D.story self.disk) (D.moment self.disk) self.history self.marks }
+    {
+        let Book { front, file } = self;
+        let Front {
+            shapes: _,
+            history,
+            marks,
+            held: _,
+            block: _,
+            scratch: _,
+            session_limit: _,
+            view,
+        } = front;
+        (file.into_disk(), history, marks, view)
+    }
+
+    /// How many bytes the record of a sample has.
+    pub fn size_of(&self, sample: &Sample) -> u64
+        requires { SampleFits self.now.terms.layouts sample.now }
+        ensures { result ≡ encoded_size self.now.terms.layouts sample.now }
+    {
+        self.front.shapes.encoded_size(sample)
+    }
+
+    /// What a sample costs, in bytes.
+    pub fn cost_of(&self, sample: &Sample) -> u64
+        requires fits { SampleFits self.now.terms.layouts sample.now }
+        requires room { cost_of self.now.terms.layouts sample.now < 2 ^ 64 }
+        ensures { result ≡ cost_of self.now.terms.layouts sample.now }
+    {
+        self.front.shapes.cost_of(sample)
+    }
+
+    /// How many bytes the records of the samples behind the last mark have.
+    pub fn pending(&self) -> u64
+        ensures { result ≡ history_size self.now.terms.layouts (drop (durable self.now.marks) self.now.history) }
+    {
+        self.front.block.len() as u64
+    }
+
+    /// What the history costs, in bytes.
+    pub fn held(&self) -> u64
+        ensures { result ≡ history_cost self.now.terms.layouts self.now.history }
+    {
+        self.front.held
+    }
+
+    /// How many bytes of data a block has at most.
+    pub fn block_limit(&self) -> u64
+        ensures { result ≡ self.now.terms.block_limit }
+    {
+        self.front.block.limit() as u64
+    }
+
+    /// What the history may cost at most, in bytes.
+    pub fn session_limit(&self) -> u64
+        ensures { result ≡ self.now.terms.session_limit }
+    {
+        self.front.session_limit
+    }
+
+    /// The last mark.
+    pub fn last_mark(&self) -> Mark
+        ensures { result ≡ last_mark self.now.marks }
+    {
+        last_mark(&self.front.marks)
+    }
+
+    /// How many samples were accepted.
+    pub fn history_len(&self) -> u64
+        ensures { result ≡ length self.now.history }
+    {
+        self.front.history.len()
+    }
+
+    /// Whether a call was answered by a fault of the disk, which is where its file has failed.
+    pub fn stopped(&self) -> bool
+        ensures stopped { result ≡ self.now.stopped }
+        ensures cause { self.now.stopped ≡ true → Rose self.now.terms.faults (D.faults self.now.disk) }
+    {
+        self.file.failed()
+    }
+}

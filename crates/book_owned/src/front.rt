@@ -1,0 +1,89 @@
+ghost use Rattle.std.specs.Prelude.{◌≡◌, ◌+◌, ◌≤◌, ◌<◌, ◌⊎◌, ℕ, List, [], ◌∷◌, ◌++◌, length, take, All, OnOk};
+ghost use Rattle.mdf_layout.specs.declared.sample.Sample.{Sample};
+ghost use Rattle.mdf_layout.specs.Layout.{AreDisjoint};
+ghost use Rattle.mdf_layout.specs.Record.{SampleFits, IsRecord, encoded_size, cost_of};
+ghost use Rattle.book_owned.specs.Marks.{last_mark, durable};
+ghost use Rattle.book_owned.specs.Halves.{IsCounted, IsShown, IsPut};
+
+use crate::{Front, Mark, Marks, Shown};
+use mdf_layout::{Sample, Shapes};
+use mdf_num::Memory;
+use std::sync::Wait;
+use std::thread::Threads;
+
+/// Finds room for one sample more, and for two marks: that of a hand-over on the way, and
+/// that of the sample itself.
+pub(crate) fn reserve<V>(front: &mut Front<V>) -> Result<(), Memory>
+    ensures rest { front.new ≡ record front.old { history = front.new.history; marks = front.new.marks } }
+    ensures history { front.new.history.items ≡ front.old.history.items }
+    ensures marks { front.new.marks.items ≡ front.old.marks.items }
+    ensures spare { front.old.marks.spare ≤ front.new.marks.spare }
+    ensures room { OnOk result ((1 ≤ front.new.history.spare) × (2 ≤ front.new.marks.spare)) }
+{
+    front.history.reserve(1)?;
+    front.marks.reserve(2)
+}
+
+/// Writes the record of a sample, and answers its length.
+fn encode(shapes: &Shapes, sample: &Sample, out: &mut [u8]) -> usize
+    requires fits { SampleFits shapes.now sample.now }
+    requires groups { length shapes.now ≤ 64 }
+    requires disjoint { All (λ layout. AreDisjoint layout.rows) shapes.now }
+    requires room { encoded_size shapes.now sample.now ≤ length out.old }
+    ensures size { result ≡ encoded_size shapes.now sample.now }
+    ensures record { IsRecord shapes.now (take result out.new) sample.now }
+    ensures length { length out.new ≡ length out.old }
+{
+    let Some(shape) = shapes.get(sample.group as u64) else {
+        return 0;
+    };
+    let size = 1 + shape.record_size() as usize;
+    out[0] = sample.group as u8 + 1;
+    shape.encode(&sample.values, &[], &mut out[1..size]);
+    size
+}
+
+/// Puts a sample behind the history, and its record behind the pending ones. It takes no memory.
+pub(crate) fn accept<V>(front: &mut Front<V>, sample: Sample)
+    requires counted { IsCounted front.old }
+    requires fits { SampleFits front.old.shapes sample }
+    requires room { 1 ≤ front.old.history.spare }
+    requires block { length front.old.block.bytes + encoded_size front.old.shapes sample ≤ front.old.block.limit }
+    requires session { front.old.held + cost_of front.old.shapes sample ≤ front.old.session_limit }
+    ensures put { IsPut front.old front.new sample }
+{
+    let size = encode(&front.shapes, &sample, &mut front.scratch);
+    front.block.push(&front.scratch[..size]);
+    front.held += front.shapes.cost_of(&sample);
+    front.history.put(sample);
+}
+
+/// Publishes all samples that are not shown yet. Where the view finds no memory it shows what it showed.
+pub(crate) fn publish<V: Shown, R: Threads + Wait + Sync>(front: &mut Front<V>, rt: &R)
+    requires counted { IsCounted front.old }
+    requires shown { IsShown V.shows V.hands V.count front.old }
+    requires all { durable front.old.marks.items ≡ length front.old.history.items }
+    ensures shown { IsShown V.shows V.hands V.count front.new }
+    ensures rest { front.new ≡ record front.old { view = front.new.view } }
+    ensures which { V.which front.new.view ≡ V.which front.old.view }
+    ensures count { (V.count front.new.view ≡ length front.old.history.items) ⊎ (V.count front.new.view ≡ V.count front.old.view) }
+{
+    let shown = front.view.shown();
+    match front.view.publish(rt, front.history.rest(shown)) {
+        Ok(()) => {}
+        Err(_) => {}
+    }
+}
+
+/// The last mark.
+pub(crate) fn last_mark(marks: &Marks) -> Mark
+    ensures { result ≡ last_mark marks.now.items }
+{
+    match marks.get(marks.len().saturating_sub(1)) {
+        Some(mark) => *mark,
+        None => Mark {
+            moment: 0,
+            through: 0,
+        },
+    }
+}

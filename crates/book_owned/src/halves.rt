@@ -1,0 +1,21 @@
+use crate::Marks;
+use mdf_gate::Block;
+use mdf_layout::{Samples, Shapes};
+
+/// What a book holds in memory.
+pub struct Front<V> {
+    /// The layouts of the groups.
+    pub(crate) shapes: Shapes,
+    /// The accepted samples.
+    pub(crate) history: Samples,
+    pub(crate) marks: Marks,
+    /// What the history costs, in bytes.
+    pub(crate) held: u64,
+    /// The records of the samples behind the last mark.
+    pub(crate) block: Block,
+    /// Where a record is made: as many bytes as a block holds at most.
+    pub(crate) scratch: Vec<u8>,
+    /// What a history may cost at most, in bytes.
+    pub(crate) session_limit: u64,
+    pub(crate) view: V,
+}

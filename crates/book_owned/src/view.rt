@@ -1,0 +1,101 @@
+ghost use Rattle.std.specs.Prelude.{◌≡◌, ◌+◌, ◌^◌, ◌<◌, ℕ, List, [], ◌++◌, length, OnOk, OnErr};
+ghost use mathlib.Core.List.{IsPrefix};
+ghost use Rattle.mdf_layout.specs.declared.sample.Sample.{Sample};
+
+use mdf_layout::Sample;
+use mdf_num::Memory;
+use std::sync::Wait;
+use std::thread::Threads;
+
+/// Who is shown the samples that are kept.
+pub trait Shown {
+    /// What tells a reader of it how much is shown.
+    type Note: Drop;
+
+    /// A list of samples that may be the one that is shown. A view that only counts does not tell them apart.
+    ghost shows: { Self → List Sample → Type 0 };
+
+    /// A list of samples that readers may see: what is shown, and what could not be shown for want of memory.
+    ghost hands: { Self → List Sample → Type 0 };
+
+    /// How many samples are shown.
+    ghost count: { Self → ℕ };
+
+    /// Which view it is.
+    ghost which: { Self → ℕ };
+
+    /// Shows these samples too. What was handed to readers before has to begin what is shown with them.
+    ///
+    /// # Errors
+    /// Want of memory: what is shown is as before.
+    fn publish<R: Threads + Wait + Sync>(
+        &mut self,
+        rt: &R,
+        samples: &[Sample],
+    ) -> Result<(), Memory>
+        requires room { count self.old + length samples.now < 2 ^ 64 }
+        requires handed { (shown : List Sample) × shows self.old shown
+            × ((handed : List Sample) → hands self.old handed → IsPrefix handed (shown ++ samples.now)) }
+        ensures ok { OnOk result ((shown : List Sample) → shows self.old shown → shows self.new (shown ++ samples.now)) }
+        ensures counted { OnOk result (count self.new ≡ count self.old + length samples.now) }
+        ensures err { OnErr result ((shown : List Sample) → shows self.old shown → shows self.new shown) }
+        ensures as_before { OnErr result (count self.new ≡ count self.old) }
+        ensures handed { (shown : List Sample) → shows self.old shown
+            → ((handed : List Sample) → hands self.old handed → IsPrefix handed (shown ++ samples.now))
+            → (handed : List Sample) → hands self.new handed → IsPrefix handed (shown ++ samples.now) }
+        ensures same { which self.new ≡ which self.old };
+
+    /// How many samples are shown.
+    fn shown(&self) -> u64
+        ensures { result ≡ count self.now };
+
+    /// A note of what is shown now.
+    fn told(&mut self) -> Self::Note
+        ensures shown { (shown : List Sample) → shows self.old shown → shows self.new shown }
+        ensures handed { (handed : List Sample) → hands self.new handed → hands self.old handed }
+        ensures counted { count self.new ≡ count self.old }
+        ensures same { which self.new ≡ which self.old };
+}
+
+/// A view that counts and shows nobody anything.
+#[derive(Debug, Drop)]
+pub struct NoView {
+    count: u64,
+}
+
+impl NoView {
+    pub fn new() -> NoView
+        ensures { result.count ≡ 0 }
+    {
+        NoView { count: 0 }
+    }
+}
+
+impl Shown for NoView {
+    ghost use Rattle.std.specs.Prelude.{◌≡◌, [], length};
+
+    type Note = ();
+
+    ghost shows = { λ view samples. length samples ≡ view.count };
+
+    ghost hands = { λ view samples. samples ≡ [] };
+
+    ghost count = { λ view. view.count };
+
+    ghost which = { λ view. 0 };
+
+    fn publish<R: Threads + Wait + Sync>(
+        &mut self,
+        _rt: &R,
+        samples: &[Sample],
+    ) -> Result<(), Memory> {
+        self.count += samples.len() as u64;
+        Ok(())
+    }
+
+    fn shown(&self) -> u64 {
+        self.count
+    }
+
+    fn told(&mut self) {}
+}

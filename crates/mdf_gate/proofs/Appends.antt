@@ -1,0 +1,103 @@
+-- What an append does to a file at rest, on a disk that may tell its content and its story.
+use Rattle.std.proofs.Common.{◌≡◌, inl, ⊎_elim, ℕ, ◌+◌, ◌%◌, ◌^◌, ◌≤◌, ◌<◌, List, [], ◌∷◌, ◌++◌, length, take, Option, Some, None, is_some, Result, Ok, Err, refl, sym, ◌∙◌, ap, subst, arith}
+use Rattle.std.specs.Prelude.{IfSome, OnOk}
+use Rattle.std.proofs.lemmas.List.{take_at}
+use Rattle.std.proofs.lemmas.Option.{same_Some}
+use mathlib.Core.List.{IsPrefix}
+use Rattle.mdf_format.specs.Number.{aligned}
+use Rattle.mdf_disk.specs.Story.{Moment, Story, MayLeave, Agrees, LeftInOne, LeftSince, settled}
+use Rattle.mdf_disk.specs.Crash.{Adds, HoldsSince}
+use Rattle.mdf_disk.proofs.Crash.{adds_more, now_more, settled_leaves}
+use Rattle.mdf_seal.specs.Seal.{IsKept}
+use Rattle.mdf_gate.specs.Gated.{Rests, RestsOn, room_of, payload_of}
+use Rattle.mdf_gate.specs.Images.{head_of, Opens, OpensEither, IsStage}
+use Rattle.mdf_gate.proofs.Resting.{rests_after, rests_opens, stage_opens, length-head}
+
+-- a file that is kept is at rest where its bytes are
+pub kept_rests : (content : Option (List ℕ)) (story : Option Story) (first : ℕ) (blocks : List (List ℕ)) (place : ℕ) (file : List ℕ) → IsKept content story file
+    → Rests first blocks place file → RestsOn content story first blocks place
+kept_rests content story first blocks place file is rests = record {
+  rests = told content is.whole;
+  kept = now_more story (λ moment. moment ≡ settled file) (λ moment. moment ≡ settled moment.content) (λ moment all. all ∙ ap settled (sym (ap (λ (m : Moment). m.content) all))) is.kept;
+}
+  where
+    told : (content : Option (List ℕ)) → IfSome content (λ bytes. bytes ≡ file) → IfSome content (Rests first blocks place)
+    told None is = tt
+    told (Some bytes) is = subst (Rests first blocks place) (sym is) rests
+
+-- of a file at rest the content is kept, and it is at rest
+pub rests_kept : (story : Option Story) (file : List ℕ) (clock first : ℕ) (blocks : List (List ℕ)) (place : ℕ) → Agrees story (Some file) clock
+    → RestsOn (Some file) story first blocks place → IsKept (Some file) story file
+rests_kept None file clock first blocks place agrees rests = record { whole = refl; kept = tt }
+rests_kept (Some s) file clock first blocks place agrees rests =
+    let is : s.now.content ≡ file = same_Some _ _ (sym agrees.content_is) in
+    record { whole = refl; kept = rests.kept ∙ ap settled is }
+
+pub next_is : (place count : ℕ) → place % 8 ≡ 0 → place + room_of count ≡ aligned (place + 24 + count)
+next_is place count on_eight = omega (arith, on_eight)
+
+-- the file is at rest with the block too
+pub rests_on_after : (E : Type 0) (result : Result Unit E) (old new : Option Story) (content after : Option (List ℕ)) (clock first : ℕ) (blocks : List (List ℕ)) (place : ℕ) (body : List ℕ)
+    → Agrees old content clock → RestsOn content old first blocks place → place % 8 ≡ 0 → 24 + length body < 2 ^ 64
+    → is_some after ≡ is_some content → is_some new ≡ is_some old
+    → ((kept : List ℕ) → IsKept content old kept → length kept ≡ place + 1 → OnOk result (IsKept after new (take place kept ++ 35 ∷ payload_of body)))
+    → OnOk result (RestsOn after new first (blocks ++ body ∷ []) (aligned (place + 24 + length body)))
+rests_on_after E (Err e) old new content after clock first blocks place body agrees rests on_eight small told_content told ok = tt
+rests_on_after E (Ok done) old new (Some file) after clock first blocks place body agrees rests on_eight small told_content told ok =
+    let next = next_is place (length body) on_eight in
+    let kept = ok file (rests_kept old file clock first blocks place agrees rests) rests.rests.ends in
+    subst (RestsOn after new first (blocks ++ body ∷ [])) next
+    (kept_rests after new first (blocks ++ body ∷ []) (place + room_of (length body)) _ kept (rests_after first blocks place file rests.rests body on_eight small))
+rests_on_after E (Ok done) (Some s) new None after clock first blocks place body agrees rests on_eight small told_content told ok = absurd (cc agrees.content_is)
+rests_on_after E (Ok done) None None None None clock first blocks place body agrees rests on_eight small told_content told ok = record { rests = tt; kept = tt }
+rests_on_after E (Ok done) None (Some s) None after clock first blocks place body agrees rests on_eight small told_content told ok = absurd (cc told)
+rests_on_after E (Ok done) None None None (Some file) clock first blocks place body agrees rests on_eight small told_content told ok = absurd (cc told_content)
+
+-- no file joins but those with the blocks, or with the block too
+pub adds_after : (old new : Option Story) (content : Option (List ℕ)) (clock first : ℕ) (blocks : List (List ℕ)) (place : ℕ) (body : List ℕ)
+    → Agrees old content clock → RestsOn content old first blocks place → place % 8 ≡ 0 → 24 + length body < 2 ^ 64 → is_some new ≡ is_some old
+    → ((kept : List ℕ) → IsKept content old kept → length kept ≡ place + 1 → Adds old new (IsStage place kept (payload_of body)))
+    → Adds old new (OpensEither (head_of old first) blocks body)
+adds_after None None content clock first blocks place body agrees rests on_eight small told adds = λ t file left. inl left
+adds_after None (Some s) content clock first blocks place body agrees rests on_eight small told adds = absurd (cc told)
+adds_after (Some s) new None clock first blocks place body agrees rests on_eight small told adds = absurd (cc agrees.content_is)
+adds_after (Some s) new (Some file) clock first blocks place body agrees rests on_eight small told adds =
+    let is : file ≡ s.now.content = same_Some _ _ agrees.content_is in
+    subst (λ (bytes : List ℕ). Adds (Some s) new (OpensEither (take first bytes) blocks body)) is
+    (adds_more (Some s) new (IsStage place file (payload_of body)) (OpensEither (take first file) blocks body)
+    (stage_opens first blocks place file rests.rests body on_eight small)
+    (adds file (rests_kept (Some s) file clock first blocks place agrees rests) rests.rests.ends))
+
+-- no moment is as late as the present one
+pub none_later : (past : List Moment) (t : ℕ) (file : List ℕ) → length past ≤ t → LeftInOne past t file → ⊥
+none_later [] t file late left = left
+none_later (moment ∷ past) t file late left = ⊎_elim (λ now. absurd (omega (arith, late, now.0))) (none_later past t file (omega (arith, late))) left
+
+-- Of a file at rest, all of it kept, a crash from now on leaves its head and its blocks.
+pub rests_leaves : (content : Option (List ℕ)) (story : Option Story) (clock first : ℕ) (blocks : List (List ℕ)) (place : ℕ) → Agrees story content clock
+    → RestsOn content story first blocks place → HoldsSince story clock (Opens (head_of story first) blocks)
+rests_leaves content None clock first blocks place agrees rests file left = absurd left
+rests_leaves None (Some s) clock first blocks place agrees rests file left = absurd (cc agrees.content_is)
+rests_leaves (Some bytes) (Some s) clock first blocks place agrees rests file left =
+    let is : s.now.content ≡ bytes = same_Some _ _ (sym agrees.content_is) in
+    let now : MayLeave s.now file = ⊎_elim (λ here. here.1) (λ older. absurd (none_later s.past clock file (omega (arith, agrees.moment_is)) older)) left in
+    let same : file ≡ s.now.content = settled_leaves s.now.content file (subst (λ (m : Moment). MayLeave m file) rests.kept now) in
+    subst (Opens (take first s.now.content) blocks) (sym same)
+    (subst (λ (whole : List ℕ). Opens (take first whole) blocks whole) (sym is) (rests_opens first blocks place bytes rests.rests))
+
+-- the head stays, also where the calls failed
+pub head_stays : (old new : Option Story) (content after : Option (List ℕ)) (clock later first : ℕ) (blocks : List (List ℕ)) (place : ℕ) (body : List ℕ)
+    → Agrees old content clock → Agrees new after later → clock ≤ later → RestsOn content old first blocks place → is_some new ≡ is_some old
+    → Adds old new (OpensEither (head_of old first) blocks body) → head_of new first ≡ head_of old first
+head_stays None None content after clock later first blocks place body agrees then up rests told adds = refl
+head_stays None (Some n) content after clock later first blocks place body agrees then up rests told adds = absurd (cc told)
+head_stays (Some s) None content after clock later first blocks place body agrees then up rests told adds = absurd (cc told)
+head_stays (Some s) (Some n) None after clock later first blocks place body agrees then up rests told adds = absurd (cc agrees.content_is)
+head_stays (Some s) (Some n) (Some bytes) after clock later first blocks place body agrees then up rests told adds =
+    let is : bytes ≡ s.now.content = same_Some _ _ agrees.content_is in
+    let left : LeftSince (Some n) clock n.now.content = inl (omega (arith, up, then.moment_is), then.possible) in
+    let prefix : IsPrefix (take first s.now.content) n.now.content =
+    ⊎_elim (λ before. (rests_leaves (Some bytes) (Some s) clock first blocks place agrees rests n.now.content before).0) (λ joined. joined.0) (adds clock n.now.content left) in
+    let long : length (take first s.now.content) ≡ first =
+    subst (λ (whole : List ℕ). length (take first whole) ≡ first) is (length-head first blocks place bytes rests.rests) in
+    ap (take first) (sym prefix.1) ∙ take_at (take first s.now.content) prefix.0 first long

@@ -1,0 +1,100 @@
+-- What a file carries, of a longer history and of fewer samples.
+use Rattle.std.proofs.Common.{◌≡◌, ◌≤◌, ◌⊎◌, ℕ, List, [], ◌∷◌, ◌++◌, length, take, drop, Option, Some, None, refl, sym, ◌∙◌, ap, subst, inl, inr, ⊎_elim, arith, append_assoc, length-append}
+use Rattle.std.proofs.lemmas.List.{take-append-drop, length-take-le, append-nil}
+use Rattle.std.proofs.lemmas.List.Folds.{concat-append}
+use Rattle.std.specs.Prelude.{IfSome}
+use Rattle.std.specs.List.{concat}
+use Rattle.mdf_disk.specs.Story.{Story}
+use mathlib.Core.List.{IsPrefix}
+use Rattle.mdf_layout.specs.Layout.{Layout}
+use Rattle.mdf_layout.specs.Record.{AreRecords}
+use Rattle.mdf_layout.specs.declared.sample.Sample.{Sample}
+use Rattle.mdf_layout.proofs.Records.{are_records-append, no_records}
+use Rattle.mdf_gate.specs.Recording.{IsOpened}
+use Rattle.mdf_gate.specs.Images.{IsNotMdf, IsBegun, OpensEither}
+use Rattle.mdf_gate.specs.Carried.{Carries, IsCarried}
+use Rattle.mdf_gate.specs.Gated.{RestsOn}
+use Rattle.mdf_gate.proofs.Resting.{rests_opens}
+
+-- a list begins itself, and a beginning of a beginning begins the whole
+pub prefix_self : {A : Type 0} (xs : List A) → IsPrefix xs xs
+prefix_self xs = ([], append-nil xs)
+
+pub prefix_trans : {A : Type 0} (xs ys zs : List A) → IsPrefix xs ys → IsPrefix ys zs → IsPrefix xs zs
+prefix_trans xs ys zs (rest, first) (more, second) =
+    (rest ++ more, sym (append_assoc xs rest more) ∙ ap (λ front. front ++ more) first ∙ second)
+
+pub prefix_append : {A : Type 0} (xs ys : List A) → IsPrefix xs (xs ++ ys)
+prefix_append xs ys = (ys, refl)
+
+pub prefix_take : {A : Type 0} (n : ℕ) (xs : List A) → IsPrefix (take n xs) xs
+prefix_take n xs = (drop n xs, take-append-drop n xs)
+
+pub prefix-length : {A : Type 0} (xs ys : List A) → IsPrefix xs ys → length xs ≤ length ys
+prefix-length xs ys (rest, is) = omega (arith, ap length is, length-append xs rest)
+
+module _ (layouts : List Layout) (head : List ℕ) where
+  -- of a longer history, and of fewer samples
+  pub carries_longer : (history longer : List Sample) (through : ℕ) (file : List ℕ) → IsPrefix history longer
+      → Carries layouts head history through file → Carries layouts head longer through file
+  carries_longer history longer through file begins c = record {
+    begins = c.begins;
+    samples = c.samples;
+    carried = c.carried;
+    beginning = prefix_trans c.samples history longer c.beginning begins;
+    enough = c.enough;
+  }
+
+  pub carries_fewer : (history : List Sample) (through fewer : ℕ) (file : List ℕ) → fewer ≤ through
+      → Carries layouts head history through file → Carries layouts head history fewer file
+  carries_fewer history through fewer file less c = record {
+    begins = c.begins;
+    samples = c.samples;
+    carried = c.carried;
+    beginning = c.beginning;
+    enough = omega (arith, c.enough);
+  }
+
+  -- a file with these opened blocks carries their samples
+  pub carries_opened : (history samples : List Sample) (blocks : List (List ℕ)) (file : List ℕ) → IsPrefix head file → IsOpened file blocks
+      → AreRecords layouts (concat blocks) samples → IsPrefix samples history → Carries layouts head history (length samples) file
+  carries_opened history samples blocks file begins opened records beginning = record {
+    begins = begins;
+    samples = samples;
+    carried = record { blocks = blocks; opened = opened; records = records };
+    beginning = beginning;
+    enough = omega arith;
+  }
+
+  -- the records of the blocks and of one block more
+  pub concat_one_more : (blocks : List (List ℕ)) (body : List ℕ) → concat (blocks ++ body ∷ []) ≡ concat blocks ++ body
+  concat_one_more blocks body = concat-append blocks (body ∷ []) ∙ ap (λ last. concat blocks ++ last) (append-nil body)
+
+  -- while a block with the records of the last samples is appended
+  pub carries_either : (history : List Sample) (through : ℕ) (blocks : List (List ℕ)) (body : List ℕ) → through ≤ length history
+      → AreRecords layouts (concat blocks) (take through history) → AreRecords layouts body (drop through history)
+      → (file : List ℕ) → OpensEither head blocks body file → Carries layouts head history through file
+  carries_either history through blocks body within before behind file (begins, opened) =
+      let long : length (take through history) ≡ through = length-take-le through history within in
+      let all : AreRecords layouts (concat (blocks ++ body ∷ [])) history =
+      subst (λ bytes. AreRecords layouts bytes history) (sym (concat_one_more blocks body))
+      (subst (AreRecords layouts (concat blocks ++ body)) (take-append-drop through history)
+      (are_records-append layouts (concat blocks) body (take through history) (drop through history) before behind)) in
+      ⊎_elim
+      (λ without. subst (λ n. Carries layouts head history n file) long
+      (carries_opened history (take through history) blocks file begins without before (prefix_take through history)))
+      (λ with. carries_fewer history (length history) through file within
+      (carries_opened history history (blocks ++ body ∷ []) file begins with all (prefix_self history)))
+      opened
+
+  -- a file that was just begun carries no sample
+  pub carries_begun : (history : List Sample) (file : List ℕ) → IsBegun head file → IsNotMdf file ⊎ Carries layouts head history 0 file
+  carries_begun history file begun =
+      ⊎_elim inl (λ h. inr (carries_opened history [] [] file h.0 h.1 (no_records layouts) (history, refl))) begun
+
+-- the content of a file at rest carries the samples of its blocks
+pub rests_carry : (layouts : List Layout) (content : Option (List ℕ)) (story : Option Story) (first place : ℕ) (blocks : List (List ℕ)) (samples : List Sample)
+    → RestsOn content story first blocks place → AreRecords layouts (concat blocks) samples → IfSome content (λ file. IsCarried layouts file samples)
+rests_carry layouts None story first place blocks samples rests records = tt
+rests_carry layouts (Some file) story first place blocks samples rests records =
+    record { blocks = blocks; opened = (rests_opens first blocks place file rests.rests).1; records = records }

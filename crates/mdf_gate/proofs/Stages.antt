@@ -1,0 +1,54 @@
+-- The two writes of a block: the payload behind the last gate of a file, and that gate.
+use Rattle.std.proofs.Common.{◌≡◌, inl, inr, ℕ, ◌+◌, List, [], ◌∷◌, ◌++◌, length, take, drop, get_or, Option, Some, None, Result, Ok, Err, sym, ◌∙◌, ap, subst, arith, take-append-drop, append_assoc}
+use Rattle.std.specs.Prelude.{IfSome, OnOk}
+use Rattle.std.specs.Option.{option_map}
+use Rattle.std.proofs.lemmas.List.{take_all, drop_all, drop_more, append-nil, length-take-le}
+use Rattle.mdf_format.specs.Number.{patched}
+use Rattle.mdf_gate.specs.Images.{IsTorn, IsStage}
+use Rattle.mdf_gate.proofs.Left.{left_behind, left_one, patched_gate}
+
+-- two facts about a success make a third
+pub both_ok : {T E : Type 0} (A B C : Type 0) (result : Result T E) → OnOk result A → OnOk result B → (A → B → C) → OnOk result C
+both_ok A B C (Ok done) one other make = make one other
+both_ok A B C (Err e) one other make = tt
+
+-- a content after two changes
+pub changed_twice : (old mid new : Option (List ℕ)) (f g : List ℕ → List ℕ) (kept : List ℕ) → IfSome old (λ file. file ≡ kept) → mid ≡ option_map f old
+    → new ≡ option_map g mid → IfSome new (λ file. file ≡ g (f kept))
+changed_twice None mid new f g kept holds first second = subst (λ c. IfSome c (λ file. file ≡ g (f kept))) (sym (second ∙ ap (option_map g) first)) tt
+changed_twice (Some file) mid new f g kept holds first second =
+    subst (λ c. IfSome c (λ file. file ≡ g (f kept))) (sym (second ∙ ap (option_map g) first)) (ap (λ (l : List ℕ). g (f l)) holds)
+
+module _ (place : ℕ) (kept payload : List ℕ) (ends : length kept ≡ place + 1) where
+  long : length (take place kept) ≡ place
+  long = length-take-le place kept (omega (arith, ends))
+
+  parts : kept ≡ take place kept ++ get_or kept place 0 ∷ []
+  parts =
+      sym (take-append-drop place kept)
+      ∙ ap (λ (rest : List ℕ). take place kept ++ rest) (drop_more kept place 0 (omega (arith, ends))
+      ∙ ap (λ (rest : List ℕ). get_or kept place 0 ∷ rest) (drop_all (place + 1) kept (omega (arith, ends))))
+
+  -- the payload stands behind the last gate
+  staged : patched (place + 1) payload kept ≡ take place kept ++ get_or kept place 0 ∷ payload
+  staged =
+      ap (λ (before : List ℕ). before ++ payload ++ drop (place + 1 + length payload) kept) (take_all (place + 1) kept (omega (arith, ends)))
+      ∙ ap (λ (rest : List ℕ). kept ++ payload ++ rest) (drop_all (place + 1 + length payload) kept (omega (arith, ends)))
+      ∙ append-nil (kept ++ payload)
+      ∙ ap (λ (before : List ℕ). before ++ payload) parts
+      ∙ append_assoc (take place kept) (get_or kept place 0 ∷ []) payload
+
+  pub first_stage : (file : List ℕ) → IsTorn (place + 1) (length payload) kept file → IsStage place kept payload file
+  first_stage file torn = inl (left_behind kept (length payload) file (subst (λ (at : ℕ). IsTorn at (length payload) kept file) (sym ends) torn))
+
+  pub second_stage : (file : List ℕ) → IsTorn place 1 (patched (place + 1) payload kept) file → IsStage place kept payload file
+  second_stage file torn =
+      let whole = subst (λ (bytes : List ℕ). IsTorn place 1 bytes file) staged torn in
+      inr (left_one (take place kept) (get_or kept place 0) payload file (subst (λ (at : ℕ). IsTorn at 1 (take place kept ++ get_or kept place 0 ∷ payload) file) (sym long) whole))
+
+  -- the gate is open
+  pub opened : patched place (35 ∷ []) (patched (place + 1) payload kept) ≡ take place kept ++ 35 ∷ payload
+  opened =
+      ap (patched place (35 ∷ [])) staged
+      ∙ ap (λ (at : ℕ). patched at (35 ∷ []) (take place kept ++ get_or kept place 0 ∷ payload)) (sym long)
+      ∙ patched_gate (take place kept) (get_or kept place 0) 35 payload

@@ -1,0 +1,84 @@
+use Rattle.std.proofs.Common.{◌≡◌, ◌+◌, ◌<◌, ◌^◌, ◌++◌, [], ◌∷◌, ℕ, length, false, Ok, ap, sym, subst, ◌∙◌, arith}
+use Rattle.std.specs.Prelude.{IsSome}
+use Rattle.mdf_format.specs.Number.{aligned}
+use Rattle.mdf_num.specs.declared.failure.Failed.{Failed}
+use Rattle.mdf_gate.specs.Gated.{Gated, Buffered, RestsOn}
+use Rattle.mdf_gate.proofs.Appends.{rests_on_after, adds_after, head_stays}
+use Rattle.mdf_gate.proofs.gated.GatedFile.append.Goals as goal
+
+pub returns-in_err-write-clause-any_moment : goal.returns-in_err-write-clause-any_moment
+returns-in_err-write-clause-any_moment g c = rw (← c.self.view_is) (λ blocks rests.
+    let file = c.self.inside in
+    let body = c.args.block.now.bytes in
+    let small : 24 + length body < 2 ^ 64 = omega (arith, c.requires.short) in
+    adds_after (g.D.Disk.story file.disk) (g.D.Disk.story c.write.new.disk) (g.D.Disk.content file.disk) _ file.first blocks file.place body
+    (g.met.D.Disk.agrees file.disk) rests c.self.invariant.1.on_eight small c.write.ensures.told c.write.ensures.any_moment)
+
+pub returns-in_err-write-clause-head : goal.returns-in_err-write-clause-head
+returns-in_err-write-clause-head g c = rw (← c.self.view_is) (
+    let file = c.self.inside in
+    let body = c.args.block.now.bytes in
+    let small : 24 + length body < 2 ^ 64 = omega (arith, c.requires.short) in
+    let going : file.failed ≡ false = ap (λ (s : Gated _). s.failed) c.self.view_is ∙ c.requires.going in
+    let rests = c.self.invariant.1.rests going in
+    head_stays (g.D.Disk.story file.disk) (g.D.Disk.story c.write.new.disk) (g.D.Disk.content file.disk) (g.D.Disk.content c.write.new.disk) _ _ file.first rests.0 file.place body
+    (g.met.D.Disk.agrees file.disk) (g.met.D.Disk.agrees c.write.new.disk) c.write.ensures.moment rests.1 c.write.ensures.told
+    (adds_after (g.D.Disk.story file.disk) (g.D.Disk.story c.write.new.disk) (g.D.Disk.content file.disk) _ file.first rests.0 file.place body
+    (g.met.D.Disk.agrees file.disk) rests.1 c.self.invariant.1.on_eight small c.write.ensures.told c.write.ensures.any_moment))
+
+pub invariant_of-self-2 : goal.invariant_of-self-2
+invariant_of-self-2 g c =
+    let file = c.self.inside in
+    let body = c.args.block.now.bytes in
+    let small : 24 + length body < 2 ^ 64 = omega (arith, c.requires.short) in
+    let going : file.failed ≡ false = ap (λ (s : Gated _). s.failed) c.self.view_is ∙ c.requires.going in
+    let rests = c.self.invariant.1.rests going in
+    let place = ap (λ (s : Gated _). s.place) c.self.view_is in
+    let count : c.from.result ≡ length body = c.from.ensures ∙ c.len.ensures.len ∙ ap (λ (b : Buffered). length b.bytes) c.in_ok-write.ensures.same in
+    let place_is : c.align8-self-inside.result ≡ aligned (file.place + 24 + length body) = c.align8-self-inside.ensures.aligned ∙ ap (λ (n : ℕ). aligned (file.place + 24 + n)) count in (
+      subst IsSome (sym c.write.ensures.asked) c.self.invariant.0,
+      record {
+        behind = omega (arith, c.self.invariant.1.behind, c.align8-self-inside.ensures.not_below);
+        on_eight = c.align8-self-inside.ensures.multiple;
+        small = omega (arith, c.requires.short, place, count, c.align8-self-inside.ensures.least);
+        later = omega (arith, c.self.invariant.1.later, c.write.ensures.cause.later);
+        cause = λ failed. absurd (cc failed);
+        rests = λ still. (
+          rests.0 ++ body ∷ [],
+          subst (RestsOn (g.D.Disk.content c.write.new.disk) (g.D.Disk.story c.write.new.disk) file.first (rests.0 ++ body ∷ [])) (sym place_is)
+              (rests_on_after Failed (Ok tt) (g.D.Disk.story file.disk) (g.D.Disk.story c.write.new.disk) (g.D.Disk.content file.disk) (g.D.Disk.content c.write.new.disk) _ file.first rests.0 file.place body
+              (g.met.D.Disk.agrees file.disk) rests.1 c.self.invariant.1.on_eight small c.write.ensures.told_content c.write.ensures.told c.in_ok-write.ensures.ok),
+        );
+      },
+    )
+
+pub returns-clause-rests : goal.returns-clause-rests
+returns-clause-rests g c = rw (← c.self.view_is) (λ blocks rests.
+    let file = c.self.inside in
+    let body = c.args.block.now.bytes in
+    let small : 24 + length body < 2 ^ 64 = omega (arith, c.requires.short) in
+    let place_is : c.align8-self-inside.result ≡ aligned (file.place + 24 + length body) =
+    c.align8-self-inside.ensures.aligned ∙ ap (λ (n : ℕ). aligned (file.place + 24 + n)) (c.from.ensures ∙ c.len.ensures.len ∙ ap (λ (b : Buffered). length b.bytes) c.in_ok-write.ensures.same) in
+    subst (RestsOn (g.D.Disk.content c.write.new.disk) (g.D.Disk.story c.write.new.disk) file.first (blocks ++ body ∷ [])) (sym place_is)
+    (rests_on_after Failed (Ok tt) (g.D.Disk.story file.disk) (g.D.Disk.story c.write.new.disk) (g.D.Disk.content file.disk) (g.D.Disk.content c.write.new.disk) _ file.first blocks file.place body
+    (g.met.D.Disk.agrees file.disk) rests c.self.invariant.1.on_eight small c.write.ensures.told_content c.write.ensures.told c.in_ok-write.ensures.ok))
+
+pub returns-clause-any_moment : goal.returns-clause-any_moment
+returns-clause-any_moment g c = rw (← c.self.view_is) (λ blocks rests.
+    let file = c.self.inside in
+    let body = c.args.block.now.bytes in
+    let small : 24 + length body < 2 ^ 64 = omega (arith, c.requires.short) in
+    adds_after (g.D.Disk.story file.disk) (g.D.Disk.story c.write.new.disk) (g.D.Disk.content file.disk) _ file.first blocks file.place body
+    (g.met.D.Disk.agrees file.disk) rests c.self.invariant.1.on_eight small c.write.ensures.told c.write.ensures.any_moment)
+
+pub returns-clause-head : goal.returns-clause-head
+returns-clause-head g c = rw (← c.self.view_is) (
+    let file = c.self.inside in
+    let body = c.args.block.now.bytes in
+    let small : 24 + length body < 2 ^ 64 = omega (arith, c.requires.short) in
+    let going : file.failed ≡ false = ap (λ (s : Gated _). s.failed) c.self.view_is ∙ c.requires.going in
+    let rests = c.self.invariant.1.rests going in
+    head_stays (g.D.Disk.story file.disk) (g.D.Disk.story c.write.new.disk) (g.D.Disk.content file.disk) (g.D.Disk.content c.write.new.disk) _ _ file.first rests.0 file.place body
+    (g.met.D.Disk.agrees file.disk) (g.met.D.Disk.agrees c.write.new.disk) c.write.ensures.moment rests.1 c.write.ensures.told
+    (adds_after (g.D.Disk.story file.disk) (g.D.Disk.story c.write.new.disk) (g.D.Disk.content file.disk) _ file.first rests.0 file.place body
+    (g.met.D.Disk.agrees file.disk) rests.1 c.self.invariant.1.on_eight small c.write.ensures.told c.write.ensures.any_moment))

@@ -1,0 +1,41 @@
+use Rattle.std.proofs.Common.{◌≡◌, ◌%◌, ◌++◌, [], ◌∷◌, ℕ, length, sym, subst, arith}
+use Rattle.std.specs.Prelude.{IsSome}
+use Rattle.mdf_disk.specs.Crash.{HoldsSince}
+use Rattle.mdf_gate.specs.Images.{IsBegun, head_of}
+use Rattle.mdf_gate.proofs.Begun.{begun_holds, begun_since, kept_head}
+use Rattle.mdf_gate.proofs.Resting.{head_rests}
+use Rattle.mdf_gate.proofs.Appends.{kept_rests}
+use Rattle.mdf_gate.proofs.gated.GatedFile.create.Goals as goal
+
+pub returns-clause-rests : goal.returns-clause-rests
+returns-clause-rests g c =
+    let head = c.args.head.now in
+    let disk = c.write_head.new.disk in
+    kept_rests (g.D.Disk.content disk) (g.D.Disk.story disk) (length head) [] (length head) (head ++ 0 ∷ []) c.in-Ok.ensures.ok (head_rests head c.requires.head)
+
+pub invariant_of-result : goal.invariant_of-result
+invariant_of-result g c =
+    let head = c.args.head.now in
+    let disk = c.write_head.new.disk in
+    let on_eight : length head % 8 ≡ 0 = subst (λ n. n % 8 ≡ 0) c.requires.head.ends c.requires.head.recording.place.on_eight in (
+      subst IsSome (sym c.in-Ok.ensures.asked) c.requires.attached,
+      record {
+        behind = omega arith;
+        on_eight = on_eight;
+        small = omega (arith, c.requires.short);
+        later = omega (arith, c.faults-faults.ensures, c.in-Ok.ensures.cause.later);
+        cause = λ failed. absurd (cc failed);
+        rests = λ going. (
+          [],
+          kept_rests (g.D.Disk.content disk) (g.D.Disk.story disk) (length head) [] (length head) (head ++ 0 ∷ []) c.in-Ok.ensures.ok (head_rests head c.requires.head),
+        );
+      },
+    )
+
+pub returns-clause-begun : goal.returns-clause-begun
+returns-clause-begun g c =
+    let story = g.D.Disk.story c.write_head.new.disk in
+    let head = c.args.head.now in
+    subst (λ (t : ℕ). HoldsSince story t (IsBegun (head_of story (length head)))) (sym c.moment-start.ensures)
+    (begun_since head story _ (length head) (kept_head head (g.D.Disk.content c.write_head.new.disk) story c.in-Ok.ensures.ok)
+    (begun_holds head (g.D.Disk.story c.args.disk) story (g.D.Disk.content c.args.disk) _ (g.met.D.Disk.agrees c.args.disk) c.requires.blank.kept c.write_head.ensures.any_moment))

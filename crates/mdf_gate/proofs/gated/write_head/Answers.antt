@@ -1,0 +1,55 @@
+use Rattle.std.proofs.Common.{◌⊎◌, ◌++◌, [], ◌∷◌, ⊎_elim, length, ◌≤◌}
+use Rattle.mdf_disk.proofs.Crash.{adds_both, adds_more}
+use Rattle.mdf_seal.specs.Images.{IsClosed, IsWholeButFirst}
+use Rattle.mdf_gate.specs.Images.{IsBegun}
+use Rattle.mdf_gate.proofs.Begun.{short_begun, closed_begun, whole_begun}
+use Rattle.mdf_gate.proofs.gated.write_head.Goals as goal
+
+pub returns-in_err-seal-clause-any_moment : goal.returns-in_err-seal-clause-any_moment
+returns-in_err-seal-clause-any_moment g c =
+    let story = g.D.Disk.story in
+    let head = c.args.head.now in
+    adds_more (story c.args.disk.now) (story c.begin.new.disk) (λ file. length file ≤ 1) (IsBegun head) (short_begun head) c.begin.ensures.any_moment
+
+pub returns-in_err-give-clause-any_moment : goal.returns-in_err-give-clause-any_moment
+returns-in_err-give-clause-any_moment g c =
+    let story = g.D.Disk.story in
+    let head = c.args.head.now in
+    let begun = story c.begin.new.disk in
+    let given = story c.give.new.disk in
+    adds_both (story c.args.disk.now) begun given (IsBegun head)
+    (adds_more (story c.args.disk.now) begun (λ file. length file ≤ 1) (IsBegun head) (short_begun head) c.begin.ensures.any_moment)
+    (adds_more begun given IsClosed (IsBegun head) (closed_begun head) c.give.ensures.any_moment)
+
+pub returns-in_err-give-2-clause-any_moment : goal.returns-in_err-give-2-clause-any_moment
+returns-in_err-give-2-clause-any_moment g c =
+    let story = g.D.Disk.story in
+    let head = c.args.head.now in
+    let begun = story c.begin.new.disk in
+    let given = story c.give.new.disk in
+    let gated = story c.give-2.new.disk in
+    adds_both (story c.args.disk.now) begun gated (IsBegun head)
+    (adds_more (story c.args.disk.now) begun (λ file. length file ≤ 1) (IsBegun head) (short_begun head) c.begin.ensures.any_moment)
+    (adds_both begun given gated (IsBegun head)
+    (adds_more begun given IsClosed (IsBegun head) (closed_begun head) c.give.ensures.any_moment)
+    (adds_more given gated IsClosed (IsBegun head) (closed_begun head) c.give-2.ensures.any_moment))
+
+pub returns-clause-any_moment : goal.returns-clause-any_moment
+returns-clause-any_moment g c =
+    let story = g.D.Disk.story in
+    let head = c.args.head.now in
+    let old = story c.args.disk.now in
+    let begun = story c.begin.new.disk in
+    let given = story c.give.new.disk in
+    let gated = story c.give-2.new.disk in
+    let new = story c.finish.new.disk in
+    let all = head ++ 0 ∷ [] in
+    let seals = c.in_ok-give-2.ensures.ok head (c.in_ok-give.ensures.ok [] c.in_ok-seal.ensures.ok) in
+    adds_both old begun new (IsBegun head)
+    (adds_more old begun (λ file. length file ≤ 1) (IsBegun head) (short_begun head) c.begin.ensures.any_moment)
+    (adds_both begun given new (IsBegun head)
+    (adds_more begun given IsClosed (IsBegun head) (closed_begun head) c.give.ensures.any_moment)
+    (adds_both given gated new (IsBegun head)
+    (adds_more given gated IsClosed (IsBegun head) (closed_begun head) c.give-2.ensures.any_moment)
+    (adds_more gated new (λ file. IsClosed file ⊎ IsWholeButFirst all file) (IsBegun head)
+    (λ file. ⊎_elim (closed_begun head file) (whole_begun head c.requires.head file)) (c.finish.ensures.any_moment all seals))))

@@ -1,0 +1,46 @@
+use Rattle.std.proofs.Common.{◌+◌, ◌++◌, [], ◌∷◌, length, take, subst}
+use Rattle.mdf_format.specs.Number.{patched}
+use Rattle.mdf_disk.proofs.Crash.{adds_both, adds_more}
+use Rattle.mdf_seal.specs.Seal.{IsKept}
+use Rattle.mdf_gate.specs.Images.{IsTorn, IsStage}
+use Rattle.mdf_gate.proofs.Stages.{both_ok, changed_twice, first_stage, second_stage, opened}
+use Rattle.mdf_gate.proofs.stage.write_block.Goals as goal
+
+pub returns-in_err-write_and_sync-clause-any_moment : goal.returns-in_err-write_and_sync-clause-any_moment
+returns-in_err-write_and_sync-clause-any_moment g c = λ kept is ends.
+    let story = g.D.Disk.story in
+    let place = c.args.place in
+    let payload = c.args.payload.now in
+    adds_more (story c.args.disk.now) (story c.write_and_sync.new.disk) (IsTorn (place + 1) (length payload) kept) (IsStage place kept payload)
+    (first_stage place kept payload ends) (c.write_and_sync.ensures.any_moment kept is.kept)
+
+pub returns-clause-ok : goal.returns-clause-ok
+returns-clause-ok g c = λ kept is ends.
+    let content = g.D.Disk.content in
+    let story = g.D.Disk.story in
+    let place = c.args.place in
+    let payload = c.args.payload.now in
+    let new = c.write_and_sync-2.new.disk in
+    let staged = patched (place + 1) payload kept in
+    both_ok _ _ (IsKept (content new) (story new) (take place kept ++ 35 ∷ payload)) c.write_and_sync-2.result c.write_and_sync-2.ensures.content
+    (c.write_and_sync-2.ensures.kept staged (c.in_ok-write_and_sync.ensures.kept kept is.kept))
+    (λ whole now. subst (IsKept (content new) (story new)) (opened place kept payload ends) (record {
+      whole = changed_twice (content c.args.disk.now) (content c.write_and_sync.new.disk) (content new) (patched (place + 1) payload) (patched place (35 ∷ [])) kept is.whole
+          c.in_ok-write_and_sync.ensures.content whole;
+      kept = now;
+    }))
+
+pub returns-clause-any_moment : goal.returns-clause-any_moment
+returns-clause-any_moment g c = λ kept is ends.
+    let story = g.D.Disk.story in
+    let place = c.args.place in
+    let payload = c.args.payload.now in
+    let old = story c.args.disk.now in
+    let mid = story c.write_and_sync.new.disk in
+    let new = story c.write_and_sync-2.new.disk in
+    let staged = patched (place + 1) payload kept in
+    adds_both old mid new (IsStage place kept payload)
+    (adds_more old mid (IsTorn (place + 1) (length payload) kept) (IsStage place kept payload) (first_stage place kept payload ends)
+    (c.write_and_sync.ensures.any_moment kept is.kept))
+    (adds_more mid new (IsTorn place 1 staged) (IsStage place kept payload) (second_stage place kept payload ends)
+    (c.write_and_sync-2.ensures.any_moment staged (c.in_ok-write_and_sync.ensures.kept kept is.kept)))

@@ -1,0 +1,157 @@
+ghost use Rattle.std.specs.Prelude.{◌≡◌, ◌+◌, ◌≤◌, ◌<◌, ◌^◌, ◌↔◌, ℕ, List, [], ◌∷◌, ◌++◌, length, take, is_some, IsTrue, IsSome, IfSome, IfOk, OnOk};
+ghost use Rattle.mdf_format.specs.Number.{bytes_at, patched};
+ghost use Rattle.mdf_format.specs.Cause.{HasCause};
+ghost use Rattle.mdf_disk.specs.Crash.{Adds};
+ghost use Rattle.mdf_seal.specs.Seal.{IsKept};
+ghost use Rattle.mdf_gate.specs.Gated.{header_of, room_of, payload_of};
+ghost use Rattle.mdf_gate.specs.Images.{IsStage};
+
+use crate::stage::write_block;
+use mdf_disk::Disk;
+use mdf_num::{Failed, Memory, align8, put_u64};
+use std::alloc::Global;
+use std::marker::Model;
+
+/// How many bytes of a header follow its first one.
+const HEADER: usize = 23;
+
+/// How many bytes at most follow the data, up to the next multiple of 8 and on it.
+const BEHIND: usize = 8;
+
+/// The buffer of a data block (DTBLOCK): the data of at most `limit` bytes, with room before them for the 23 bytes of
+/// the header that follow its first, and behind them for the 1 to 8 zero bytes up to the next place and on it. It is
+/// reserved once.
+#[derive(Debug, Drop)]
+pub struct Block {
+    limit: u32,
+    used: u32,
+    bytes: Vec<u8>,
+}
+
+impl Model for Block {
+    ghost use Rattle.std.specs.Prelude.{◌≡◌, ◌+◌, ◌≤◌, length};
+    ghost use Rattle.mdf_gate.specs.Gated.{Buffered};
+    ghost use Rattle.mdf_format.specs.Number.{bytes_at};
+
+    ghost Value = { Buffered };
+
+    ghost view = { λ b. record { limit = b.limit; bytes = bytes_at b.used b.bytes.items 23 } };
+
+    ghost invariant = { λ b. (b.used ≤ b.limit) × (length b.bytes.items ≡ b.limit + 31) };
+}
+
+/// Writes bytes over those from a place on.
+fn put(bytes: &mut [u8], at: usize, part: &[u8])
+    requires { at + length part.now ≤ length bytes.old }
+    ensures { bytes.new ≡ patched at part.now bytes.old }
+{
+    bytes[at..at + part.len()].copy_from_slice(part);
+}
+
+/// Writes the header but for its first byte: `#DT`, 4 reserved bytes, the length of the block and no links.
+fn put_header(bytes: &mut [u8], count: u32)
+    requires { 23 ≤ length bytes.old }
+    ensures { bytes.new ≡ patched 0 (header_of count) bytes.old }
+{
+    put(bytes, 0, b"#DT\0\0\0\0");
+    put_u64(bytes, 7, 24 + u64::from(count));
+    put_u64(bytes, 15, 0);
+}
+
+/// Writes the header before so many bytes of data and zero bytes behind them. The data stay.
+fn frame(bytes: &mut [u8], used: u32)
+    requires { 31 + used ≤ length bytes.old }
+    ensures payload { take (room_of used) bytes.new ≡ payload_of (bytes_at used bytes.old 23) }
+    ensures data_bytes { bytes_at used bytes.new 23 ≡ bytes_at used bytes.old 23 }
+    ensures length { length bytes.new ≡ length bytes.old }
+{
+    put_header(bytes, used);
+    put(bytes, HEADER + used as usize, &[0; BEHIND]);
+}
+
+impl Block {
+    /// A buffer for blocks of at most `limit` bytes of data. It takes 31 bytes more than that.
+    ///
+    /// # Errors
+    /// Want of memory.
+    pub fn with_limit(alloc: Global, limit: u32) -> Result<Block, Memory>
+        requires { 1 ≤ limit }
+        ensures limit { IfOk result (λ block. block.limit ≡ limit) }
+        ensures none { IfOk result (λ block. block.bytes ≡ []) }
+    {
+        let bytes = Vec::from_elem(alloc, 0, HEADER + limit as usize + BEHIND)?;
+        Ok(Block {
+            limit,
+            used: 0,
+            bytes,
+        })
+    }
+
+    /// Adds bytes at the end. It takes no memory.
+    pub fn push(&mut self, bytes: &[u8])
+        requires { length self.old.bytes + length bytes.now ≤ self.old.limit }
+        ensures bytes { self.new.bytes ≡ self.old.bytes ++ bytes.now }
+        ensures limit { self.new.limit ≡ self.old.limit }
+    {
+        put(&mut self.bytes, HEADER + self.used as usize, bytes);
+        self.used += bytes.len() as u32;
+    }
+
+    /// How many bytes of data it has.
+    pub fn len(&self) -> u32
+        ensures len { result ≡ length self.now.bytes }
+        ensures within { length self.now.bytes ≤ self.now.limit }
+    {
+        self.used
+    }
+
+    pub fn is_empty(&self) -> bool
+        ensures { IsTrue result ↔ (self.now.bytes ≡ []) }
+    {
+        self.as_slice().is_empty()
+    }
+
+    /// How many bytes of data it holds at most.
+    pub fn limit(&self) -> u32
+        ensures limit { result ≡ self.now.limit }
+        ensures within { length self.now.bytes ≤ self.now.limit }
+    {
+        self.limit
+    }
+
+    pub fn as_slice(&self) -> &[u8]
+        ensures { result.now ≡ self.now.bytes }
+    {
+        &self.bytes[HEADER..HEADER + self.used as usize]
+    }
+
+    /// Drops all data. It keeps the buffer.
+    pub fn clear(&mut self)
+        ensures bytes { self.new.bytes ≡ [] }
+        ensures limit { self.new.limit ≡ self.old.limit }
+    {
+        self.used = 0;
+    }
+
+    /// Writes the block at a place, which is the last of a file that is kept. The data stay.
+    pub(crate) fn write<D: Disk>(&mut self, disk: &mut D, place: u64) -> Result<(), Failed>
+        requires attached { IsSome (D.asked disk.old) }
+        requires small { place < 2 ^ 62 }
+        requires ends { IfSome (D.content disk.old) (λ file. length file ≡ place + 1) }
+        ensures same { self.new ≡ self.old }
+        ensures ok { (kept : List ℕ) → IsKept (D.content disk.old) (D.story disk.old) kept → length kept ≡ place + 1
+            → OnOk result (IsKept (D.content disk.new) (D.story disk.new) (take place kept ++ 35 ∷ payload_of self.old.bytes)) }
+        ensures any_moment { (kept : List ℕ) → IsKept (D.content disk.old) (D.story disk.old) kept → length kept ≡ place + 1
+            → Adds (D.story disk.old) (D.story disk.new) (IsStage place kept (payload_of self.old.bytes)) }
+        ensures told { is_some (D.story disk.new) ≡ is_some (D.story disk.old) }
+        ensures told_content { is_some (D.content disk.new) ≡ is_some (D.content disk.old) }
+        ensures moment { D.moment disk.old ≤ D.moment disk.new }
+        ensures rises { OnOk result (IfSome (D.story disk.old) (λ _. D.moment disk.old < D.moment disk.new)) }
+        ensures cause { HasCause (D.faults disk.old) (D.faults disk.new) result }
+        ensures asked { D.asked disk.new ≡ D.asked disk.old }
+    {
+        let end = align8(24 + u64::from(self.used)) as usize;
+        frame(&mut self.bytes, self.used);
+        write_block(disk, place, &self.bytes[..end])
+    }
+}

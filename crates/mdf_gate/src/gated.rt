@@ -1,0 +1,189 @@
+ghost use Rattle.std.specs.Prelude.{◌≡◌, ◌+◌, ◌%◌, ◌≤◌, ◌<◌, ◌^◌, ◌++◌, ℕ, List, [], ◌∷◌, length, is_some, true, false, IsSome, IfSome, IfOk, OnOk, OnErr};
+ghost use Rattle.mdf_format.specs.Number.{aligned};
+ghost use Rattle.mdf_format.specs.Cause.{Rose, HasCause};
+ghost use Rattle.mdf_disk.specs.Crash.{Adds, HoldsSince};
+ghost use Rattle.mdf_seal.specs.Seal.{IsBlank, IsKept};
+ghost use Rattle.mdf_gate.specs.Gated.{IsRecordingHead, RestsOn, disk_of};
+ghost use Rattle.mdf_gate.specs.Images.{head_of, Opens, OpensEither, IsBegun};
+
+use crate::Block;
+use mdf_disk::Disk;
+use mdf_num::{Failed, align8};
+use mdf_seal::Sealed;
+use std::marker::Model;
+
+/// A recording that is being written: a head, and data blocks (DTBLOCK) behind it, each behind a gate that is opened
+/// last. Numbers are places in the file, in bytes from its start.
+pub struct GatedFile<D: Disk> {
+    disk: D,
+    first: u64,
+    place: u64,
+    start: u64,
+    faults: u64,
+    failed: bool,
+}
+
+impl<D: Disk> Model for GatedFile<D> {
+    ghost use Rattle.std.specs.Prelude.{IsSome};
+    ghost use Rattle.mdf_gate.specs.Gated.{Gated, IsGated};
+
+    ghost Value = { Gated D };
+
+    ghost view = { λ g. record { disk = g.disk; first = g.first; place = g.place; start = g.start; faults = g.faults; failed = g.failed } };
+
+    ghost invariant = { λ g. IsSome (D.asked g.disk) × IsGated (D.content g.disk) (D.story g.disk) (D.faults g.disk) g.first g.place g.faults g.failed };
+}
+
+/// Writes a head and one closed gate behind it under a seal.
+fn write_head<D: Disk>(disk: &mut D, head: &[u8]) -> Result<(), Failed>
+    requires attached { IsSome (D.asked disk.old) }
+    requires blank { IsBlank (D.content disk.old) (D.story disk.old) }
+    requires head { IsRecordingHead head.now }
+    requires short { length head.now < 2 ^ 61 }
+    ensures ok { OnOk result (IsKept (D.content disk.new) (D.story disk.new) (head.now ++ 0 ∷ [])) }
+    ensures any_moment { Adds (D.story disk.old) (D.story disk.new) (IsBegun head.now) }
+    ensures cause { HasCause (D.faults disk.old) (D.faults disk.new) result }
+    ensures asked { D.asked disk.new ≡ D.asked disk.old }
+    ensures moment { D.moment disk.old ≤ D.moment disk.new }
+    ensures told { is_some (D.story disk.new) ≡ is_some (D.story disk.old) }
+{
+    let mut seal = Sealed::begin(disk)?;
+    seal.give(disk, head)?;
+    seal.give(disk, &[0])?;
+    seal.finish(disk)
+}
+
+impl<D: Disk> GatedFile<D> {
+    /// Makes a recording of this head, on a disk that is attached with an empty file: the head, whose length is the
+    /// first place, and one closed byte, under a seal. It takes no memory.
+    ///
+    /// # Errors
+    /// `Failed` where the disk failed, with the disk.
+    pub fn create(mut disk: D, head: &[u8]) -> Result<GatedFile<D>, (Failed, D)>
+        requires attached { IsSome (D.asked disk) }
+        requires blank { IsBlank (D.content disk) (D.story disk) }
+        requires head { IsRecordingHead head.now }
+        requires short { length head.now < 2 ^ 61 }
+        ensures rests { IfOk result (λ file. RestsOn (D.content file.disk) (D.story file.disk) file.first [] file.place) }
+        ensures first { IfOk result (λ file. file.first ≡ length head.now) }
+        ensures place { IfOk result (λ file. file.place ≡ length head.now) }
+        ensures start { IfOk result (λ file. file.start ≡ D.moment disk) }
+        ensures faults { IfOk result (λ file. file.faults ≡ D.faults disk) }
+        ensures going { IfOk result (λ file. file.failed ≡ false) }
+        ensures content { IfOk result (λ file. IfSome (D.content file.disk) (λ bytes. bytes ≡ head.now ++ 0 ∷ [])) }
+        ensures head { IfOk result (λ file. IfSome (D.story file.disk) (λ _. head_of (D.story file.disk) file.first ≡ head.now)) }
+        ensures any_moment { Adds (D.story disk) (D.story (disk_of result)) (IsBegun head.now) }
+        ensures begun { IfOk result (λ file. HoldsSince (D.story file.disk) file.start (IsBegun (head_of (D.story file.disk) file.first))) }
+        ensures cause { HasCause (D.faults disk) (D.faults (disk_of result)) result }
+        ensures asked { D.asked (disk_of result) ≡ D.asked disk }
+        ensures moment { D.moment disk ≤ D.moment (disk_of result) }
+        ensures told { is_some (D.story (disk_of result)) ≡ is_some (D.story disk) }
+    {
+        let start = disk.moment();
+        let faults = disk.faults();
+        match write_head(&mut disk, head) {
+            Ok(()) => {}
+            Err(failed) => return Err((failed, disk)),
+        }
+        let first = head.len() as u64;
+        Ok(GatedFile {
+            disk,
+            first,
+            place: first,
+            start,
+            faults,
+            failed: false,
+        })
+    }
+
+    /// Appends a block in four calls of the disk: one write of all but its first byte and of the closed gate of the
+    /// next place, a sync, the first byte, which opens its gate, and a sync. It takes no memory. After `Ok` the block
+    /// is empty.
+    ///
+    /// # Errors
+    /// `Failed` where the disk failed. The block is as it was, and the file has failed.
+    pub fn append(&mut self, block: &mut Block) -> Result<(), Failed>
+        requires going { self.old.failed ≡ false }
+        requires some { 1 ≤ length block.old.bytes }
+        requires short { self.old.place + length block.old.bytes + 32 < 2 ^ 62 }
+        ensures rests { (blocks : List (List ℕ)) → RestsOn (D.content self.old.disk) (D.story self.old.disk) self.old.first blocks self.old.place
+            → OnOk result (RestsOn (D.content self.new.disk) (D.story self.new.disk) self.new.first (blocks ++ block.old.bytes ∷ []) self.new.place) }
+        ensures any_moment { (blocks : List (List ℕ)) → RestsOn (D.content self.old.disk) (D.story self.old.disk) self.old.first blocks self.old.place
+            → Adds (D.story self.old.disk) (D.story self.new.disk) (OpensEither (head_of (D.story self.old.disk) self.old.first) blocks block.old.bytes) }
+        ensures head { head_of (D.story self.new.disk) self.new.first ≡ head_of (D.story self.old.disk) self.old.first }
+        ensures place { OnOk result (self.new.place ≡ aligned (self.old.place + 24 + length block.old.bytes)) }
+        ensures going { OnOk result (self.new.failed ≡ false) }
+        ensures failed { OnErr result (self.new.failed ≡ true) }
+        ensures emptied { OnOk result (block.new.bytes ≡ []) }
+        ensures left { OnErr result (block.new.bytes ≡ block.old.bytes) }
+        ensures limit { block.new.limit ≡ block.old.limit }
+        ensures first { self.new.first ≡ self.old.first }
+        ensures start { self.new.start ≡ self.old.start }
+        ensures faults { self.new.faults ≡ self.old.faults }
+        ensures told { is_some (D.story self.new.disk) ≡ is_some (D.story self.old.disk) }
+        ensures told_content { is_some (D.content self.new.disk) ≡ is_some (D.content self.old.disk) }
+        ensures moment { D.moment self.old.disk ≤ D.moment self.new.disk }
+        ensures rises { OnOk result (IfSome (D.story self.old.disk) (λ _. D.moment self.old.disk < D.moment self.new.disk)) }
+        ensures cause { HasCause (D.faults self.old.disk) (D.faults self.new.disk) result }
+        ensures asked { D.asked self.new.disk ≡ D.asked self.old.disk }
+    {
+        self.failed = true;
+        block.write(&mut self.disk, self.place)?;
+        self.place = align8(self.place + 24 + u64::from(block.len()));
+        self.failed = false;
+        block.clear();
+        Ok(())
+    }
+
+    /// Whether an append answered `Failed`. From then on nothing is appended.
+    pub fn failed(&self) -> bool
+        ensures failed { result ≡ self.now.failed }
+        ensures cause { self.now.failed ≡ true → Rose self.now.faults (D.faults self.now.disk) }
+        ensures later { self.now.faults ≤ D.faults self.now.disk }
+    {
+        self.failed
+    }
+
+    /// The disk's clock.
+    pub fn moment(&self) -> u64
+        ensures moment { result ≡ D.moment self.now.disk }
+        ensures leaves { (blocks : List (List ℕ)) → RestsOn (D.content self.now.disk) (D.story self.now.disk) self.now.first blocks self.now.place
+            → HoldsSince (D.story self.now.disk) result (Opens (head_of (D.story self.now.disk) self.now.first) blocks) }
+    {
+        self.disk.moment()
+    }
+
+    /// How often the disk has failed.
+    pub fn faults(&self) -> u64
+        ensures faults { result ≡ D.faults self.now.disk }
+        ensures later { self.now.faults ≤ result }
+    {
+        self.disk.faults()
+    }
+
+    /// Where the next block is to stand, a multiple of 8.
+    pub fn place(&self) -> u64
+        ensures place { result ≡ self.now.place }
+        ensures on_eight { result % 8 ≡ 0 }
+        ensures behind { self.now.first ≤ result }
+        ensures small { result < 2 ^ 62 }
+    {
+        self.place
+    }
+
+    /// Hands the disk back, attached.
+    pub fn into_disk(self) -> D
+        ensures disk { result ≡ self.disk }
+        ensures attached { IsSome (D.asked result) }
+    {
+        let GatedFile {
+            disk,
+            first: _,
+            place: _,
+            start: _,
+            faults: _,
+            failed: _,
+        } = self;
+        disk
+    }
+}

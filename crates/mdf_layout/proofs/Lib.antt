@@ -1,0 +1,4 @@
+mod Puts
+mod Steps
+pub mod Words
+pub mod Records

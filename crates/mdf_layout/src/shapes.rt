@@ -1,0 +1,81 @@
+ghost use Rattle.std.specs.Prelude.{◌≡◌, ◌^◌, ◌<◌, [], ◌∷◌, ◌++◌, length, slice_get, OnOk, OnErr};
+ghost use Rattle.std.specs.Option.{option_copied};
+ghost use Rattle.mdf_layout.specs.Record.{SampleFits, encoded_size, cost_of};
+
+use crate::{Sample, Shape};
+use mdf_num::{Memory, Rows};
+use std::alloc::Global;
+use std::marker::Model;
+
+/// The layouts of the groups of a recording, in the order of their numbers.
+#[derive(Debug, Drop)]
+pub struct Shapes {
+    items: Rows<Shape>,
+}
+
+impl Model for Shapes {
+    ghost use Rattle.std.specs.Prelude.{List};
+    ghost use Rattle.mdf_layout.specs.Layout.{Layout};
+
+    ghost Value = { List Layout };
+
+    ghost view = { λ shapes. shapes.items };
+}
+
+/// What a sample costs beside its record: about what it takes in memory, in bytes.
+const SAMPLE_COST: u64 = 96;
+
+/// What each channel of a sample costs beside its record, in bytes.
+const CHANNEL_COST: u64 = 40;
+
+impl Shapes {
+    /// The empty list. It takes no memory.
+    pub fn empty(alloc: Global) -> Shapes
+        ensures { result ≡ [] }
+    {
+        Shapes {
+            items: Rows::empty(alloc),
+        }
+    }
+
+    pub fn len(&self) -> u64
+        ensures { result ≡ length self.now }
+    {
+        self.items.len()
+    }
+
+    /// The layout of group `i`. None exactly at or past the end.
+    pub fn get(&self, i: u64) -> Option<&Shape>
+        ensures { option_copied result ≡ slice_get self.now i }
+    {
+        self.items.get(i)
+    }
+
+    /// Adds the layout of the next group. After an error the list is as before, and the layout is dropped.
+    pub fn push(&mut self, shape: Shape) -> Result<(), Memory>
+        ensures ok { OnOk result (self.new ≡ self.old ++ shape ∷ []) }
+        ensures err { OnErr result (self.new ≡ self.old) }
+    {
+        self.items.push(shape)
+    }
+
+    /// How many bytes the record of a sample has, with its id.
+    pub fn encoded_size(&self, sample: &Sample) -> u64
+        requires { SampleFits self.now sample.now }
+        ensures { result ≡ encoded_size self.now sample.now }
+    {
+        match self.get(sample.group as u64) {
+            Some(shape) => 1 + shape.record_size(),
+            None => 0,
+        }
+    }
+
+    /// What a sample costs, in bytes: about what it takes in memory, and more than it can add to a file.
+    pub fn cost_of(&self, sample: &Sample) -> u64
+        requires fits { SampleFits self.now sample.now }
+        requires room { cost_of self.now sample.now < 2 ^ 64 }
+        ensures { result ≡ cost_of self.now sample.now }
+    {
+        self.encoded_size(sample) + SAMPLE_COST + CHANNEL_COST * sample.values.len()
+    }
+}
