@@ -4,4 +4,5 @@ pub mod Identification
 pub mod Block
 pub mod Recording
 pub mod Field
+pub mod Row
 pub mod Value

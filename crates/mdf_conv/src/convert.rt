@@ -1,0 +1,175 @@
+ghost use Rattle.std.specs.Prelude.{◌≡◌, ◌-◌, ◌≤◌, ℕ, List, Some, true};
+ghost use Rattle.mdf_num.specs.Halt.{HaltCause};
+ghost use Rattle.mdf_block.specs.Refusal.{Gives};
+ghost use Rattle.mdf_block.specs.Block.{IsInside};
+ghost use Rattle.mdf_block.specs.Each.{each};
+ghost use Rattle.mdf_conv.specs.Conv.{texts, ref_by, item_by, conv_by, conv, conversion, conv_refusal};
+
+use crate::field::conversion_of;
+use crate::lower::{block_of, conv_block_of, is_conv_in, words_in};
+use crate::texts::Texts;
+use crate::{Budget, ConvFault, Conversion, Ref, link_count};
+use mdf_block::{BlockAt, Kind, What, link_in};
+use mdf_num::{Halt, Rows, Span};
+use sqlite_items::Boxed;
+use std::alloc::Global;
+
+/// How many conversions may be open at once.
+const LEVELS: u64 = 4;
+
+/// The name, the unit and the comment of a conversion, and what may still come.
+#[tactic(auto, unfolding(crate::specs::Conv::texts))]
+fn texts_in<P: Span>(
+    alloc: Global,
+    span: &mut P,
+    block: &BlockAt,
+    budget: Budget,
+) -> Result<(Texts, Budget), Halt<ConvFault>>
+    requires inside { IsInside (P.size span.old) block.now }
+    requires linked { 4 ≤ block.now.links }
+    ensures found { (f : List ℕ) → P.bytes span.old ≡ Some f → Gives conv_refusal result (texts f block.now.at budget) }
+    ensures same { P.bytes span.new ≡ P.bytes span.old }
+    ensures size { P.size span.new ≡ P.size span.old }
+    ensures cause { HaltCause true (P.faults span.old) (P.faults span.new) result }
+{
+    let name = link_in(span, block, 0)?;
+    let (name, left) = words_in(alloc, span, name, budget)?;
+    let unit = link_in(span, block, 1)?;
+    let (unit, left) = words_in(alloc, span, unit, left)?;
+    let comment = link_in(span, block, 2)?;
+    let (comment, left) = words_in(alloc, span, comment, left)?;
+    let texts = Texts {
+        name,
+        unit,
+        comment,
+    };
+    Ok((texts, left))
+}
+
+/// What a link of a conversion refers to, with so many levels of conversions below it, and what may still come.
+#[cycle(conv)]
+#[tactic(auto, unfolding(crate::specs::Conv::ref_by))]
+fn ref_in<P: Span>(
+    alloc: Global,
+    span: &mut P,
+    at: u64,
+    budget: Budget,
+    levels: u64,
+) -> Result<(Ref, Budget), Halt<ConvFault>>
+    ensures found { (f : List ℕ) → P.bytes span.old ≡ Some f → Gives conv_refusal result (ref_by (conv levels f) f at budget) }
+    ensures same { P.bytes span.new ≡ P.bytes span.old }
+    ensures size { P.size span.new ≡ P.size span.old }
+    ensures cause { HaltCause true (P.faults span.old) (P.faults span.new) result }
+{
+    if at == 0 {
+        return Ok((Ref::Nothing, budget));
+    }
+    if is_conv_in(span, at)? {
+        let (found, left) = level_in(alloc, span, at, budget, levels)?;
+        let Ok(boxed) = Boxed::new(alloc, found) else {
+            return Err(Halt::Memory);
+        };
+        return Ok((Ref::Conv(boxed), left));
+    }
+    let (text, left) = words_in(alloc, span, at, budget)?;
+    Ok((Ref::Words(text), left))
+}
+
+/// What the links of a conversion after the fourth refer to, in order, and what may still come.
+#[cycle(conv)]
+fn refs_in<P: Span>(
+    alloc: Global,
+    span: &mut P,
+    block: &BlockAt,
+    budget: Budget,
+    levels: u64,
+) -> Result<(Rows<Ref>, Budget), Halt<ConvFault>>
+    requires inside { IsInside (P.size span.old) block.now }
+    ensures found { (f : List ℕ) → P.bytes span.old ≡ Some f →
+        Gives conv_refusal result (each (item_by (conv levels f) f block.now.at) 4 (block.now.links - 4) budget) }
+    ensures same { P.bytes span.new ≡ P.bytes span.old }
+    ensures size { P.size span.new ≡ P.size span.old }
+    ensures cause { HaltCause true (P.faults span.old) (P.faults span.new) result }
+{
+    let mut refs = Rows::empty(alloc);
+    let mut left = budget;
+    let links = block.links;
+    let mut k = 4;
+    while k < links {
+        let link = link_in(span, block, k)?;
+        let (found, rest) = ref_in(alloc, span, link, left, levels)?;
+        refs.push(found)?;
+        left = rest;
+        k += 1;
+    }
+    Ok((refs, left))
+}
+
+/// The conversion at `at`, with so many levels of conversions below it, and what may still come.
+#[cycle(conv)]
+#[tactic(auto, unfolding(crate::specs::Conv::conv_by, crate::specs::Conv::counted))]
+fn whole_in<P: Span>(
+    alloc: Global,
+    span: &mut P,
+    at: u64,
+    budget: Budget,
+    levels: u64,
+) -> Result<(Conversion, Budget), Halt<ConvFault>>
+    ensures found { (f : List ℕ) → P.bytes span.old ≡ Some f → Gives conv_refusal result (conv_by (conv levels f) f at budget) }
+    ensures same { P.bytes span.new ≡ P.bytes span.old }
+    ensures size { P.size span.new ≡ P.size span.old }
+    ensures cause { HaltCause true (P.faults span.old) (P.faults span.new) result }
+{
+    let block = conv_block_of(span, at)?;
+    if budget.conversions == 0 {
+        return Err(Halt::Fault(ConvFault::TooMany { what: What::Cc, at }));
+    }
+    let left = Budget {
+        conversions: budget.conversions - 1,
+        ..budget
+    };
+    let (texts, left) = texts_in(alloc, span, &block, left)?;
+    let (refs, left) = refs_in(alloc, span, &block, left, levels)?;
+    let inverse = link_in(span, &block, 3)?;
+    let found = conversion_of(alloc, span, &block, texts, refs)?;
+    Ok((found, left.with_dropped(link_count(inverse))))
+}
+
+/// The conversion at `at`, with so many levels of conversions, and what may still come.
+#[cycle(conv)]
+fn level_in<P: Span>(
+    alloc: Global,
+    span: &mut P,
+    at: u64,
+    budget: Budget,
+    levels: u64,
+) -> Result<(Conversion, Budget), Halt<ConvFault>>
+    ensures found { (f : List ℕ) → P.bytes span.old ≡ Some f → Gives conv_refusal result (conv levels f at budget) }
+    ensures same { P.bytes span.new ≡ P.bytes span.old }
+    ensures size { P.size span.new ≡ P.size span.old }
+    ensures cause { HaltCause true (P.faults span.old) (P.faults span.new) result }
+{
+    if levels == 0 {
+        block_of(span, at, Kind::Cc)?;
+        return Err(Halt::Fault(ConvFault::Deep { at }));
+    }
+    whole_in(alloc, span, at, budget, levels - 1)
+}
+
+/// The conversion at `at`, with all that it refers to, and what may still come.
+///
+/// # Errors
+/// As `read_conv`, and the span's own.
+pub fn conv_in<P: Span>(
+    alloc: Global,
+    span: &mut P,
+    at: u64,
+    budget: Budget,
+) -> Result<(Conversion, Budget), Halt<ConvFault>>
+    ensures found { (f : List ℕ) → P.bytes span.old ≡ Some f → Gives conv_refusal result (conversion f at budget) }
+    ensures same { P.bytes span.new ≡ P.bytes span.old }
+    ensures size { P.size span.new ≡ P.size span.old }
+    ensures cause { HaltCause true (P.faults span.old) (P.faults span.new) result }
+{
+    level_in(alloc, span, at, budget, LEVELS)
+}

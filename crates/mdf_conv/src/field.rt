@@ -1,0 +1,105 @@
+ghost use Rattle.std.specs.Prelude.{◌≡◌, ◌+◌, ◌*◌, ◌≤◌, ◌<◌, ◌^◌, ℕ, List, Some, Ok, true, length, IfOk};
+ghost use Rattle.mdf_format.specs.Number.{le_number, bytes_at};
+ghost use Rattle.mdf_format.specs.declared.kind.Kind.TheVariants.{Cc, Si};
+ghost use Rattle.mdf_num.specs.Halt.{StopCause, HaltCause};
+ghost use Rattle.mdf_block.specs.Refusal.{Gives};
+ghost use Rattle.mdf_block.specs.Block.{body_of, IsInside, IsFilled};
+ghost use Rattle.mdf_conv.specs.Conv.{HoldsValues, numbers_at, the_source, the_conversion, conv_refusal};
+
+use crate::texts::Texts;
+use crate::{ConvFault, Conversion, Ref, SourceInfo};
+use mdf_block::{BlockAt, Kind, Note, body_in, u16_field, u64_field};
+use mdf_num::{Halt, Numbers, Rows, Span, Stop};
+use std::alloc::Global;
+
+/// The source of a block, with these texts.
+pub(crate) fn source_of<P: Span>(
+    span: &mut P,
+    block: &BlockAt,
+    name: Note,
+    path: Note,
+    comment: Note,
+) -> Result<SourceInfo, Stop>
+    requires inside { IsInside (P.size span.old) block.now }
+    requires filled { IsFilled Si block.now }
+    ensures fields { IfOk result (λ source. (f : List ℕ) → P.bytes span.old ≡ Some f → source ≡ the_source (body_of f block.now) name path comment) }
+    ensures same { P.bytes span.new ≡ P.bytes span.old }
+    ensures size { P.size span.new ≡ P.size span.old }
+    ensures cause { StopCause P.may_want (P.faults span.old) (P.faults span.new) result }
+{
+    let mut body = [0u8; 8];
+    body_in(span, block, &mut body)?;
+    Ok(SourceInfo {
+        kind: body[0],
+        bus: body[1],
+        flags: body[2],
+        name,
+        path,
+        comment,
+    })
+}
+
+/// So many numbers of 8 bytes, from `start` on.
+fn numbers_in<P: Span>(alloc: Global, span: &mut P, start: u64, count: u64) -> Result<Numbers, Stop>
+    requires there { start + 8 * count ≤ P.size span.old }
+    requires fits { start + 8 * count < 2 ^ 64 }
+    ensures numbers { IfOk result (λ numbers. (f : List ℕ) → P.bytes span.old ≡ Some f → numbers ≡ numbers_at f start count) }
+    ensures same { P.bytes span.new ≡ P.bytes span.old }
+    ensures size { P.size span.new ≡ P.size span.old }
+    ensures cause { StopCause true (P.faults span.old) (P.faults span.new) result }
+{
+    let mut numbers = Numbers::empty(alloc);
+    let mut k = 0;
+    while k < count {
+        let mut word = [0u8; 8];
+        span.fill(start + 8 * k, &mut word)?;
+        let Ok(()) = numbers.push(u64_field(&word, 0)) else {
+            return Err(Stop::Memory);
+        };
+        k += 1;
+    }
+    Ok(numbers)
+}
+
+/// The conversion of a block, with these texts and references.
+///
+/// # Errors
+/// `Bad` where the numbers that the body counts pass its end, which a span does not tell of a whole block.
+pub(crate) fn conversion_of<P: Span>(
+    alloc: Global,
+    span: &mut P,
+    block: &BlockAt,
+    texts: Texts,
+    refs: Rows<Ref>,
+) -> Result<Conversion, Halt<ConvFault>>
+    requires inside { IsInside (P.size span.old) block.now }
+    requires filled { IsFilled Cc block.now }
+    ensures fields { (f : List ℕ) → P.bytes span.old ≡ Some f → HoldsValues f block.now →
+        Gives conv_refusal result (Ok (the_conversion (body_of f block.now) texts refs)) }
+    ensures same { P.bytes span.new ≡ P.bytes span.old }
+    ensures size { P.size span.new ≡ P.size span.old }
+    ensures cause { HaltCause true (P.faults span.old) (P.faults span.new) result }
+{
+    let mut body = [0u8; 24];
+    body_in(span, block, &mut body)?;
+    let count = u16_field(&body, 6) as u64;
+    if count > (block.body_len - 24) / 8 {
+        return Err(Halt::Fault(ConvFault::Bad {
+            at: block.at,
+            want: Kind::Cc,
+        }));
+    }
+    let numbers = numbers_in(alloc, span, block.body_at + 24, count)?;
+    Ok(Conversion {
+        kind: body[0],
+        precision: body[1],
+        flags: u16_field(&body, 2),
+        low: u64_field(&body, 8),
+        high: u64_field(&body, 16),
+        numbers,
+        refs,
+        name: texts.name,
+        unit: texts.unit,
+        comment: texts.comment,
+    })
+}

@@ -1,0 +1,9 @@
+use mdf_block::Note;
+
+/// The texts of a conversion.
+#[derive(Debug, Drop)]
+pub(crate) struct Texts {
+    pub(crate) name: Note,
+    pub(crate) unit: Note,
+    pub(crate) comment: Note,
+}

@@ -1,0 +1,5 @@
+mod Rows
+mod Extras
+mod Onces
+mod Stands
+mod Plans

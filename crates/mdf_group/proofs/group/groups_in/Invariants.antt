@@ -1,0 +1,19 @@
+use Rattle.std.proofs.Common.{◌≡◌, ◌≤◌, ℕ, List, Some}
+use Rattle.mdf_format.specs.declared.kind.Kind.TheVariants.{Cg}
+use Rattle.mdf_block.specs.declared.what.What.TheVariants as whats
+use Rattle.mdf_block.specs.Chain.{chain, full}
+use Rattle.mdf_block.proofs.Chains.{with_front}
+use Rattle.mdf_group.specs.Group.{group, groups_from}
+use Rattle.mdf_group.proofs.group.groups_in.Given as goal
+
+abbrev pub invariant-loop-at : goal.invariant-loop-at
+invariant-loop-at g l = record {
+  found : (f : List ℕ) → g.P.Span.bytes l.initial.span ≡ Some f
+      → with_front l.rows (chain (group f) (full whats.Cg Cg f) l.room l.at l.left) ≡ groups_from f l.fn.most l.fn.first l.fn.start;
+  same : g.P.Span.bytes l.span ≡ g.P.Span.bytes l.initial.span;
+  size : g.P.Span.size l.span ≡ g.P.Span.size l.initial.span;
+  later : g.P.Span.faults l.initial.span ≤ g.P.Span.faults l.span;
+}
+
+abbrev pub decreases-loop-at : goal.decreases-loop-at
+decreases-loop-at g l = l.room

@@ -1,0 +1,5 @@
+pub mod Link
+pub mod Channel
+pub mod Group
+pub mod Standing
+pub mod Planned

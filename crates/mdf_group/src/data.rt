@@ -1,0 +1,92 @@
+ghost use Rattle.std.specs.Prelude.{◌≡◌, ℕ, List, Some, true};
+ghost use Rattle.mdf_num.specs.Halt.{HaltCause};
+ghost use Rattle.mdf_block.specs.Refusal.{Gives};
+ghost use Rattle.mdf_group.specs.Link.{group_refusal};
+ghost use Rattle.mdf_group.specs.Group.{data_group, data_groups_from};
+
+use crate::field::data_of;
+use crate::group::groups_in;
+use crate::lower::{block_of, words_of};
+use crate::named::unnamed_count;
+use crate::room::{DataRoom, Room};
+use crate::{DataRow, GroupFault};
+use mdf_block::{Kind, What, link_in};
+use mdf_conv::Budget;
+use mdf_num::{Halt, Rows, Span};
+use std::alloc::Global;
+
+/// How many data groups a file may have, and how many channel groups and channels in all.
+const MOST_DATA_GROUPS: u64 = 65_535;
+
+const MOST_GROUPS: u64 = 65_535;
+
+const MOST_CHANNELS: u64 = 1_048_576;
+
+/// The data group at `at`, the address of the next one, and what may still come.
+#[tactic(auto, unfolding(crate::specs::Group::data_group))]
+fn data_group_in<P: Span>(
+    alloc: Global,
+    span: &mut P,
+    at: u64,
+    left: DataRoom,
+) -> Result<(DataRow, u64, DataRoom), Halt<GroupFault>>
+    ensures found { (f : List ℕ) → P.bytes span.old ≡ Some f → Gives group_refusal result (data_group f at left) }
+    ensures same { P.bytes span.new ≡ P.bytes span.old }
+    ensures size { P.size span.new ≡ P.size span.old }
+    ensures cause { HaltCause true (P.faults span.old) (P.faults span.new) result }
+{
+    let block = block_of(span, at, Kind::Dg)?;
+    let comment = link_in(span, &block, 3)?;
+    let (comment, budget) = words_of(alloc, span, comment, left.room.budget)?;
+    let first = link_in(span, &block, 1)?;
+    let start = Room {
+        budget,
+        ..left.room
+    };
+    let (rows, groups, room) = groups_in(alloc, span, first, left.groups, start)?;
+    let unnamed = unnamed_count(alloc, rows.as_slice())?;
+    let next = link_in(span, &block, 0)?;
+    let content = link_in(span, &block, 2)?;
+    let row = data_of(span, &block, comment, content, rows)?;
+    let room = Room {
+        channels: room.channels,
+        budget: room.budget.with_dropped(unnamed),
+    };
+    Ok((row, next, DataRoom { groups, room }))
+}
+
+/// The data groups from `first` on, how many more may come, and what else.
+pub(crate) fn data_groups_in<P: Span>(
+    alloc: Global,
+    span: &mut P,
+    first: u64,
+    budget: Budget,
+) -> Result<(Rows<DataRow>, u64, DataRoom), Halt<GroupFault>>
+    ensures found { (f : List ℕ) → P.bytes span.old ≡ Some f → Gives group_refusal result (data_groups_from f first budget) }
+    ensures same { P.bytes span.new ≡ P.bytes span.old }
+    ensures size { P.size span.new ≡ P.size span.old }
+    ensures cause { HaltCause true (P.faults span.old) (P.faults span.new) result }
+{
+    let mut rows = Rows::empty(alloc);
+    let mut at = first;
+    let mut left = DataRoom {
+        groups: MOST_GROUPS,
+        room: Room {
+            channels: MOST_CHANNELS,
+            budget,
+        },
+    };
+    let mut room = MOST_DATA_GROUPS;
+    while at != 0 {
+        if room == 0 {
+            block_of(span, at, Kind::Dg)?;
+            return Err(Halt::Fault(GroupFault::TooMany { what: What::Dg, at }));
+        }
+        let (row, next, rest) = data_group_in(alloc, span, at, left)?;
+        rows.push(row)?;
+        at = next;
+        left = rest;
+        room -= 1;
+    }
+    Ok((rows, room, left))
+}

@@ -1,0 +1,25 @@
+use mdf_block::{Kind, What};
+use thiserror::Error;
+
+/// Why the groups of a file are refused.
+#[derive(Clone, Copy, Debug, PartialEq, Eq, Error)]
+pub enum GroupFault {
+    /// No block of that kind stands whole at the address; for a text the kind is Tx.
+    #[error("no whole block of the kind that is wanted at {at}")]
+    Bad { at: u64, want: Kind },
+    /// The block or the text at the address is one too many.
+    #[error("too many at {at}")]
+    TooMany { what: What, at: u64 },
+    /// The channel at the address is of a kind that is not read: 4, 5 or over 6.
+    #[error("channel kind {kind} at {at}")]
+    ChannelKind { at: u64, kind: u8 },
+    /// The channel at the address has a data type that is not read: over 14.
+    #[error("channel type {value} at {at}")]
+    ChannelType { at: u64, value: u8 },
+    /// The conversion at the address is the fifth that is open at once.
+    #[error("a conversion too deep at {at}")]
+    Deep { at: u64 },
+    /// Want of memory. A reader over a span never has it in a fault.
+    #[error("want of memory")]
+    Memory,
+}

@@ -1,0 +1,142 @@
+ghost use Rattle.std.specs.Prelude.{◌≡◌, ◌+◌, ◌≤◌, ℕ, List, Some, length, slice_index, IfOk};
+ghost use Rattle.mdf_format.specs.Number.{le_number, bytes_at};
+ghost use Rattle.mdf_format.specs.declared.kind.Kind.TheVariants.{Dg, Cg, Cn};
+ghost use Rattle.mdf_num.specs.Halt.{StopCause};
+ghost use Rattle.mdf_block.specs.Block.{body_of, IsInside, IsFilled};
+ghost use Rattle.mdf_conv.specs.Conv.{numbers_at};
+ghost use Rattle.mdf_group.specs.Channel.{the_channel};
+ghost use Rattle.mdf_group.specs.Group.{the_group, the_data_group};
+
+use crate::room::{ChannelLinks, GroupLinks};
+use crate::{ChannelRow, DataRow, GroupRow};
+use mdf_block::{BlockAt, Note, body_in, u16_field, u32_field, u64_field};
+use mdf_num::{Rows, Span, Stop};
+
+/// The kind and the data type of a channel.
+pub(crate) fn kinds_in<P: Span>(span: &mut P, block: &BlockAt) -> Result<(u8, u8), Stop>
+    requires inside { IsInside (P.size span.old) block.now }
+    requires filled { IsFilled Cn block.now }
+    ensures kind { IfOk result (λ kinds. (f : List ℕ) → P.bytes span.old ≡ Some f → kinds.0 ≡ slice_index (body_of f block.now) 0) }
+    ensures data_type { IfOk result (λ kinds. (f : List ℕ) → P.bytes span.old ≡ Some f → kinds.1 ≡ slice_index (body_of f block.now) 2) }
+    ensures same { P.bytes span.new ≡ P.bytes span.old }
+    ensures size { P.size span.new ≡ P.size span.old }
+    ensures cause { StopCause P.may_want (P.faults span.old) (P.faults span.new) result }
+{
+    let mut front = [0u8; 3];
+    body_in(span, block, &mut front)?;
+    Ok((front[0], front[2]))
+}
+
+/// The six range values in the body of a channel.
+fn ranges_of(body: &[u8]) -> [u64; 6]
+    requires { 72 ≤ length body.now }
+    ensures { result ≡ numbers_at body.now 24 6 }
+{
+    [
+        u64_field(body, 24),
+        u64_field(body, 32),
+        u64_field(body, 40),
+        u64_field(body, 48),
+        u64_field(body, 56),
+        u64_field(body, 64),
+    ]
+}
+
+/// The channel of a block, with what its links lead to.
+pub(crate) fn channel_of<P: Span>(
+    span: &mut P,
+    block: &BlockAt,
+    links: ChannelLinks,
+    values: u64,
+    extra: u64,
+) -> Result<ChannelRow, Stop>
+    requires inside { IsInside (P.size span.old) block.now }
+    requires filled { IsFilled Cn block.now }
+    ensures fields { IfOk result (λ row. (f : List ℕ) → P.bytes span.old ≡ Some f →
+        row ≡ the_channel block.now.at (body_of f block.now) links values extra) }
+    ensures same { P.bytes span.new ≡ P.bytes span.old }
+    ensures size { P.size span.new ≡ P.size span.old }
+    ensures cause { StopCause P.may_want (P.faults span.old) (P.faults span.new) result }
+{
+    let mut body = [0u8; 72];
+    body_in(span, block, &mut body)?;
+    Ok(ChannelRow {
+        at: block.at,
+        kind: body[0],
+        sync: body[1],
+        data_type: body[2],
+        bit: body[3],
+        byte: u32_field(&body, 4),
+        bits: u32_field(&body, 8),
+        flags: u32_field(&body, 12),
+        inval: u32_field(&body, 16),
+        precision: body[20],
+        ranges: ranges_of(&body),
+        name: links.name,
+        source: links.source,
+        conv: links.conv,
+        unit: links.unit,
+        comment: links.comment,
+        values,
+        extra,
+    })
+}
+
+/// The channel group of a block, with what its links lead to.
+pub(crate) fn group_of<P: Span>(
+    span: &mut P,
+    block: &BlockAt,
+    links: GroupLinks,
+    channels: Rows<ChannelRow>,
+) -> Result<GroupRow, Stop>
+    requires inside { IsInside (P.size span.old) block.now }
+    requires filled { IsFilled Cg block.now }
+    ensures fields { IfOk result (λ row. (f : List ℕ) → P.bytes span.old ≡ Some f →
+        row ≡ the_group block.now.at (body_of f block.now) links channels) }
+    ensures same { P.bytes span.new ≡ P.bytes span.old }
+    ensures size { P.size span.new ≡ P.size span.old }
+    ensures cause { StopCause P.may_want (P.faults span.old) (P.faults span.new) result }
+{
+    let mut body = [0u8; 32];
+    body_in(span, block, &mut body)?;
+    Ok(GroupRow {
+        at: block.at,
+        id: u64_field(&body, 0),
+        cycles: u64_field(&body, 8),
+        flags: u16_field(&body, 16),
+        separator: u16_field(&body, 18),
+        data_bytes: u32_field(&body, 24),
+        inval_bytes: u32_field(&body, 28),
+        name: links.name,
+        source: links.source,
+        comment: links.comment,
+        channels,
+    })
+}
+
+/// The data group of a block, with its comment, the address of its data, and its channel groups.
+pub(crate) fn data_of<P: Span>(
+    span: &mut P,
+    block: &BlockAt,
+    comment: Note,
+    content: u64,
+    groups: Rows<GroupRow>,
+) -> Result<DataRow, Stop>
+    requires inside { IsInside (P.size span.old) block.now }
+    requires filled { IsFilled Dg block.now }
+    ensures fields { IfOk result (λ row. (f : List ℕ) → P.bytes span.old ≡ Some f →
+        row ≡ the_data_group block.now.at (body_of f block.now) comment content groups) }
+    ensures same { P.bytes span.new ≡ P.bytes span.old }
+    ensures size { P.size span.new ≡ P.size span.old }
+    ensures cause { StopCause P.may_want (P.faults span.old) (P.faults span.new) result }
+{
+    let mut body = [0u8; 8];
+    body_in(span, block, &mut body)?;
+    Ok(DataRow {
+        at: block.at,
+        id_size: body[0],
+        comment,
+        content,
+        groups,
+    })
+}
