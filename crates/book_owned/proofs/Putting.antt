@@ -9,9 +9,9 @@ use Rattle.mdf_disk.specs.Story.{Story}
 use Rattle.mdf_disk.specs.Crash.{HoldsSince}
 use Rattle.mdf_disk.specs.declared.role.Role.{Role}
 use Rattle.mdf_layout.specs.Layout.{Layout}
-use Rattle.mdf_layout.specs.Record.{AreRecords, cost_of, history_cost}
+use Rattle.mdf_layout.specs.Record.{AreRecords, cost_of, encoded_size, history_cost, history_size}
 use Rattle.mdf_layout.specs.declared.sample.Sample.{Sample}
-use Rattle.mdf_layout.proofs.Records.{are_records-append, one_record, no_records}
+use Rattle.mdf_layout.proofs.Records.{are_records-append, are_records-length, one_record, no_records}
 use Rattle.mdf_gate.specs.Gated.{Gated}
 use Rattle.mdf_gate.specs.Images.{Opens, head_of}
 use Rattle.mdf_gate.proofs.Carrying.{carries_opened, carries_begun}
@@ -156,3 +156,13 @@ module _ {D V : Type 0} (content : D → Option (List ℕ)) (story : D → Optio
             → (k : ℕ) (d : Mark) → k < 1 → MarkHolds front.shapes (head_of (story file.disk) file.first) (story file.disk) (moment file.disk) front.history.items (get_or (first ∷ []) k d)
         all_one first holds zero d below = holds
         all_one first holds (suc k) d below = absurd (omega (arith, below))
+
+-- the record of a sample passes the block limit, by what is pending
+pub passes_limit : {V : Type 0} (front reserved : Front V) (sample : Sample) (size : ℕ)
+    → reserved ≡ record front { history = reserved.history; marks = reserved.marks }
+    → AreRecords front.shapes front.block.bytes (drop (durable front.marks.items) front.history.items)
+    → size ≡ encoded_size reserved.shapes sample → reserved.block.limit < length reserved.block.bytes + size
+    → front.block.limit < history_size front.shapes (drop (durable front.marks.items) front.history.items) + encoded_size front.shapes sample
+passes_limit front reserved sample size rest records size_is over =
+    omega (arith, over, size_is, ap (λ f. f.block.limit) rest, ap (λ f. length f.block.bytes) rest, ap (λ f. encoded_size f.shapes sample) rest,
+    are_records-length front.shapes front.block.bytes (drop (durable front.marks.items) front.history.items) records)

@@ -1,4 +1,4 @@
-ghost use Rattle.std.specs.Prelude.{◌≡◌, ◌+◌, ◌≤◌, ◌≢◌, false, [], length, OnOk, IfErr, IfSome, IfNone};
+ghost use Rattle.std.specs.Prelude.{◌≡◌, ◌+◌, ◌≤◌, ◌<◌, ◌≢◌, ◌⊎◌, false, [], length, OnOk, OnErr, IfErr, IfSome, IfNone};
 ghost use Rattle.mdf_layout.specs.Record.{SampleFits, encoded_size};
 ghost use Rattle.book_owned.specs.Halves.{IsBook, IsCounted};
 ghost use Rattle.book_owned.specs.Hand.{Hands, IsHandFault, HasWritten, Takes, Refuses};
@@ -71,6 +71,8 @@ pub(crate) fn make_room<D: Disk, V: Shown, R: Threads + Wait + Sync>(
     ensures hands { Hands D.story D.asked V.which front.old file.old front.new file.new }
     ensures going { OnOk result (file.new.failed ≡ false) }
     ensures room { OnOk result (length front.new.block.bytes + size ≤ front.new.block.limit) }
+    ensures stays { (front.new.marks ≡ front.old.marks) ⊎ (front.old.block.limit < length front.old.block.bytes + size) }
+    ensures full { OnErr result (front.old.block.limit < length front.old.block.bytes + size) }
     ensures fault { IfErr result (IsHandFault D.faults front.old file.old front.new file.new) }
 {
     if front.block.len() as u64 + size <= front.block.limit() as u64 {

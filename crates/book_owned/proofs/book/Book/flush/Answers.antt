@@ -1,4 +1,4 @@
-use Rattle.std.proofs.Common.{◌≤◌, ◌∙◌, ap, sym, refl, subst, arith, length}
+use Rattle.std.proofs.Common.{◌≤◌, ◌∙◌, ap, inl, inr, ⊎_elim, sym, refl, subst, arith, length}
 use Rattle.book_owned.specs.Marks.{durable}
 use Rattle.book_owned.specs.Halves.{terms_of}
 use Rattle.book_owned.proofs.Turning.{all_durable}
@@ -30,4 +30,6 @@ returns-clause-answer g c =
           }) c.write_pending.ensures.hands c.in_default.ensures.written c.write_pending.ensures.book.pending
           (ap (λ a. a.history) c.self.view_is) (ap (λ a. a.marks) c.self.view_is) (ap (λ a. a.disk) c.self.view_is)
           (ap (λ f. f.marks.items) c.publish.ensures.rest) refl,
+      ⊎_elim (λ all. inl (c.shown.ensures ∙ all ∙ sym (c.len.ensures ∙ ap (λ f. length f.history.items) c.publish.ensures.rest)))
+          (λ same. inr (c.shown.ensures ∙ same ∙ ap g.V.Shown.count c.write_pending.ensures.view ∙ ap (λ a. g.V.Shown.count a.view) c.self.view_is)) c.publish.ensures.count,
     )
