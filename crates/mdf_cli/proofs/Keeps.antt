@@ -70,7 +70,6 @@ pub record Keeps {C : Type 0} (content : C → Option (List ℕ)) (story : C →
 module _ {C : Type 0} (left : Option (List ℕ)) (before after : ℕ) (name : List ℕ) (now : ℕ) (asked : C → Option (List ℕ × Role)) (content : C → Option (List ℕ))
     (story : C → Option Story) (moment faults : C → ℕ) (out : C) (result : Recorded C) (status : ℕ)
     (text : List ℕ) (told : left ≡ Some text) (script : Script) (means : script_of text ≡ Ok script) (tasks : List Task) (one : script.lists ≡ tasks ∷ []) where
-
   abbrev Keep : List Sample → List Mark → Type 0
   Keep history marks = Keeps content story moment out result.out now script tasks history marks status
 
@@ -101,9 +100,9 @@ module _ {C : Type 0} (left : Option (List ℕ)) (before after : ℕ) (name : Li
         flush_lines = recorded.flush_lines;
         complete = λ done. completes script tasks result.history.items result.marks.items (content result.out) (faults out) (faults result.out) status problem is done comes;
       } where
-    of_says : (l : Option (List ℕ)) → SaysScript l closed.script → IfSome l (λ t. script_of t ≡ Ok closed.script)
-    of_says None says = tt
-    of_says (Some t) says = says.0
+        of_says : (l : Option (List ℕ)) → SaysScript l closed.script → IfSome l (λ t. script_of t ≡ Ok closed.script)
+        of_says None says = tt
+        of_says (Some t) says = says.0
 
   of_end : (end : RecordEnd) → RecordComes left before after name now asked content story moment faults out result end
       → (status ≡ record_status end) ⊎ (status ≡ unwritten_status (record_status end)) → Keep result.history.items result.marks.items

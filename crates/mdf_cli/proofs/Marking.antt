@@ -97,9 +97,12 @@ samples_by-done E u task.Flush = refl
 -- a task that was not done leaves the history
 pub over_stays : {D V : Type 0} (old new : Account D V) (next : Task) (held size limit : ℕ) → new.history ≡ old.history → new.terms ≡ old.terms
     → IsOver old next held size limit → IsOver new next held size limit
-over_stays old new (task.Sample sample) held size limit history terms over =
-    (over.0 ∙ ap (λ t. history_cost t.layouts old.history) (sym terms) ∙ ap (history_cost new.terms.layouts) (sym history), over.1 ∙ ap (λ t. cost_of t.layouts sample) (sym terms),
-    over.2 ∙ ap (λ t. t.session_limit) (sym terms), over.3)
+over_stays old new (task.Sample sample) held size limit history terms over = (
+  over.0 ∙ ap (λ t. history_cost t.layouts old.history) (sym terms) ∙ ap (history_cost new.terms.layouts) (sym history),
+  over.1 ∙ ap (λ t. cost_of t.layouts sample) (sym terms),
+  over.2 ∙ ap (λ t. t.session_limit) (sym terms),
+  over.3,
+)
 over_stays old new task.Flush held size limit history terms over = over
 
 -- one of the tasks

@@ -68,7 +68,6 @@ module _ {D : Type 0} (content : D → Option (List ℕ)) (story : D → Option 
     (begins : HasBegun story moment asked which file script.plan.shapes script.plan.block script.plan.session view begun)
     (drives : Drives begun driven tasks result) (finishes : Finishes driven flushed result problem)
     (closes : Closes content story moment faults asked flushed problem recorded) where
-
   abbrev done : List Task
   done = drives.done
 
@@ -163,7 +162,7 @@ module _ {D : Type 0} (content : D → Option (List ℕ)) (story : D → Option 
     of_next (task.Sample sample) rest over =
         let over' = over_stays driven flushed (task.Sample sample) held size limit history_same finishes.steps.terms over in
         let told = subst (λ (t : Terms). (held ≡ history_cost t.layouts flushed.history) × (size ≡ cost_of t.layouts sample)
-            × (limit ≡ t.session_limit) × (limit < held + size)) terms_are over' in
+        × (limit ≡ t.session_limit) × (limit < held + size)) terms_are over' in
         record {
           sample = sample;
           next = ap (λ h. slice_get (samples_of tasks) (length h)) history_is
@@ -251,24 +250,24 @@ pub record_comes : {C : Type 0} (left : Option (List ℕ)) (before after : ℕ) 
     → RecordComes left before after name now asked content story moment faults out result result.end
 record_comes left before after name now asked content story moment faults out script file result says asked_is begun head_is told start_is later run =
     of_end result.end run.comes where
-  of_end : (end : RecordEnd) → RunComes content story moment faults script file result end → RecordComes left before after name now asked content story moment faults out result end
-  of_end (Refused problem) comes = record {
-    history = comes.2;
-    marks = comes.3;
-    begun = subst (λ d. HoldsSince (story d) (moment out) (IsBegun (plain_head now))) (sym comes.1) begun;
-    comes = inr (subst (FileFaultComes (faults out) (faults result.out)) (sym comes.0) tt, inr (run.asked_is ∙ asked_is));
-  }
-  of_end (Closed accepted last problem) comes = record {
-    script = script;
-    tasks = comes.tasks;
-    says = says;
-    recorded = recorded_told script comes.tasks (head_of (story file.disk) file.first) (plain_head now) (story result.out) (story file.disk) (story out)
-        (moment result.out) file.start (moment out) result.history.items result.marks.items run.told told head_is start_is comes.recorded;
-    accepted_is = comes.accepted_is;
-    durable_is = comes.durable_is;
-    comes = close_earlier script.plan comes.tasks result.history.items result.marks.items (content result.out) (faults out) file.faults (faults result.out) problem later comes.comes;
-    asked_is = run.asked_is ∙ asked_is;
-  }
+      of_end : (end : RecordEnd) → RunComes content story moment faults script file result end → RecordComes left before after name now asked content story moment faults out result end
+      of_end (Refused problem) comes = record {
+        history = comes.2;
+        marks = comes.3;
+        begun = subst (λ d. HoldsSince (story d) (moment out) (IsBegun (plain_head now))) (sym comes.1) begun;
+        comes = inr (subst (FileFaultComes (faults out) (faults result.out)) (sym comes.0) tt, inr (run.asked_is ∙ asked_is));
+      }
+      of_end (Closed accepted last problem) comes = record {
+        script = script;
+        tasks = comes.tasks;
+        says = says;
+        recorded = recorded_told script comes.tasks (head_of (story file.disk) file.first) (plain_head now) (story result.out) (story file.disk) (story out)
+            (moment result.out) file.start (moment out) result.history.items result.marks.items run.told told head_is start_is comes.recorded;
+        accepted_is = comes.accepted_is;
+        durable_is = comes.durable_is;
+        comes = close_earlier script.plan comes.tasks result.history.items result.marks.items (content result.out) (faults out) file.faults (faults result.out) problem later comes.comes;
+        asked_is = run.asked_is ∙ asked_is;
+      }
 
 -- of a disk that was asked for nothing a crash leaves no MDF file
 pub fresh_begun : (head : List ℕ) (story : Option Story) (content : Option (List ℕ)) (clock : ℕ) → Agrees story content clock → IsFresh story

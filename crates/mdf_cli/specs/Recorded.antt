@@ -95,5 +95,5 @@ abbrev pub EndsRecord : {A C : Type 0} → Option (List ℕ) → ℕ → ℕ →
 EndsRecord left before after name now asked content story moment faults out result held held_now sink_before sink_now =
     (end : RecordEnd)
     × RecordComes left before after name now asked content story moment faults out
-        (record { end = end; out = result.out; history = result.history; marks = result.marks }) end
+    (record { end = end; out = result.out; history = result.history; marks = result.marks }) end
     × Prints (record_text end) (record_status end) held held_now sink_before sink_now result.status

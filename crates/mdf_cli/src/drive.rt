@@ -39,7 +39,11 @@ fn perform<R: Threads + Wait + Sync, D: Disk>(
     match task {
         Task::Sample(sample) => match book.append(rt, sample) {
             Append::Accepted { .. } => Ok(()),
-            Append::SessionFull { held, size, limit } => Err(End::SessionFull { held, size, limit }),
+            Append::SessionFull { held, size, limit } => Err(End::SessionFull {
+                held,
+                size,
+                limit,
+            }),
             Append::Stopped { .. } | Append::DiskFault { .. } => Err(End::Stopped),
             Append::Memory => Err(End::Memory),
         },

@@ -265,7 +265,8 @@ fn status(end: &RecordEnd) -> u8
     match end {
         RecordEnd::Refused(fault) => fault.status(),
         RecordEnd::Closed {
-            fault: Some(fault), ..
+            fault: Some(fault),
+            ..
         } => fault.status(),
         RecordEnd::Closed { fault: None, .. } => 0,
     }

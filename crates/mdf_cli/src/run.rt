@@ -144,8 +144,7 @@ where
             without_recording(alloc, status, first, out)
         }
         Some(Command::Record { output }) => {
-            let (status, recorded) =
-                run_record(rt, alloc, output, now_ns, source, sink, out, gate);
+            let (status, recorded) = run_record(rt, alloc, output, now_ns, source, sink, out, gate);
             let Recorded {
                 end: _,
                 out,

@@ -22,31 +22,38 @@ perform-requires-clause-fits g c κs within =
 
 pub loop-task-preserved : goal.loop-task-preserved
 loop-task-preserved g c = record {
-    parts = append_assoc c.loop-task.yielded (c.in-Some.task ∷ []) _ ∙ ap (λ rest. c.loop-task.yielded ++ rest) (sym c.in-Some.ensures.steps.0) ∙ c.loop-task.invariant.parts;
-    does = does_more c.args.book.now c.loop-task.book c.perform.new.book c.loop-task.yielded c.in-Some.task c.loop-task.invariant.does
-        (subst (Steps c.loop-task.book c.perform.new.book) (samples_by-done End _ c.in-Some.task) c.in_ok-perform.ensures.steps) c.in_ok-perform.ensures.marked;
-    going = c.in_ok-perform.ensures.going }
+  parts = append_assoc c.loop-task.yielded (c.in-Some.task ∷ []) _ ∙ ap (λ rest. c.loop-task.yielded ++ rest) (sym c.in-Some.ensures.steps.0) ∙ c.loop-task.invariant.parts;
+  does = does_more c.args.book.now c.loop-task.book c.perform.new.book c.loop-task.yielded c.in-Some.task c.loop-task.invariant.does
+      (subst (Steps c.loop-task.book c.perform.new.book) (samples_by-done End _ c.in-Some.task) c.in_ok-perform.ensures.steps) c.in_ok-perform.ensures.marked;
+  going = c.in_ok-perform.ensures.going;
+}
 
 pub returns-in_err-perform : goal.returns-in_err-perform
 returns-in_err-perform g c =
     let p = err_from_is_err_and c.from_residual.result c.from_residual.ensures.1 in
     let whole = ap (λ rest. c.loop-task.yielded ++ rest) (sym c.in-Some.ensures.steps.0) ∙ c.loop-task.invariant.parts in
-    record { drives = subst (Drives c.args.book.now c.perform.new.book c.args.tasks.items) (sym p.1) (record {
-      done = c.loop-task.yielded;
-      rest = c.in-Some.task ∷ c.next.new.self.rest.items;
-      parts = whole;
-      does = does_stays c.args.book.now c.loop-task.book c.perform.new.book c.loop-task.yielded c.loop-task.invariant.does c.in_err-perform.ensures.steps;
-      ends = record { next = c.in-Some.task; later = c.next.new.self.rest.items; tasks_are = refl; comes = subst (EndComes c.perform.new.book c.in-Some.task) (sym p.2) c.in_err-perform.ensures.end } }) }
+    record {
+      drives = subst (Drives c.args.book.now c.perform.new.book c.args.tasks.items) (sym p.1) (record {
+        done = c.loop-task.yielded;
+        rest = c.in-Some.task ∷ c.next.new.self.rest.items;
+        parts = whole;
+        does = does_stays c.args.book.now c.loop-task.book c.perform.new.book c.loop-task.yielded c.loop-task.invariant.does c.in_err-perform.ensures.steps;
+        ends = record { next = c.in-Some.task; later = c.next.new.self.rest.items; tasks_are = refl; comes = subst (EndComes c.perform.new.book c.in-Some.task) (sym p.2) c.in_err-perform.ensures.end };
+      });
+    }
 
 pub returns : goal.returns
 returns g c =
     let none = empty c.loop-task.task-iterator.rest.items (omega (arith, c.in-None.ensures.steps.0, c.loop-task.task-iterator.rest.ok)) in
-    record { drives = record {
-      done = c.loop-task.yielded;
-      rest = [];
-      parts = ap (λ rest. c.loop-task.yielded ++ rest) (sym none) ∙ c.loop-task.invariant.parts;
-      does = c.loop-task.invariant.does;
-      ends = (refl, c.loop-task.invariant.going) } } where
-  empty : (xs : List Task) → length xs ≡ 0 → xs ≡ []
-  empty [] is = refl
-  empty (x ∷ xs) is = absurd (omega (arith, is))
+    record {
+      drives = record {
+        done = c.loop-task.yielded;
+        rest = [];
+        parts = ap (λ rest. c.loop-task.yielded ++ rest) (sym none) ∙ c.loop-task.invariant.parts;
+        does = c.loop-task.invariant.does;
+        ends = (refl, c.loop-task.invariant.going);
+      };
+    } where
+      empty : (xs : List Task) → length xs ≡ 0 → xs ≡ []
+      empty [] is = refl
+      empty (x ∷ xs) is = absurd (omega (arith, is))

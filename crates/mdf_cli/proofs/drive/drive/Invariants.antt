@@ -5,7 +5,7 @@ use Rattle.mdf_cli.proofs.drive.drive.Given as goal
 -- the tasks so far were done
 abbrev pub invariant-loop-task : goal.invariant-loop-task
 invariant-loop-task g l = record {
-    parts : l.yielded ++ l.task-iterator.rest.items ≡ l.fn.tasks.items;
-    does : Does l.fn.book l.book l.yielded;
-    going : l.book.stopped ≡ false;
+  parts : l.yielded ++ l.task-iterator.rest.items ≡ l.fn.tasks.items;
+  does : Does l.fn.book l.book l.yielded;
+  going : l.book.stopped ≡ false;
 }

@@ -15,7 +15,8 @@ returns-in_default-clause-refused g c =
       asked_is = inl c.requires;
       begun = begun_holds head story story (g.C.Disk.content c.args.out) (g.C.Disk.moment c.args.out) (g.met.C.Disk.agrees c.args.out) (g.met.C.Disk.fresh c.args.out c.requires)
           (adds_none story (IsBegun head));
-      comes = tt }
+      comes = tt;
+    }
 
 pub returns-in_default-attach-clause-refused : goal.returns-in_default-attach-clause-refused
 returns-in_default-attach-clause-refused g c =
@@ -26,7 +27,8 @@ returns-in_default-attach-clause-refused g c =
       begun = subst (λ s. HoldsSince s (g.C.Disk.moment c.args.out) (IsBegun head)) (sym c.attach.ensures.story)
           (begun_holds head story story (g.C.Disk.content c.args.out) (g.C.Disk.moment c.args.out) (g.met.C.Disk.agrees c.args.out) (g.met.C.Disk.fresh c.args.out c.requires)
           (adds_none story (IsBegun head)));
-      comes = c.in_default-attach.ensures.cause.failed }
+      comes = c.in_default-attach.ensures.cause.failed;
+    }
 
 pub returns-in-Ok-create-clause-begun : goal.returns-in-Ok-create-clause-begun
 returns-in-Ok-create-clause-begun g c =
@@ -45,4 +47,5 @@ returns-in-Err-clause-refused g c =
           (g.met.C.Disk.agrees c.args.out) (g.met.C.Disk.fresh c.args.out c.requires)
           (subst (λ s. Adds s (g.C.Disk.story c.in-Err.out) (IsBegun head)) c.attach.ensures.story
           (subst (λ h. Adds (g.C.Disk.story c.attach.new.self) (g.C.Disk.story c.in-Err.out) (IsBegun h)) c.plain_head.ensures.head c.in-Err.ensures.any_moment));
-      comes = omega (arith, c.attach.ensures.cause.later, c.in-Err.ensures.cause.failed) }
+      comes = omega (arith, c.attach.ensures.cause.later, c.in-Err.ensures.cause.failed);
+    }

@@ -18,12 +18,14 @@ returns-in_err-give_piece g c =
 
 pub loop-piece-preserved : goal.loop-piece-preserved
 loop-piece-preserved g c = record {
-    given = subst (Appends _ _) (sym (pieces_more c.args.pieces.now c.loop-piece.piece-index _ c.loop-piece-test.true))
-        (appends_both _ _ _ _ _ c.loop-piece.invariant.given (c.in_ok-give_piece.ensures.ok));
-    later = omega (arith, c.loop-piece.invariant.later, c.give_piece.ensures.cause.later) }
+  given = subst (Appends _ _) (sym (pieces_more c.args.pieces.now c.loop-piece.piece-index _ c.loop-piece-test.true))
+      (appends_both _ _ _ _ _ c.loop-piece.invariant.given (c.in_ok-give_piece.ensures.ok));
+  later = omega (arith, c.loop-piece.invariant.later, c.give_piece.ensures.cause.later);
+}
 
 pub returns : goal.returns
 returns g c = record {
-    ok = subst (λ pieces. Appends (g.K.Sink.held c.args.sink.now) (g.K.Sink.held c.loop-piece.sink) (pieces_text pieces)) (take_all c.loop-piece.piece-index c.args.pieces.now c.loop-piece-test.false) c.loop-piece.invariant.given;
-    err = tt;
-    cause = record { later = c.loop-piece.invariant.later; failed = tt } }
+  ok = subst (λ pieces. Appends (g.K.Sink.held c.args.sink.now) (g.K.Sink.held c.loop-piece.sink) (pieces_text pieces)) (take_all c.loop-piece.piece-index c.args.pieces.now c.loop-piece-test.false) c.loop-piece.invariant.given;
+  err = tt;
+  cause = record { later = c.loop-piece.invariant.later; failed = tt };
+}
