@@ -164,5 +164,12 @@ pub passes_limit : {V : Type 0} (front reserved : Front V) (sample : Sample) (si
     → size ≡ encoded_size reserved.shapes sample → reserved.block.limit < length reserved.block.bytes + size
     → front.block.limit < history_size front.shapes (drop (durable front.marks.items) front.history.items) + encoded_size front.shapes sample
 passes_limit front reserved sample size rest records size_is over =
-    omega (arith, over, size_is, ap (λ f. f.block.limit) rest, ap (λ f. length f.block.bytes) rest, ap (λ f. encoded_size f.shapes sample) rest,
-    are_records-length front.shapes front.block.bytes (drop (durable front.marks.items) front.history.items) records)
+    omega (
+      arith,
+      over,
+      size_is,
+      ap (λ f. f.block.limit) rest,
+      ap (λ f. length f.block.bytes) rest,
+      ap (λ f. encoded_size f.shapes sample) rest,
+      are_records-length front.shapes front.block.bytes (drop (durable front.marks.items) front.history.items) records,
+    )

@@ -18,17 +18,24 @@ returns-clause-kept g c = (invariant_of-self-2 g c).back.kept
 
 pub returns-in-Err-clause-answer : goal.returns-in-Err-clause-answer
 returns-in-Err-clause-answer g c =
-    let front = c.self.inside.front in
-    (search rules, search rules,
-    ap (λ m. m.items) c.in-Err.ensures.fault.marks ∙ c.reserve.ensures.marks ∙ ap (λ a. a.marks) c.self.view_is,
-    subst (λ a. PassesBlock a c.args.sample) c.self.view_is
-    (passes_limit front c.reserve.new.front c.args.sample c.encoded_size-size.result c.reserve.ensures.rest c.self.invariant.pending.records c.encoded_size-size.ensures c.in-Err.ensures.full))
+    let front = c.self.inside.front in (
+      search rules,
+      search rules,
+      ap (λ m. m.items) c.in-Err.ensures.fault.marks ∙ c.reserve.ensures.marks ∙ ap (λ a. a.marks) c.self.view_is,
+      subst (λ a. PassesBlock a c.args.sample) c.self.view_is
+          (passes_limit front c.reserve.new.front c.args.sample c.encoded_size-size.result c.reserve.ensures.rest c.self.invariant.pending.records c.encoded_size-size.ensures c.in-Err.ensures.full),
+    )
 
 pub returns-clause-answer : goal.returns-clause-answer
 returns-clause-answer g c =
-    let front = c.self.inside.front in
-    (search rules, search rules, search rules, search rules, ⊎_elim
-    (λ same. inl (ap (λ f. f.marks.items) c.accept.ensures.put.rest ∙ ap (λ m. m.items) same ∙ c.reserve.ensures.marks ∙ ap (λ a. a.marks) c.self.view_is))
-    (λ over. inr (subst (λ a. PassesBlock a c.args.sample) c.self.view_is
-    (passes_limit front c.reserve.new.front c.args.sample c.encoded_size-size.result c.reserve.ensures.rest c.self.invariant.pending.records c.encoded_size-size.ensures over)))
-    c.make_room.ensures.stays)
+    let front = c.self.inside.front in (
+      search rules,
+      search rules,
+      search rules,
+      search rules,
+      ⊎_elim
+          (λ same. inl (ap (λ f. f.marks.items) c.accept.ensures.put.rest ∙ ap (λ m. m.items) same ∙ c.reserve.ensures.marks ∙ ap (λ a. a.marks) c.self.view_is))
+          (λ over. inr (subst (λ a. PassesBlock a c.args.sample) c.self.view_is
+          (passes_limit front c.reserve.new.front c.args.sample c.encoded_size-size.result c.reserve.ensures.rest c.self.invariant.pending.records c.encoded_size-size.ensures over)))
+          c.make_room.ensures.stays,
+    )
