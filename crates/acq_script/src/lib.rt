@@ -12,8 +12,6 @@ mod read;
 mod sample;
 mod script;
 mod stage;
-#[cfg(test)]
-mod tests;
 mod text;
 
 pub use fault::ScriptFault;

@@ -16,6 +16,3 @@ mod word;
 pub use invalidation::{is_invalid, mark_invalid};
 pub use number::{covers, get, put, signed};
 pub use place::Field;
-
-#[cfg(test)]
-mod tests;

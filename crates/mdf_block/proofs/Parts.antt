@@ -1,8 +1,8 @@
 -- Parts of parts of a file, and the least body of a kind.
-use Rattle.std.proofs.Common.{◌≡◌, ◌+◌, ◌-◌, ◌/◌, ◌≤◌, ◌↔◌, ℕ, IsTrue, List, [], take, drop, refl, sym, ◌∙◌, ap, arith, lit≤}
+use Rattle.std.proofs.Common.{◌≡◌, ◌+◌, ◌-◌, ◌/◌, ◌≤◌, ◌<◌, ◌↔◌, ℕ, IsTrue, List, [], get_or, take, drop, refl, sym, ◌∙◌, ap, arith, lit≤}
 use Rattle.std.proofs.Math.Dec.{leb}
 use Rattle.std.proofs.lemmas.Bool.{leb-true, le-leb}
-use Rattle.std.proofs.lemmas.List.{drop-take, take-take, drop-drop}
+use Rattle.std.proofs.lemmas.List.{drop-take, take-take, drop-drop, get_or-take}
 use Rattle.mdf_format.specs.Number.{le_number, bytes_at}
 use Rattle.mdf_format.specs.Block.{least_body, body_at, body_size, links_at, header_size}
 use Rattle.mdf_format.specs.declared.kind.Kind.{Kind}
@@ -17,6 +17,16 @@ bytes_at-bytes_at n m k at f within =
     ∙ ap (take n) (drop-take k (m - k) (drop at f))
     ∙ take-take n (m - k) (drop k (drop at f)) room
     ∙ ap (take n) (drop-drop k at f)
+
+-- fields of the front of a part are fields of the part
+module _ (f : List ℕ) (place front len : ℕ) (least : front ≤ len) where
+  pub part_same : (n k : ℕ) → k + n ≤ front → bytes_at n (bytes_at front f place) k ≡ bytes_at n (bytes_at len f place) k
+  part_same n k within =
+      bytes_at-bytes_at n front k place f within ∙ sym (bytes_at-bytes_at n len k place f (omega (arith, within)))
+
+  pub byte_same : (k : ℕ) → k < front → get_or (bytes_at front f place) k 0 ≡ get_or (bytes_at len f place) k 0
+  byte_same k within =
+      get_or-take front (drop place f) k 0 within ∙ sym (get_or-take len (drop place f) k 0 (omega (arith, within)))
 
 -- only a CCBLOCK's least body hangs on its body
 pub least_body-other : (kind : Kind) (body : List ℕ) → (kind ≡ Cc → ⊥) → least_body kind body ≡ least_body kind []

@@ -29,6 +29,3 @@ pub use place::BlockAt;
 pub use text::{note_at, note_in, noted_in};
 pub use what::What;
 pub use word::{body_in, link_in, link_of};
-
-#[cfg(test)]
-mod tests;

@@ -1,25 +1,13 @@
 -- Fields of the front of a body are fields of the body.
-use Rattle.std.proofs.Common.{◌≡◌, ◌+◌, ◌*◌, ◌-◌, ◌/◌, ◌≤◌, ◌<◌, ℕ, zero, suc, List, ◌∷◌, get_or, drop, refl, sym, ◌∙◌, ap, arith}
-use Rattle.std.proofs.lemmas.List.{get_or-take}
+use Rattle.std.proofs.Common.{◌≡◌, ◌+◌, ◌*◌, ◌-◌, ◌/◌, ◌≤◌, ◌<◌, ℕ, zero, suc, List, ◌∷◌, get_or, refl, sym, ◌∙◌, ap, arith}
 use Rattle.mdf_format.specs.Number.{le_number, bytes_at}
 use Rattle.mdf_block.specs.declared.place.BlockAt.{BlockAt}
 use Rattle.mdf_block.specs.Block.{body_of}
-use Rattle.mdf_block.proofs.Parts.{bytes_at-bytes_at}
+use Rattle.mdf_block.proofs.Parts.{bytes_at-bytes_at, part_same, byte_same}
 use Rattle.mdf_conv.specs.declared.row.Conversion.{Conversion}
 use Rattle.mdf_conv.specs.declared.row.Ref.{Ref}
 use Rattle.mdf_conv.specs.declared.texts.Texts.{Texts}
 use Rattle.mdf_conv.specs.Conv.{HoldsValues, numbers_at, the_conversion}
-
-module _ (f : List ℕ) (place front len : ℕ) (least : front ≤ len) where
-  -- numbers
-  pub part_same : (n k : ℕ) → k + n ≤ front → bytes_at n (bytes_at front f place) k ≡ bytes_at n (bytes_at len f place) k
-  part_same n k within =
-      bytes_at-bytes_at n front k place f within ∙ sym (bytes_at-bytes_at n len k place f (omega (arith, within)))
-
-  -- single bytes
-  pub byte_same : (k : ℕ) → k < front → get_or (bytes_at front f place) k 0 ≡ get_or (bytes_at len f place) k 0
-  byte_same k within =
-      get_or-take front (drop place f) k 0 within ∙ sym (get_or-take len (drop place f) k 0 (omega (arith, within)))
 
 -- numbers of the file are numbers of the body
 pub numbers_same : (f : List ℕ) (place len k count : ℕ) → k + 8 * count ≤ len

@@ -1,3 +1,4 @@
 pub mod Left
 pub mod Conv
+pub mod Lift
 pub mod Standing

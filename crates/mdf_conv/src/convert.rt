@@ -6,7 +6,7 @@ ghost use Rattle.mdf_block.specs.Each.{each};
 ghost use Rattle.mdf_conv.specs.Conv.{texts, ref_by, item_by, conv_by, conv, conversion, conv_refusal};
 
 use crate::field::conversion_of;
-use crate::lower::{block_of, conv_block_of, is_conv_in, words_in};
+use crate::lower::{block_with, conv_block_of, is_conv_in, words_in};
 use crate::texts::Texts;
 use crate::{Budget, ConvFault, Conversion, Ref, link_count};
 use mdf_block::{BlockAt, Kind, What, link_in};
@@ -150,7 +150,7 @@ fn level_in<P: Span>(
     ensures cause { HaltCause true (P.faults span.old) (P.faults span.new) result }
 {
     if levels == 0 {
-        block_of(span, at, Kind::Cc)?;
+        block_with(span, at, Kind::Cc)?;
         return Err(Halt::Fault(ConvFault::Deep { at }));
     }
     whole_in(alloc, span, at, budget, levels - 1)

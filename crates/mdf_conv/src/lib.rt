@@ -16,11 +16,8 @@ pub use budget::link_count;
 pub use convert::conv_in;
 pub use fault::ConvFault;
 pub use limits::Budget;
-pub use lower::words_in;
+pub use lower::{block_with, words_in};
 pub use mdf_block::What;
 pub use read::{read_conv, read_conv_in, read_source, read_source_in};
 pub use row::{Conversion, Ref, SourceInfo};
 pub use source::source_in;
-
-#[cfg(test)]
-mod tests;

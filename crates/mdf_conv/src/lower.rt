@@ -5,6 +5,7 @@ ghost use Rattle.mdf_format.specs.declared.kind.Kind.TheVariants as kinds;
 ghost use Rattle.mdf_block.specs.Refusal.{Gives};
 ghost use Rattle.mdf_block.specs.Block.{block, is_data, is_named, IsInside, IsFilled};
 ghost use Rattle.mdf_conv.specs.Conv.{words, HoldsValues, conv_refusal};
+ghost use Rattle.mdf_conv.specs.Lift.{text_read};
 
 use crate::{Budget, ConvFault};
 use mdf_block::{BlockAt, BlockFault, Kind, Note, NoteFault, What, block_in, kind_in, noted_in};
@@ -12,18 +13,17 @@ use mdf_num::{Halt, Span, Stop};
 use std::alloc::Global;
 
 /// A block of a kind that holds no data, with the faults of this crate.
-pub(crate) fn block_of<P: Span>(
-    span: &mut P,
-    at: u64,
-    want: Kind,
-) -> Result<BlockAt, Halt<ConvFault>>
+///
+/// # Errors
+/// `Bad` exactly where no block of that kind stands whole at the address; and the span's own.
+pub fn block_with<P: Span>(span: &mut P, at: u64, want: Kind) -> Result<BlockAt, Halt<ConvFault>>
     requires { is_data want ≡ false }
     ensures found { (f : List ℕ) → P.bytes span.old ≡ Some f → Gives conv_refusal result (block f at want) }
     ensures inside { IfOk result (IsInside (P.size span.old)) }
     ensures filled { IfOk result (IsFilled want) }
     ensures same { P.bytes span.new ≡ P.bytes span.old }
     ensures size { P.size span.new ≡ P.size span.old }
-    ensures cause { HaltCause P.may_want (P.faults span.old) (P.faults span.new) result }
+    ensures cause { HaltCause true (P.faults span.old) (P.faults span.new) result }
 {
     match block_in(span, at, want) {
         Ok(block) => Ok(block),
@@ -45,9 +45,9 @@ pub(crate) fn conv_block_of<P: Span>(span: &mut P, at: u64) -> Result<BlockAt, H
     ensures filled { IfOk result (IsFilled kinds.Cc) }
     ensures same { P.bytes span.new ≡ P.bytes span.old }
     ensures size { P.size span.new ≡ P.size span.old }
-    ensures cause { HaltCause P.may_want (P.faults span.old) (P.faults span.new) result }
+    ensures cause { HaltCause true (P.faults span.old) (P.faults span.new) result }
 {
-    block_of(span, at, Kind::Cc)
+    block_with(span, at, Kind::Cc)
 }
 
 /// Whether the first four bytes of a conversion stand at `at`.
@@ -63,24 +63,14 @@ pub(crate) fn is_conv_in<P: Span>(span: &mut P, at: u64) -> Result<bool, Stop>
     }
 }
 
-/// The text that a link names, where 0 names none, and what may still come.
-///
-/// # Errors
-/// `Bad` exactly where an address other than 0 has neither a TXBLOCK nor an MDBLOCK, `TooMany` exactly where the text is
-/// longer than may come; and the span's own.
-#[tactic(auto, unfolding(crate::specs::Conv::words))]
-pub fn words_in<P: Span>(
-    alloc: Global,
-    span: &mut P,
-    at: u64,
+/// A text that was read, with the faults of this crate, and what may still come.
+fn text_read(
+    outcome: Result<(Note, u64), Halt<NoteFault>>,
     budget: Budget,
 ) -> Result<(Note, Budget), Halt<ConvFault>>
-    ensures found { (f : List ℕ) → P.bytes span.old ≡ Some f → Gives conv_refusal result (words f at budget) }
-    ensures same { P.bytes span.new ≡ P.bytes span.old }
-    ensures size { P.size span.new ≡ P.size span.old }
-    ensures cause { HaltCause true (P.faults span.old) (P.faults span.new) result }
+    ensures { result ≡ text_read budget outcome }
 {
-    match noted_in(alloc, span, at, budget.text) {
+    match outcome {
         Ok((note, text)) => Ok((note, Budget { text, ..budget })),
         Err(Halt::Fault(NoteFault::Bad { at })) => Err(Halt::Fault(ConvFault::Bad {
             at,
@@ -94,4 +84,23 @@ pub fn words_in<P: Span>(
         Err(Halt::Failed) => Err(Halt::Failed),
         Err(Halt::Memory) => Err(Halt::Memory),
     }
+}
+
+/// The text that a link names, where 0 names none, and what may still come.
+///
+/// # Errors
+/// `Bad` exactly where an address other than 0 has neither a TXBLOCK nor an MDBLOCK, `TooMany` exactly where the text is
+/// longer than may come; and the span's own.
+pub fn words_in<P: Span>(
+    alloc: Global,
+    span: &mut P,
+    at: u64,
+    budget: Budget,
+) -> Result<(Note, Budget), Halt<ConvFault>>
+    ensures found { (f : List ℕ) → P.bytes span.old ≡ Some f → Gives conv_refusal result (words f at budget) }
+    ensures same { P.bytes span.new ≡ P.bytes span.old }
+    ensures size { P.size span.new ≡ P.size span.old }
+    ensures cause { HaltCause true (P.faults span.old) (P.faults span.new) result }
+{
+    text_read(noted_in(alloc, span, at, budget.text), budget)
 }

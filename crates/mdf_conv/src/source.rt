@@ -4,7 +4,7 @@ ghost use Rattle.mdf_block.specs.Refusal.{Gives};
 ghost use Rattle.mdf_conv.specs.Conv.{source, conv_refusal};
 
 use crate::field::source_of;
-use crate::lower::{block_of, words_in};
+use crate::lower::{block_with, words_in};
 use crate::{Budget, ConvFault, SourceInfo};
 use mdf_block::{Kind, link_in};
 use mdf_num::{Halt, Span};
@@ -26,7 +26,7 @@ pub fn source_in<P: Span>(
     ensures size { P.size span.new ≡ P.size span.old }
     ensures cause { HaltCause true (P.faults span.old) (P.faults span.new) result }
 {
-    let block = block_of(span, at, Kind::Si)?;
+    let block = block_with(span, at, Kind::Si)?;
     let name = link_in(span, &block, 0)?;
     let (name, left) = words_in(alloc, span, name, budget)?;
     let path = link_in(span, &block, 1)?;

@@ -6,5 +6,6 @@ mod Resting
 mod Stages
 mod Buffers
 pub mod Carrying
+pub mod Once
 pub mod Begun
 pub mod Appends

@@ -7,6 +7,7 @@
 mod answer;
 mod buffer;
 mod gated;
+mod law;
 mod recording;
 mod scan;
 mod stage;
@@ -14,4 +15,5 @@ mod stage;
 pub use answer::{GateFault, Opened};
 pub use buffer::Block;
 pub use gated::GatedFile;
+pub use law::carries_one_list;
 pub use scan::opened;

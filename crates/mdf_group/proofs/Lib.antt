@@ -1,3 +1,4 @@
+mod Lifts
 mod Rows
 mod Extras
 mod Onces

@@ -2,7 +2,8 @@
 use Rattle.std.proofs.Common.{◌≡◌, ◌+◌, ◌≤◌, ℕ, List, sym, ◌∙◌, ap, arith}
 use Rattle.mdf_format.specs.Number.{le_number, bytes_at}
 use Rattle.mdf_conv.specs.Conv.{numbers_at}
-use Rattle.mdf_conv.proofs.Fronts.{part_same, byte_same, numbers_same}
+use Rattle.mdf_block.proofs.Parts.{part_same, byte_same}
+use Rattle.mdf_conv.proofs.Fronts.{numbers_same}
 use Rattle.mdf_group.specs.declared.room.ChannelLinks.{ChannelLinks}
 use Rattle.mdf_group.specs.declared.room.GroupLinks.{GroupLinks}
 use Rattle.mdf_group.specs.declared.row.ChannelRow.{ChannelRow}

@@ -1,4 +1,5 @@
 pub mod Link
+pub mod Lift
 pub mod Channel
 pub mod Group
 pub mod Standing

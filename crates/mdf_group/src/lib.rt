@@ -17,6 +17,3 @@ pub use fault::GroupFault;
 pub use mdf_block::What;
 pub use read::{read_groups, read_groups_in};
 pub use row::{ChannelRow, DataRow, GroupRow};
-
-#[cfg(test)]
-mod tests;

@@ -1,46 +1,22 @@
 ghost use Rattle.std.specs.Prelude.{◌≡◌, ℕ, List, Some, false, true, IfOk};
 ghost use Rattle.mdf_num.specs.Halt.{HaltCause};
-ghost use Rattle.mdf_block.specs.Refusal.{Read, Gives};
+ghost use Rattle.mdf_block.specs.Refusal.{Gives};
 ghost use Rattle.mdf_block.specs.Block.{block, is_data, IsInside, IsFilled};
-ghost use Rattle.mdf_conv.specs.Conv.{words, source, conversion, conv_refusal};
+ghost use Rattle.mdf_conv.specs.Conv.{words, source, conversion};
 ghost use Rattle.mdf_group.specs.Link.{source_of_link, conv_of_link, group_refusal};
+ghost use Rattle.mdf_group.specs.Lift.{lifted};
 
 use crate::GroupFault;
-use mdf_block::{BlockAt, BlockFault, Kind, Note, block_in};
-use mdf_conv::{Budget, ConvFault, Conversion, SourceInfo, conv_in, source_in, words_in};
+use mdf_block::{BlockAt, Kind, Note};
+use mdf_conv::{
+    Budget, ConvFault, Conversion, SourceInfo, block_with, conv_in, source_in, words_in,
+};
 use mdf_num::{Halt, Span};
 use std::alloc::Global;
 
-/// A block of a kind that holds no data, with the faults of this crate.
-pub(crate) fn block_of<P: Span>(
-    span: &mut P,
-    at: u64,
-    want: Kind,
-) -> Result<BlockAt, Halt<GroupFault>>
-    requires { is_data want ≡ false }
-    ensures found { (f : List ℕ) → P.bytes span.old ≡ Some f → Gives group_refusal result (block f at want) }
-    ensures inside { IfOk result (IsInside (P.size span.old)) }
-    ensures filled { IfOk result (IsFilled want) }
-    ensures same { P.bytes span.new ≡ P.bytes span.old }
-    ensures size { P.size span.new ≡ P.size span.old }
-    ensures cause { HaltCause P.may_want (P.faults span.old) (P.faults span.new) result }
-{
-    match block_in(span, at, want) {
-        Ok(block) => Ok(block),
-        Err(Halt::Fault(BlockFault::Bad { at, want })) => Err(Halt::Fault(GroupFault::Bad {
-            at,
-            want,
-        })),
-        Err(Halt::Fault(BlockFault::Compressed { .. })) => unreachable!(),
-        Err(Halt::Failed) => Err(Halt::Failed),
-        Err(Halt::Memory) => Err(Halt::Memory),
-    }
-}
-
 /// What is read below, with the faults of this crate.
 fn lifted<T>(outcome: Result<T, Halt<ConvFault>>) -> Result<T, Halt<GroupFault>>
-    ensures gives { (read : Read T) → Gives conv_refusal outcome read → Gives group_refusal result read }
-    ensures cause { (before now : ℕ) → HaltCause true before now outcome → HaltCause true before now result }
+    ensures { result ≡ lifted outcome }
 {
     match outcome {
         Ok(found) => Ok(found),
@@ -57,6 +33,23 @@ fn lifted<T>(outcome: Result<T, Halt<ConvFault>>) -> Result<T, Halt<GroupFault>>
         Err(Halt::Failed) => Err(Halt::Failed),
         Err(Halt::Memory) => Err(Halt::Memory),
     }
+}
+
+/// A block of a kind that holds no data.
+pub(crate) fn block_of<P: Span>(
+    span: &mut P,
+    at: u64,
+    want: Kind,
+) -> Result<BlockAt, Halt<GroupFault>>
+    requires { is_data want ≡ false }
+    ensures found { (f : List ℕ) → P.bytes span.old ≡ Some f → Gives group_refusal result (block f at want) }
+    ensures inside { IfOk result (IsInside (P.size span.old)) }
+    ensures filled { IfOk result (IsFilled want) }
+    ensures same { P.bytes span.new ≡ P.bytes span.old }
+    ensures size { P.size span.new ≡ P.size span.old }
+    ensures cause { HaltCause true (P.faults span.old) (P.faults span.new) result }
+{
+    lifted(block_with(span, at, want))
 }
 
 /// The text that a link names, and what may still come.

@@ -1,43 +1,34 @@
 -- Fields of the front of a body are fields of the body.
-use Rattle.std.proofs.Common.{◌≡◌, ◌+◌, ◌<◌, ◌≤◌, ℕ, List, get_or, drop, sym, ◌∙◌, ap, arith}
-use Rattle.std.proofs.lemmas.List.{get_or-take}
+use Rattle.std.proofs.Common.{◌≡◌, ◌+◌, ◌<◌, ◌≤◌, ℕ, List, get_or, ◌∙◌, ap, arith}
 use Rattle.mdf_format.specs.Number.{le_number, bytes_at}
 use Rattle.mdf_block.specs.declared.note.Note.{Note}
-use Rattle.mdf_block.proofs.Parts.{bytes_at-bytes_at}
+use Rattle.mdf_block.proofs.Parts.{part_same, byte_same}
 use Rattle.std.specs.Prelude.{ℤ}
 use Rattle.mdf_head.specs.declared.entry.Head.{Head}
 use Rattle.mdf_head.specs.declared.entry.History.{History}
 use Rattle.mdf_head.specs.Head.{signed_at, the_head, the_history}
 
 module _ (f : List ℕ) (place front len : ℕ) (least : front ≤ len) where
-  part_same : (n k : ℕ) → k + n ≤ front → bytes_at n (bytes_at front f place) k ≡ bytes_at n (bytes_at len f place) k
-  part_same n k within =
-      bytes_at-bytes_at n front k place f within ∙ sym (bytes_at-bytes_at n len k place f (omega (arith, within)))
-
-  byte_same : (k : ℕ) → k < front → get_or (bytes_at front f place) k 0 ≡ get_or (bytes_at len f place) k 0
-  byte_same k within =
-      get_or-take front (drop place f) k 0 within ∙ sym (get_or-take len (drop place f) k 0 (omega (arith, within)))
-
   pub the_head-front : (comment : Note) (first_dg : ℕ) → 32 ≤ front
       → the_head (bytes_at front f place) comment first_dg ≡ the_head (bytes_at len f place) comment first_dg
   the_head-front comment first_dg room =
-      let start = part_same 8 0 (omega (arith, room)) in
-      let zone = part_same 2 8 (omega (arith, room)) in
-      let daylight = part_same 2 10 (omega (arith, room)) in
-      let time_flags = byte_same 12 (omega (arith, room)) in
-      let time_class = byte_same 13 (omega (arith, room)) in
-      let flags = byte_same 14 (omega (arith, room)) in
-      let angle = part_same 8 16 (omega (arith, room)) in
-      let distance = part_same 8 24 (omega (arith, room)) in
+      let start = part_same f place front len least 8 0 (omega (arith, room)) in
+      let zone = part_same f place front len least 2 8 (omega (arith, room)) in
+      let daylight = part_same f place front len least 2 10 (omega (arith, room)) in
+      let time_flags = byte_same f place front len least 12 (omega (arith, room)) in
+      let time_class = byte_same f place front len least 13 (omega (arith, room)) in
+      let flags = byte_same f place front len least 14 (omega (arith, room)) in
+      let angle = part_same f place front len least 8 16 (omega (arith, room)) in
+      let distance = part_same f place front len least 8 24 (omega (arith, room)) in
       rw (start, zone, daylight, time_flags, time_class, flags, angle, distance)
 
   pub the_history-front : (at : ℕ) (comment : Note) → 16 ≤ front
       → the_history at (bytes_at front f place) comment ≡ the_history at (bytes_at len f place) comment
   the_history-front at comment room =
-      let time = part_same 8 0 (omega (arith, room)) in
-      let zone = part_same 2 8 (omega (arith, room)) in
-      let daylight = part_same 2 10 (omega (arith, room)) in
-      let flags = byte_same 12 (omega (arith, room)) in
+      let time = part_same f place front len least 8 0 (omega (arith, room)) in
+      let zone = part_same f place front len least 2 8 (omega (arith, room)) in
+      let daylight = part_same f place front len least 2 10 (omega (arith, room)) in
+      let flags = byte_same f place front len least 12 (omega (arith, room)) in
       rw (time, zone, daylight, flags)
 
 -- fields that are those of a body make the entry of the body

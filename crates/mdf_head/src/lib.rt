@@ -16,6 +16,3 @@ pub use header::{read_head, read_head_in};
 pub use identify::ident;
 pub use identity::Ident;
 pub use mdf_block::What;
-
-#[cfg(test)]
-mod tests;

@@ -4,6 +4,3 @@
 mod file;
 
 pub use file::FileDisk;
-
-#[cfg(test)]
-mod tests;

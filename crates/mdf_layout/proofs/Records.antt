@@ -1,8 +1,11 @@
 -- Records one behind the other.
-use Rattle.std.proofs.Common.{◌≡◌, ◌+◌, ℕ, List, [], ◌∷◌, ◌++◌, length, refl, sym, ◌∙◌, ap, arith, length-append}
-use Rattle.std.proofs.lemmas.List.{append_assoc, append-nil}
+use Rattle.std.proofs.Common.{◌≡◌, ◌+◌, ℕ, List, [], ◌∷◌, ◌++◌, length, get_or, take, drop, map, refl, sym, ◌∙◌, ap, subst, arith, length-append}
+use Rattle.std.proofs.Math.Seq.{take-append_seam}
+use Rattle.std.proofs.lemmas.List.{append_assoc, append-nil, append_cancel_left}
+use Rattle.std.specs.Prelude.{slice_get, Some}
 use Rattle.std.proofs.lemmas.List.Sums.{sum_by-cons}
 use Rattle.std.specs.Option.{option_map_or}
+use Rattle.mdf_layout.specs.Field.{entry_in}
 use Rattle.mdf_layout.specs.Layout.{Layout, record_size}
 use Rattle.mdf_layout.specs.Record.{IsRecord, AreRecords, encoded_size, history_size}
 use Rattle.mdf_layout.specs.declared.sample.Sample.{Sample}
@@ -54,3 +57,46 @@ no_bytes layouts (sample ∷ samples) (first, rest, whole, record_is, behind) =
 pub one_record : (layouts : List Layout) (bytes : List ℕ) (sample : Sample) → IsRecord layouts bytes sample → AreRecords layouts bytes (sample ∷ [])
 unfolding AreRecords
 one_record layouts bytes sample record_is = (bytes, [], sym (append-nil bytes), record_is, refl)
+
+-- two records at the front of the same bytes are the same, of one sample
+module _ (layouts : List Layout) (bytes first rest first' rest' : List ℕ) (sample other : Sample) (whole : bytes ≡ first ++ rest) (whole' : bytes ≡ first' ++ rest')
+    (one : IsRecord layouts first sample) (two : IsRecord layouts first' other) where
+  both : (sample.group + 1) ∷ (one.content ++ rest) ≡ (other.group + 1) ∷ (two.content ++ rest')
+  both = sym (ap (λ xs. xs ++ rest) one.bytes_are) ∙ sym whole ∙ whole' ∙ ap (λ xs. xs ++ rest') two.bytes_are
+
+  same_group : sample.group ≡ other.group
+  same_group = omega (arith, ap (λ xs. get_or xs 0 0) both)
+
+  same_layout : one.layout ≡ two.layout
+  same_layout =
+      let same : Some one.layout ≡ Some two.layout = sym one.known ∙ ap (slice_get layouts) same_group ∙ two.known in
+      ap (λ found. option_map_or (λ layout. layout) found one.layout) same
+
+  same_content : one.content ≡ two.content
+  same_content =
+      let long : length one.content ≡ length two.content = one.long ∙ ap record_size same_layout ∙ sym two.long in
+      sym (take-append_seam one.content rest) ∙ ap (λ xs. take (length one.content) (drop 1 xs)) both
+      ∙ ap (λ n. take n (two.content ++ rest')) long ∙ take-append_seam two.content rest'
+
+  same_rest : rest ≡ rest'
+  same_rest = append_cancel_left one.content rest rest' (ap (drop 1) both ∙ ap (λ xs. xs ++ rest') (sym same_content))
+
+  same_values : sample.values ≡ other.values
+  same_values = sym one.values ∙ ap (λ content. map (entry_in content) one.layout.rows) same_content
+      ∙ ap (λ layout. map (entry_in two.content) layout.rows) same_layout ∙ two.values
+
+  pub same_sample : sample ≡ other
+  same_sample = ap (λ group. record { group = group; values = sample.values }) same_group
+      ∙ ap (λ values. record { group = other.group; values = values }) same_values
+
+-- bytes are the records of one list of samples
+pub records_once : (layouts : List Layout) (bytes : List ℕ) (samples others : List Sample)
+    → AreRecords layouts bytes samples → AreRecords layouts bytes others → samples ≡ others
+unfolding AreRecords
+records_once layouts bytes [] others none more = sym (no_bytes layouts others (subst (λ xs. AreRecords layouts xs others) none more))
+records_once layouts bytes (sample ∷ samples) [] more none = no_bytes layouts (sample ∷ samples) (subst (λ xs. AreRecords layouts xs (sample ∷ samples)) none more)
+records_once layouts bytes (sample ∷ samples) (other ∷ others) (first, rest, whole, one, behind) (first', rest', whole', two, behind') =
+    let same = same_sample layouts bytes first rest first' rest' sample other whole whole' one two in
+    let rest_is = same_rest layouts bytes first rest first' rest' sample other whole whole' one two in
+    ap (λ x. x ∷ samples) same
+    ∙ ap (λ xs. other ∷ xs) (records_once layouts rest samples others behind (subst (λ xs. AreRecords layouts xs others) (sym rest_is) behind'))

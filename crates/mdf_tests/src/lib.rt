@@ -6,9 +6,13 @@ mod books;
 #[cfg(test)]
 mod disks;
 #[cfg(test)]
+mod hostfiles;
+#[cfg(test)]
 mod layouts;
 #[cfg(test)]
 mod lists;
+#[cfg(test)]
+mod scripts;
 #[cfg(test)]
 mod seals;
 #[cfg(test)]

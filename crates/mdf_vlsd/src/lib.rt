@@ -7,6 +7,3 @@
 mod stream;
 
 pub use stream::{Streams, ValueStream};
-
-#[cfg(test)]
-mod tests;

@@ -6,16 +6,16 @@ use Rattle.mdf_conv.specs.Conv.{item_by, conv, conv_refusal}
 use Rattle.mdf_conv.proofs.Levels.{conv_more, conv_halts, conv_deep, item_halts, item_found}
 use Rattle.mdf_conv.proofs.convert.+conv.Goals as goal
 
-pub level_in-returns-in_err-block_of-clause-found : goal.level_in-returns-in_err-block_of-clause-found
-level_in-returns-in_err-block_of-clause-found g t c = λ f told.
+pub level_in-returns-in_err-block_with-clause-found : goal.level_in-returns-in_err-block_with-clause-found
+level_in-returns-in_err-block_with-clause-found g t c = λ f told.
     let p = err_from_is_err_and c.from_residual.result c.from_residual.ensures.1 in
     rw (p.1, p.2) (
-    conv_halts c.args.levels f c.args.at c.args.budget c.if-levels-eq0.true conv_refusal _ (c.in_err-block_of.ensures.found f told)
+    conv_halts c.args.levels f c.args.at c.args.budget c.if-levels-eq0.true conv_refusal _ (c.in_err-block_with.ensures.found f told)
     )
 
 pub level_in-returns-then-levels-eq0-clause-found : goal.level_in-returns-then-levels-eq0-clause-found
 level_in-returns-then-levels-eq0-clause-found g t c = λ f told.
-    conv_deep c.args.levels f c.args.at c.args.budget c.if-levels-eq0.true _ (c.in_ok-block_of.ensures.found f told)
+    conv_deep c.args.levels f c.args.at c.args.budget c.if-levels-eq0.true _ (c.in_ok-block_with.ensures.found f told)
 
 pub level_in-returns-clause-found : goal.level_in-returns-clause-found
 level_in-returns-clause-found g t c = λ f told.

@@ -1,4 +1,4 @@
-use super::*;
+use mdf_bits::{Field, bit_by_bit, covers, get, is_invalid, mark_invalid, put, signed};
 
 // Where the fields of the table lie: big-endian or not, the first bit in byte 3, and the number of bits. Then the
 // field's number in `OTHER`, and what `RECORD` is once that number was written into its field.

@@ -1,59 +1,12 @@
 ghost use Rattle.std.specs.Prelude.{◌≡◌, ◌+◌, ◌*◌, ◌≤◌, length};
 
-use super::*;
-use mdf_block::{Draft, Kind, Note};
+use crate::span::span_over;
+use mdf_block::{Draft, Kind, Note, What};
 use mdf_conv::{Budget, Ref};
-use mdf_num::{Bytes, FaultCount, Halt, Memory, Span, Stop};
+use mdf_group::{GroupFault, read_groups, read_groups_in};
+use mdf_num::{Bytes, Halt, Memory, Span, Stop};
 use std::alloc::Global;
 use std::test::Fail;
-
-// A span that fails after some calls.
-struct Stopping<'a> {
-    bytes: &'a [u8],
-    calls: u64,
-    faults: FaultCount,
-}
-
-impl Drop for Stopping<'_> {
-    fn drop(self) {
-        let Stopping {
-            bytes: _,
-            calls: _,
-            faults: _,
-        } = self;
-    }
-}
-
-impl Span for Stopping<'_> {
-    ghost use Rattle.std.specs.Prelude.{Some, length, refl};
-
-    ghost bytes = { λ s. Some s.bytes.now };
-
-    ghost size = { λ s. length s.bytes.now };
-
-    ghost faults = { λ s. s.faults };
-
-    fn len(&self) -> u64 {
-        self.bytes.len() as u64
-    }
-
-    fn fill(&mut self, at: u64, buf: &mut [u8]) -> Result<(), Stop> {
-        if self.calls == 0 {
-            let _ = self.faults.fail();
-            return Err(Stop::Failed);
-        }
-        self.calls -= 1;
-        let start = at as usize;
-        buf.copy_from_slice(&self.bytes[start..start + buf.len()]);
-        Ok(())
-    }
-
-    fn faults(&self) -> u64 {
-        self.faults.get()
-    }
-
-    ghost whole = { λ s. refl };
-}
 
 // The body of a channel of this kind and this data type.
 fn channel(kind: u8, data_type: u8) -> [u8; 72] {
@@ -346,6 +299,25 @@ fn loops_are_too_many(rt: HostRuntime) -> Result<(), Fail> {
 }
 
 #[test]
+fn a_loop_of_channels_is_too_many(rt: HostRuntime) -> Result<(), Fail> {
+    let mut budget = Budget::of_file();
+    let file = turned(&Turn {
+        channel: 232,
+        ..STRAIGHT
+    });
+    let fault = read_groups(rt.alloc(), &file, 64, &mut budget).err();
+    assert_eq!(rt;
+        fault,
+        Some(GroupFault::TooMany {
+            what: What::Cn,
+            at: 232
+        })
+    );
+    assert_eq!(rt; budget, Budget::of_file());
+    Ok(())
+}
+
+#[test]
 fn a_loop_of_channels_ends_with_its_texts(rt: HostRuntime) -> Result<(), Fail> {
     let mut budget = Budget::of_file();
     budget.text = 807;
@@ -385,11 +357,7 @@ fn a_span_that_fails_stops_the_reader(rt: HostRuntime) -> Result<(), Fail> {
     let bytes = written(rt.alloc())?;
     let mut budget = Budget::of_file();
     for calls in 0..60 {
-        let mut span = Stopping {
-            bytes: bytes.as_slice(),
-            calls,
-            faults: FaultCount::zero(),
-        };
+        let mut span = span_over(bytes.as_slice(), calls, Stop::Failed);
         let answer = read_groups_in(rt.alloc(), &mut span, 64, &mut budget);
         assert!(rt; matches!(answer, Err(Halt::Failed)));
         assert_eq!(rt; span.faults(), 1);

@@ -1,5 +1,5 @@
-use super::*;
 use mdf_num::Bytes;
+use mdf_vlsd::{Streams, ValueStream};
 use std::test::Fail;
 
 #[test]

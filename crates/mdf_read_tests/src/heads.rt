@@ -1,61 +1,9 @@
-use super::*;
-use mdf_block::{Draft, Kind, Note};
-use mdf_num::{Bytes, FaultCount, Halt, Memory, Rows, Span, Stop};
+use crate::span::span_over;
+use mdf_block::{Draft, Kind, Note, What};
+use mdf_head::{Head, HeadFault, History, Ident, IdentFault, ident, read_head, read_head_in};
+use mdf_num::{Bytes, Halt, Memory, Rows, Span, Stop};
 use std::alloc::Global;
 use std::test::Fail;
-
-// A span that fails or wants memory after some calls.
-struct Stopping<'a> {
-    bytes: &'a [u8],
-    calls: u64,
-    stop: Stop,
-    faults: FaultCount,
-}
-
-impl Drop for Stopping<'_> {
-    fn drop(self) {
-        let Stopping {
-            bytes: _,
-            calls: _,
-            stop: _,
-            faults: _,
-        } = self;
-    }
-}
-
-impl Span for Stopping<'_> {
-    ghost use Rattle.std.specs.Prelude.{Some, length, refl};
-
-    ghost bytes = { λ s. Some s.bytes.now };
-
-    ghost size = { λ s. length s.bytes.now };
-
-    ghost faults = { λ s. s.faults };
-
-    fn len(&self) -> u64 {
-        self.bytes.len() as u64
-    }
-
-    fn fill(&mut self, at: u64, buf: &mut [u8]) -> Result<(), Stop> {
-        if self.calls == 0 {
-            if let Stop::Failed = self.stop {
-                let _ = self.faults.fail();
-                return Err(Stop::Failed);
-            }
-            return Err(Stop::Memory);
-        }
-        self.calls -= 1;
-        let start = at as usize;
-        buf.copy_from_slice(&self.bytes[start..start + buf.len()]);
-        Ok(())
-    }
-
-    fn faults(&self) -> u64 {
-        self.faults.get()
-    }
-
-    ghost whole = { λ s. refl };
-}
 
 // The first 64 bytes of a file.
 fn first(name: &[u8; 8], ver: u16) -> [u8; 64] {
@@ -198,12 +146,7 @@ fn stopped(
     calls: u64,
     stop: Stop,
 ) -> (Result<(Head, Rows<History>), Halt<HeadFault>>, u64) {
-    let mut span = Stopping {
-        bytes,
-        calls,
-        stop,
-        faults: FaultCount::zero(),
-    };
+    let mut span = span_over(bytes, calls, stop);
     let mut budget = 100;
     let answer = read_head_in(alloc, &mut span, &mut budget);
     (answer, span.faults())

@@ -1,4 +1,4 @@
-use super::*;
+use acq_script::{ScriptFault, Task, read_script};
 use mdf_layout::Value;
 use mdf_num::Memory;
 use std::alloc::Global;

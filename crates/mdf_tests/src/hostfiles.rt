@@ -1,5 +1,5 @@
-use super::FileDisk;
 use mdf_disk::{Disk, Role, read_whole};
+use mdf_hostfile::FileDisk;
 use mdf_num::Bytes;
 use std::test::Fail;
 

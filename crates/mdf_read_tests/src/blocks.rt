@@ -1,60 +1,11 @@
-use super::*;
-use mdf_num::{Bytes, FaultCount, Halt, Memory, SliceSpan, Span, Stop};
+use crate::span::span_over;
+use mdf_block::{
+    BlockAt, BlockFault, Draft, Kind, Note, NoteFault, block_at, block_in, body_in, kind_at,
+    link_of, note_at, note_in, u16_field, u32_field, u64_field,
+};
+use mdf_num::{Bytes, Halt, Memory, SliceSpan, Span, Stop};
 use std::alloc::Global;
 use std::test::Fail;
-
-// A span that stops after some calls.
-struct Stopping<'a> {
-    bytes: &'a [u8],
-    calls: u64,
-    stop: Stop,
-    faults: FaultCount,
-}
-
-impl Drop for Stopping<'_> {
-    fn drop(self) {
-        let Stopping {
-            bytes: _,
-            calls: _,
-            stop: _,
-            faults: _,
-        } = self;
-    }
-}
-
-impl Span for Stopping<'_> {
-    ghost use Rattle.std.specs.Prelude.{Some, length, refl};
-
-    ghost bytes = { λ s. Some s.bytes.now };
-
-    ghost size = { λ s. length s.bytes.now };
-
-    ghost faults = { λ s. s.faults };
-
-    fn len(&self) -> u64 {
-        self.bytes.len() as u64
-    }
-
-    fn fill(&mut self, at: u64, buf: &mut [u8]) -> Result<(), Stop> {
-        if self.calls == 0 {
-            if let Stop::Failed = self.stop {
-                let _ = self.faults.fail();
-                return Err(Stop::Failed);
-            }
-            return Err(Stop::Memory);
-        }
-        self.calls -= 1;
-        let start = at as usize;
-        buf.copy_from_slice(&self.bytes[start..start + buf.len()]);
-        Ok(())
-    }
-
-    fn faults(&self) -> u64 {
-        self.faults.get()
-    }
-
-    ghost whole = { λ s. refl };
-}
 
 // 64 bytes of nothing, and then the header of a block and what follows it.
 fn file(
@@ -293,12 +244,7 @@ fn a_span_that_stops_stops_the_reader(rt: HostRuntime) -> Result<(), Fail> {
     let bytes = file(rt.alloc(), b"##TX", 32, 0, b"ab\0cd\0\0\0")?;
     for (stop, faults) in [(Stop::Failed, 1u64), (Stop::Memory, 0)] {
         for calls in 0..6 {
-            let mut span = Stopping {
-                bytes: bytes.as_slice(),
-                calls,
-                stop,
-                faults: FaultCount::zero(),
-            };
+            let mut span = span_over(bytes.as_slice(), calls, stop);
             let mut budget = 10;
             let answer = note_in(rt.alloc(), &mut span, 64, &mut budget);
             if let Stop::Failed = stop {
@@ -310,12 +256,7 @@ fn a_span_that_stops_stops_the_reader(rt: HostRuntime) -> Result<(), Fail> {
             assert_eq!(rt; span.faults(), faults);
         }
     }
-    let mut span = Stopping {
-        bytes: bytes.as_slice(),
-        calls: 6,
-        stop: Stop::Failed,
-        faults: FaultCount::zero(),
-    };
+    let mut span = span_over(bytes.as_slice(), 6, Stop::Failed);
     let mut budget = 10;
     let answer = note_in(rt.alloc(), &mut span, 64, &mut budget);
     assert!(rt; matches!(answer, Ok(Note::Plain(_))));

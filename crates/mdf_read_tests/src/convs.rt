@@ -1,60 +1,9 @@
-use super::*;
-use mdf_block::{Draft, Kind, Note};
-use mdf_num::{Bytes, FaultCount, Halt, Memory, Span, Stop};
+use crate::span::span_over;
+use mdf_block::{Draft, Kind, Note, What};
+use mdf_conv::{Budget, ConvFault, Ref, read_conv, read_conv_in, read_source, read_source_in};
+use mdf_num::{Bytes, Halt, Memory, Span, Stop};
 use std::alloc::Global;
 use std::test::Fail;
-
-// A span that fails or wants memory after some calls.
-struct Stopping<'a> {
-    bytes: &'a [u8],
-    calls: u64,
-    stop: Stop,
-    faults: FaultCount,
-}
-
-impl Drop for Stopping<'_> {
-    fn drop(self) {
-        let Stopping {
-            bytes: _,
-            calls: _,
-            stop: _,
-            faults: _,
-        } = self;
-    }
-}
-
-impl Span for Stopping<'_> {
-    ghost use Rattle.std.specs.Prelude.{Some, length, refl};
-
-    ghost bytes = { λ s. Some s.bytes.now };
-
-    ghost size = { λ s. length s.bytes.now };
-
-    ghost faults = { λ s. s.faults };
-
-    fn len(&self) -> u64 {
-        self.bytes.len() as u64
-    }
-
-    fn fill(&mut self, at: u64, buf: &mut [u8]) -> Result<(), Stop> {
-        if self.calls == 0 {
-            if let Stop::Failed = self.stop {
-                let _ = self.faults.fail();
-            }
-            return Err(self.stop);
-        }
-        self.calls -= 1;
-        let start = at as usize;
-        buf.copy_from_slice(&self.bytes[start..start + buf.len()]);
-        Ok(())
-    }
-
-    fn faults(&self) -> u64 {
-        self.faults.get()
-    }
-
-    ghost whole = { λ s. refl };
-}
 
 // The body of a conversion without numbers, and one with two.
 const PLAIN: [u8; 24] = [
@@ -194,6 +143,31 @@ fn hostile_numbers_are_refused(rt: HostRuntime) -> Result<(), Fail> {
     Ok(())
 }
 
+// A conversion at 64 with so many links, all of them 0.
+fn unlinked(alloc: Global, links: u32) -> Result<Bytes, Memory> {
+    let links = u64::from(links);
+    let mut bytes = Bytes::from_slice(alloc, &[0; 64])?;
+    bytes.push_slice(b"##CC\0\0\0\0")?;
+    bytes.push_slice(&(48 + 8 * links).to_le_bytes())?;
+    bytes.push_slice(&links.to_le_bytes())?;
+    for _ in 0..links {
+        bytes.push_slice(&[0; 8])?;
+    }
+    bytes.push_slice(&[0; 24])?;
+    Ok(bytes)
+}
+
+#[test]
+fn a_million_empty_references_are_read(rt: HostRuntime) -> Result<(), Fail> {
+    let bytes = unlinked(rt.alloc(), 1_000_004)?;
+    let mut budget = Budget::of_file();
+    let conv = read_conv(rt.alloc(), bytes.as_slice(), 64, &mut budget)?;
+    assert_eq!(rt; conv.refs.len(), 1_000_000);
+    assert!(rt; matches!(conv.refs.get(999_999), Some(Ref::Nothing)));
+    assert_eq!(rt; budget.conversions, 1_048_575);
+    Ok(())
+}
+
 // A source with a name and a path, whose comment is a conversion where `wrong` says so.
 fn sourced(alloc: Global, wrong: bool) -> Result<Bytes, Memory> {
     let mut draft = Draft::new(alloc);
@@ -245,16 +219,6 @@ fn a_source_reads_back_equal(rt: HostRuntime) -> Result<(), Fail> {
     );
     assert_eq!(rt; budget.text, 12);
     Ok(())
-}
-
-// A span over these bytes that stops after so many calls.
-fn span_over(bytes: &[u8], calls: u64, stop: Stop) -> Stopping<'_> {
-    Stopping {
-        bytes,
-        calls,
-        stop,
-        faults: FaultCount::zero(),
-    }
 }
 
 #[test]

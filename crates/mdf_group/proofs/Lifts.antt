@@ -1,0 +1,46 @@
+-- What holds of what is read below holds with the faults of the groups too.
+use Rattle.std.proofs.Common.{ℕ}
+use Rattle.std.specs.Prelude.{Bool, true, Result, Ok, Err, IfOk, IfErr}
+use Rattle.mdf_num.specs.Halt.{HaltCause, HaltReason}
+use Rattle.mdf_num.specs.declared.halt.Halt.{Halt}
+use Rattle.mdf_num.specs.declared.halt.Halt.TheVariants as halts
+use Rattle.mdf_block.specs.Refusal.{Read, Halts, Gives}
+use Rattle.mdf_conv.specs.Conv.{conv_refusal}
+use Rattle.mdf_conv.specs.declared.fault.ConvFault.{ConvFault}
+use Rattle.mdf_conv.specs.declared.fault.ConvFault.TheVariants as convs
+use Rattle.mdf_group.specs.Link.{group_refusal}
+use Rattle.mdf_group.specs.Lift.{halt_of_conv, lifted}
+
+halts_lifted : {T : Type 0} (halt : Halt ConvFault) (read : Read T) → Halts conv_refusal halt read → Halts group_refusal (halt_of_conv halt) read
+halts_lifted (halts.Fault (convs.Bad at want)) read is = is
+halts_lifted (halts.Fault (convs.Deep at)) read is = is
+halts_lifted (halts.Fault (convs.TooMany what at)) read is = is
+halts_lifted (halts.Fault convs.Memory) read none = tt
+halts_lifted halts.Failed read is = tt
+halts_lifted halts.Memory read is = tt
+
+pub gives_lifted : {T : Type 0} (outcome : Result T (Halt ConvFault)) (read : Read T) → Gives conv_refusal outcome read
+    → Gives group_refusal (lifted outcome) read
+gives_lifted (Ok found) read gives = gives
+gives_lifted (Err halt) read gives = halts_lifted halt read gives
+
+reason_lifted : (before now : ℕ) (halt : Halt ConvFault) → HaltReason true before now halt → HaltReason true before now (halt_of_conv halt)
+reason_lifted before now (halts.Fault (convs.Bad at want)) reason = tt
+reason_lifted before now (halts.Fault (convs.Deep at)) reason = tt
+reason_lifted before now (halts.Fault (convs.TooMany what at)) reason = tt
+reason_lifted before now (halts.Fault convs.Memory) reason = tt
+reason_lifted before now halts.Failed reason = reason
+reason_lifted before now halts.Memory reason = tt
+
+if_err_lifted : {T : Type 0} (before now : ℕ) (outcome : Result T (Halt ConvFault)) → IfErr outcome (HaltReason true before now)
+    → IfErr (lifted outcome) (HaltReason true before now)
+if_err_lifted before now (Ok found) none = tt
+if_err_lifted before now (Err halt) reason = reason_lifted before now halt reason
+
+pub cause_lifted : {T : Type 0} (before now : ℕ) (outcome : Result T (Halt ConvFault)) → HaltCause true before now outcome
+    → HaltCause true before now (lifted outcome)
+cause_lifted before now outcome cause = record { later = cause.later; reason = if_err_lifted before now outcome cause.reason }
+
+pub if_ok_lifted : {T : Type 0} (P : T → Type 0) (outcome : Result T (Halt ConvFault)) → IfOk outcome P → IfOk (lifted outcome) P
+if_ok_lifted P (Ok found) holds = holds
+if_ok_lifted P (Err halt) none = tt

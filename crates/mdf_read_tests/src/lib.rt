@@ -1,0 +1,18 @@
+//! Tests of the readers, and of fields of bits and values of variable length: worked examples, hostile files, and spans
+//! that fail. What is proved needs none.
+#![tactic(auto)]
+
+#[cfg(test)]
+mod blocks;
+#[cfg(test)]
+mod convs;
+#[cfg(test)]
+mod fields;
+#[cfg(test)]
+mod groups;
+#[cfg(test)]
+mod heads;
+#[cfg(test)]
+mod span;
+#[cfg(test)]
+mod values;
