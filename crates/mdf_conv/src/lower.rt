@@ -23,7 +23,7 @@ pub fn block_with<P: Span>(span: &mut P, at: u64, want: Kind) -> Result<BlockAt,
     ensures filled { IfOk result (IsFilled want) }
     ensures same { P.bytes span.new ≡ P.bytes span.old }
     ensures size { P.size span.new ≡ P.size span.old }
-    ensures cause { HaltCause true (P.faults span.old) (P.faults span.new) result }
+    ensures cause { HaltCause P.may_want (P.faults span.old) (P.faults span.new) result }
 {
     match block_in(span, at, want) {
         Ok(block) => Ok(block),
@@ -45,7 +45,7 @@ pub(crate) fn conv_block_of<P: Span>(span: &mut P, at: u64) -> Result<BlockAt, H
     ensures filled { IfOk result (IsFilled kinds.Cc) }
     ensures same { P.bytes span.new ≡ P.bytes span.old }
     ensures size { P.size span.new ≡ P.size span.old }
-    ensures cause { HaltCause true (P.faults span.old) (P.faults span.new) result }
+    ensures cause { HaltCause P.may_want (P.faults span.old) (P.faults span.new) result }
 {
     block_with(span, at, Kind::Cc)
 }

@@ -24,22 +24,23 @@ pub gives_lifted : {T : Type 0} (outcome : Result T (Halt ConvFault)) (read : Re
 gives_lifted (Ok found) read gives = gives
 gives_lifted (Err halt) read gives = halts_lifted halt read gives
 
-reason_lifted : (before now : ℕ) (halt : Halt ConvFault) → HaltReason true before now halt → HaltReason true before now (halt_of_conv halt)
-reason_lifted before now (halts.Fault (convs.Bad at want)) reason = tt
-reason_lifted before now (halts.Fault (convs.Deep at)) reason = tt
-reason_lifted before now (halts.Fault (convs.TooMany what at)) reason = tt
-reason_lifted before now (halts.Fault convs.Memory) reason = tt
-reason_lifted before now halts.Failed reason = reason
-reason_lifted before now halts.Memory reason = tt
+reason_lifted : (may_want : Bool) (before now : ℕ) (halt : Halt ConvFault) → HaltReason may_want before now halt
+    → HaltReason true before now (halt_of_conv halt)
+reason_lifted may_want before now (halts.Fault (convs.Bad at want)) reason = tt
+reason_lifted may_want before now (halts.Fault (convs.Deep at)) reason = tt
+reason_lifted may_want before now (halts.Fault (convs.TooMany what at)) reason = tt
+reason_lifted may_want before now (halts.Fault convs.Memory) reason = tt
+reason_lifted may_want before now halts.Failed reason = reason
+reason_lifted may_want before now halts.Memory reason = tt
 
-if_err_lifted : {T : Type 0} (before now : ℕ) (outcome : Result T (Halt ConvFault)) → IfErr outcome (HaltReason true before now)
+if_err_lifted : {T : Type 0} (may_want : Bool) (before now : ℕ) (outcome : Result T (Halt ConvFault)) → IfErr outcome (HaltReason may_want before now)
     → IfErr (lifted outcome) (HaltReason true before now)
-if_err_lifted before now (Ok found) none = tt
-if_err_lifted before now (Err halt) reason = reason_lifted before now halt reason
+if_err_lifted may_want before now (Ok found) none = tt
+if_err_lifted may_want before now (Err halt) reason = reason_lifted may_want before now halt reason
 
-pub cause_lifted : {T : Type 0} (before now : ℕ) (outcome : Result T (Halt ConvFault)) → HaltCause true before now outcome
+pub cause_lifted : {T : Type 0} (may_want : Bool) (before now : ℕ) (outcome : Result T (Halt ConvFault)) → HaltCause may_want before now outcome
     → HaltCause true before now (lifted outcome)
-cause_lifted before now outcome cause = record { later = cause.later; reason = if_err_lifted before now outcome cause.reason }
+cause_lifted may_want before now outcome cause = record { later = cause.later; reason = if_err_lifted may_want before now outcome cause.reason }
 
 pub if_ok_lifted : {T : Type 0} (P : T → Type 0) (outcome : Result T (Halt ConvFault)) → IfOk outcome P → IfOk (lifted outcome) P
 if_ok_lifted P (Ok found) holds = holds

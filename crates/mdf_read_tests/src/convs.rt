@@ -236,6 +236,19 @@ fn a_span_that_fails_stops_the_readers(rt: HostRuntime) -> Result<(), Fail> {
 }
 
 #[test]
+fn a_span_that_fails_stops_the_reader_of_a_source(rt: HostRuntime) -> Result<(), Fail> {
+    let bytes = sourced(rt.alloc(), false)?;
+    let mut budget = Budget::of_file();
+    for calls in 0..16 {
+        let mut span = span_over(bytes.as_slice(), calls, Stop::Failed);
+        let answer = read_source_in(rt.alloc(), &mut span, 64, &mut budget);
+        assert!(rt; matches!(answer, Err(Halt::Failed)));
+        assert_eq!(rt; span.faults(), 1);
+    }
+    Ok(())
+}
+
+#[test]
 fn a_span_that_wants_memory_stops_the_readers(rt: HostRuntime) -> Result<(), Fail> {
     let bytes = sourced(rt.alloc(), false)?;
     let mut budget = Budget::of_file();

@@ -12,4 +12,4 @@ pub returns-clause-filled : goal.returns-clause-filled
 returns-clause-filled g c = rw c.lifted.ensures (if_ok_lifted (IsFilled c.args.want) c.block_with.result c.block_with.ensures.filled)
 
 pub returns-clause-cause : goal.returns-clause-cause
-returns-clause-cause g c = rw c.lifted.ensures (cause_lifted _ _ _ c.block_with.ensures.cause)
+returns-clause-cause g c = rw c.lifted.ensures (cause_lifted _ _ _ _ c.block_with.ensures.cause)
