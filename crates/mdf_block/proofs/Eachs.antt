@@ -8,11 +8,11 @@ use Rattle.mdf_block.proofs.Refusals.{halts_then}
 abbrev pub with_front : {A S : Type 0} → List A → Read (List A × S) → Read (List A × S)
 with_front front read = read >>= λ rest. Ok (front ++ rest.0, rest.1)
 
-with_none : {A S : Type 0} (read : Read (List A × S)) → with_front [] read ≡ read
+pub with_none : {A S : Type 0} (read : Read (List A × S)) → with_front [] read ≡ read
 with_none (Ok x) = refl
 with_none (Err refusal) = refl
 
-front_moves : {A S : Type 0} (rows : List A) (x : A) (read : Read (List A × S))
+pub front_moves : {A S : Type 0} (rows : List A) (x : A) (read : Read (List A × S))
     → with_front rows (read >>= λ rest. Ok (x ∷ rest.0, rest.1)) ≡ with_front (rows ++ x ∷ []) read
 front_moves {A} rows x (Ok rest) = ap (λ (xs : List A). Ok (xs, rest.1)) (sym (append_assoc rows (x ∷ []) rest.0))
 front_moves rows x (Err refusal) = refl
