@@ -85,3 +85,8 @@ sync_failed e None calls possible =
       record { not_shorter = possible.not_shorter; not_longer = possible.not_longer; kept = possible.kept },
       ap Some (story_of-push calls (Sync false)),
     )
+
+-- a call that asks for the size leaves the story
+pub size_told : (file : Option (List ℕ)) (calls : List Call) → told_story file (calls ++ Size ∷ []) ≡ told_story file calls
+size_told (Some bytes_there) calls = refl
+size_told None calls = ap Some (story_of-push calls Size)

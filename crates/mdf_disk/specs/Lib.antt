@@ -1,6 +1,7 @@
 pub mod Story
 pub mod Crash
 pub mod Calls
+pub mod State
 pub mod Tape
 pub mod Image
 pub mod Load

@@ -96,6 +96,7 @@ impl FaultPlan {
 
     /// Counts a fault of the call that has begun, and answers it.
     pub fn fail(&mut self) -> Failed
+        ensures count { self.new.faults ≡ min (self.old.faults + 1) (2 ^ 64 - 1) }
         ensures rose { Rose self.old.faults self.new.faults }
         ensures later { self.old.faults ≤ self.new.faults }
         ensures failing { self.new.failing ≡ self.old.failing }
