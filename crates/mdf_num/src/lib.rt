@@ -10,6 +10,7 @@ mod halt;
 mod number;
 mod rows;
 mod span;
+mod system;
 
 pub use bytes::Bytes;
 pub use failure::{Failed, Memory};
@@ -18,3 +19,4 @@ pub use halt::{Halt, Stop};
 pub use number::{align8, put_u16, put_u32, put_u64, u16_at, u32_at, u64_at};
 pub use rows::{Numbers, Rows};
 pub use span::{SliceSpan, Span};
+pub use system::SystemFaults;
