@@ -10,3 +10,4 @@ pub mod Everys
 pub mod Laying
 pub mod Standing
 pub mod Laid
+pub mod Truths

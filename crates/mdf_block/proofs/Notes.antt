@@ -17,7 +17,7 @@ use Rattle.mdf_block.specs.declared.fault.NoteFault.{NoteFault}
 use Rattle.mdf_block.specs.declared.fault.NoteFault.TheVariants as faults
 use Rattle.mdf_block.specs.Refusal.{Refusal, Bad, TooMany, Read, ◌>>=◌, Refuses}
 use Rattle.mdf_block.specs.Block.{is_block, is_named, the_block}
-use Rattle.mdf_block.specs.Text.{is_zero, text_of, text, note, note_refusal, note_size, IsNote, HasNoNote}
+use Rattle.mdf_block.specs.Text.{is_zero, text_of, text, note, note_refusal, note_size, IsNote, LacksNote, HasNoNote}
 use Rattle.mdf_block.proofs.Refusals.{bind_ok}
 use Rattle.mdf_block.proofs.Wholes.{chosen, block_is_true, is_block_true, is_block_false, not_block}
 use Rattle.mdf_block.proofs.Zeros.{length-text_of}
@@ -179,26 +179,15 @@ not_named : (f : List ℕ) (at : ℕ) (kind : Kind) → is_named f at kind ≡ f
 not_named f at kind out is = true≢false (sym ((bytes_eq-Decides (bytes_at 4 f at) (name_of kind)).1 is.named) ∙ out)
 
 -- what a refusal of the text is for the note
-lacks_note : (f : List ℕ) (at left : ℕ) (fault : NoteFault) (kind : Kind) (form : List ℕ → Note) → at ≢ 0
+lacks_note : (f : List ℕ) (at left : ℕ) (kind : Kind) (form : List ℕ → Note) → at ≢ 0
     → ((IsBlock f at kind → ⊥) → (IsBlock f at kinds.Tx → ⊥) × (IsBlock f at kinds.Md → ⊥))
     → ((bytes : List ℕ) → IsBlock f at kind → bytes ≡ text_of (body_at f at) → IsNote f at (form bytes) × (note_size (form bytes) ≡ length bytes))
-    → (refusal : Refusal) → note_refusal fault ≡ Some refusal → LacksText f at kind left refusal → HasNoNote f at left fault
-lacks_note f at left (faults.Bad bad) kind form some neither note_is refusal is (inl none) =
-    let first : Bad bad kinds.Tx ≡ refusal = cc in
-    let same : Bad bad kinds.Tx ≡ Bad at kinds.Tx = first ∙ none.0 in
-    let both = neither none.1 in (cc, some, both.0, both.1)
-lacks_note f at left (faults.Bad bad) kind form some neither note_is refusal is (inr long) =
-    let first : Bad bad kinds.Tx ≡ refusal = cc in
-    let wrong : Bad bad kinds.Tx ≡ TooMany whats.Text at = first ∙ long.0 in cc
-lacks_note f at left (faults.TooMany bad) kind form some neither note_is refusal is (inl none) =
-    let first : TooMany whats.Text bad ≡ refusal = cc in
-    let wrong : TooMany whats.Text bad ≡ Bad at kinds.Tx = first ∙ none.0 in cc
-lacks_note f at left (faults.TooMany bad) kind form some neither note_is refusal is (inr long) =
-    let first : TooMany whats.Text bad ≡ refusal = cc in
-    let same : TooMany whats.Text bad ≡ TooMany whats.Text at = first ∙ long.0 in
+    → (refusal : Refusal) → LacksText f at kind left refusal → LacksNote f at left refusal
+lacks_note f at left kind form some neither note_is refusal (inl none) =
+    let both = neither none.1 in inl (none.0, some, both.0, both.1)
+lacks_note f at left kind form some neither note_is refusal (inr long) =
     let found = note_is (text_of (body_at f at)) long.1 refl in
-    (cc, (form (text_of (body_at f at)), found.0, omega (arith, found.1, long.2)))
-lacks_note f at left faults.Memory kind form some neither note_is refusal is lacks = tt
+    inr (long.0, (form (text_of (body_at f at)), found.0, omega (arith, found.1, long.2)))
 
 -- the refusal of a step that ends with a note is the text's
 text_refusal : (read : Read (List ℕ × ℕ)) (form : List ℕ → Note) (refusal : Refusal)
@@ -206,26 +195,37 @@ text_refusal : (read : Read (List ℕ × ℕ)) (form : List ℕ → Note) (refus
 text_refusal (Ok x) form refusal is = cc
 text_refusal (Err first) form refusal is = let same : first ≡ refusal = cc in ap Err same
 
-refusal_of : (f : List ℕ) (at left : ℕ) (fault : NoteFault) (refusal : Refusal) → note_refusal fault ≡ Some refusal
-    → note f at left ≡ Err refusal → HasNoNote f at left fault
+pub note_lacks : (f : List ℕ) (at left : ℕ) (refusal : Refusal) → note f at left ≡ Err refusal → LacksNote f at left refusal
 unfolding NoteWays
-refusal_of f at left fault refusal is refused = elim (note_ways f at left (Err refusal) refused) [
+note_lacks f at left refusal refused = elim (note_ways f at left (Err refusal) refused) [
   | inl none ↦ let wrong : ◌≡◌ {A = Read (Note × ℕ)} (Ok (notes.Nothing, left)) (Err refusal) = none.1 in cc
   | inr (inl xml) ↦
       let named = (bytes_eq-Decides (bytes_at 4 f at) (name_of kinds.Md)).0 xml.1 in
-      lacks_note f at left fault kinds.Md notes.Xml xml.0
+      lacks_note f at left kinds.Md notes.Xml xml.0
       (λ none. (other_kind f at kinds.Md kinds.Tx named md_is_not_tx, none))
-      (λ bytes is_md same. ((xml.0, is_md, same), refl)) refusal is
+      (λ bytes is_md same. ((xml.0, is_md, same), refl)) refusal
       (text_refused f at kinds.Md left refusal (text_refusal (text f at kinds.Md left) notes.Xml refusal xml.2))
   | inr (inr plain) ↦
-      lacks_note f at left fault kinds.Tx notes.Plain plain.0
+      lacks_note f at left kinds.Tx notes.Plain plain.0
       (λ none. (none, not_named f at kinds.Md plain.1))
-      (λ bytes is_tx same. ((plain.0, is_tx, same), refl)) refusal is
+      (λ bytes is_tx same. ((plain.0, is_tx, same), refl)) refusal
       (text_refused f at kinds.Tx left refusal (text_refusal (text f at kinds.Tx left) notes.Plain refusal plain.2))
 ]
 
+-- a fault says why there is no note
 pub note_refused : (f : List ℕ) (at left : ℕ) (fault : NoteFault) → Refuses (note_refusal fault) (note f at left)
     → HasNoNote f at left fault
-note_refused f at left (faults.Bad bad) refused = refusal_of f at left (faults.Bad bad) (Bad bad kinds.Tx) refl refused
-note_refused f at left (faults.TooMany bad) refused = refusal_of f at left (faults.TooMany bad) (TooMany whats.Text bad) refl refused
-note_refused f at left faults.Memory refused = tt
+note_refused f at left (faults.Bad bad) refused = elim (note_lacks f at left (Bad bad kinds.Tx) refused) [
+  | inl none ↦ let same : Bad bad kinds.Tx ≡ Bad at kinds.Tx = none.0 in (cc, none.1, none.2, none.3)
+  | inr long ↦ let wrong : Bad bad kinds.Tx ≡ TooMany whats.Text at = long.0 in cc
+]
+note_refused f at left (faults.TooMany bad) refused = elim (note_lacks f at left (TooMany whats.Text bad) refused) [
+  | inl none ↦ let wrong : TooMany whats.Text bad ≡ Bad at kinds.Tx = none.0 in cc
+  | inr long ↦ let same : TooMany whats.Text bad ≡ TooMany whats.Text at = long.0 in (cc, long.1)
+]
+note_refused f at left faults.Memory refused = absurd refused
+
+-- want of memory for a note that is found
+pub note_there : (f : List ℕ) (at left : ℕ) → ((x : Note × ℕ) × (note f at left ≡ Ok x)) → HasNoNote f at left faults.Memory
+note_there f at left there =
+    let parts = note_found f at left there.0.0 there.0.1 there.1 in (there.0.0, parts.0, omega (arith, parts.1))

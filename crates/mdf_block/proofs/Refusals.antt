@@ -1,8 +1,8 @@
 -- Steps one after another, taken apart.
-use Rattle.std.proofs.Common.{◌≡◌, Option, Some, None, Ok, Err, refl, ap, ◌⊎◌, inl, inr}
+use Rattle.std.proofs.Common.{◌≡◌, Bool, true, false, Option, Some, None, Result, Ok, Err, refl, ap, ◌⊎◌, inl, inr}
 use Rattle.mdf_num.specs.declared.halt.Halt.{Halt}
 use Rattle.mdf_num.specs.declared.halt.Halt.TheVariants as halts
-use Rattle.mdf_block.specs.Refusal.{Refusal, Read, ◌>>=◌, Refuses, Halts}
+use Rattle.mdf_block.specs.Refusal.{Refusal, Read, ◌>>=◌, Refuses, Halts, HidesNone}
 
 -- both steps found something
 pub bind_ok : {A B : Type 0} (read : Read A) (next : A → Read B) (y : B) → (read >>= next) ≡ Ok y
@@ -27,3 +27,12 @@ pub halts_then : {E A B : Type 0} (refusal : E → Option Refusal) (halt : Halt 
 halts_then refusal (halts.Fault fault) read next halted = refuses_then (refusal fault) read next halted
 halts_then refusal halts.Failed read next halted = tt
 halts_then refusal halts.Memory read next halted = tt
+
+-- where something is found, want of memory hides nothing
+pub hides_none : {E A B : Type 0} (may_want : Bool) (result : Result A (Halt E)) (read : Read B) (x : B) → read ≡ Ok x
+    → HidesNone may_want result read
+hides_none true result read x found = tt
+hides_none false (Ok y) read x found = tt
+hides_none false (Err (halts.Fault fault)) read x found = tt
+hides_none false (Err halts.Failed) read x found = tt
+hides_none false (Err halts.Memory) read x found = (x, found)

@@ -6,3 +6,4 @@ pub mod Each
 pub mod Every
 pub mod Draft
 pub mod Item
+pub mod Truth

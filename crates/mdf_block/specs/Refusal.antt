@@ -1,5 +1,5 @@
 -- Why the readers of a file refuse it, and what their answers say of what a definition over the whole file finds.
-use Rattle.std.specs.Prelude.{ℕ, ◌≡◌, Option, Some, None, Result, Ok, Err}
+use Rattle.std.specs.Prelude.{ℕ, ◌≡◌, Bool, true, false, Option, Some, None, IsSome, Result, Ok, Err}
 use Rattle.mdf_format.specs.declared.kind.Kind.{Kind}
 use Rattle.mdf_num.specs.declared.halt.Halt.{Halt}
 use Rattle.mdf_num.specs.declared.halt.Halt.TheVariants as halts
@@ -81,3 +81,17 @@ GivesOf refusal (Err fault) read = Fails (refusal fault) read
 abbrev pub GivesSlice : {E A S : Type 0} → (E → Option Refusal) → Result A E → S → Read (A × S) → Type 0
 GivesSlice refusal (Ok x) left read = read ≡ Ok (x, left)
 GivesSlice refusal (Err fault) left read = Fails (refusal fault) read
+
+-- want of memory hides no refusal: where the span wants no memory, it is wanted only where something is found
+abbrev pub HidesNone : {E A B : Type 0} → Bool → Result A (Halt E) → Read B → Type 0
+HidesNone true result read = Unit {0}
+HidesNone false (Ok x) read = Unit {0}
+HidesNone false (Err (halts.Fault fault)) read = Unit {0}
+HidesNone false (Err halts.Failed) read = Unit {0}
+HidesNone {E} {A} {B} false (Err halts.Memory) read = (x : B) × (read ≡ Ok x)
+
+-- a reader over a span never has want of memory inside its fault, which no refusal stands for
+abbrev pub IsPlain : {E : Type 0} → (E → Option Refusal) → Halt E → Type 0
+IsPlain refusal (halts.Fault fault) = IsSome (refusal fault)
+IsPlain refusal halts.Failed = Unit {0}
+IsPlain refusal halts.Memory = Unit {0}

@@ -1,5 +1,5 @@
 -- Texts: the bytes before the first zero byte of a TXBLOCK's or an MDBLOCK's body.
-use Rattle.std.specs.Prelude.{ℕ, ◌≡◌, ◌≢◌, ◌-◌, ◌<◌, Bool, nat_eq, nat_le, if◌then◌else◌, List, length, Option, Some, None, Ok, Err}
+use Rattle.std.specs.Prelude.{ℕ, ◌≡◌, ◌≢◌, ◌-◌, ◌<◌, ◌≤◌, ◌⊎◌, Bool, nat_eq, nat_le, if◌then◌else◌, List, length, Option, Some, None, Ok, Err}
 use Rattle.std.specs.List.{before_first}
 use Rattle.mdf_format.specs.Block.{IsBlock, body_at}
 use Rattle.mdf_format.specs.declared.kind.Kind.{Kind}
@@ -53,10 +53,16 @@ note_size notes.Nothing = 0
 note_size (notes.Plain bytes) = length bytes
 note_size (notes.Xml bytes) = length bytes
 
--- why there is no text, or none that may still come
+-- why there is no text, or none that may still come: no text stands at the address, or a text that is too long
+abbrev pub LacksNote : List ℕ → ℕ → ℕ → Refusal → Type 0
+LacksNote file at left refusal =
+    ((refusal ≡ Bad at kinds.Tx) × (at ≢ 0) × (¬ IsBlock file at kinds.Tx) × (¬ IsBlock file at kinds.Md))
+    ⊎ ((refusal ≡ TooMany whats.Text at) × ((found : Note) × IsNote file at found × (left < note_size found)))
+
+-- the same of a fault; memory is wanted only for a text that is found
 abbrev pub HasNoNote : List ℕ → ℕ → ℕ → NoteFault → Type 0
 HasNoNote file at left (faults.Bad bad) =
     (bad ≡ at) × (at ≢ 0) × (¬ IsBlock file at kinds.Tx) × (¬ IsBlock file at kinds.Md)
 HasNoNote file at left (faults.TooMany bad) =
     (bad ≡ at) × ((found : Note) × IsNote file at found × (left < note_size found))
-HasNoNote file at left faults.Memory = Unit {0}
+HasNoNote file at left faults.Memory = (found : Note) × IsNote file at found × (note_size found ≤ left)

@@ -2,7 +2,7 @@ ghost use Rattle.std.specs.Prelude.{◌≡◌, ◌+◌, ◌≤◌, ℕ, List, So
 ghost use Rattle.std.specs.List.{position_or_len};
 ghost use Rattle.mdf_format.specs.Number.{bytes_at};
 ghost use Rattle.mdf_num.specs.Halt.{StopCause, HaltCause};
-ghost use Rattle.mdf_block.specs.Refusal.{Gives, GivesAnd, GivesSlice};
+ghost use Rattle.mdf_block.specs.Refusal.{Gives, GivesAnd, GivesSlice, HidesNone, IsPlain};
 ghost use Rattle.mdf_block.specs.Block.{IsInside};
 ghost use Rattle.mdf_block.specs.Text.{is_zero, text, note, note_refusal, note_size, IsNote, HasNoNote};
 
@@ -93,6 +93,8 @@ fn text_in<P: Span>(
     left: u64,
 ) -> Result<(Bytes, u64), Halt<NoteFault>>
     ensures found { (f : List ℕ) → P.bytes span.old ≡ Some f → Gives note_refusal result (text f at kind left) }
+    ensures memory { (f : List ℕ) → P.bytes span.old ≡ Some f → HidesNone P.may_want result (text f at kind left) }
+    ensures plain { IfErr result (IsPlain note_refusal) }
     ensures same { P.bytes span.new ≡ P.bytes span.old }
     ensures size { P.size span.new ≡ P.size span.old }
     ensures cause { HaltCause true (P.faults span.old) (P.faults span.new) result }
@@ -121,6 +123,8 @@ pub fn noted_in<P: Span>(
     left: u64,
 ) -> Result<(Note, u64), Halt<NoteFault>>
     ensures found { (f : List ℕ) → P.bytes span.old ≡ Some f → Gives note_refusal result (note f at left) }
+    ensures memory { (f : List ℕ) → P.bytes span.old ≡ Some f → HidesNone P.may_want result (note f at left) }
+    ensures plain { IfErr result (IsPlain note_refusal) }
     ensures same { P.bytes span.new ≡ P.bytes span.old }
     ensures size { P.size span.new ≡ P.size span.old }
     ensures cause { HaltCause true (P.faults span.old) (P.faults span.new) result }
@@ -148,6 +152,8 @@ pub fn note_in<P: Span>(
     budget: &mut u64,
 ) -> Result<Note, Halt<NoteFault>>
     ensures found { (f : List ℕ) → P.bytes span.old ≡ Some f → GivesAnd note_refusal result budget.new (note f at budget.old) }
+    ensures memory { (f : List ℕ) → P.bytes span.old ≡ Some f → HidesNone P.may_want result (note f at budget.old) }
+    ensures plain { IfErr result (IsPlain note_refusal) }
     ensures budget { OnErr result (budget.new ≡ budget.old) }
     ensures same { P.bytes span.new ≡ P.bytes span.old }
     ensures size { P.size span.new ≡ P.size span.old }
@@ -164,7 +170,7 @@ pub fn note_in<P: Span>(
 ///
 /// # Errors
 /// `Bad` exactly where an address other than 0 has neither block, `TooMany` exactly where the text is longer than the
-/// budget, and `Memory`.
+/// budget, and `Memory`, which takes the place of no other fault.
 pub fn note_at(alloc: Global, bytes: &[u8], at: u64, budget: &mut u64) -> Result<Note, NoteFault>
     ensures found { IfOk result (IsNote bytes.now at) }
     ensures spent { IfOk result (λ found. budget.new + note_size found ≡ budget.old) }

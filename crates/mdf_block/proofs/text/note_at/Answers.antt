@@ -1,5 +1,5 @@
 use Rattle.std.proofs.Common.{rules}
-use Rattle.mdf_block.proofs.Notes.{note_found, note_refused}
+use Rattle.mdf_block.proofs.Notes.{note_found, note_refused, note_there}
 use Rattle.mdf_block.proofs.text.note_at.Goals as goal
 
 pub returns-in-Ok-clause-found : goal.returns-in-Ok-clause-found
@@ -16,3 +16,7 @@ pub returns-in-Err-Fault-clause-refused : goal.returns-in-Err-Fault-clause-refus
 returns-in-Err-Fault-clause-refused c =
     let refused = c.in-Err-Fault.ensures.found c.args.bytes.now (search rules) in
     note_refused c.args.bytes.now c.args.at c.args.budget.now _ (rw c.in-Err-Fault.field-0-is at refused)
+
+pub returns-in-Err-Memory-clause-refused : goal.returns-in-Err-Memory-clause-refused
+returns-in-Err-Memory-clause-refused c =
+    note_there c.args.bytes.now c.args.at c.args.budget.now (rw c.in-Err-Memory.field-0-is at (c.in-Err-Memory.ensures.memory c.args.bytes.now (search rules)))

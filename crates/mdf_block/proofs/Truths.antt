@@ -1,0 +1,128 @@
+-- Refusals that hold: of a step, of steps one after another, of chains and of loops over numbers.
+use Rattle.std.proofs.Common.{◌≡◌, ◌+◌, ◌<◌, ℕ, zero, suc, Bool, true, false, cond, List, [], ◌∷◌, Option, Some, None, Ok, Err, refl, sym, subst, ◌⊎◌, inl, inr, arith}
+use Rattle.std.specs.Prelude.{nat_eq, IfSome}
+use Rattle.mdf_format.specs.Block.{IsBlock}
+use Rattle.mdf_format.specs.declared.kind.Kind.{Kind}
+use Rattle.mdf_format.specs.declared.kind.Kind.TheVariants as kinds
+use Rattle.mdf_block.specs.declared.what.What.{What}
+use Rattle.mdf_block.specs.declared.what.What.TheVariants as whats
+use Rattle.mdf_block.specs.declared.note.Note.{Note}
+use Rattle.mdf_block.specs.declared.note.Note.TheVariants as notes
+use Rattle.mdf_block.specs.Refusal.{Refusal, Bad, Compressed, TooMany, Read, ◌>>=◌, Fails}
+use Rattle.mdf_block.specs.Block.{is_block, is_compressed, the_block, block}
+use Rattle.mdf_block.specs.Text.{note, note_size, IsNote, LacksNote}
+use Rattle.mdf_block.specs.Chain.{Step, chain, full}
+use Rattle.mdf_block.specs.Each.{each}
+use Rattle.mdf_block.specs.Truth.{LacksBlock, IsCounted, IsTrueOf}
+use Rattle.mdf_block.proofs.Refusals.{bind_err}
+use Rattle.mdf_block.proofs.Wholes.{chosen, is_compressed_true, not_block, block_found}
+use Rattle.mdf_block.proofs.Notes.{note_lacks}
+
+-- each refusal of what is read has this property
+pub record Refusing {A : Type 0} (P : Refusal → Type 0) (read : Read A) : Type 0 where
+  pub tells : (refusal : Refusal) → read ≡ Err refusal → P refusal
+
+-- what is found refuses nothing
+pub refusing_none : {A : Type 0} (P : Refusal → Type 0) (x : A) → Refusing P (Ok x)
+refusing_none {A} P x = record { tells = λ refusal is. let wrong : ◌≡◌ {A = Read A} (Ok x) (Err refusal) = is in cc }
+
+-- a refusal that has the property
+pub refusing_one : {A : Type 0} (P : Refusal → Type 0) (refusal : Refusal) → P refusal → Refusing {A = A} P (Err refusal)
+refusing_one {A} P refusal holds = record {
+  tells = λ other is.
+      let whole : ◌≡◌ {A = Read A} (Err refusal) (Err other) = is in
+      let same : refusal ≡ other = cc in subst P same holds;
+}
+
+-- one step after another
+pub refusing_then : {A B : Type 0} (P : Refusal → Type 0) (read : Read A) (next : A → Read B) → Refusing P read
+    → ((x : A) → read ≡ Ok x → Refusing P (next x)) → Refusing P (read >>= next)
+refusing_then P read next first second = record {
+  tells = λ refusal is. elim (bind_err read next refusal is) [
+    | inl stops ↦ first.tells refusal stops
+    | inr goes ↦ (second goes.0 goes.1).tells refusal goes.2
+  ];
+}
+
+-- one of two ways
+pub refusing_if : {A : Type 0} (P : Refusal → Type 0) (b : Bool) (x y : Read A) → (b ≡ true → Refusing P x)
+    → (b ≡ false → Refusing P y) → Refusing P (cond b x y)
+refusing_if P b x y =
+    elim b as (λ way. (way ≡ true → Refusing P x) → (way ≡ false → Refusing P y) → Refusing P (cond way x y)) [
+      | true ↦ λ first second. first refl
+      | false ↦ λ first second. second refl
+    ]
+
+-- what has another property
+pub refusing_as : {A : Type 0} (P Q : Refusal → Type 0) (read : Read A) → ((refusal : Refusal) → P refusal → Q refusal)
+    → Refusing P read → Refusing Q read
+refusing_as P Q read turn is = record { tells = λ refusal refused. turn refusal (is.tells refusal refused) }
+
+-- items along links
+module _ {A S : Type 0} (P : Refusal → Type 0) (step : Step A S) (full_at : ℕ → Read (List A × ℕ × S)) where
+  pub refusing_chain : ((at : ℕ) (left : S) → Refusing P (step at left)) → ((at : ℕ) → Refusing P (full_at at))
+      → (room at : ℕ) (left : S) → Refusing P (chain step full_at room at left)
+  unfolding chain
+  refusing_chain steps past zero at left =
+      refusing_if P (nat_eq at 0) (Ok ([], zero, left)) (full_at at) (λ _. refusing_none P ([], zero, left)) (λ _. past at)
+  refusing_chain steps past (suc room) at left =
+      refusing_if P (nat_eq at 0) (Ok ([], suc room, left))
+      (step at left >>= λ found. chain step full_at room found.1 found.2 >>= λ rest. Ok (found.0 ∷ rest.0, rest.1, rest.2))
+      (λ _. refusing_none P ([], suc room, left))
+      (λ _. refusing_then P (step at left) (λ found. chain step full_at room found.1 found.2 >>= λ rest. Ok (found.0 ∷ rest.0, rest.1, rest.2))
+      (steps at left)
+      (λ found _. refusing_then P (chain step full_at room found.1 found.2) (λ rest. Ok (found.0 ∷ rest.0, rest.1, rest.2))
+      (refusing_chain steps past room found.1 found.2)
+      (λ rest _. refusing_none P (found.0 ∷ rest.0, rest.1, rest.2))))
+
+-- items by their numbers
+pub refusing_each : {A S : Type 0} (P : Refusal → Type 0) (item : ℕ → S → Read (A × S))
+    → ((k : ℕ) (left : S) → Refusing P (item k left)) → (k count : ℕ) (left : S) → Refusing P (each item k count left)
+unfolding each
+refusing_each P item items k zero left = refusing_none P ([], left)
+refusing_each P item items k (suc count) left =
+    refusing_then P (item k left) (λ found. each item (k + 1) count found.1 >>= λ rest. Ok (found.0 ∷ rest.0, rest.1))
+    (items k left)
+    (λ found _. refusing_then P (each item (k + 1) count found.1) (λ rest. Ok (found.0 ∷ rest.0, rest.1))
+    (refusing_each P item items (k + 1) count found.1)
+    (λ rest _. refusing_none P (found.0 ∷ rest.0, rest.1)))
+
+-- a block that does not stand
+pub block_true : (f : List ℕ) (at : ℕ) (kind : Kind) → ((IsBlock f at kind → ⊥) → LacksBlock f at kind)
+    → Refusing (IsTrueOf f) (block f at kind)
+unfolding block
+block_true f at kind lacks =
+    refusing_if (IsTrueOf f) (is_compressed f at kind) (Err (Compressed at))
+    (cond (is_block f at kind) (Ok (the_block f at kind)) (Err (Bad at kind)))
+    (λ packed. refusing_one (IsTrueOf f) (Compressed at) (kind, is_compressed_true f at kind packed))
+    (λ _. refusing_if (IsTrueOf f) (is_block f at kind) (Ok (the_block f at kind)) (Err (Bad at kind))
+    (λ _. refusing_none (IsTrueOf f) (the_block f at kind))
+    (λ none. refusing_one (IsTrueOf f) (Bad at kind) (lacks (not_block f at kind none))))
+
+-- a block past the count
+pub full_true : {A : Type 0} (what : What) (f : List ℕ) (kind : Kind) (at : ℕ) → ((IsBlock f at kind → ⊥) → LacksBlock f at kind)
+    → (IsBlock f at kind → IsCounted f what at) → Refusing (IsTrueOf f) (full {A = A} what kind f at)
+unfolding full
+full_true what f kind at lacks counted =
+    refusing_then (IsTrueOf f) (block f at kind) (λ _. Err (TooMany what at)) (block_true f at kind lacks)
+    (λ b found. refusing_one (IsTrueOf f) (TooMany what at) (counted (block_found f at kind b found).0))
+
+-- a text that is too long is one
+is_text : (f : List ℕ) (at left : ℕ) (found : Note) → IsNote f at found → left < note_size found → IsCounted f whats.Text at
+is_text f at left notes.Nothing is long = absurd (omega (arith, long))
+is_text f at left (notes.Plain bytes) is long = inl is.1
+is_text f at left (notes.Xml bytes) is long = inr is.1
+
+-- a text that is missing, or too long
+lacks_true : (f : List ℕ) (at left : ℕ) (refusal : Refusal) → LacksNote f at left refusal → IsTrueOf f refusal
+lacks_true f at left refusal (inl none) = subst (IsTrueOf f) (sym none.0) (none.2, none.3)
+lacks_true f at left refusal (inr long) = subst (IsTrueOf f) (sym long.0) (is_text f at left long.1.0 long.1.1 long.1.2)
+
+pub note_true : (f : List ℕ) (at left : ℕ) → Refusing (IsTrueOf f) (note f at left)
+note_true f at left = record { tells = λ refusal refused. lacks_true f at left refusal (note_lacks f at left refusal refused) }
+
+-- a fault of a reader of bytes has the property of the refusals
+pub fails_with : {A : Type 0} (P : Refusal → Type 0) (fault : Option Refusal) (read : Read A) → Refusing P read → Fails fault read
+    → IfSome fault P
+fails_with P None read is failed = tt
+fails_with P (Some refusal) read is failed = is.tells refusal failed
