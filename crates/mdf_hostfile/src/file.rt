@@ -1,8 +1,8 @@
-ghost use Rattle.std.specs.Prelude.{◌≡◌, None};
-ghost use Rattle.mdf_format.specs.Cause.{HasCause};
+ghost use Rattle.std.specs.Prelude.{◌≡◌, ◌↔◌, ◌<◌, IsSome, None};
+ghost use Rattle.std.specs.Option.{option_map};
 
 use mdf_disk::{Disk, Role};
-use mdf_num::{Bytes, Failed, FaultCount};
+use mdf_num::{Bytes, Failed, SystemFaults};
 use std::fs::File;
 use std::os::unix::fs::FileExt;
 use std::path::Path;
@@ -18,7 +18,7 @@ pub struct FileDisk<'a, R> {
     file: Option<File>,
     asked: Option<(Bytes, Role)>,
     calls: u64,
-    faults: FaultCount,
+    faults: SystemFaults,
 }
 
 /// Opens a file that is there to read it, or makes one under a name that is not taken.
@@ -57,19 +57,31 @@ impl<'a, R: Files<File = File>> FileDisk<'a, R> {
             file: None,
             asked: None,
             calls: 0,
-            faults: FaultCount::zero(),
+            faults: SystemFaults::zero(),
         }
+    }
+
+    /// The name that it was asked for, if it was.
+    pub fn name(&self) -> Option<&[u8]>
+        ensures { option_map (λ name. name.now) result ≡ option_map (λ asked. asked.0) (⟦<FileDisk<'a, R> as Disk>⟧.asked self.now) }
+    {
+        match &self.asked {
+            Some((name, _)) => Some(name.as_slice()),
+            None => None,
+        }
+    }
+
+    /// What the system said of the last call that failed. There is something exactly where one failed.
+    pub fn last_error(&self) -> Option<io::Error>
+        ensures { IsSome result ↔ (0 < ⟦<FileDisk<'a, R> as Disk>⟧.faults self.now) }
+    {
+        self.faults.last()
     }
 }
 
-/// Counts a fault where a call on the file failed.
-fn checked<T: Drop>(faults: &mut FaultCount, outcome: io::Result<T>) -> Result<T, Failed>
-    ensures { HasCause faults.old faults.new result }
-{
-    match outcome {
-        Ok(answer) => Ok(answer),
-        Err(_) => Err(faults.fail()),
-    }
+/// What is said of a call on a disk without a file.
+fn no_file() -> io::Error {
+    io::Error::other("no file is open")
 }
 
 impl<'a, R: Files<File = File>> Disk for FileDisk<'a, R> {
@@ -83,7 +95,7 @@ impl<'a, R: Files<File = File>> Disk for FileDisk<'a, R> {
 
     ghost moment = { λ d. d.calls };
 
-    ghost faults = { λ d. d.faults };
+    ghost faults = { λ d. d.faults.count };
 
     ghost agrees = { λ _. tt };
 
@@ -93,41 +105,41 @@ impl<'a, R: Files<File = File>> Disk for FileDisk<'a, R> {
         self.calls = self.calls.saturating_add(1);
         let opened = open(self.rt, name.as_slice(), role);
         self.asked = Some((name, role));
-        self.file = Some(checked(&mut self.faults, opened)?);
+        self.file = Some(self.faults.checked(opened)?);
         Ok(())
     }
 
     fn size(&mut self) -> Result<u64, Failed> {
         self.calls = self.calls.saturating_add(1);
         let Some(file) = &self.file else {
-            return Err(self.faults.fail());
+            return Err(self.faults.fail(no_file()));
         };
-        let data = checked(&mut self.faults, file.metadata())?;
+        let data = self.faults.checked(file.metadata())?;
         Ok(data.len())
     }
 
     fn read_at(&mut self, at: u64, buf: &mut [u8]) -> Result<(), Failed> {
         self.calls = self.calls.saturating_add(1);
         let Some(file) = &self.file else {
-            return Err(self.faults.fail());
+            return Err(self.faults.fail(no_file()));
         };
-        checked(&mut self.faults, file.read_exact_at(buf, at))
+        self.faults.checked(file.read_exact_at(buf, at))
     }
 
     fn write_at(&mut self, at: u64, bytes: &[u8]) -> Result<(), Failed> {
         self.calls = self.calls.saturating_add(1);
         let Some(file) = &self.file else {
-            return Err(self.faults.fail());
+            return Err(self.faults.fail(no_file()));
         };
-        checked(&mut self.faults, file.write_all_at(bytes, at))
+        self.faults.checked(file.write_all_at(bytes, at))
     }
 
     fn sync(&mut self) -> Result<(), Failed> {
         self.calls = self.calls.saturating_add(1);
         let Some(file) = &self.file else {
-            return Err(self.faults.fail());
+            return Err(self.faults.fail(no_file()));
         };
-        checked(&mut self.faults, file.sync_data())
+        self.faults.checked(file.sync_data())
     }
 
     fn moment(&self) -> u64 {

@@ -1,10 +1,10 @@
-ghost use Rattle.std.specs.Prelude.{◌≡◌, ◌≤◌, ◌<◌, Option, List, ℕ, length, IfOk, OnOk, OnErr};
+ghost use Rattle.std.specs.Prelude.{◌≡◌, ◌↔◌, ◌≤◌, ◌<◌, IsSome, Option, List, ℕ, length, IfOk, OnOk, OnErr};
 ghost use Rattle.std.specs.Io.KnownBytes.{WriteAppends, Appends};
 ghost use Rattle.mdf_format.specs.Cause.{HasCause};
 ghost use Rattle.mdf_port.specs.Sink.{AppendsFront};
 
-use mdf_num::{Failed, FaultCount};
-use std::io::Write;
+use mdf_num::{Failed, SystemFaults};
+use std::io::{Error, ErrorKind, Write};
 
 /// What bytes are given to.
 pub trait Sink {
@@ -50,7 +50,7 @@ pub fn give_all<K: Sink>(sink: &mut K, bytes: &[u8]) -> Result<(), Failed>
 #[derive(Drop)]
 pub struct StdSink<W> {
     writer: W,
-    faults: FaultCount,
+    faults: SystemFaults,
 }
 
 impl<W: Write> StdSink<W> {
@@ -61,20 +61,28 @@ impl<W: Write> StdSink<W> {
     {
         StdSink {
             writer,
-            faults: FaultCount::zero(),
+            faults: SystemFaults::zero(),
         }
+    }
+
+    /// What the writer said of the last call that failed. There is something exactly where one failed.
+    pub fn last_error(&self) -> Option<Error>
+        ensures { IsSome result ↔ (0 < ⟦<StdSink<W> as Sink>⟧.faults self.now) }
+    {
+        self.faults.last()
     }
 }
 
 impl<W: Write> Sink for StdSink<W> {
     ghost held = { λ s. W.contents s.writer };
 
-    ghost faults = { λ s. s.faults };
+    ghost faults = { λ s. s.faults.count };
 
     fn give(&mut self, bytes: &[u8]) -> Result<usize, Failed> {
         match self.writer.write(bytes) {
             Ok(n) if n > 0 => Ok(n),
-            _ => Err(self.faults.fail()),
+            Ok(_) => Err(self.faults.fail(Error::from(ErrorKind::WriteZero))),
+            Err(error) => Err(self.faults.fail(error)),
         }
     }
 

@@ -1,12 +1,12 @@
-ghost use Rattle.std.specs.Prelude.{◌≡◌, ◌≤◌, ◌<◌, ◌+◌, [], Option, List, ℕ, Some, length, IfOk, IfErr, IfSome, OnOk, OnErr};
+ghost use Rattle.std.specs.Prelude.{◌≡◌, ◌↔◌, ◌≤◌, ◌<◌, ◌+◌, [], IsSome, Option, List, ℕ, Some, length, IfOk, IfErr, IfSome, OnOk, OnErr};
 ghost use Rattle.std.specs.Io.KnownBytes.{ReadConsumes, Consumes, IsAtEnd};
 ghost use Rattle.mdf_format.specs.Cause.{HasCause};
 ghost use Rattle.mdf_port.specs.declared.source.TakeFault.TheVariants.{Failed as SourceFailed, Memory as NoMemory};
 ghost use Rattle.mdf_port.specs.Source.{TakeCause, TakesFront};
 
-use mdf_num::{Bytes, Failed, FaultCount, Memory};
+use mdf_num::{Bytes, Failed, Memory, SystemFaults};
 use std::alloc::Global;
-use std::io::Read;
+use std::io::{self, Read};
 use thiserror::Error;
 
 /// What bytes are taken from.
@@ -94,7 +94,7 @@ pub fn take_all<S: Source>(alloc: Global, source: &mut S, limit: u64) -> Result<
 #[derive(Drop)]
 pub struct StdSource<R> {
     reader: R,
-    faults: FaultCount,
+    faults: SystemFaults,
 }
 
 impl<R: Read> StdSource<R> {
@@ -104,21 +104,25 @@ impl<R: Read> StdSource<R> {
     {
         StdSource {
             reader,
-            faults: FaultCount::zero(),
+            faults: SystemFaults::zero(),
         }
+    }
+
+    /// What the reader said of the last call that failed. There is something exactly where one failed.
+    pub fn last_error(&self) -> Option<io::Error>
+        ensures { IsSome result ↔ (0 < ⟦<StdSource<R> as Source>⟧.faults self.now) }
+    {
+        self.faults.last()
     }
 }
 
 impl<R: Read> Source for StdSource<R> {
     ghost left = { λ s. R.remaining s.reader };
 
-    ghost faults = { λ s. s.faults };
+    ghost faults = { λ s. s.faults.count };
 
     fn take(&mut self, buf: &mut [u8]) -> Result<usize, Failed> {
-        match self.reader.read(buf) {
-            Ok(n) => Ok(n),
-            Err(_) => Err(self.faults.fail()),
-        }
+        self.faults.checked(self.reader.read(buf))
     }
 
     fn faults(&self) -> u64 {
