@@ -4,3 +4,5 @@ pub mod Plans
 pub mod Entries
 pub mod Sounds
 pub mod Steps
+pub mod Spells
+pub mod Respelled

@@ -1,6 +1,6 @@
 -- Numbers of a script.
 use Rattle.std.proofs.Common.{◌≡◌, ◌∙◌, sym, ap, ℕ, zero, suc, ◌+◌, ◌*◌, ◌^◌, ◌<◌, ◌≤◌, Bool, true, false, cond, Option, Some, None, List, length, get_or, take, refl, arith, tests, rules}
-use Rattle.std.specs.Prelude.{◌==◌, nat_lt, not, ◌&&◌, ◌||◌, IfSome}
+use Rattle.std.specs.Prelude.{◌==◌, nat_lt, not, ◌&&◌, ◌||◌, IfSome, codes}
 use Rattle.std.specs.List.{list_all}
 use Rattle.std.specs.Char.{is_ascii_digit}
 use Rattle.std.specs.Str.Parse.{digits_value}
@@ -137,3 +137,9 @@ of_decimal word n small e =
 pub if_some : (word : List ℕ) (o : Option ℕ) → o ≡ number_of word → IfSome o (λ n. word ≡ decimal n)
 if_some word None e = tt
 if_some word (Some n) e = is_decimal word n (sym e)
+
+pub decimal_digits : (n : ℕ) → n < 2 ^ 64 → list_all is_ascii_digit (decimal n) ≡ true
+decimal_digits n small = digits_decimal own n small
+
+pub number_zero : number_of (codes "0") ≡ Some 0
+number_zero = of_decimal (codes "0") 0 (omega arith) (sym (decimal_digit 0 (omega arith)))

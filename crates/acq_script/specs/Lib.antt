@@ -6,3 +6,4 @@ pub mod Tasks
 pub mod Stage
 pub mod Plan
 pub mod Script
+pub mod Spelled

@@ -5,6 +5,7 @@
 #![tactic(auto)]
 
 mod fault;
+mod law;
 mod line;
 mod number;
 mod plan;
@@ -15,5 +16,6 @@ mod stage;
 mod text;
 
 pub use fault::ScriptFault;
+pub use law::spelled_is_read;
 pub use read::read_script;
 pub use script::{Plan, Script, Task};
