@@ -1,7 +1,8 @@
 -- Loops along links: what is read so far, with what the rest of the chain gives.
-use Rattle.std.proofs.Common.{◌≡◌, ◌≢◌, ◌-◌, ℕ, zero, suc, List, [], ◌∷◌, ◌++◌, map, Option, Ok, Err, refl, sym, ◌∙◌, ap, subst, inl, inr, arith, append_assoc, append-nil}
-use Rattle.std.proofs.lemmas.Bool.{eqb-true, eq-eqb, ne_eqb, cond-true, cond-false}
-use Rattle.std.specs.Prelude.{nat_eq}
+use Rattle.std.proofs.Common.{◌≡◌, ◌≢◌, ◌+◌, ◌-◌, ◌<◌, ℕ, zero, suc, List, [], ◌∷◌, ◌++◌, length, map, Option, Ok, Err, refl, sym, ◌∙◌, ap, subst, ◌⊎◌, inl, inr, arith, append_assoc, append-nil}
+use Rattle.std.proofs.lemmas.Bool.{eqb-true, eqb-false, eq-eqb, ne_eqb, cond-true, cond-false}
+use Rattle.std.proofs.lemmas.List.Sums.{sum_by-cons}
+use Rattle.std.specs.Prelude.{nat_eq, sum_by}
 use Rattle.std.specs.List.{AllByRecursion}
 use Rattle.mdf_format.specs.Block.{link_at, IsBlock, IsChain}
 use Rattle.mdf_format.specs.declared.kind.Kind.{Kind}
@@ -10,8 +11,8 @@ use Rattle.mdf_block.specs.declared.what.What.{What}
 use Rattle.mdf_block.specs.declared.place.BlockAt.{BlockAt}
 use Rattle.mdf_block.specs.Refusal.{Refusal, TooMany, Read, ◌>>=◌, Halts}
 use Rattle.mdf_block.specs.Block.{block}
-use Rattle.mdf_block.specs.Chain.{Step, chain, full}
-use Rattle.mdf_block.proofs.Refusals.{bind_ok, halts_then}
+use Rattle.mdf_block.specs.Chain.{Step, chain, full, AreAlong}
+use Rattle.mdf_block.proofs.Refusals.{bind_ok, bind_err, halts_then}
 use Rattle.mdf_block.proofs.Wholes.{chosen}
 
 -- what was read so far, and then the rest
@@ -169,4 +170,100 @@ chain_each {A} {S} step full_at P item none (suc room) at left found is =
           let behind = chain_each step full_at P item none room parts.0.1 parts.0.2 rest.0 rest.1 in
           let same : (parts.0.0 ∷ rest.0.0, rest.0.1, rest.0.2) ≡ found = ok_injective _ _ rest.2 in
           subst (λ (y : List A × ℕ × S). AllByRecursion P y.0) same (here, behind)
+    ]
+
+-- where a chain is refused: behind blocks along their links, by the step there or by the block past the count
+pub record Stops {A S : Type 0} (f : List ℕ) (kind : Kind) (step : Step A S) (full_at : ℕ → Read (List A × ℕ × S)) (Holds : S → Type 0) (room at : ℕ) (refusal : Refusal) : Type 0 where
+  pub places : List ℕ
+  pub last : ℕ
+  pub rest : S
+  pub along : AreAlong f kind at places last
+  pub named : last ≢ 0
+  pub holds : Holds rest
+  pub why : ((length places < room) × (step last rest ≡ Err refusal)) ⊎ ((length places ≡ room) × (full_at last ≡ Err refusal))
+
+pub chain_stops : {A S : Type 0} (f : List ℕ) (kind : Kind) (place : A → ℕ) (step : Step A S) (full_at : ℕ → Read (List A × ℕ × S))
+    → Follows f kind place step → (Holds : S → Type 0)
+    → ((at : ℕ) (left : S) (x : A) (next : ℕ) (rest : S) → step at left ≡ Ok (x, next, rest) → Holds left → Holds rest)
+    → (refusal : Refusal) (room at : ℕ) (left : S) → Holds left → chain step full_at room at left ≡ Err refusal
+    → Stops f kind step full_at Holds room at refusal
+unfolding chain AreAlong
+chain_stops {A} {S} f kind place step full_at follows Holds keeps refusal zero at left holds is =
+    elim (chosen (nat_eq at 0) (Ok ([], zero, left)) (full_at at) (Err refusal) is) [
+      | inl last ↦ let wrong : ◌≡◌ {A = Read (List A × ℕ × S)} (Ok ([], zero, left)) (Err refusal) = last.1 in cc
+      | inr more ↦ record {
+        places = [];
+        last = at;
+        rest = left;
+        along = refl;
+        named = eqb-false at 0 more.0;
+        holds = holds;
+        why = inr (refl, more.1);
+      }
+    ]
+chain_stops {A} {S} f kind place step full_at follows Holds keeps refusal (suc room) at left holds is =
+    elim (chosen (nat_eq at 0) (Ok ([], suc room, left)) (step at left >>= rest_of step full_at room) (Err refusal) is) [
+      | inl last ↦ let wrong : ◌≡◌ {A = Read (List A × ℕ × S)} (Ok ([], suc room, left)) (Err refusal) = last.1 in cc
+      | inr more ↦ elim (bind_err (step at left) (rest_of step full_at room) refusal more.1) [
+        | inl stops ↦ record {
+          places = [];
+          last = at;
+          rest = left;
+          along = refl;
+          named = eqb-false at 0 more.0;
+          holds = holds;
+          why = inl (omega arith, stops);
+        }
+        | inr goes ↦
+            let x = goes.0 in
+            let there = follows.there at left x.0 x.1 x.2 goes.1 in
+            elim (bind_err (chain step full_at room x.1 x.2) (λ rest. Ok (x.0 ∷ rest.0, rest.1, rest.2)) refusal goes.2) [
+              | inl stops ↦
+                  let behind = chain_stops f kind place step full_at follows Holds keeps refusal room x.1 x.2
+                  (keeps at left x.0 x.1 x.2 goes.1 holds) stops in record {
+                    places = at ∷ behind.places;
+                    last = behind.last;
+                    rest = behind.rest;
+                    along = (refl, there.1, subst (λ (next : ℕ). AreAlong f kind next behind.places behind.last) there.2 behind.along);
+                    named = behind.named;
+                    holds = behind.holds;
+                    why = elim behind.why [
+                      | inl steps ↦ inl (omega (arith, steps.0), steps.1)
+                      | inr past ↦ inr (ap suc past.0, past.1)
+                    ];
+                  }
+              | inr ends ↦ let wrong : ◌≡◌ {A = Read (List A × ℕ × S)} (Ok (x.0 ∷ ends.0.0, ends.0.1, ends.0.2)) (Err refusal) = ends.2 in cc
+            ]
+      ]
+    ]
+
+-- the room falls by one for each item, and what is left by what each item spends
+pub chain_spends : {A S : Type 0} (step : Step A S) (full_at : ℕ → Read (List A × ℕ × S)) (size : A → ℕ) (amount : S → ℕ)
+    → ((at : ℕ) (left : S) (x : A) (next : ℕ) (rest : S) → step at left ≡ Ok (x, next, rest) → amount rest + size x ≡ amount left)
+    → ((at : ℕ) (y : List A × ℕ × S) → full_at at ≡ Ok y → ⊥)
+    → (room at : ℕ) (left : S) (found : List A × ℕ × S) → chain step full_at room at left ≡ Ok found
+    → (found.1 + length found.0 ≡ room) × (amount found.2 + sum_by size found.0 ≡ amount left)
+unfolding chain
+chain_spends {A} {S} step full_at size amount item none zero at left found is =
+    elim (chosen (nat_eq at 0) (Ok ([], zero, left)) (full_at at) (Ok found) is) [
+      | inl last ↦
+          let same : ([], zero, left) ≡ found = ok_injective _ _ last.1 in
+          subst (λ (y : List A × ℕ × S). (y.1 + length y.0 ≡ zero) × (amount y.2 + sum_by size y.0 ≡ amount left)) same
+          (omega arith, omega arith)
+      | inr more ↦ absurd (none at found more.1)
+    ]
+chain_spends {A} {S} step full_at size amount item none (suc room) at left found is =
+    elim (chosen (nat_eq at 0) (Ok ([], suc room, left)) (step at left >>= rest_of step full_at room) (Ok found) is) [
+      | inl last ↦
+          let same : ([], suc room, left) ≡ found = ok_injective _ _ last.1 in
+          subst (λ (y : List A × ℕ × S). (y.1 + length y.0 ≡ suc room) × (amount y.2 + sum_by size y.0 ≡ amount left)) same
+          (omega arith, omega arith)
+      | inr more ↦
+          let parts = bind_ok (step at left) (rest_of step full_at room) found more.1 in
+          let here = item at left parts.0.0 parts.0.1 parts.0.2 parts.1 in
+          let rest = bind_ok (chain step full_at room parts.0.1 parts.0.2) (λ rest. Ok (parts.0.0 ∷ rest.0, rest.1, rest.2)) found parts.2 in
+          let behind = chain_spends step full_at size amount item none room parts.0.1 parts.0.2 rest.0 rest.1 in
+          let same : (parts.0.0 ∷ rest.0.0, rest.0.1, rest.0.2) ≡ found = ok_injective _ _ rest.2 in
+          subst (λ (y : List A × ℕ × S). (y.1 + length y.0 ≡ suc room) × (amount y.2 + sum_by size y.0 ≡ amount left)) same
+          (omega (arith, behind.0), omega (arith, here, behind.1, sum_by-cons size parts.0.0 rest.0.0))
     ]

@@ -2,7 +2,7 @@
 use Rattle.std.proofs.Common.{◌≡◌, Bool, true, false, Option, Some, None, Result, Ok, Err, refl, ap, ◌⊎◌, inl, inr}
 use Rattle.mdf_num.specs.declared.halt.Halt.{Halt}
 use Rattle.mdf_num.specs.declared.halt.Halt.TheVariants as halts
-use Rattle.mdf_block.specs.Refusal.{Refusal, Read, ◌>>=◌, Refuses, Halts, HidesNone}
+use Rattle.mdf_block.specs.Refusal.{Refusal, Read, ◌>>=◌, Refuses, Fails, Halts, HidesNone}
 
 -- both steps found something
 pub bind_ok : {A B : Type 0} (read : Read A) (next : A → Read B) (y : B) → (read >>= next) ≡ Ok y
@@ -36,3 +36,8 @@ hides_none false (Ok y) read x found = tt
 hides_none false (Err (halts.Fault fault)) read x found = tt
 hides_none false (Err halts.Failed) read x found = tt
 hides_none false (Err halts.Memory) read x found = (x, found)
+
+-- a fault of a reader over a span is one of a reader of bytes
+pub refuses_fails : {A : Type 0} (fault : Option Refusal) (read : Read A) → Refuses fault read → Fails fault read
+refuses_fails None read refused = absurd refused
+refuses_fails (Some refusal) read refused = refused

@@ -8,8 +8,8 @@ use Rattle.mdf_format.specs.declared.kind.Kind.{Kind}
 use Rattle.mdf_block.specs.declared.place.BlockAt.{BlockAt}
 use Rattle.mdf_block.specs.declared.fault.BlockFault.{BlockFault}
 use Rattle.mdf_block.specs.declared.fault.BlockFault.TheVariants as faults
-use Rattle.mdf_block.specs.Refusal.{Bad, Compressed, Refuses}
-use Rattle.mdf_block.specs.Block.{is_block, is_compressed, IsCompressed, the_block, block, block_refusal, HasNoBlock}
+use Rattle.mdf_block.specs.Refusal.{Refusal, Bad, Compressed, Refuses}
+use Rattle.mdf_block.specs.Block.{is_block, is_data, is_compressed, IsCompressed, the_block, block, block_refusal, HasNoBlock}
 
 -- which way a test went
 pub chosen : {A : Type 0} (b : Bool) (x y z : A) → cond b x y ≡ z → ((b ≡ true) × (x ≡ z)) ⊎ ((b ≡ false) × (y ≡ z))
@@ -116,5 +116,17 @@ block_refused f at kind (faults.Compressed bad) refused = elim (chosen (is_compr
   | inr plain ↦ elim (chosen (is_block f at kind) _ _ _ plain.1) [
     | inl here ↦ let wrong : Ok (the_block f at kind) ≡ Err (Compressed bad) = here.1 in cc
     | inr out ↦ let wrong : Err (Bad at kind) ≡ Err (Compressed bad) = out.1 in cc
+  ]
+]
+
+-- where no data is wanted, what is refused is no whole block
+pub block_lacks : (f : List ℕ) (at : ℕ) (kind : Kind) (refusal : Refusal) → is_data kind ≡ false → block f at kind ≡ Err refusal
+    → (refusal ≡ Bad at kind) × (IsBlock f at kind → ⊥)
+unfolding block
+block_lacks f at kind refusal plain refused = elim (chosen (is_compressed f at kind) _ _ _ refused) [
+  | inl packed ↦ absurd (true≢false (sym (is_compressed_true f at kind packed.0).is_wanted ∙ plain))
+  | inr other ↦ elim (chosen (is_block f at kind) _ _ _ other.1) [
+    | inl here ↦ let wrong : Ok (the_block f at kind) ≡ Err refusal = here.1 in cc
+    | inr out ↦ let same : Err (Bad at kind) ≡ Err refusal = out.1 in (cc, not_block f at kind out.0)
   ]
 ]

@@ -1,5 +1,6 @@
 -- Blocks along their links, with a count of those that may still come.
-use Rattle.std.specs.Prelude.{ℕ, zero, suc, nat_eq, if◌then◌else◌, List, [], ◌∷◌, Ok, Err}
+use Rattle.std.specs.Prelude.{ℕ, zero, suc, ◌≡◌, nat_eq, if◌then◌else◌, List, [], ◌∷◌, Ok, Err}
+use Rattle.mdf_format.specs.Block.{link_at, IsBlock}
 use Rattle.mdf_format.specs.declared.kind.Kind.{Kind}
 use Rattle.mdf_block.specs.declared.what.What.{What}
 use Rattle.mdf_block.specs.Refusal.{TooMany, Read, ◌>>=◌}
@@ -20,3 +21,9 @@ chain step full (suc room) at left =
 -- a block past the count: no block of the kind, or too many of them
 unfoldable pub full : {A : Type 0} → What → Kind → List ℕ → ℕ → Read A
 full what kind file at = block file at kind >>= λ _. Err (TooMany what at)
+
+-- blocks of the kind stand at these places along the first links from an address on, and the last of these links is `last`
+unfoldable pub AreAlong : List ℕ → Kind → ℕ → List ℕ → ℕ → Type 0
+AreAlong file kind at [] last = last ≡ at
+AreAlong file kind at (place ∷ places) last =
+    (place ≡ at) × IsBlock file at kind × AreAlong file kind (link_at file at 0) places last

@@ -1,3 +1,5 @@
 pub mod Fronts
 pub mod Heads
 pub mod Identities
+pub mod Lacks
+pub mod Spends

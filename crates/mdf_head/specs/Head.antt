@@ -1,5 +1,5 @@
 -- The header and the file history, each with its comments.
-use Rattle.std.specs.Prelude.{ℕ, ◌≡◌, List, slice_index, map, ℤ, Option, Some, None, Ok}
+use Rattle.std.specs.Prelude.{ℕ, ◌≡◌, ◌≢◌, ◌+◌, ◌<◌, ◌≤◌, ◌⊎◌, List, length, slice_index, sum_by, map, ℤ, Option, Some, None, Ok}
 use Rattle.std.specs.List.{AllByRecursion}
 use Rattle.mdf_format.specs.Number.{le_number, bytes_at}
 use Rattle.mdf_format.specs.Field.{signed_number}
@@ -9,8 +9,8 @@ use Rattle.mdf_block.specs.declared.what.What.TheVariants as whats
 use Rattle.mdf_block.specs.declared.note.Note.{Note}
 use Rattle.mdf_block.specs.Refusal.{Refusal, Bad, TooMany, Read, ◌>>=◌}
 use Rattle.mdf_block.specs.Block.{block, body_of}
-use Rattle.mdf_block.specs.Text.{note, IsNote}
-use Rattle.mdf_block.specs.Chain.{Step, chain, full}
+use Rattle.mdf_block.specs.Text.{note, note_size, IsNote, LacksNote}
+use Rattle.mdf_block.specs.Chain.{Step, chain, full, AreAlong}
 use Rattle.mdf_head.specs.declared.entry.Head.{Head}
 use Rattle.mdf_head.specs.declared.entry.History.{History}
 use Rattle.mdf_head.specs.declared.fault.HeadFault.{HeadFault}
@@ -88,3 +88,29 @@ pub record IsHead (file : List ℕ) (head : Head) (rows : List History) : Type 0
   pub comment : IsNote file (link_at file 64 5) head.comment
   pub chain : IsChain file (link_at file 64 1) Fh (map (λ entry. entry.at) rows)
   pub entries : AllByRecursion (IsHistory file) rows
+
+-- the header stands, and so many entries of the history behind it, and this address other than 0 is the link behind them
+pub record IsBehind (file : List ℕ) (count : ℕ) (at : ℕ) : Type 0 where
+  pub header : IsBlock file 64 Hd
+  pub named : at ≢ 0
+  pub places : List ℕ
+  pub along : AreAlong file Fh (link_at file 64 1) places at
+  pub many : length places ≡ count
+
+-- the address is the link of a comment: the header's, or that of one of the first 65,535 entries
+abbrev pub IsCommentOf : List ℕ → ℕ → Type 0
+IsCommentOf file at =
+    (IsBlock file 64 Hd × (at ≡ link_at file 64 5))
+    ⊎ ((entry : ℕ) × (count : ℕ) × IsBehind file count entry × (count < 65535) × IsBlock file entry Fh × (at ≡ link_at file entry 1))
+
+-- why the header and the history are refused, where texts may have so many bytes in all
+abbrev pub LacksHead : List ℕ → ℕ → Refusal → Type 0
+LacksHead file budget refusal =
+    ((refusal ≡ Bad 64 Hd) × (¬ IsBlock file 64 Hd))
+    ⊎ (((at : ℕ) × (count : ℕ) × (refusal ≡ Bad at Fh) × IsBehind file count at × (count ≤ 65535) × (¬ IsBlock file at Fh))
+    ⊎ (((at : ℕ) × (refusal ≡ TooMany whats.Fh at) × IsBehind file 65535 at × IsBlock file at Fh)
+    ⊎ ((at : ℕ) × (left : ℕ) × IsCommentOf file at × (left ≤ budget) × LacksNote file at left refusal)))
+
+-- how many bytes of texts the header and the history have
+abbrev pub text_size : Head → List History → ℕ
+text_size head rows = note_size head.comment + sum_by (λ entry. note_size entry.comment) rows

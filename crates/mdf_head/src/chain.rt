@@ -1,6 +1,6 @@
-ghost use Rattle.std.specs.Prelude.{◌≡◌, ℕ, List, Some, true};
+ghost use Rattle.std.specs.Prelude.{◌≡◌, ℕ, List, Some, true, IfErr};
 ghost use Rattle.mdf_num.specs.Halt.{HaltCause};
-ghost use Rattle.mdf_block.specs.Refusal.{Gives};
+ghost use Rattle.mdf_block.specs.Refusal.{Gives, IsPlain};
 ghost use Rattle.mdf_head.specs.Head.{history, histories, head_refusal};
 
 use crate::field::entry_in;
@@ -22,6 +22,7 @@ fn history_in<P: Span>(
     left: u64,
 ) -> Result<(History, u64, u64), Halt<HeadFault>>
     ensures found { (f : List ℕ) → P.bytes span.old ≡ Some f → Gives head_refusal result (history f at left) }
+    ensures plain { IfErr result (IsPlain head_refusal) }
     ensures same { P.bytes span.new ≡ P.bytes span.old }
     ensures size { P.size span.new ≡ P.size span.old }
     ensures cause { HaltCause true (P.faults span.old) (P.faults span.new) result }
@@ -42,6 +43,7 @@ pub(crate) fn histories_in<P: Span>(
     budget: u64,
 ) -> Result<(Rows<History>, u64, u64), Halt<HeadFault>>
     ensures found { (f : List ℕ) → P.bytes span.old ≡ Some f → Gives head_refusal result (histories f first budget) }
+    ensures plain { IfErr result (IsPlain head_refusal) }
     ensures same { P.bytes span.new ≡ P.bytes span.old }
     ensures size { P.size span.new ≡ P.size span.old }
     ensures cause { HaltCause true (P.faults span.old) (P.faults span.new) result }

@@ -1,6 +1,6 @@
-ghost use Rattle.std.specs.Prelude.{◌≡◌, ℕ, List, Some, false, true, IfOk};
+ghost use Rattle.std.specs.Prelude.{◌≡◌, ℕ, List, Some, false, true, IfOk, IfErr};
 ghost use Rattle.mdf_num.specs.Halt.{HaltCause};
-ghost use Rattle.mdf_block.specs.Refusal.{Gives};
+ghost use Rattle.mdf_block.specs.Refusal.{Gives, IsPlain};
 ghost use Rattle.mdf_block.specs.Block.{block, is_data, IsInside, IsFilled};
 ghost use Rattle.mdf_block.specs.Text.{note};
 ghost use Rattle.mdf_head.specs.Head.{head_refusal};
@@ -18,6 +18,7 @@ pub(crate) fn block_of<P: Span>(
 ) -> Result<BlockAt, Halt<HeadFault>>
     requires { is_data want ≡ false }
     ensures found { (f : List ℕ) → P.bytes span.old ≡ Some f → Gives head_refusal result (block f at want) }
+    ensures plain { IfErr result (IsPlain head_refusal) }
     ensures inside { IfOk result (IsInside (P.size span.old)) }
     ensures filled { IfOk result (IsFilled want) }
     ensures same { P.bytes span.new ≡ P.bytes span.old }
@@ -44,6 +45,7 @@ pub(crate) fn text_of<P: Span>(
     left: u64,
 ) -> Result<(Note, u64), Halt<HeadFault>>
     ensures found { (f : List ℕ) → P.bytes span.old ≡ Some f → Gives head_refusal result (note f at left) }
+    ensures plain { IfErr result (IsPlain head_refusal) }
     ensures same { P.bytes span.new ≡ P.bytes span.old }
     ensures size { P.size span.new ≡ P.size span.old }
     ensures cause { HaltCause true (P.faults span.old) (P.faults span.new) result }
