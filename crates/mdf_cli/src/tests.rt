@@ -195,9 +195,12 @@ struct Large {
 }
 
 impl Disk for Large {
-    ghost use Rattle.std.specs.Prelude.{None};
+    ghost use Rattle.std.specs.Prelude.{None, is_some};
+    ghost use Rattle.std.proofs.Common.{rules};
 
     ghost asked = { λ d. d.asked };
+
+    ghost attached = { λ d. is_some d.asked };
 
     ghost content = { λ _. None };
 
@@ -209,7 +212,9 @@ impl Disk for Large {
 
     ghost agrees = { λ _. tt };
 
-    ghost fresh = { λ _ _. tt };
+    ghost unasked = { λ d none. Prim.search rules };
+
+    ghost unattached = { λ _ _. tt };
 
     fn attach(&mut self, name: Bytes, role: Role) -> Result<(), Failed> {
         self.asked = Some((name, role));

@@ -86,7 +86,12 @@ sync_failed e None calls possible =
       ap Some (story_of-push calls (Sync false)),
     )
 
--- a call that asks for the size leaves the story
-pub size_told : (file : Option (List ℕ)) (calls : List Call) → told_story file (calls ++ Size ∷ []) ≡ told_story file calls
-size_told (Some bytes_there) calls = refl
-size_told None calls = ap Some (story_of-push calls Size)
+-- a call that adds no moment
+pub quiet_told : (file : Option (List ℕ)) (calls : List Call) (call : Call) → told_by (story_of calls) call ≡ story_of calls
+    → told_story file (calls ++ call ∷ []) ≡ told_story file calls
+quiet_told (Some bytes_there) calls call quiet = refl
+quiet_told None calls call quiet = ap Some (story_of-push calls call ∙ quiet)
+
+-- an attach leaves the present moment
+pub attach_told : (calls : List Call) → (story_of (calls ++ Attach ∷ [])).now ≡ (story_of calls).now
+attach_told calls = ap (λ (s : Story). s.now) (story_of-push calls Attach)

@@ -1,6 +1,5 @@
 -- The story of a disk in memory that began with no file, by the calls that it recorded.
-use Rattle.std.specs.Prelude.{ℕ, ◌≡◌, ◌≤◌, List, [], ◌∷◌, length, fold, true, false, Option, Some, None, refl}
-use Rattle.std.specs.Option.{ForNone}
+use Rattle.std.specs.Prelude.{ℕ, ◌≡◌, ◌≤◌, Bool, List, [], ◌∷◌, length, fold, true, false, Option, Some, None, refl}
 use Rattle.std.specs.List.{AllByRecursion}
 use Rattle.mdf_format.specs.Number.{patched}
 use Rattle.mdf_disk.specs.Story.{Moment, Story, MayLeave, Agrees, IsFresh, settled}
@@ -73,9 +72,8 @@ pub told_agrees : (file : Option (List ℕ)) (calls : List Call) → MayLeave (s
 told_agrees None calls possible = record { content_is = refl; moment_is = refl; possible = possible }
 told_agrees (Some file) calls possible = tt
 
--- and why a disk that nothing was asked of is fresh
-pub told_fresh : {A : Type 0} (asked : Option A) (file : Option (List ℕ)) (calls : List Call)
-    → ForNone asked ((story_of calls).now ≡ settled []) → asked ≡ None → IsFresh (told_story file calls)
-told_fresh None None calls unused none = unused none
-told_fresh None (Some file) calls unused none = tt
-told_fresh (Some a) file calls unused none = cc
+-- and why the empty file is all that a crash can leave of a disk that is not attached
+pub told_unattached : (attached : Bool) (file : Option (List ℕ)) (calls : List Call)
+    → (attached ≡ false → (story_of calls).now ≡ settled []) → attached ≡ false → IsFresh (told_story file calls)
+told_unattached attached None calls unused not = unused not
+told_unattached attached (Some file) calls unused not = tt

@@ -8,7 +8,7 @@ pub enum Call {
     Attach,
     Size,
     Read,
-    /// A write or a sync for which no file is attached.
+    /// A write into a file that is there to be read.
     Refused,
     Write { at: u64, bytes: Bytes, done: bool },
     Sync { done: bool },

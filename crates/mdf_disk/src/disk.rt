@@ -1,4 +1,4 @@
-ghost use Rattle.std.specs.Prelude.{◌≡◌, ◌+◌, ◌≤◌, ℕ, List, [], length, Option, Some, None, IsSome, IfSome, IfOk, OnOk};
+ghost use Rattle.std.specs.Prelude.{◌≡◌, ◌+◌, ◌≤◌, ◌↔◌, ℕ, Bool, true, false, List, [], length, Option, Some, None, IfSome, IfOk, IsOk, OnOk};
 ghost use Rattle.std.specs.Option.{option_map};
 ghost use Rattle.mdf_format.specs.Number.{bytes_at};
 ghost use Rattle.mdf_format.specs.Cause.{HasCause};
@@ -13,6 +13,9 @@ use mdf_num::{Bytes, Failed};
 pub trait Disk {
     /// The name and the role that `attach` asked for. Every disk tells them.
     ghost asked: { Self → Option (List ℕ × Role) };
+
+    /// Whether its file is attached. Every disk tells it.
+    ghost attached: { Self → Bool };
 
     /// The bytes that a read gives, where the disk tells them.
     ghost content: { Self → Option (List ℕ) };
@@ -36,6 +39,7 @@ pub trait Disk {
     fn attach(&mut self, name: Bytes, role: Role) -> Result<(), Failed>
         requires { asked self.old ≡ None }
         ensures asked { asked self.new ≡ Some (name, role) }
+        ensures attached { IsOk result ↔ (attached self.new ≡ true) }
         ensures content { Attaches role (content self.old) (content self.new) result }
         ensures story { story self.new ≡ story self.old }
         ensures moment { moment self.old ≤ moment self.new }
@@ -46,9 +50,10 @@ pub trait Disk {
     /// # Errors
     /// `Failed` where the disk failed.
     fn size(&mut self) -> Result<u64, Failed>
-        requires { IsSome (asked self.old) }
+        requires { attached self.old ≡ true }
         ensures size { IfOk result (λ n. IfSome (content self.old) (λ file. n ≡ length file)) }
         ensures asked { asked self.new ≡ asked self.old }
+        ensures attached { attached self.new ≡ attached self.old }
         ensures content { content self.new ≡ content self.old }
         ensures story { story self.new ≡ story self.old }
         ensures moment { moment self.old ≤ moment self.new }
@@ -59,10 +64,11 @@ pub trait Disk {
     /// # Errors
     /// `Failed` where the disk failed.
     fn read_at(&mut self, at: u64, buf: &mut [u8]) -> Result<(), Failed>
-        requires attached { IsSome (asked self.old) }
+        requires attached { attached self.old ≡ true }
         requires within { IfSome (content self.old) (λ file. at + length buf.old ≤ length file) }
         ensures bytes { OnOk result (IfSome (content self.old) (λ file. buf.new ≡ bytes_at (length buf.old) file at)) }
         ensures asked { asked self.new ≡ asked self.old }
+        ensures attached { attached self.new ≡ attached self.old }
         ensures content { content self.new ≡ content self.old }
         ensures story { story self.new ≡ story self.old }
         ensures moment { moment self.old ≤ moment self.new }
@@ -71,11 +77,13 @@ pub trait Disk {
     /// Writes the bytes from `at` on, over what is there and past the end.
     ///
     /// # Errors
-    /// `Failed` where the disk failed. Bytes outside the range stay.
+    /// `Failed` where the disk failed. Of a disk that tells its story the bytes stay that no write since the last
+    /// successful sync touches, this one among them; of another nothing is said of the content then.
     fn write_at(&mut self, at: u64, bytes: &[u8]) -> Result<(), Failed>
-        requires attached { IsSome (asked self.old) }
+        requires attached { attached self.old ≡ true }
         requires within { IfSome (content self.old) (λ file. at ≤ length file) }
         ensures asked { asked self.new ≡ asked self.old }
+        ensures attached { attached self.new ≡ attached self.old }
         ensures content { Patches (content self.old) (content self.new) at bytes.now result }
         ensures story { Writes (story self.old) (story self.new) at bytes.now result }
         ensures moment { moment self.old ≤ moment self.new }
@@ -86,8 +94,9 @@ pub trait Disk {
     /// # Errors
     /// `Failed` where the disk failed.
     fn sync(&mut self) -> Result<(), Failed>
-        requires { IsSome (asked self.old) }
+        requires { attached self.old ≡ true }
         ensures asked { asked self.new ≡ asked self.old }
+        ensures attached { attached self.new ≡ attached self.old }
         ensures content { Keeps (content self.old) (content self.new) result }
         ensures story { Syncs (story self.old) (story self.new) result }
         ensures moment { moment self.old ≤ moment self.new }
@@ -104,6 +113,9 @@ pub trait Disk {
     /// Where the story is told, the content and the clock are those of its present moment.
     ghost agrees: { (d : Self) → Agrees (story d) (content d) (moment d) };
 
-    /// Of a disk that nothing was asked of the empty file is all that a crash can leave.
-    ghost fresh: { (d : Self) → asked d ≡ None → IsFresh (story d) };
+    /// Only what was asked for is attached.
+    ghost unasked: { (d : Self) → asked d ≡ None → attached d ≡ false };
+
+    /// Of a disk that is not attached the empty file is all that a crash can leave.
+    ghost unattached: { (d : Self) → attached d ≡ false → IsFresh (story d) };
 }

@@ -1,5 +1,5 @@
-ghost use Rattle.std.specs.Prelude.{◌≡◌, ◌+◌, ◌-◌, ◌^◌, ◌<◌, ◌↔◌, ℕ, List, Option, Some, None, IsSome, IsTrue, min};
-ghost use Rattle.mdf_disk.specs.Asked.{first_asked, fresh_below};
+ghost use Rattle.std.specs.Prelude.{◌≡◌, ◌+◌, ◌-◌, ◌^◌, ◌<◌, ◌↔◌, ℕ, List, Option, Some, None, IsTrue, min};
+ghost use Rattle.mdf_disk.specs.Asked.{first_asked, unasked_below};
 
 use crate::{Disk, Role};
 use mdf_num::{Bytes, Failed, FaultCount};
@@ -12,7 +12,6 @@ pub struct Fuse<D> {
     /// What an attach asked for that was not passed on.
     refused: Option<(Bytes, Role)>,
     faults: FaultCount,
-    ghost spent: { IsSome refused → left ≡ 0 },
 }
 
 /// Counts a call down, and says whether it is still passed on.
@@ -35,9 +34,11 @@ impl<D: Disk> Fuse<D> {
         ensures disk { disk_of result ≡ disk }
         ensures left { left_of result ≡ calls }
         ensures asked { ⟦<Fuse<D> as Disk>⟧.asked result ≡ D.asked disk }
+        ensures attached { ⟦<Fuse<D> as Disk>⟧.attached result ≡ D.attached disk }
         ensures content { ⟦<Fuse<D> as Disk>⟧.content result ≡ D.content disk }
         ensures story { ⟦<Fuse<D> as Disk>⟧.story result ≡ D.story disk }
         ensures moment { ⟦<Fuse<D> as Disk>⟧.moment result ≡ D.moment disk }
+        ensures faults { ⟦<Fuse<D> as Disk>⟧.faults result ≡ min (D.faults disk) (2 ^ 64 - 1) }
     {
         Fuse {
             disk,
@@ -58,6 +59,8 @@ impl<D: Disk> Fuse<D> {
 impl<D: Disk> Disk for Fuse<D> {
     ghost asked = { λ f. first_asked f.refused (D.asked f.disk) };
 
+    ghost attached = { λ f. D.attached f.disk };
+
     ghost content = { λ f. D.content f.disk };
 
     ghost story = { λ f. D.story f.disk };
@@ -68,7 +71,9 @@ impl<D: Disk> Disk for Fuse<D> {
 
     ghost agrees = { λ f. D.agrees f.disk };
 
-    ghost fresh = { λ f. fresh_below f.refused (D.asked f.disk) (D.story f.disk) (D.fresh f.disk) };
+    ghost unasked = { λ f. unasked_below f.refused (D.asked f.disk) (D.attached f.disk) (D.unasked f.disk) };
+
+    ghost unattached = { λ f. D.unattached f.disk };
 
     fn attach(&mut self, name: Bytes, role: Role) -> Result<(), Failed> {
         if !spend(&mut self.left) {

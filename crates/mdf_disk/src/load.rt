@@ -1,4 +1,4 @@
-ghost use Rattle.std.specs.Prelude.{◌≡◌, ◌≤◌, ◌<◌, ◌^◌, IsSome, IfSome, IfOk, OnOk, IfErr, length};
+ghost use Rattle.std.specs.Prelude.{◌≡◌, ◌≤◌, ◌<◌, ◌^◌, true, IfSome, IfOk, OnOk, IfErr, length};
 ghost use Rattle.mdf_format.specs.Cause.{HasCause};
 ghost use Rattle.mdf_disk.specs.declared.load.LoadFault.TheVariants.{Failed as DeviceFailed, Memory as NoMemory};
 ghost use Rattle.mdf_disk.specs.Load.{LoadCause};
@@ -44,12 +44,13 @@ impl From<AllocError> for LoadFault {
 /// `TooLong` exactly where the size answered is over the limit; no byte is read then. `Failed` where the disk failed.
 /// `Memory` for want of memory.
 pub fn read_whole<D: Disk>(alloc: Global, disk: &mut D, limit: u64) -> Result<Bytes, LoadFault>
-    requires { IsSome (D.asked disk.old) }
+    requires { D.attached disk.old ≡ true }
     ensures bytes { IfOk result (λ bytes. IfSome (D.content disk.old) (λ file. bytes ≡ file)) }
     ensures short { IfOk result (λ bytes. length bytes ≤ limit) }
     ensures cause { IfErr result (LoadCause (D.content disk.old) (D.faults disk.old) (D.faults disk.new) limit) }
     ensures later { D.faults disk.old ≤ D.faults disk.new }
     ensures asked { D.asked disk.new ≡ D.asked disk.old }
+    ensures attached { D.attached disk.new ≡ D.attached disk.old }
     ensures content { D.content disk.new ≡ D.content disk.old }
     ensures story { D.story disk.new ≡ D.story disk.old }
     ensures moment { D.moment disk.old ≤ D.moment disk.new }

@@ -1,9 +1,9 @@
-ghost use Rattle.std.specs.Prelude.{◌≡◌, ◌≤◌, ◌<◌, ◌++◌, ◌∷◌, [], Some, None, length, IfOk, OnOk, OnErr};
+ghost use Rattle.std.specs.Prelude.{◌≡◌, ◌≤◌, ◌<◌, ◌++◌, ◌∷◌, [], Some, None, true, false, length, IfOk, OnOk, OnErr};
 ghost use Rattle.std.specs.Option.{ForNone};
 ghost use Rattle.mdf_format.specs.Cause.{HasCause};
 ghost use Rattle.mdf_disk.specs.Story.{MayLeave, LeftSince, settled};
 ghost use Rattle.mdf_disk.specs.Image.{image_inside, pick_of, moment_inside, moment_before};
-ghost use Rattle.mdf_disk.specs.Tape.{story_of, first_story, told_story, told_content, told_agrees, told_fresh, IsRecordable};
+ghost use Rattle.mdf_disk.specs.Tape.{story_of, first_story, told_story, told_content, told_agrees, told_unattached, IsRecordable};
 
 use crate::call::Call;
 use crate::image::Pick;
@@ -23,7 +23,8 @@ pub struct MemoryDisk {
     asked: Option<(Bytes, Role)>,
     attached: bool,
     plan: FaultPlan,
-    ghost unused: { ForNone asked ((story_of tape).now ≡ settled []) },
+    ghost unasked: { asked ≡ None → attached ≡ false },
+    ghost unused: { attached ≡ false → (story_of tape).now ≡ settled [] },
     ghost possible: { MayLeave (story_of tape).now (story_of tape).now.content },
 }
 
@@ -59,6 +60,7 @@ impl MemoryDisk {
     /// A disk without a file. It tells its story.
     pub fn new(alloc: Global) -> MemoryDisk
         ensures asked { ⟦<MemoryDisk as Disk>⟧.asked result ≡ None }
+        ensures attached { ⟦<MemoryDisk as Disk>⟧.attached result ≡ false }
         ensures content { ⟦<MemoryDisk as Disk>⟧.content result ≡ Some [] }
         ensures story { ⟦<MemoryDisk as Disk>⟧.story result ≡ Some first_story }
         ensures faults { ⟦<MemoryDisk as Disk>⟧.faults result ≡ 0 }
@@ -78,6 +80,7 @@ impl MemoryDisk {
     /// A disk with a file of these bytes, to be read. It tells no story.
     pub fn holding(alloc: Global, bytes: Bytes) -> MemoryDisk
         ensures asked { ⟦<MemoryDisk as Disk>⟧.asked result ≡ None }
+        ensures attached { ⟦<MemoryDisk as Disk>⟧.attached result ≡ false }
         ensures content { ⟦<MemoryDisk as Disk>⟧.content result ≡ Some bytes }
         ensures story { ⟦<MemoryDisk as Disk>⟧.story result ≡ None }
         ensures faults { ⟦<MemoryDisk as Disk>⟧.faults result ≡ 0 }
@@ -97,6 +100,8 @@ impl MemoryDisk {
     /// From now on the calls with these numbers fail, counted from 0 over all calls of this disk.
     pub fn fail_at(&mut self, calls: Numbers)
         ensures asked { ⟦<MemoryDisk as Disk>⟧.asked self.new ≡ ⟦<MemoryDisk as Disk>⟧.asked self.old }
+        ensures attached { ⟦<MemoryDisk as Disk>⟧.attached self.new ≡ ⟦<MemoryDisk as Disk>⟧.attached self.old }
+        ensures story { ⟦<MemoryDisk as Disk>⟧.story self.new ≡ ⟦<MemoryDisk as Disk>⟧.story self.old }
         ensures faults { ⟦<MemoryDisk as Disk>⟧.faults self.new ≡ ⟦<MemoryDisk as Disk>⟧.faults self.old }
         ensures calls { calls_of self.new ≡ calls_of self.old }
         ensures file { file_of self.new ≡ file_of self.old }
@@ -146,9 +151,14 @@ impl MemoryDisk {
 }
 
 impl Disk for MemoryDisk {
-    ghost use Rattle.std.specs.Prelude.{Some};
+    ghost use Rattle.std.specs.Prelude.{◌↔◌, IsOk};
+    ghost use Rattle.mdf_disk.specs.Calls.{Attaches};
+    ghost use Rattle.mdf_disk.specs.Memory.{file_of, calls_of, IsThere};
+    ghost use Rattle.mdf_disk.specs.declared.call.Call.TheVariants.{Attach};
 
     ghost asked = { λ d. d.asked };
+
+    ghost attached = { λ d. d.attached };
 
     ghost content = { λ d. Some (told_content d.file d.tape) };
 
@@ -160,9 +170,23 @@ impl Disk for MemoryDisk {
 
     ghost agrees = { λ d. told_agrees d.file d.tape d.possible };
 
-    ghost fresh = { λ d. told_fresh d.asked d.file d.tape d.unused };
+    ghost unasked = { λ d. d.unasked };
 
-    fn attach(&mut self, name: Bytes, role: Role) -> Result<(), Failed> {
+    ghost unattached = { λ d. told_unattached d.attached d.file d.tape d.unused };
+
+    /// Attaches the file that is there to read it, or makes one where none is.
+    fn attach(&mut self, name: Bytes, role: Role) -> Result<(), Failed>
+        requires { ⟦<MemoryDisk as Disk>⟧.asked self.old ≡ None }
+        ensures asked { ⟦<MemoryDisk as Disk>⟧.asked self.new ≡ Some (name, role) }
+        ensures attached { IsOk result ↔ (⟦<MemoryDisk as Disk>⟧.attached self.new ≡ true) }
+        ensures content { Attaches role (⟦<MemoryDisk as Disk>⟧.content self.old) (⟦<MemoryDisk as Disk>⟧.content self.new) result }
+        ensures story { ⟦<MemoryDisk as Disk>⟧.story self.new ≡ ⟦<MemoryDisk as Disk>⟧.story self.old }
+        ensures moment { ⟦<MemoryDisk as Disk>⟧.moment self.old ≤ ⟦<MemoryDisk as Disk>⟧.moment self.new }
+        ensures cause { HasCause (⟦<MemoryDisk as Disk>⟧.faults self.old) (⟦<MemoryDisk as Disk>⟧.faults self.new) result }
+        ensures there { OnOk result (IsThere role (file_of self.old)) }
+        ensures recorded { OnOk result (calls_of self.new ≡ calls_of self.old ++ Attach ∷ []) }
+        ensures file { file_of self.new ≡ file_of self.old }
+    {
         self.asked = Some((name, role));
         let may = self.plan.call();
         log(&mut self.tape, &mut self.plan, Call::Attach)?;
@@ -181,7 +205,7 @@ impl Disk for MemoryDisk {
     fn size(&mut self) -> Result<u64, Failed> {
         let may = self.plan.call();
         log(&mut self.tape, &mut self.plan, Call::Size)?;
-        if !may || !self.attached {
+        if !may {
             return Err(self.plan.fail());
         }
         Ok(self.bytes().len() as u64)
@@ -190,7 +214,7 @@ impl Disk for MemoryDisk {
     fn read_at(&mut self, at: u64, buf: &mut [u8]) -> Result<(), Failed> {
         let may = self.plan.call();
         log(&mut self.tape, &mut self.plan, Call::Read)?;
-        if !may || !self.attached {
+        if !may {
             return Err(self.plan.fail());
         }
         let start = at as usize;
@@ -200,7 +224,7 @@ impl Disk for MemoryDisk {
 
     fn write_at(&mut self, at: u64, bytes: &[u8]) -> Result<(), Failed> {
         let may = self.plan.call();
-        if !self.attached || self.file.is_some() {
+        if self.file.is_some() {
             log(&mut self.tape, &mut self.plan, Call::Refused)?;
             return Err(self.plan.fail());
         }
@@ -221,10 +245,6 @@ impl Disk for MemoryDisk {
 
     fn sync(&mut self) -> Result<(), Failed> {
         let may = self.plan.call();
-        if !self.attached {
-            log(&mut self.tape, &mut self.plan, Call::Refused)?;
-            return Err(self.plan.fail());
-        }
         log(&mut self.tape, &mut self.plan, Call::Sync { done: may })?;
         if !may {
             return Err(self.plan.fail());

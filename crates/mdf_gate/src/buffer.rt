@@ -1,4 +1,4 @@
-ghost use Rattle.std.specs.Prelude.{◌≡◌, ◌+◌, ◌≤◌, ◌<◌, ◌^◌, ◌↔◌, ℕ, List, [], ◌∷◌, ◌++◌, length, take, is_some, IsTrue, IsSome, IfSome, IfOk, OnOk};
+ghost use Rattle.std.specs.Prelude.{◌≡◌, ◌+◌, ◌≤◌, ◌<◌, ◌^◌, ◌↔◌, ℕ, List, [], ◌∷◌, ◌++◌, length, take, true, is_some, IsTrue, IfSome, IfOk, OnOk};
 ghost use Rattle.mdf_format.specs.Number.{bytes_at, patched};
 ghost use Rattle.mdf_format.specs.Cause.{HasCause};
 ghost use Rattle.mdf_disk.specs.Crash.{Adds};
@@ -135,7 +135,7 @@ impl Block {
 
     /// Writes the block at a place, which is the last of a file that is kept. The data stay.
     pub(crate) fn write<D: Disk>(&mut self, disk: &mut D, place: u64) -> Result<(), Failed>
-        requires attached { IsSome (D.asked disk.old) }
+        requires attached { D.attached disk.old ≡ true }
         requires small { place < 2 ^ 62 }
         requires ends { IfSome (D.content disk.old) (λ file. length file ≡ place + 1) }
         ensures same { self.new ≡ self.old }
@@ -146,9 +146,10 @@ impl Block {
         ensures told { is_some (D.story disk.new) ≡ is_some (D.story disk.old) }
         ensures told_content { is_some (D.content disk.new) ≡ is_some (D.content disk.old) }
         ensures moment { D.moment disk.old ≤ D.moment disk.new }
-        ensures rises { OnOk result (IfSome (D.story disk.old) (λ _. D.moment disk.old < D.moment disk.new)) }
+        ensures calls { OnOk result (IfSome (D.story disk.old) (λ _. D.moment disk.new ≡ D.moment disk.old + 4)) }
         ensures cause { HasCause (D.faults disk.old) (D.faults disk.new) result }
         ensures asked { D.asked disk.new ≡ D.asked disk.old }
+        ensures attached { D.attached disk.new ≡ D.attached disk.old }
     {
         let end = align8(24 + u64::from(self.used)) as usize;
         frame(&mut self.bytes, self.used);

@@ -24,19 +24,19 @@ pub struct GatedFile<D: Disk> {
 }
 
 impl<D: Disk> Model for GatedFile<D> {
-    ghost use Rattle.std.specs.Prelude.{IsSome};
+    ghost use Rattle.std.specs.Prelude.{◌≡◌, true};
     ghost use Rattle.mdf_gate.specs.Gated.{Gated, IsGated};
 
     ghost Value = { Gated D };
 
     ghost view = { λ g. record { disk = g.disk; first = g.first; place = g.place; start = g.start; faults = g.faults; failed = g.failed } };
 
-    ghost invariant = { λ g. IsSome (D.asked g.disk) × IsGated (D.content g.disk) (D.story g.disk) (D.faults g.disk) g.first g.place g.faults g.failed };
+    ghost invariant = { λ g. (D.attached g.disk ≡ true) × IsGated (D.content g.disk) (D.story g.disk) (D.faults g.disk) g.first g.place g.faults g.failed };
 }
 
 /// Writes a head and one closed gate behind it under a seal.
 fn write_head<D: Disk>(disk: &mut D, head: &[u8]) -> Result<(), Failed>
-    requires attached { IsSome (D.asked disk.old) }
+    requires attached { D.attached disk.old ≡ true }
     requires blank { IsBlank (D.content disk.old) (D.story disk.old) }
     requires head { IsRecordingHead head.now }
     requires short { length head.now < 2 ^ 61 }
@@ -44,6 +44,7 @@ fn write_head<D: Disk>(disk: &mut D, head: &[u8]) -> Result<(), Failed>
     ensures any_moment { Adds (D.story disk.old) (D.story disk.new) (IsBegun head.now) }
     ensures cause { HasCause (D.faults disk.old) (D.faults disk.new) result }
     ensures asked { D.asked disk.new ≡ D.asked disk.old }
+    ensures attached { D.attached disk.new ≡ D.attached disk.old }
     ensures moment { D.moment disk.old ≤ D.moment disk.new }
     ensures told { is_some (D.story disk.new) ≡ is_some (D.story disk.old) }
 {
@@ -60,7 +61,7 @@ impl<D: Disk> GatedFile<D> {
     /// # Errors
     /// `Failed` where the disk failed, with the disk.
     pub fn create(mut disk: D, head: &[u8]) -> Result<GatedFile<D>, (Failed, D)>
-        requires attached { IsSome (D.asked disk) }
+        requires attached { D.attached disk ≡ true }
         requires blank { IsBlank (D.content disk) (D.story disk) }
         requires head { IsRecordingHead head.now }
         requires short { length head.now < 2 ^ 61 }
@@ -76,6 +77,7 @@ impl<D: Disk> GatedFile<D> {
         ensures begun { IfOk result (λ file. HoldsSince (D.story file.disk) file.start (IsBegun (head_of (D.story file.disk) file.first))) }
         ensures cause { HasCause (D.faults disk) (D.faults (disk_of result)) result }
         ensures asked { D.asked (disk_of result) ≡ D.asked disk }
+        ensures attached { D.attached (disk_of result) ≡ true }
         ensures moment { D.moment disk ≤ D.moment (disk_of result) }
         ensures told { is_some (D.story (disk_of result)) ≡ is_some (D.story disk) }
     {
@@ -124,8 +126,11 @@ impl<D: Disk> GatedFile<D> {
         ensures told_content { is_some (D.content self.new.disk) ≡ is_some (D.content self.old.disk) }
         ensures moment { D.moment self.old.disk ≤ D.moment self.new.disk }
         ensures rises { OnOk result (IfSome (D.story self.old.disk) (λ _. D.moment self.old.disk < D.moment self.new.disk)) }
+        ensures calls { OnOk result (IfSome (D.story self.old.disk) (λ _. D.moment self.new.disk ≡ D.moment self.old.disk + 4)) }
+        ensures stays { OnErr result (self.new.place ≡ self.old.place) }
         ensures cause { HasCause (D.faults self.old.disk) (D.faults self.new.disk) result }
         ensures asked { D.asked self.new.disk ≡ D.asked self.old.disk }
+        ensures attached { D.attached self.new.disk ≡ D.attached self.old.disk }
     {
         self.failed = true;
         block.write(&mut self.disk, self.place)?;
@@ -174,7 +179,8 @@ impl<D: Disk> GatedFile<D> {
     /// Hands the disk back, attached.
     pub fn into_disk(self) -> D
         ensures disk { result ≡ self.disk }
-        ensures attached { IsSome (D.asked result) }
+        ensures attached { D.attached result ≡ true }
+        ensures asked { IsSome (D.asked result) }
     {
         let GatedFile {
             disk,

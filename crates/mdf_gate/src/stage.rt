@@ -1,4 +1,4 @@
-ghost use Rattle.std.specs.Prelude.{◌≡◌, ◌+◌, ◌≤◌, ◌<◌, ◌^◌, ◌++◌, ℕ, List, [], ◌∷◌, length, take, Some, is_some, IsSome, IfSome, OnOk};
+ghost use Rattle.std.specs.Prelude.{◌≡◌, ◌+◌, ◌≤◌, ◌<◌, ◌^◌, ◌++◌, ℕ, List, [], ◌∷◌, length, take, Some, true, is_some, IfSome, OnOk};
 ghost use Rattle.std.specs.Option.{option_map};
 ghost use Rattle.mdf_format.specs.Number.{patched};
 ghost use Rattle.mdf_format.specs.Cause.{HasCause};
@@ -12,7 +12,7 @@ use mdf_num::Failed;
 
 /// Writes bytes into a file that is kept, and syncs.
 fn write_and_sync<D: Disk>(disk: &mut D, at: u64, bytes: &[u8]) -> Result<(), Failed>
-    requires attached { IsSome (D.asked disk.old) }
+    requires attached { D.attached disk.old ≡ true }
     requires within { IfSome (D.content disk.old) (λ file. at ≤ length file) }
     ensures content { OnOk result (D.content disk.new ≡ option_map (patched at bytes.now) (D.content disk.old)) }
     ensures kept { (kept : List ℕ) → NowHas (D.story disk.old) (λ moment. moment ≡ settled kept)
@@ -22,9 +22,10 @@ fn write_and_sync<D: Disk>(disk: &mut D, at: u64, bytes: &[u8]) -> Result<(), Fa
     ensures told { is_some (D.story disk.new) ≡ is_some (D.story disk.old) }
     ensures told_content { is_some (D.content disk.new) ≡ is_some (D.content disk.old) }
     ensures moment { D.moment disk.old ≤ D.moment disk.new }
-    ensures rises { OnOk result (IfSome (D.story disk.old) (λ _. D.moment disk.old < D.moment disk.new)) }
+    ensures calls { OnOk result (IfSome (D.story disk.old) (λ _. D.moment disk.new ≡ D.moment disk.old + 2)) }
     ensures cause { HasCause (D.faults disk.old) (D.faults disk.new) result }
     ensures asked { D.asked disk.new ≡ D.asked disk.old }
+    ensures attached { D.attached disk.new ≡ D.attached disk.old }
 {
     disk.write_at(at, bytes)?;
     disk.sync()
@@ -32,7 +33,7 @@ fn write_and_sync<D: Disk>(disk: &mut D, at: u64, bytes: &[u8]) -> Result<(), Fa
 
 /// Writes a payload behind the last gate of a file that is kept, and syncs. Then it opens that gate, and syncs.
 pub fn write_block<D: Disk>(disk: &mut D, place: u64, payload: &[u8]) -> Result<(), Failed>
-    requires attached { IsSome (D.asked disk.old) }
+    requires attached { D.attached disk.old ≡ true }
     requires small { place < 2 ^ 62 }
     requires ends { IfSome (D.content disk.old) (λ file. length file ≡ place + 1) }
     ensures ok { (kept : List ℕ) → IsKept (D.content disk.old) (D.story disk.old) kept → length kept ≡ place + 1
@@ -42,9 +43,10 @@ pub fn write_block<D: Disk>(disk: &mut D, place: u64, payload: &[u8]) -> Result<
     ensures told { is_some (D.story disk.new) ≡ is_some (D.story disk.old) }
     ensures told_content { is_some (D.content disk.new) ≡ is_some (D.content disk.old) }
     ensures moment { D.moment disk.old ≤ D.moment disk.new }
-    ensures rises { OnOk result (IfSome (D.story disk.old) (λ _. D.moment disk.old < D.moment disk.new)) }
+    ensures calls { OnOk result (IfSome (D.story disk.old) (λ _. D.moment disk.new ≡ D.moment disk.old + 4)) }
     ensures cause { HasCause (D.faults disk.old) (D.faults disk.new) result }
     ensures asked { D.asked disk.new ≡ D.asked disk.old }
+    ensures attached { D.attached disk.new ≡ D.attached disk.old }
 {
     // The payload, which holds the closed gate of the next place, has to be kept before this gate is opened.
     write_and_sync(disk, place + 1, payload)?;

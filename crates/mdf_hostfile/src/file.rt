@@ -1,4 +1,4 @@
-ghost use Rattle.std.specs.Prelude.{◌≡◌, ◌↔◌, ◌<◌, IsSome, None};
+ghost use Rattle.std.specs.Prelude.{◌≡◌, ◌↔◌, ◌<◌, IsSome, None, is_some, false};
 ghost use Rattle.std.specs.Option.{option_map};
 
 use mdf_disk::{Disk, Role};
@@ -19,6 +19,7 @@ pub struct FileDisk<'a, R> {
     asked: Option<(Bytes, Role)>,
     calls: u64,
     faults: SystemFaults,
+    ghost unasked: { asked ≡ None → is_some file ≡ false },
 }
 
 /// Opens a file that is there to read it, or makes one under a name that is not taken.
@@ -49,6 +50,7 @@ impl<'a, R: Files<File = File>> FileDisk<'a, R> {
     /// A disk without a file yet.
     pub fn new(rt: &'a R) -> FileDisk<'a, R>
         ensures asked { ⟦<FileDisk<'a, R> as Disk>⟧.asked result ≡ None }
+        ensures attached { ⟦<FileDisk<'a, R> as Disk>⟧.attached result ≡ false }
         ensures content { ⟦<FileDisk<'a, R> as Disk>⟧.content result ≡ None }
         ensures faults { ⟦<FileDisk<'a, R> as Disk>⟧.faults result ≡ 0 }
     {
@@ -85,9 +87,11 @@ fn no_file() -> io::Error {
 }
 
 impl<'a, R: Files<File = File>> Disk for FileDisk<'a, R> {
-    ghost use Rattle.std.specs.Prelude.{None};
+    ghost use Rattle.std.specs.Prelude.{None, is_some};
 
     ghost asked = { λ d. d.asked };
+
+    ghost attached = { λ d. is_some d.file };
 
     ghost content = { λ _. None };
 
@@ -99,7 +103,9 @@ impl<'a, R: Files<File = File>> Disk for FileDisk<'a, R> {
 
     ghost agrees = { λ _. tt };
 
-    ghost fresh = { λ _ _. tt };
+    ghost unasked = { λ d. d.unasked };
+
+    ghost unattached = { λ _ _. tt };
 
     fn attach(&mut self, name: Bytes, role: Role) -> Result<(), Failed> {
         self.calls = self.calls.saturating_add(1);

@@ -1,4 +1,4 @@
-ghost use Rattle.std.specs.Prelude.{◌≡◌, ◌+◌, ◌≤◌, ◌<◌, ◌^◌, ◌++◌, ◌⊎◌, List, ℕ, [], length, is_some, IsSome, IfSome, IfOk, OnOk};
+ghost use Rattle.std.specs.Prelude.{◌≡◌, ◌+◌, ◌≤◌, ◌<◌, ◌^◌, ◌++◌, ◌⊎◌, List, ℕ, [], length, true, is_some, IfSome, IfOk, OnOk};
 ghost use Rattle.std.specs.Option.{option_map};
 ghost use Rattle.mdf_format.specs.Cause.{HasCause};
 ghost use Rattle.mdf_disk.specs.Crash.{Adds, NowHas};
@@ -17,7 +17,7 @@ pub struct Sealed {
 
 /// Writes bytes at the end of a file, whose length is `at`. Where there are none it makes no call.
 fn append<D: Disk>(disk: &mut D, at: u64, bytes: &[u8]) -> Result<(), Failed>
-    requires attached { IsSome (D.asked disk.old) }
+    requires attached { D.attached disk.old ≡ true }
     requires end { IfSome (D.content disk.old) (λ file. length file ≡ at) }
     requires some { 1 ≤ at }
     requires shut { NowHas (D.story disk.old) IsShut }
@@ -27,6 +27,7 @@ fn append<D: Disk>(disk: &mut D, at: u64, bytes: &[u8]) -> Result<(), Failed>
     ensures none { bytes.now ≡ [] → disk.new ≡ disk.old }
     ensures cause { HasCause (D.faults disk.old) (D.faults disk.new) result }
     ensures asked { D.asked disk.new ≡ D.asked disk.old }
+    ensures attached { D.attached disk.new ≡ D.attached disk.old }
     ensures moment { D.moment disk.old ≤ D.moment disk.new }
     ensures told { is_some (D.story disk.new) ≡ is_some (D.story disk.old) }
 {
@@ -44,12 +45,13 @@ impl Sealed {
     /// # Errors
     /// `Failed` where the disk failed.
     pub fn begin<D: Disk>(disk: &mut D) -> Result<Sealed, Failed>
-        requires attached { IsSome (D.asked disk.old) }
+        requires attached { D.attached disk.old ≡ true }
         requires blank { IsBlank (D.content disk.old) (D.story disk.old) }
         ensures ok { IfOk result (λ seal. Seals seal (D.content disk.new) (D.story disk.new) []) }
         ensures any_moment { Adds (D.story disk.old) (D.story disk.new) (λ file. length file ≤ 1) }
         ensures cause { HasCause (D.faults disk.old) (D.faults disk.new) result }
         ensures asked { D.asked disk.new ≡ D.asked disk.old }
+        ensures attached { D.attached disk.new ≡ D.attached disk.old }
         ensures moment { D.moment disk.old ≤ D.moment disk.new }
         ensures told { is_some (D.story disk.new) ≡ is_some (D.story disk.old) }
     {
@@ -66,7 +68,7 @@ impl Sealed {
     /// # Errors
     /// `Failed` where the disk failed.
     pub fn give<D: Disk>(&mut self, disk: &mut D, bytes: &[u8]) -> Result<(), Failed>
-        requires attached { IsSome (D.asked disk.old) }
+        requires attached { D.attached disk.old ≡ true }
         requires sealed { (given : List ℕ) × Seals self.old (D.content disk.old) (D.story disk.old) given
             × (length given + length bytes.now < 2 ^ 62) }
         ensures ok { (given : List ℕ) → Seals self.old (D.content disk.old) (D.story disk.old) given
@@ -75,6 +77,7 @@ impl Sealed {
         ensures none { bytes.now ≡ [] → disk.new ≡ disk.old }
         ensures cause { HasCause (D.faults disk.old) (D.faults disk.new) result }
         ensures asked { D.asked disk.new ≡ D.asked disk.old }
+        ensures attached { D.attached disk.new ≡ D.attached disk.old }
         ensures moment { D.moment disk.old ≤ D.moment disk.new }
         ensures told { is_some (D.story disk.new) ≡ is_some (D.story disk.old) }
     {
@@ -96,7 +99,7 @@ impl Sealed {
     /// # Errors
     /// `Failed` where the disk failed.
     pub fn finish<D: Disk>(self, disk: &mut D) -> Result<(), Failed>
-        requires attached { IsSome (D.asked disk.old) }
+        requires attached { D.attached disk.old ≡ true }
         requires sealed { (given : List ℕ) × Seals self (D.content disk.old) (D.story disk.old) given
             × (1 ≤ length given) }
         ensures ok { (given : List ℕ) → Seals self (D.content disk.old) (D.story disk.old) given
@@ -105,6 +108,7 @@ impl Sealed {
             → Adds (D.story disk.old) (D.story disk.new) (λ file. IsClosed file ⊎ IsWholeButFirst given file) }
         ensures cause { HasCause (D.faults disk.old) (D.faults disk.new) result }
         ensures asked { D.asked disk.new ≡ D.asked disk.old }
+        ensures attached { D.attached disk.new ≡ D.attached disk.old }
         ensures moment { D.moment disk.old ≤ D.moment disk.new }
         ensures told { is_some (D.story disk.new) ≡ is_some (D.story disk.old) }
     {

@@ -13,7 +13,7 @@ returns-in_default-clause-refused g c =
     let head = plain_head c.args.now_ns in
     record {
       asked_is = inl c.requires;
-      begun = begun_holds head story story (g.C.Disk.content c.args.out) (g.C.Disk.moment c.args.out) (g.met.C.Disk.agrees c.args.out) (g.met.C.Disk.fresh c.args.out c.requires)
+      begun = begun_holds head story story (g.C.Disk.content c.args.out) (g.C.Disk.moment c.args.out) (g.met.C.Disk.agrees c.args.out) (g.met.C.Disk.unattached c.args.out (g.met.C.Disk.unasked c.args.out c.requires))
           (adds_none story (IsBegun head));
       comes = tt;
     }
@@ -25,7 +25,7 @@ returns-in_default-attach-clause-refused g c =
     record {
       asked_is = inr (c.attach.ensures.asked ∙ ap (λ n. Some (n, Create)) c.in-Ok.ensures);
       begun = subst (λ s. HoldsSince s (g.C.Disk.moment c.args.out) (IsBegun head)) (sym c.attach.ensures.story)
-          (begun_holds head story story (g.C.Disk.content c.args.out) (g.C.Disk.moment c.args.out) (g.met.C.Disk.agrees c.args.out) (g.met.C.Disk.fresh c.args.out c.requires)
+          (begun_holds head story story (g.C.Disk.content c.args.out) (g.C.Disk.moment c.args.out) (g.met.C.Disk.agrees c.args.out) (g.met.C.Disk.unattached c.args.out (g.met.C.Disk.unasked c.args.out c.requires))
           (adds_none story (IsBegun head)));
       comes = c.in_default-attach.ensures.cause.failed;
     }
@@ -34,7 +34,7 @@ pub returns-in-Ok-create-clause-begun : goal.returns-in-Ok-create-clause-begun
 returns-in-Ok-create-clause-begun g c =
     let head = plain_head c.args.now_ns in
     begun_holds head (g.C.Disk.story c.args.out) (g.C.Disk.story c.in-Ok-create.file.disk) (g.C.Disk.content c.args.out) (g.C.Disk.moment c.args.out)
-    (g.met.C.Disk.agrees c.args.out) (g.met.C.Disk.fresh c.args.out c.requires)
+    (g.met.C.Disk.agrees c.args.out) (g.met.C.Disk.unattached c.args.out (g.met.C.Disk.unasked c.args.out c.requires))
     (subst (λ s. Adds s (g.C.Disk.story c.in-Ok-create.file.disk) (IsBegun head)) c.attach.ensures.story
     (subst (λ h. Adds (g.C.Disk.story c.attach.new.self) (g.C.Disk.story c.in-Ok-create.file.disk) (IsBegun h)) c.plain_head.ensures.head c.in-Ok-create.ensures.any_moment))
 
@@ -44,7 +44,7 @@ returns-in-Err-clause-refused g c =
     record {
       asked_is = inr (c.in-Err.ensures.asked ∙ c.attach.ensures.asked ∙ ap (λ n. Some (n, Create)) c.in-Ok.ensures);
       begun = begun_holds head (g.C.Disk.story c.args.out) (g.C.Disk.story c.in-Err.out) (g.C.Disk.content c.args.out) (g.C.Disk.moment c.args.out)
-          (g.met.C.Disk.agrees c.args.out) (g.met.C.Disk.fresh c.args.out c.requires)
+          (g.met.C.Disk.agrees c.args.out) (g.met.C.Disk.unattached c.args.out (g.met.C.Disk.unasked c.args.out c.requires))
           (subst (λ s. Adds s (g.C.Disk.story c.in-Err.out) (IsBegun head)) c.attach.ensures.story
           (subst (λ h. Adds (g.C.Disk.story c.attach.new.self) (g.C.Disk.story c.in-Err.out) (IsBegun h)) c.plain_head.ensures.head c.in-Err.ensures.any_moment));
       comes = omega (arith, c.attach.ensures.cause.later, c.in-Err.ensures.cause.failed);

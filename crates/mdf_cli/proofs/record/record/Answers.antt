@@ -9,7 +9,7 @@ pub returns-in-Err : goal.returns-in-Err
 returns-in-Err g c =
     let k = c.refused.ensures in
     let head = plain_head c.args.now_ns in
-    let begun = fresh_begun head (g.C.Disk.story c.args.out) (g.C.Disk.content c.args.out) (g.C.Disk.moment c.args.out) (g.met.C.Disk.agrees c.args.out) (g.met.C.Disk.fresh c.args.out c.requires) in
+    let begun = fresh_begun head (g.C.Disk.story c.args.out) (g.C.Disk.content c.args.out) (g.C.Disk.moment c.args.out) (g.met.C.Disk.agrees c.args.out) (g.met.C.Disk.unattached c.args.out (g.met.C.Disk.unasked c.args.out c.requires)) in
     record {
       comes = rw k.end (record {
         history = k.history;

@@ -1,5 +1,4 @@
 use Rattle.std.proofs.Common.{◌≡◌, ◌+◌, ◌<◌, ◌^◌, ◌++◌, [], ◌∷◌, ℕ, length, false, Ok, ap, sym, subst, ◌∙◌, arith}
-use Rattle.std.specs.Prelude.{IsSome}
 use Rattle.mdf_format.specs.Number.{aligned}
 use Rattle.mdf_num.specs.declared.failure.Failed.{Failed}
 use Rattle.mdf_gate.specs.Gated.{Gated, Buffered, RestsOn}
@@ -36,7 +35,7 @@ invariant_of-self-2 g c =
     let place = ap (λ (s : Gated _). s.place) c.self.view_is in
     let count : c.from.result ≡ length body = c.from.ensures ∙ c.len.ensures.len ∙ ap (λ (b : Buffered). length b.bytes) c.in_ok-write.ensures.same in
     let place_is : c.align8-self-inside.result ≡ aligned (file.place + 24 + length body) = c.align8-self-inside.ensures.aligned ∙ ap (λ (n : ℕ). aligned (file.place + 24 + n)) count in (
-      subst IsSome (sym c.write.ensures.asked) c.self.invariant.0,
+      c.write.ensures.attached ∙ c.self.invariant.0,
       record {
         behind = omega (arith, c.self.invariant.1.behind, c.align8-self-inside.ensures.not_below);
         on_eight = c.align8-self-inside.ensures.multiple;

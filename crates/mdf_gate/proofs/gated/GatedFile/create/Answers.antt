@@ -1,5 +1,4 @@
-use Rattle.std.proofs.Common.{◌≡◌, ◌%◌, ◌++◌, [], ◌∷◌, ℕ, length, sym, subst, arith}
-use Rattle.std.specs.Prelude.{IsSome}
+use Rattle.std.proofs.Common.{◌≡◌, ◌%◌, ◌++◌, [], ◌∷◌, ℕ, length, sym, subst, ◌∙◌, arith}
 use Rattle.mdf_disk.specs.Crash.{HoldsSince}
 use Rattle.mdf_gate.specs.Images.{IsBegun, head_of}
 use Rattle.mdf_gate.proofs.Begun.{begun_holds, begun_since, kept_head}
@@ -18,7 +17,7 @@ invariant_of-result g c =
     let head = c.args.head.now in
     let disk = c.write_head.new.disk in
     let on_eight : length head % 8 ≡ 0 = subst (λ n. n % 8 ≡ 0) c.requires.head.ends c.requires.head.recording.place.on_eight in (
-      subst IsSome (sym c.in-Ok.ensures.asked) c.requires.attached,
+      c.in-Ok.ensures.attached ∙ c.requires.attached,
       record {
         behind = omega arith;
         on_eight = on_eight;
