@@ -8,6 +8,7 @@ use borrow.Rule.Slice.PartMut.{put_mid}
 use Rattle.std.proofs.lemmas.Nat.Bits.{same_from_bits_below}
 use Rattle.std.specs.Int.{bit_at}
 use Rattle.mdf_format.specs.Field.{Spot, HasBit, bit_of, bits_of, covered_bytes, covered_end, covered_size, field_number, lowest_first, place_of}
+use Rattle.mdf_bits.specs.Field.{bit_within}
 use Rattle.mdf_bits.proofs.BitLists.{are_bits_of, are_bits_after, bit_at-weight_of, weight_of-lt, get_or-bits_of}
 
 -- bit i of the number of a field is bit i of its bits in the bytes that it touches
@@ -73,12 +74,8 @@ same_number s old new inside_old inside_new same =
     let has : HasBit s (place_of s (s.bit + i)) = record { k = s.bit + i; low = omega arith; high = omega arith; there = refl } in
     bit_at-field_number s new i inside_new within ∙ same (place_of s (s.bit + i)) has ∙ sym (bit_at-field_number s old i inside_old within))
 
--- which bit of the bytes that the field touches is bit p of the record
-abbrev bit_within : Spot → ℕ → ℕ
-bit_within s p = if s.big then 8 * (covered_size s - 1 - (p / 8 - s.byte)) + p % 8 else p - 8 * s.byte
-
--- it is one of them, and lies at p
-record LiesAt (s : Spot) (p k : ℕ) : Type 0 where
+-- bit k of the bytes that the field touches is bit p of the record
+pub record LiesAt (s : Spot) (p k : ℕ) : Type 0 where
   pub within : k < 8 * covered_size s
   pub there : p ≡ place_of s k
 
@@ -91,9 +88,27 @@ lies true byte n p low high =
     (omega arith, rw (row, column) (omega arith))
 lies false byte n p low high = (omega arith, omega arith)
 
-lies_at : (s : Spot) (p : ℕ) → 8 * s.byte ≤ p → p < 8 * covered_end s → LiesAt s p (bit_within s p)
+pub lies_at : (s : Spot) (p : ℕ) → 8 * s.byte ≤ p → p < 8 * covered_end s → LiesAt s p (bit_within s p)
 lies_at s p low high =
     let both = lies s.big s.byte (covered_size s) p low high in record { within = both.0; there = both.1 }
+
+-- and back
+pub record ComesFrom (s : Spot) (p k : ℕ) : Type 0 where
+  pub low : 8 * s.byte ≤ p
+  pub high : p < 8 * covered_end s
+  pub back : bit_within s p ≡ k
+
+comes : (big : Bool) (byte n k p : ℕ) → k < 8 * n → p ≡ (if big then 8 * (byte + (n - 1 - k / 8)) + k % 8 else 8 * byte + k)
+    → (8 * byte ≤ p) × (p < 8 * (byte + n)) × ((if big then 8 * (n - 1 - (p / 8 - byte)) + p % 8 else p - 8 * byte) ≡ k)
+comes true byte n k p within there =
+    let row : p / 8 ≡ byte + (n - 1 - k / 8) = omega arith in
+    let column : p % 8 ≡ k % 8 = omega arith in
+    (omega arith, omega arith, rw (row, column) (omega arith))
+comes false byte n k p within there = (omega arith, omega arith, omega arith)
+
+pub comes_from : (s : Spot) (p k : ℕ) → k < 8 * covered_size s → p ≡ place_of s k → ComesFrom s p k
+comes_from s p k within there =
+    let both = comes s.big s.byte (covered_size s) k p within there in record { low = both.0; high = both.1; back = both.2 }
 
 apart : (big : Bool) (byte n i j : ℕ) → i < 8 * n → j < 8 * n → i ≢ j
     → (if big then 8 * (byte + (n - 1 - i / 8)) + i % 8 else 8 * byte + i) ≢ (if big then 8 * (byte + (n - 1 - j / 8)) + j % 8 else 8 * byte + j)

@@ -14,5 +14,5 @@ mod place;
 mod word;
 
 pub use invalidation::{is_invalid, mark_invalid};
-pub use number::{covers, get, put, signed};
+pub use number::{covers, get, pattern_of, put, signed};
 pub use place::Field;

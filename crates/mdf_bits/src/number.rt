@@ -1,6 +1,6 @@
 ghost use Rattle.std.specs.Prelude.{◌≡◌, ℕ, ◌-◌, ◌^◌, ◌≤◌, ◌<◌, length};
 ghost use Rattle.mdf_format.specs.Field.{HasBit, bit_of, covered_end, covered_size, field_number, signed_number};
-ghost use Rattle.mdf_bits.specs.Field.{spot_of};
+ghost use Rattle.mdf_bits.specs.Field.{spot_of, IsSignedOf};
 
 use crate::Field;
 use crate::word::{bits_from, put_word, with_bits, word_of};
@@ -60,4 +60,19 @@ pub fn signed(value: u64, bits: u8) -> i64
     }
     let ones = u64::MAX >> (64 - bits);
     -1 - (ones - value) as i64
+}
+
+/// The bits of a signed number as two's complement, of which there are `bits`, 1 to 64: `signed` of them is the number.
+pub fn pattern_of(number: i64, bits: u8) -> u64
+    requires not_empty { 1 ≤ bits }
+    requires in_word { bits ≤ 64 }
+    requires held { IsSignedOf bits number }
+    ensures back { signed_number bits result ≡ number }
+    ensures fits { result < 2 ^ bits }
+{
+    if number >= 0 {
+        return number as u64;
+    }
+    let ones = u64::MAX >> (64 - bits);
+    ones - (-1 - number) as u64
 }

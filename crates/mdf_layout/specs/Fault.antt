@@ -1,6 +1,14 @@
--- Why a layout is refused.
-use Rattle.std.specs.Prelude.{ℕ, List}
+-- Why a layout is refused, and why a record has no sample.
+use Rattle.std.specs.Prelude.{ℕ, ◌≡◌, List, None}
+use Rattle.mdf_format.specs.Field.{field_number}
 use Rattle.mdf_layout.specs.Layout.{IsFirstOutside}
+use Rattle.mdf_layout.specs.Rule.{spot_in}
+use Rattle.mdf_layout.specs.Values.{Finder, IsFirstMissing}
+use Rattle.mdf_layout.specs.declared.reading.Lack.{Lack}
+use Rattle.mdf_layout.specs.declared.reading.Lack.TheVariants as lacks
+use Rattle.mdf_layout.specs.declared.field.FieldKind.TheVariants.{Variable}
+use Rattle.mdf_layout.specs.declared.reading.DecodeFault.{DecodeFault}
+use Rattle.mdf_layout.specs.declared.reading.DecodeFault.TheVariants as decodes
 use Rattle.mdf_layout.specs.declared.field.FieldRow.{FieldRow}
 use Rattle.mdf_layout.specs.declared.shape.ShapeFault.{ShapeFault}
 use Rattle.mdf_layout.specs.declared.shape.ShapeFault.TheVariants.{Bad, Memory}
@@ -8,3 +16,22 @@ use Rattle.mdf_layout.specs.declared.shape.ShapeFault.TheVariants.{Bad, Memory}
 abbrev pub ShapeCause : List FieldRow → ℕ → ShapeFault → Type 0
 ShapeCause rows data_bytes (Bad channel) = IsFirstOutside rows data_bytes channel
 ShapeCause rows data_bytes Memory = Unit {0}
+
+-- the offset of the channel meets no value
+pub record IsMissing (row : FieldRow) (bytes : List ℕ) (find : Finder) (offset : ℕ) : Type 0 where
+  pub kind : row.kind ≡ Variable
+  pub offset_is : offset ≡ field_number (spot_in row) bytes
+  pub missing : find offset ≡ None
+
+abbrev pub LackCause : FieldRow → List ℕ → Finder → Lack → Type 0
+LackCause row bytes find (lacks.Offset offset) = IsMissing row bytes find offset
+LackCause row bytes find lacks.Memory = Unit {0}
+
+abbrev pub DecodeCause : List FieldRow → List ℕ → List ℕ → List Finder → ℕ → DecodeFault → Type 0
+DecodeCause rows bytes inval finders index (decodes.Offset channel offset) = IsFirstMissing rows bytes inval finders index channel offset
+DecodeCause rows bytes inval finders index decodes.Memory = Unit {0}
+
+-- why channel k has no value, as why the record has no sample
+abbrev pub fault_at : ℕ → Lack → DecodeFault
+fault_at channel (lacks.Offset offset) = decodes.Offset channel offset
+fault_at channel lacks.Memory = decodes.Memory

@@ -1,6 +1,11 @@
 pub mod Stock
 pub mod Field
+pub mod Rule
+pub mod Row
+pub mod Values
+pub mod Written
 pub mod Layout
 pub mod Fault
 pub mod Record
 pub mod History
+pub mod Behind

@@ -1,19 +1,30 @@
 //! Samples of channel groups, the layout of their records, and lists of both.
 //!
 //! A record of a channel group (CGBLOCK) holds the values of its channels (CNBLOCK) in its data bytes, and a bit for
-//! each channel that can be invalid in its invalidation bytes. So far a layout has channels of 64-bit unsigned
-//! little-endian numbers alone (`cn_data_type` 0), without invalidation bits.
+//! each channel that can be invalid in its invalidation bytes. The rules of layouts, and how a record is written and
+//! read, are here for channels of all kinds. The layouts of a recording, `Shape`, so far have channels of 64-bit
+//! unsigned little-endian numbers alone (`cn_data_type` 0), without invalidation bits.
 #![tactic(auto)]
 
 mod field;
+mod law;
 mod number;
+mod reading;
 mod reserved;
+mod row;
+mod rule;
 mod sample;
 mod shape;
 mod shapes;
+mod writing;
 
 pub use field::{FieldKind, FieldRow};
+pub use law::records_are_of_one_list;
+pub use reading::{DecodeFault, decode};
 pub use reserved::Reserved;
+pub use row::{ChannelNumbers, field_row, rules_are_tested};
+pub use rule::first_bad;
 pub use sample::{Entries, Entry, Sample, Samples, Value};
 pub use shape::{Shape, ShapeFault, shape_of};
 pub use shapes::Shapes;
+pub use writing::encode;

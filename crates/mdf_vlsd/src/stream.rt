@@ -1,7 +1,8 @@
 ghost use Rattle.std.specs.Prelude.{◌≡◌, ℕ, ◌+◌, ◌^◌, ◌≤◌, ◌<◌, ◌⊎◌, ◌↔◌, List, [], ◌++◌, length, IsNone, IfSome, IsSomeAnd, IfOk, OnOk, OnErr};
 ghost use Rattle.mdf_format.specs.Number.{le_number, bytes_at};
 ghost use Rattle.mdf_format.specs.Value.{IsValueAt};
-ghost use Rattle.mdf_vlsd.specs.Value.{value_bytes};
+ghost use Rattle.std.specs.Option.{option_map};
+ghost use Rattle.mdf_vlsd.specs.Value.{value_bytes, value_at};
 
 use mdf_num::{Bytes, Memory, Rows, u32_at};
 use std::alloc::Global;
@@ -82,6 +83,7 @@ impl ValueStream {
         ensures found { (v : List ℕ) → IsValueAt self.now offset v → IsSomeAnd result (λ w. w.now ≡ v) }
         ensures none { IsNone result
             ↔ ((length self.now < offset + 4) ⊎ (length self.now < offset + 4 + le_number (bytes_at 4 self.now offset))) }
+        ensures is { option_map (λ v. v.now) result ≡ value_at self.now offset }
     {
         let stream = self.bytes.as_slice();
         let size = u32_at(stream, offset)? as usize;
