@@ -8,7 +8,7 @@ use Rattle.mdf_block.specs.declared.place.BlockAt.{BlockAt}
 use Rattle.std.specs.Prelude.{IfSome}
 use Rattle.mdf_block.specs.Refusal.{Refusal, Bad, TooMany, Read, Fails}
 use Rattle.mdf_block.specs.Block.{block}
-use Rattle.mdf_block.specs.Text.{note, note_size, LacksNote}
+use Rattle.mdf_block.specs.Text.{note, note_size, IsNote, LacksNote}
 use Rattle.mdf_block.specs.Chain.{full, AreAlong}
 use Rattle.mdf_block.proofs.Refusals.{bind_ok, bind_err}
 use Rattle.mdf_block.proofs.Wholes.{block_found, block_lacks}
@@ -16,7 +16,7 @@ use Rattle.mdf_block.proofs.Notes.{note_found, note_lacks}
 use Rattle.mdf_block.proofs.Chains.{Stops, chain_stops}
 use Rattle.mdf_head.specs.declared.entry.Head.{Head}
 use Rattle.mdf_head.specs.declared.entry.History.{History}
-use Rattle.mdf_head.specs.Head.{the_head, the_history, history, histories, header, head, IsBehind, IsCommentOf, LacksHead}
+use Rattle.mdf_head.specs.Head.{the_head, the_history, history, histories, header, head, IsBehind, IsCommentOf, HasHeader, LacksHead}
 use Rattle.mdf_head.proofs.Heads.{follows, history_spends, ok_is}
 
 -- the address of a block that is found
@@ -85,10 +85,16 @@ header_begins f left found is =
       omega (arith, comment.1, ap (λ (y : Head × ℕ × ℕ). y.2) same, ap (λ (y : Head × ℕ × ℕ). note_size y.0.comment) same),
     )
 
--- the header's block is found
-pub header_block : (f : List ℕ) (left : ℕ) (found : Head × ℕ × ℕ) → header f left ≡ Ok found → (b : BlockAt) × (block f 64 Hd ≡ Ok b)
+-- the same as a fact of the file
+pub header_there : (f : List ℕ) (left : ℕ) (found : Head × ℕ × ℕ) → header f left ≡ Ok found → HasHeader f left
 unfolding header
-header_block f left found is = let hd = bind_ok (block f 64 Hd) _ found is in (hd.0, hd.1)
+header_there f left found is =
+    let hd = bind_ok (block f 64 Hd) _ found is in
+    let here = block_found f 64 Hd hd.0 hd.1 in
+    let place : hd.0.at ≡ 64 = ap (λ (b : BlockAt). b.at) here.1 in
+    let text = bind_ok (note f (link_at f hd.0.at 5) left) _ found hd.2 in
+    let comment = note_found f (link_at f hd.0.at 5) left text.0.0 text.0.1 text.1 in
+    (here.0, (text.0.0, subst (λ (at : ℕ). IsNote f (link_at f at 5) text.0.0) place comment.0, omega (arith, comment.1)))
 
 -- the way from the header to an entry
 module _ (f : List ℕ) (budget : ℕ) (refusal : Refusal) (there : IsBlock f 64 Hd) where

@@ -114,3 +114,7 @@ LacksHead file budget refusal =
 -- how many bytes of texts the header and the history have
 abbrev pub text_size : Head → List History → ℕ
 text_size head rows = note_size head.comment + sum_by (λ entry. note_size entry.comment) rows
+
+-- the header stands, and its comment has no more bytes than texts may have
+abbrev pub HasHeader : List ℕ → ℕ → Type 0
+HasHeader file budget = IsBlock file 64 Hd × ((comment : Note) × IsNote file (link_at file 64 5) comment × (note_size comment ≤ budget))

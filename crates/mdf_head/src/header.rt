@@ -1,10 +1,7 @@
 ghost use Rattle.std.specs.Prelude.{◌≡◌, ◌+◌, ◌≤◌, ℕ, List, Some, true, length, IfOk, IfErr, IfSome, OnErr};
-ghost use Rattle.mdf_format.specs.Block.{IsBlock};
-ghost use Rattle.mdf_format.specs.declared.kind.Kind.TheVariants.{Hd};
 ghost use Rattle.mdf_num.specs.Halt.{HaltCause};
 ghost use Rattle.mdf_block.specs.Refusal.{Gives, GivesAnd, GivesSlice, HidesNone, IsPlain};
-ghost use Rattle.mdf_block.specs.Block.{block};
-ghost use Rattle.mdf_head.specs.Head.{header, head, head_refusal, text_size, IsHead, LacksHead};
+ghost use Rattle.mdf_head.specs.Head.{header, head, head_refusal, text_size, IsHead, HasHeader, LacksHead};
 
 use crate::chain::histories_in;
 use crate::field::head_in;
@@ -25,7 +22,7 @@ fn header_in<P: Span>(
     left: u64,
 ) -> Result<(Head, u64, u64), Halt<HeadFault>>
     ensures found { (f : List ℕ) → P.bytes span.old ≡ Some f → Gives head_refusal result (header f left) }
-    ensures first { (f : List ℕ) → P.bytes span.old ≡ Some f → HidesNone P.may_want result (block f 64 Hd) }
+    ensures first { (f : List ℕ) → P.bytes span.old ≡ Some f → HidesNone P.may_want result (header f left) }
     ensures plain { IfErr result (IsPlain head_refusal) }
     ensures same { P.bytes span.new ≡ P.bytes span.old }
     ensures size { P.size span.new ≡ P.size span.old }
@@ -48,7 +45,7 @@ fn headed_in<P: Span>(
     left: u64,
 ) -> Result<((Head, Rows<History>), u64), Halt<HeadFault>>
     ensures found { (f : List ℕ) → P.bytes span.old ≡ Some f → Gives head_refusal result (head f left) }
-    ensures first { (f : List ℕ) → P.bytes span.old ≡ Some f → HidesNone P.may_want result (block f 64 Hd) }
+    ensures first { (f : List ℕ) → P.bytes span.old ≡ Some f → HidesNone P.may_want result (header f left) }
     ensures plain { IfErr result (IsPlain head_refusal) }
     ensures same { P.bytes span.new ≡ P.bytes span.old }
     ensures size { P.size span.new ≡ P.size span.old }
@@ -71,7 +68,7 @@ pub fn read_head_in<P: Span>(
 ) -> Result<(Head, Rows<History>), Halt<HeadFault>>
     ensures exact { (f : List ℕ) → P.bytes span.old ≡ Some f → GivesAnd head_refusal result budget.new (head f budget.old) }
     ensures found { (f : List ℕ) → P.bytes span.old ≡ Some f → IfOk result (λ found. IsHead f found.0 found.1) }
-    ensures first { (f : List ℕ) → P.bytes span.old ≡ Some f → HidesNone P.may_want result (block f 64 Hd) }
+    ensures first { (f : List ℕ) → P.bytes span.old ≡ Some f → HidesNone P.may_want result (header f budget.old) }
     ensures plain { IfErr result (IsPlain head_refusal) }
     ensures budget { OnErr result (budget.new ≡ budget.old) }
     ensures same { P.bytes span.new ≡ P.bytes span.old }
@@ -89,7 +86,7 @@ pub fn read_head_in<P: Span>(
 ///
 /// # Errors
 /// The first fault in that order: `Bad` exactly where no block of the kind stands whole, `TooMany` exactly where a text
-/// is longer than the budget or an FH is the 65,536th; and `Memory`, which comes only where HD stands.
+/// is longer than the budget or an FH is the 65,536th; and `Memory`, which comes only where HD and its comment are there.
 pub fn read_head(
     alloc: Global,
     bytes: &[u8],
@@ -100,7 +97,7 @@ pub fn read_head(
     ensures spent { IfOk result (λ found. budget.new + text_size found.0 found.1 ≡ budget.old) }
     ensures few { IfOk result (λ found. length found.1 ≤ 65535) }
     ensures refused { IfErr result (λ fault. IfSome (head_refusal fault) (LacksHead bytes.now budget.old)) }
-    ensures first { IfErr result (λ fault. fault ≡ HeadFault.Memory → IsBlock bytes.now 64 Hd) }
+    ensures first { IfErr result (λ fault. fault ≡ HeadFault.Memory → HasHeader bytes.now budget.old) }
     ensures budget { OnErr result (budget.new ≡ budget.old) }
 {
     match read_head_in(alloc, &mut SliceSpan::new(bytes), budget) {

@@ -1,6 +1,6 @@
 ghost use Rattle.std.specs.Prelude.{◌≡◌, ℕ, List, Some, false, true, IfOk, IfErr};
 ghost use Rattle.mdf_num.specs.Halt.{HaltCause};
-ghost use Rattle.mdf_block.specs.Refusal.{Gives, IsPlain};
+ghost use Rattle.mdf_block.specs.Refusal.{Gives, HidesNone, IsPlain};
 ghost use Rattle.mdf_block.specs.Block.{block, is_data, IsInside, IsFilled};
 ghost use Rattle.mdf_block.specs.Text.{note};
 ghost use Rattle.mdf_head.specs.Head.{head_refusal};
@@ -45,6 +45,7 @@ pub(crate) fn text_of<P: Span>(
     left: u64,
 ) -> Result<(Note, u64), Halt<HeadFault>>
     ensures found { (f : List ℕ) → P.bytes span.old ≡ Some f → Gives head_refusal result (note f at left) }
+    ensures memory { (f : List ℕ) → P.bytes span.old ≡ Some f → HidesNone P.may_want result (note f at left) }
     ensures plain { IfErr result (IsPlain head_refusal) }
     ensures same { P.bytes span.new ≡ P.bytes span.old }
     ensures size { P.size span.new ≡ P.size span.old }
@@ -60,7 +61,7 @@ pub(crate) fn text_of<P: Span>(
             what: What::Text,
             at,
         })),
-        Err(Halt::Fault(NoteFault::Memory)) => Err(Halt::Memory),
+        Err(Halt::Fault(NoteFault::Memory)) => unreachable!(),
         Err(Halt::Failed) => Err(Halt::Failed),
         Err(Halt::Memory) => Err(Halt::Memory),
     }

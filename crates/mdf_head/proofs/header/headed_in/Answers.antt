@@ -1,8 +1,5 @@
 use Rattle.mdf_block.proofs.Refusals.{hides_none}
-use Rattle.mdf_head.proofs.Lacks.{header_block}
 use Rattle.mdf_head.proofs.header.headed_in.Goals as goal
 
 pub returns-in_err-rows-clause-first : goal.returns-in_err-rows-clause-first
-returns-in_err-rows-clause-first g c = λ f told.
-    let found = header_block f c.args.left _ (c.in_ok-head.ensures.found f told) in
-    hides_none _ _ _ found.0 found.1
+returns-in_err-rows-clause-first g c = λ f told. hides_none _ _ _ _ (c.in_ok-head.ensures.found f told)

@@ -1,9 +1,7 @@
 use Rattle.std.proofs.Common.{rules}
-use Rattle.mdf_format.specs.declared.kind.Kind.TheVariants.{Hd}
 use Rattle.mdf_block.proofs.Refusals.{refuses_fails}
-use Rattle.mdf_block.proofs.Wholes.{block_found}
 use Rattle.mdf_head.proofs.Spends.{head_spends}
-use Rattle.mdf_head.proofs.Lacks.{fault_lacks}
+use Rattle.mdf_head.proofs.Lacks.{fault_lacks, header_there}
 use Rattle.mdf_head.proofs.header.read_head.Goals as goal
 
 pub returns-in-Ok-clause-spent : goal.returns-in-Ok-clause-spent
@@ -22,4 +20,4 @@ returns-in-Err-Fault-clause-refused c =
 pub returns-in-Err-Memory-clause-first : goal.returns-in-Err-Memory-clause-first
 returns-in-Err-Memory-clause-first c =
     let there = rw c.in-Err-Memory.field-0-is at (c.in-Err-Memory.ensures.first c.args.bytes.now (search rules)) in
-    λ _. (block_found c.args.bytes.now 64 Hd there.0 there.1).0
+    λ _. header_there c.args.bytes.now c.args.budget.now there.0 there.1
