@@ -10,7 +10,9 @@ use Rattle.std.proofs.lemmas.Bool.{cases_lt}
 use mathlib.Core.List.{IsPrefix}
 use Rattle.mdf_disk.specs.Story.{Story}
 use Rattle.mdf_disk.specs.Crash.{Adds, HoldsSince}
+use Rattle.mdf_disk.specs.State.{DiskState}
 use Rattle.mdf_disk.proofs.Crash.{adds_more, holds_after}
+use Rattle.mdf_layout.specs.Layout.{Layout}
 use Rattle.mdf_layout.specs.declared.sample.Sample.{Sample}
 use Rattle.mdf_gate.specs.Images.{IsNotMdf}
 use Rattle.mdf_gate.specs.Carried.{Carries}
@@ -21,35 +23,35 @@ use Rattle.book_owned.specs.Kept.{MarkHolds, MarksHold, StartHolds, IsKept}
 use Rattle.book_owned.specs.declared.mark.Mark.{Mark}
 use Rattle.book_owned.proofs.Lasts.{last_mark_at}
 
-module _ (terms : Terms) (history : List Sample) where
-  abbrev carry : ℕ → List ℕ → Type 0
-  carry through file = Carries terms.layouts terms.head history through file
+module _ (layouts : List Layout) (head : List ℕ) (history : List Sample) where
+  abbrev pub carry : ℕ → List ℕ → Type 0
+  carry through file = Carries layouts head history through file
 
   -- a mark goes on to hold where only files join that carry as much
-  mark_later : (old new : Option Story) (clock clock' through : ℕ) (mark : Mark) → Adds old new (carry through) → clock ≤ clock'
-      → mark.through ≤ through → MarkHolds terms.layouts terms.head old clock history mark
-      → MarkHolds terms.layouts terms.head new clock' history mark
+  pub mark_later : (old new : Option Story) (clock clock' through : ℕ) (mark : Mark) → Adds old new (carry through) → clock ≤ clock'
+      → mark.through ≤ through → MarkHolds layouts head old clock history mark
+      → MarkHolds layouts head new clock' history mark
   mark_later old new clock clock' through mark adds later less holds = record {
     past = omega (arith, holds.past);
     within = holds.within;
     carries = holds_after old new mark.moment (carry mark.through) holds.carries
         (adds_more old new (carry through) (carry mark.through)
-        (λ file. carries_fewer terms.layouts terms.head history through mark.through file less) adds);
+        (λ file. carries_fewer layouts head history through mark.through file less) adds);
   }
 
   -- and so do all marks, and what holds since the start
-  marks_later : (old new : Option Story) (clock clock' : ℕ) (marks : List Mark) → Adds old new (carry (durable marks)) → clock ≤ clock'
-      → All (λ mark. mark.through ≤ durable marks) marks → MarksHold terms.layouts terms.head old clock history marks
-      → MarksHold terms.layouts terms.head new clock' history marks
+  pub marks_later : (old new : Option Story) (clock clock' : ℕ) (marks : List Mark) → Adds old new (carry (durable marks)) → clock ≤ clock'
+      → All (λ mark. mark.through ≤ durable marks) marks → MarksHold layouts head old clock history marks
+      → MarksHold layouts head new clock' history marks
   marks_later old new clock clock' marks adds later less hold k d within =
       mark_later old new clock clock' (durable marks) (get_or marks k d) adds later (less k d within) (hold k d within)
 
-  start_later : (old new : Option Story) (start through : ℕ) → Adds old new (carry through)
-      → StartHolds terms.layouts terms.head old start history → StartHolds terms.layouts terms.head new start history
+  pub start_later : (old new : Option Story) (start through : ℕ) → Adds old new (carry through)
+      → StartHolds layouts head old start history → StartHolds layouts head new start history
   start_later old new start through adds holds =
       holds_after old new start (λ file. IsNotMdf file ⊎ carry 0 file) holds
       (adds_more old new (carry through) (λ file. IsNotMdf file ⊎ carry 0 file)
-      (λ file c. inr (carries_fewer terms.layouts terms.head history through 0 file (omega arith) c)) adds)
+      (λ file c. inr (carries_fewer layouts head history through 0 file (omega arith) c)) adds)
 
 -- each mark goes through no more samples than the last one
 pub through_most : (told : Bool) (marks : List Mark) → AreRising told marks → All (λ mark. mark.through ≤ durable marks) marks
@@ -68,9 +70,9 @@ through_most told marks rising k d within =
     ]
 
 -- all marks are past
-pub moments_most : (terms : Terms) (story : Option Story) (clock : ℕ) (history : List Sample) (marks : List Mark)
-    → MarksHold terms.layouts terms.head story clock history marks → All (λ mark. mark.moment ≤ clock) marks
-moments_most terms story clock history marks hold = All-weaker (MarkHolds terms.layouts terms.head story clock history) (λ mark. mark.moment ≤ clock) (λ mark h. h.past) marks hold
+pub moments_most : (layouts : List Layout) (head : List ℕ) (story : Option Story) (clock : ℕ) (history : List Sample) (marks : List Mark)
+    → MarksHold layouts head story clock history marks → All (λ mark. mark.moment ≤ clock) marks
+moments_most layouts head story clock history marks hold = All-weaker (MarkHolds layouts head story clock history) (λ mark. mark.moment ≤ clock) (λ mark h. h.past) marks hold
 
 -- one mark more, which is later and has more samples
 pub rising-append : (told : Bool) (marks : List Mark) (mark : Mark) (clock : ℕ) → AreRising told marks
@@ -106,38 +108,39 @@ rising-append told marks mark clock rising past more later strictly = record {
   strict false m before less = tt
 
 -- The file went on by what carries as much as is durable.
-pub kept_later : (terms : Terms) (old new : Option Story) (clock clock' : ℕ) (history : List Sample) (marks : List Mark)
-    → Adds old new (Carries terms.layouts terms.head history (durable marks)) → clock ≤ clock' → is_some new ≡ is_some old
-    → IsKept terms old clock history marks → IsKept terms new clock' history marks
-kept_later terms old new clock clock' history marks adds later told kept = record {
-  marks_hold = marks_later terms history old new clock clock' marks adds later (through_most (is_some old) marks kept.marks_rise) kept.marks_hold;
-  start_holds = start_later terms history old new terms.start (durable marks) adds kept.start_holds;
+pub kept_later : (terms : Terms) (old new : DiskState) (history : List Sample) (marks : List Mark)
+    → Adds old.story new.story (Carries terms.layouts terms.head history (durable marks)) → old.moment ≤ new.moment → is_some new.story ≡ is_some old.story
+    → IsKept terms old history marks → IsKept terms new history marks
+kept_later terms old new history marks adds later told kept = record {
+  marks_hold = marks_later terms.layouts terms.head history old.story new.story old.moment new.moment marks adds later
+      (through_most (is_some old.story) marks kept.marks_rise) kept.marks_hold;
+  start_holds = start_later terms.layouts terms.head history old.story new.story terms.start (durable marks) adds kept.start_holds;
   marks_rise = subst (λ t. AreRising t marks) (sym told) kept.marks_rise;
 }
 
 -- A mark was made of the present moment, with all samples.
-pub kept_marked : (terms : Terms) (story : Option Story) (before clock : ℕ) (history : List Sample) (marks : List Mark) (mark : Mark)
-    → IsKept terms story clock history marks → All (λ m. m.moment ≤ before) marks
-    → mark.moment ≡ clock → mark.through ≡ length history → durable marks < length history → before ≤ clock
-    → OnTrue (is_some story) (before < clock)
-    → HoldsSince story clock (Carries terms.layouts terms.head history (length history))
-    → IsKept terms story clock history (marks ++ mark ∷ [])
-kept_marked terms story before clock history marks mark kept past moment through more later strictly holds = record {
-  marks_hold = All-push (MarkHolds terms.layouts terms.head story clock history) marks mark kept.marks_hold (record {
+pub kept_marked : (terms : Terms) (disk : DiskState) (before : ℕ) (history : List Sample) (marks : List Mark) (mark : Mark)
+    → IsKept terms disk history marks → All (λ m. m.moment ≤ before) marks
+    → mark.moment ≡ disk.moment → mark.through ≡ length history → durable marks < length history → before ≤ disk.moment
+    → OnTrue (is_some disk.story) (before < disk.moment)
+    → HoldsSince disk.story disk.moment (Carries terms.layouts terms.head history (length history))
+    → IsKept terms disk history (marks ++ mark ∷ [])
+kept_marked terms disk before history marks mark kept past moment through more later strictly holds = record {
+  marks_hold = All-push (MarkHolds terms.layouts terms.head disk.story disk.moment history) marks mark kept.marks_hold (record {
     past = omega (arith, moment);
     within = omega (arith, through);
     carries = rw (moment, through) holds;
   });
   start_holds = kept.start_holds;
-  marks_rise = rising-append (is_some story) marks mark before kept.marks_rise past (omega (arith, more, through)) (omega (arith, later, moment))
-      (subst (λ n. OnTrue (is_some story) (before < n)) (sym moment) strictly);
+  marks_rise = rising-append (is_some disk.story) marks mark before kept.marks_rise past (omega (arith, more, through)) (omega (arith, later, moment))
+      (subst (λ n. OnTrue (is_some disk.story) (before < n)) (sym moment) strictly);
 }
 
 -- The history grew.
-pub kept_longer : (terms : Terms) (story : Option Story) (clock : ℕ) (history : List Sample) (marks : List Mark) (sample : Sample)
-    → IsKept terms story clock history marks → IsKept terms story clock (history ++ sample ∷ []) marks
-kept_longer terms story clock history marks sample kept = record {
-  marks_hold = All-weaker (MarkHolds terms.layouts terms.head story clock history) (MarkHolds terms.layouts terms.head story clock (history ++ sample ∷ [])) (λ mark h. record {
+pub kept_longer : (terms : Terms) (disk : DiskState) (history : List Sample) (marks : List Mark) (sample : Sample)
+    → IsKept terms disk history marks → IsKept terms disk (history ++ sample ∷ []) marks
+kept_longer terms disk history marks sample kept = record {
+  marks_hold = All-weaker (MarkHolds terms.layouts terms.head disk.story disk.moment history) (MarkHolds terms.layouts terms.head disk.story disk.moment (history ++ sample ∷ [])) (λ mark h. record {
     past = h.past;
     within = omega (arith, h.within, length-append history (sample ∷ []));
     carries = λ file left. carries_longer terms.layouts terms.head history (history ++ sample ∷ []) mark.through file longer (h.carries file left);

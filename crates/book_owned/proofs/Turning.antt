@@ -1,5 +1,5 @@
 -- The halves of a book when the pending records were handed over, or could not be.
-use Rattle.std.proofs.Common.{◌≡◌, ◌≢◌, ◌+◌, ◌-◌, ◌<◌, ◌≤◌, ◌^◌, ℕ, true, false, List, [], ◌∷◌, ◌++◌, length, take, drop, Option, Some, None, refl, sym, ◌∙◌, ap, subst, arith, append_assoc, length-drop, take-append-drop}
+use Rattle.std.proofs.Common.{◌≡◌, ◌≢◌, ◌+◌, ◌-◌, ◌<◌, ◌≤◌, ◌^◌, ℕ, Bool, true, false, List, [], ◌∷◌, ◌++◌, length, take, drop, Option, Some, None, refl, sym, ◌∙◌, ap, subst, arith, append_assoc, length-drop, take-append-drop}
 use Rattle.std.proofs.lemmas.List.{take_all, drop_all}
 use Rattle.std.specs.Prelude.{is_some, IfSome}
 use Rattle.std.specs.Bool.{OnTrue}
@@ -8,7 +8,7 @@ use mathlib.Core.List.{IsPrefix}
 use Rattle.mdf_format.specs.Number.{aligned}
 use Rattle.mdf_disk.specs.Story.{Story}
 use Rattle.mdf_disk.specs.Crash.{Adds, HoldsSince}
-use Rattle.mdf_disk.specs.declared.role.Role.{Role}
+use Rattle.mdf_disk.specs.State.{state_of}
 use Rattle.mdf_disk.proofs.Crash.{adds_more}
 use Rattle.mdf_layout.specs.Layout.{Layout}
 use Rattle.mdf_layout.specs.Record.{AreRecords, history_cost}
@@ -18,11 +18,12 @@ use Rattle.mdf_gate.specs.Gated.{Gated, Buffered, RestsOn}
 use Rattle.mdf_gate.specs.Images.{Opens, OpensEither}
 use Rattle.mdf_gate.specs.Carried.{Carries}
 use Rattle.mdf_gate.proofs.Carrying.{carries_either, carries_opened, concat_one_more, prefix_self}
+use Rattle.book_owned.specs.Members.{DiskOf, ViewOf}
 use Rattle.book_owned.specs.Marks.{durable}
 use Rattle.book_owned.specs.Account.{Terms}
 use Rattle.book_owned.specs.Kept.{IsKept}
 use Rattle.book_owned.specs.Halves.{IsBook, IsPending, terms_of}
-use Rattle.book_owned.specs.declared.halves.Front.{Front}
+use Rattle.book_owned.specs.declared.in_memory.InMemory.{InMemory}
 use Rattle.book_owned.specs.declared.mark.Mark.{Mark}
 use Rattle.book_owned.proofs.Costs.{history_cost-least, history_cost-append}
 use Rattle.book_owned.proofs.Keeping.{kept_later, kept_marked, moments_most}
@@ -48,19 +49,19 @@ block_small layouts (sample ∷ samples) bytes records some =
     omega (arith, are_records-length layouts bytes (sample ∷ samples) records, history_cost-least layouts (sample ∷ samples))
 
 -- with nothing pending all samples are durable
-pub all_durable : {V : Type 0} (front : Front V) → IsPending front → front.block.bytes ≡ [] → durable front.marks.items ≡ length front.history.items
-all_durable front pending none =
-    let rest = no_bytes front.shapes (drop (durable front.marks.items) front.history.items)
-    (subst (λ bytes. AreRecords front.shapes bytes (drop (durable front.marks.items) front.history.items)) none pending.records) in
-    omega (arith, ap length rest, length-drop (durable front.marks.items) front.history.items, pending.through)
+pub all_durable : {V : Type 0} (from : ℕ) (failed : Bool) (front : InMemory V) → IsPending from failed front → failed ≡ false → front.block.bytes ≡ []
+    → from ≡ length front.history.items
+all_durable from failed front pending going none =
+    let rest = no_bytes front.shapes (drop from front.history.items)
+    (subst (λ bytes. AreRecords front.shapes bytes (drop from front.history.items)) none (pending.records going)) in
+    omega (arith, ap length rest, length-drop from front.history.items, pending.through)
 
 -- what is so where the story was told is so where it is told now
 pub rises_told : (old new : Option Story) → is_some new ≡ is_some old → (P : Type 0) → IfSome old (λ _. P) → OnTrue (is_some new) P
 rises_told None new same P has = subst (λ b. OnTrue b P) (sym same) tt
 rises_told (Some s) new same P has = subst (λ b. OnTrue b P) (sym same) has
 
-module _ {D V : Type 0} (content : D → Option (List ℕ)) (story : D → Option Story) (moment : D → ℕ) (asked : D → Option (List ℕ × Role))
-    (shows hands : V → List Sample → Type 0) (count which : V → ℕ) (front : Front V) (file file' : Gated D) (block : Buffered) where
+module _ {D V N : Type 0} (disk : DiskOf D) (view : ViewOf V N) (front : InMemory V) (file file' : Gated D) (block : Buffered) where
   abbrev layouts : List Layout
   layouts = front.shapes
 
@@ -71,28 +72,29 @@ module _ {D V : Type 0} (content : D → Option (List ℕ)) (story : D → Optio
   through = durable front.marks.items
 
   abbrev terms : Terms
-  terms = terms_of asked story which front file
+  terms = terms_of disk view front file
 
   -- what joins while the pending records are appended carries the durable samples
-  pub adds_carry : IsBook content story moment asked shows hands count which front file → file.failed ≡ false
-      → ((blocks : List (List ℕ)) → RestsOn (content file.disk) (story file.disk) file.first blocks file.place
-      → Adds (story file.disk) (story file'.disk) (OpensEither terms.head blocks front.block.bytes))
-      → Adds (story file.disk) (story file'.disk) (Carries layouts terms.head history through)
+  pub adds_carry : IsBook disk view front file → file.failed ≡ false
+      → ((blocks : List (List ℕ)) → RestsOn (disk.content file.disk) (disk.story file.disk) file.first blocks file.place
+      → Adds (disk.story file.disk) (disk.story file'.disk) (OpensEither terms.head blocks front.block.bytes))
+      → Adds (disk.story file.disk) (disk.story file'.disk) (Carries layouts terms.head history through)
   adds_carry book going adds =
       let written = book.back.written going in
-      adds_more (story file.disk) (story file'.disk) (OpensEither terms.head written.blocks front.block.bytes) (Carries layouts terms.head history through)
-      (carries_either layouts terms.head history through written.blocks front.block.bytes book.pending.through written.records book.pending.records)
+      adds_more (disk.story file.disk) (disk.story file'.disk) (OpensEither terms.head written.blocks front.block.bytes) (Carries layouts terms.head history through)
+      (carries_either layouts terms.head history through written.blocks front.block.bytes book.pending.through written.records (book.pending.records going))
       (adds written.blocks written.rests)
 
-  -- the disk failed: the records are pending as before
-  pub book_failed : IsBook content story moment asked shows hands count which front file
+  -- the disk failed
+  pub book_failed : IsBook disk view front file
       → block.bytes ≡ front.block.bytes → block.limit ≡ front.block.limit → file'.failed ≡ true
-      → terms_of asked story which (record front { block = block }) file' ≡ terms
-      → Adds (story file.disk) (story file'.disk) (Carries layouts terms.head history through)
-      → moment file.disk ≤ moment file'.disk → is_some (story file'.disk) ≡ is_some (story file.disk)
-      → IsBook content story moment asked shows hands count which (record front { block = block }) file'
+      → terms_of disk view (record front { block = block }) file' ≡ terms
+      → Adds (disk.story file.disk) (disk.story file'.disk) (Carries layouts terms.head history through)
+      → disk.moment file.disk ≤ disk.moment file'.disk → is_some (disk.story file'.disk) ≡ is_some (disk.story file.disk)
+      → IsBook disk view (record front { block = block }) file'
   book_failed book bytes limit failed same adds later told = record {
     counted = record {
+      fit = book.counted.fit;
       held = book.counted.held;
       within = book.counted.within;
       session = book.counted.session;
@@ -105,13 +107,13 @@ module _ {D V : Type 0} (content : D → Option (List ℕ)) (story : D → Optio
     };
     pending = record {
       through = book.pending.through;
-      records = subst (λ bs. AreRecords layouts bs (drop through history)) (sym bytes) book.pending.records;
+      records = λ going. absurd (both going);
       room = λ some. book.pending.room (subst (λ bs. bs ≢ []) bytes some);
     };
     shown = record { most = book.shown.most; shown = book.shown.shown; handed = book.shown.handed };
     back = record {
-      kept = subst (λ t. IsKept t (story file'.disk) (moment file'.disk) history front.marks.items) (sym same)
-          (kept_later terms (story file.disk) (story file'.disk) (moment file.disk) (moment file'.disk) history front.marks.items adds later told book.back.kept);
+      kept = subst (λ t. IsKept t (state_of disk file'.disk) history front.marks.items) (sym same)
+          (kept_later terms (state_of disk file.disk) (state_of disk file'.disk) history front.marks.items adds later told book.back.kept);
       written = λ going. absurd (both going);
       reach = λ going. absurd (both going);
     };
@@ -121,44 +123,45 @@ module _ {D V : Type 0} (content : D → Option (List ℕ)) (story : D → Optio
 
   -- the records were written, and the mark was made
   module _ (mark : Mark) (marks : List Mark) (spare : ℕ) where
-    abbrev after : Front V
+    abbrev after : InMemory V
     after = record front { block = block; marks = record { items = marks; spare = spare } }
 
-    pub book_marked : IsBook content story moment asked shows hands count which front file
+    pub book_marked : IsBook disk view front file
         → file.failed ≡ false → front.block.bytes ≢ [] → marks ≡ front.marks.items ++ mark ∷ []
         → block.bytes ≡ [] → block.limit ≡ front.block.limit
-        → terms_of asked story which after file' ≡ terms
-        → Adds (story file.disk) (story file'.disk) (Carries layouts terms.head history through)
-        → moment file.disk ≤ moment file'.disk → OnTrue (is_some (story file'.disk)) (moment file.disk < moment file'.disk)
-        → is_some (story file'.disk) ≡ is_some (story file.disk)
-        → mark.moment ≡ moment file'.disk → mark.through ≡ length history
-        → ((blocks : List (List ℕ)) → RestsOn (content file.disk) (story file.disk) file.first blocks file.place
-        → RestsOn (content file'.disk) (story file'.disk) file'.first (blocks ++ front.block.bytes ∷ []) file'.place)
-        → ((blocks : List (List ℕ)) → RestsOn (content file'.disk) (story file'.disk) file'.first blocks file'.place
-        → HoldsSince (story file'.disk) (moment file'.disk) (Opens terms.head blocks))
+        → terms_of disk view after file' ≡ terms
+        → Adds (disk.story file.disk) (disk.story file'.disk) (Carries layouts terms.head history through)
+        → disk.moment file.disk ≤ disk.moment file'.disk → OnTrue (is_some (disk.story file'.disk)) (disk.moment file.disk < disk.moment file'.disk)
+        → is_some (disk.story file'.disk) ≡ is_some (disk.story file.disk)
+        → mark.moment ≡ disk.moment file'.disk → mark.through ≡ length history
+        → ((blocks : List (List ℕ)) → RestsOn (disk.content file.disk) (disk.story file.disk) file.first blocks file.place
+        → RestsOn (disk.content file'.disk) (disk.story file'.disk) file'.first (blocks ++ front.block.bytes ∷ []) file'.place)
+        → ((blocks : List (List ℕ)) → RestsOn (disk.content file'.disk) (disk.story file'.disk) file'.first blocks file'.place
+        → HoldsSince (disk.story file'.disk) (disk.moment file'.disk) (Opens terms.head blocks))
         → file'.place ≡ aligned (file.place + 24 + length front.block.bytes)
-        → IsBook content story moment asked shows hands count which after file'
+        → IsBook disk view after file'
     book_marked book going some marks_are emptied limit same adds later strictly told at through_is rests leaves place =
         let written = book.back.written going in
         let rest = rests written.blocks written.rests in
         let whole : AreRecords layouts (concat (written.blocks ++ front.block.bytes ∷ [])) history =
         subst (λ bytes. AreRecords layouts bytes history) (sym (concat_one_more layouts terms.head written.blocks front.block.bytes))
         (subst (AreRecords layouts (concat written.blocks ++ front.block.bytes)) (take-append-drop through history)
-        (are_records-append layouts (concat written.blocks) front.block.bytes (take through history) (drop through history) written.records book.pending.records)) in
-        let holds : HoldsSince (story file'.disk) (moment file'.disk) (Carries layouts terms.head history (length history)) =
+        (are_records-append layouts (concat written.blocks) front.block.bytes (take through history) (drop through history) written.records (book.pending.records going))) in
+        let holds : HoldsSince (disk.story file'.disk) (disk.moment file'.disk) (Carries layouts terms.head history (length history)) =
         λ f left. let h = leaves (written.blocks ++ front.block.bytes ∷ []) rest f left in
         carries_opened layouts terms.head history history (written.blocks ++ front.block.bytes ∷ []) f h.0 h.1 whole (prefix_self history) in
-        let small = block_small layouts (drop through history) front.block.bytes book.pending.records some in
+        let small = block_small layouts (drop through history) front.block.bytes (book.pending.records going) some in
         let more : through < length history =
         below (drop through history) (omega (arith, small)) (length-drop through history) in
-        let kept0 = kept_later terms (story file.disk) (story file'.disk) (moment file.disk) (moment file'.disk) history front.marks.items adds later told book.back.kept in
-        let kept1 = kept_marked terms (story file'.disk) (moment file.disk) (moment file'.disk) history front.marks.items mark kept0
-        (moments_most terms (story file.disk) (moment file.disk) history front.marks.items book.back.kept.marks_hold) at through_is more later strictly holds in
+        let kept0 = kept_later terms (state_of disk file.disk) (state_of disk file'.disk) history front.marks.items adds later told book.back.kept in
+        let kept1 = kept_marked terms (state_of disk file'.disk) (disk.moment file.disk) history front.marks.items mark kept0
+        (moments_most layouts terms.head (disk.story file.disk) (disk.moment file.disk) history front.marks.items book.back.kept.marks_hold) at through_is more later strictly holds in
         let durable_is : durable marks ≡ length history = ap durable marks_are ∙ ap (λ m. m.through) (last_mark-append front.marks.items mark) ∙ through_is in
         let all : take (durable marks) history ≡ history = take_all (durable marks) history (omega (arith, durable_is)) in
         let none : drop (durable marks) history ≡ [] = drop_all (durable marks) history (omega (arith, durable_is)) in
         record {
           counted = record {
+            fit = book.counted.fit;
             held = book.counted.held;
             within = book.counted.within;
             session = book.counted.session;
@@ -171,7 +174,7 @@ module _ {D V : Type 0} (content : D → Option (List ℕ)) (story : D → Optio
           };
           pending = record {
             through = omega (arith, durable_is);
-            records = rw (emptied, none) (no_records layouts);
+            records = λ g. rw (emptied, none) (no_records layouts);
             room = λ bytes. absurd (bytes emptied);
           };
           shown = record {
@@ -180,8 +183,8 @@ module _ {D V : Type 0} (content : D → Option (List ℕ)) (story : D → Optio
             handed = λ handed is. let prefix = book.shown.handed handed is in subst (IsPrefix handed) (sym all) (longer handed prefix);
           };
           back = record {
-            kept = subst (λ t. IsKept t (story file'.disk) (moment file'.disk) history marks) (sym same)
-                (subst (IsKept terms (story file'.disk) (moment file'.disk) history) (sym marks_are) kept1);
+            kept = subst (λ t. IsKept t (state_of disk file'.disk) history marks) (sym same)
+                (subst (IsKept terms (state_of disk file'.disk) history) (sym marks_are) kept1);
             written = λ g. record { blocks = written.blocks ++ front.block.bytes ∷ []; rests = rest; records = subst (AreRecords layouts _) (sym all) whole };
             reach = λ g. subst (λ h. file'.place ≤ 2 ^ 61 + history_cost layouts h) (sym all)
                 (omega (arith, place, book.back.reach going, small, cost_parts layouts history through));

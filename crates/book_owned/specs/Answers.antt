@@ -1,8 +1,10 @@
 -- The answers of a book, each with its cause.
-use Rattle.std.specs.Prelude.{ℕ, ◌≡◌, ◌+◌, ◌≤◌, ◌<◌, ◌⊎◌, false, true, List, [], ◌∷◌, ◌++◌, length, drop}
+use Rattle.std.specs.Prelude.{ℕ, ◌≡◌, ◌+◌, ◌≤◌, ◌<◌, ◌⊎◌, false, true, List, [], ◌∷◌, ◌++◌, length, take, drop}
 use Rattle.mdf_format.specs.Cause.{Rose}
+use Rattle.mdf_num.specs.Halt.{Wants}
 use Rattle.mdf_layout.specs.Record.{cost_of, encoded_size, history_cost, history_size}
 use Rattle.mdf_layout.specs.declared.sample.Sample.{Sample}
+use Rattle.book_owned.specs.Members.{DiskOf, ViewOf}
 use Rattle.book_owned.specs.Marks.{last_mark, durable}
 use Rattle.book_owned.specs.Account.{Account}
 use Rattle.book_owned.specs.declared.mark.Mark.{Mark}
@@ -29,12 +31,26 @@ abbrev pub PassesBlock : {D V : Type 0} → Account D V → Sample → Type 0
 PassesBlock book sample =
     book.terms.block_limit < history_size book.terms.layouts (drop (durable book.marks) book.history) + encoded_size book.terms.layouts sample
 
+-- they do not
+abbrev pub FitsBlock : {D V : Type 0} → Account D V → Sample → Type 0
+FitsBlock book sample =
+    history_size book.terms.layouts (drop (durable book.marks) book.history) + encoded_size book.terms.layouts sample ≤ book.terms.block_limit
+
+-- the view shows so many samples, or it wanted memory and shows as many as before
+abbrev pub ShowsAll : {V N : Type 0} → ViewOf V N → V → V → ℕ → Type 0
+ShowsAll view old new through = (view.count new ≡ through) ⊎ (Wants view.may_want × (view.count new ≡ view.count old))
+
+-- one mark was made, of the present moment, through all samples that were accepted before
+abbrev pub AddsMark : {D V : Type 0} → DiskOf D → Account D V → Account D V → Type 0
+AddsMark disk old new =
+    (mark : Mark) × (new.marks ≡ old.marks ++ mark ∷ []) × (mark.through ≡ length old.history) × (mark.moment ≡ disk.moment new.disk)
+
 -- the count of faults of the disk rose in the call, or stands at its last value, and the book is stopped since
-pub record IsFault {D V : Type 0} (faults : D → ℕ) (old new : Account D V) (before after : ℕ) : Type 0 where
+pub record IsFault {D V : Type 0} (disk : DiskOf D) (old new : Account D V) (before after : ℕ) : Type 0 where
   pub going : old.stopped ≡ false
   pub stopped : new.stopped ≡ true
-  pub before_is : before ≡ faults old.disk
-  pub after_is : after ≡ faults new.disk
+  pub before_is : before ≡ disk.faults old.disk
+  pub after_is : after ≡ disk.faults new.disk
   pub rose : Rose before after
 
 -- an earlier call was answered by a fault of the disk, and the mark is the last one
@@ -43,30 +59,38 @@ pub record IsStopped {D V : Type 0} (old new : Account D V) (mark : Mark) : Type
   pub same : new ≡ old
   pub mark_is : mark ≡ last_mark new.marks
 
--- an append: a mark is made, and the disk is called, only where the sample's record would pass the block limit
-abbrev pub AppendAnswers : {D V : Type 0} → (D → ℕ) → Account D V → Account D V → Sample → Append → Type 0
-AppendAnswers faults old new sample (Accepted place) =
+-- what an append did before it accepted: nothing where the sample's record has room in the block; where it would pass the
+-- block limit, a mark was made and all samples before were shown
+abbrev pub Turns : {D V N : Type 0} → DiskOf D → ViewOf V N → Account D V → Account D V → Sample → Type 0
+Turns disk view old new sample =
+    (FitsBlock old sample × (new.marks ≡ old.marks) × (new.disk ≡ old.disk) × (new.view ≡ old.view))
+    ⊎ (PassesBlock old sample × AddsMark disk old new × ShowsAll view old.view new.view (length old.history))
+
+-- an append
+abbrev pub AppendAnswers : {D V N : Type 0} → DiskOf D → ViewOf V N → Account D V → Account D V → Sample → Append → Type 0
+AppendAnswers disk view old new sample (Accepted place) =
     (old.stopped ≡ false) × (new.stopped ≡ false) × HasRoom old sample × (place ≡ length old.history)
-    × ((new.marks ≡ old.marks) ⊎ PassesBlock old sample)
-AppendAnswers faults old new sample (SessionFull held size limit) =
+    × Turns disk view old new sample
+AppendAnswers disk view old new sample (SessionFull held size limit) =
     (old.stopped ≡ false) × (new ≡ old) × (held ≡ history_cost old.terms.layouts old.history)
     × (size ≡ cost_of old.terms.layouts sample) × (limit ≡ old.terms.session_limit) × (limit < held + size)
-AppendAnswers faults old new sample (Stopped mark) = IsStopped old new mark
-AppendAnswers faults old new sample (DiskFault before after) =
-    HasRoom old sample × IsFault faults old new before after × (new.marks ≡ old.marks) × PassesBlock old sample
-AppendAnswers faults old new sample Memory = (old.stopped ≡ false) × (new ≡ old) × HasRoom old sample
+AppendAnswers disk view old new sample (Stopped mark) = IsStopped old new mark
+AppendAnswers disk view old new sample (DiskFault before after) =
+    HasRoom old sample × IsFault disk old new before after × (new.marks ≡ old.marks) × PassesBlock old sample
+    × (new.view ≡ old.view)
+AppendAnswers disk view old new sample Memory = (old.stopped ≡ false) × (new ≡ old) × HasRoom old sample
 
 -- what a flush did to the marks: nothing where all was durable, or it added one through the whole history
-abbrev pub MarksAll : {D V : Type 0} → (D → ℕ) → Account D V → Account D V → Type 0
-MarksAll moment old new =
-    ((new.marks ≡ old.marks) × (new.disk ≡ old.disk) × (durable old.marks ≡ length old.history))
-    ⊎ ((mark : Mark) × (new.marks ≡ old.marks ++ mark ∷ []) × (mark.through ≡ length old.history) × (mark.moment ≤ moment new.disk))
+abbrev pub MarksAll : {D V : Type 0} → DiskOf D → Account D V → Account D V → Type 0
+MarksAll disk old new =
+    ((new.marks ≡ old.marks) × (new.disk ≡ old.disk) × (durable old.marks ≡ length old.history)) ⊎ AddsMark disk old new
 
--- a flush: where not all is shown the view shows what it showed
-abbrev pub FlushAnswers : {D V N : Type 0} → (D → ℕ) → (D → ℕ) → (V → ℕ) → Account D V → Account D V → Flush N → Type 0
-FlushAnswers faults moment count old new (flush.Done through shown note) =
-    (old.stopped ≡ false) × (new.stopped ≡ false) × (through ≡ length old.history) × (shown ≡ count new.view)
-    × (shown ≤ through) × MarksAll moment old new × ((shown ≡ through) ⊎ (shown ≡ count old.view))
-FlushAnswers faults moment count old new (flush.DiskFault before after) =
-    IsFault faults old new before after × (new.marks ≡ old.marks)
-FlushAnswers faults moment count old new (flush.Stopped mark) = IsStopped old new mark
+-- a flush: all is marked and shown, and the note tells of the samples that are shown
+abbrev pub FlushAnswers : {D V N : Type 0} → DiskOf D → ViewOf V N → Account D V → Account D V → Flush N → Type 0
+FlushAnswers disk view old new (flush.Done through shown note) =
+    (old.stopped ≡ false) × (new.stopped ≡ false) × (through ≡ length old.history) × (shown ≡ view.count new.view)
+    × (shown ≤ through) × MarksAll disk old new × ShowsAll view old.view new.view through
+    × view.tells note old.terms.which (take shown old.history)
+FlushAnswers disk view old new (flush.DiskFault before after) =
+    IsFault disk old new before after × (new.marks ≡ old.marks) × (new.view ≡ old.view)
+FlushAnswers disk view old new (flush.Stopped mark) = IsStopped old new mark

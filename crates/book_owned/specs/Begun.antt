@@ -1,20 +1,19 @@
 -- What a book begins with.
-use Rattle.std.specs.Prelude.{ℕ, ◌≡◌, ◌≤◌, ◌<◌, ◌^◌, false, List, [], ◌∷◌, length, All, sum_by, Option, is_some}
-use Rattle.mdf_disk.specs.Story.{Story}
+use Rattle.std.specs.Prelude.{ℕ, ◌≡◌, ◌≤◌, ◌<◌, ◌^◌, false, List, [], ◌∷◌, length, All, sum_by, is_some}
 use Rattle.mdf_disk.specs.Crash.{HoldsSince}
-use Rattle.mdf_disk.specs.declared.role.Role.{Role}
 use Rattle.mdf_layout.specs.Layout.{Layout, AreDisjoint}
 use Rattle.mdf_gate.specs.Gated.{Gated, RestsOn}
 use Rattle.mdf_gate.specs.Images.{head_of, IsBegun}
+use Rattle.book_owned.specs.Members.{DiskOf, ViewOf}
 use Rattle.book_owned.specs.Account.{Account}
 
 -- A file that was just created: its head is shorter than 2^61 bytes and nothing stands behind it. Each crash since it was
 -- begun leaves no MDF file, or the head with no opened block.
-pub record IsNewFile {D : Type 0} (content : D → Option (List ℕ)) (story : D → Option Story) (file : Gated D) : Type 0 where
+pub record IsNewFile {D : Type 0} (disk : DiskOf D) (file : Gated D) : Type 0 where
   pub going : file.failed ≡ false
-  pub rests : RestsOn (content file.disk) (story file.disk) file.first [] file.place
+  pub rests : RestsOn (disk.content file.disk) (disk.story file.disk) file.first [] file.place
   pub short : file.place < 2 ^ 61
-  pub begun : HoldsSince (story file.disk) file.start (IsBegun (head_of (story file.disk) file.first))
+  pub begun : HoldsSince (disk.story file.disk) file.start (IsBegun (head_of (disk.story file.disk) file.first))
 
 -- at most 64 groups with at most 1,024 channels in all, no two of a group sharing a bit, and limits within bounds
 pub record IsAdmissible (layouts : List Layout) (block_limit session_limit : ℕ) : Type 0 where
@@ -26,21 +25,21 @@ pub record IsAdmissible (layouts : List Layout) (block_limit session_limit : ℕ
   pub session : session_limit ≤ 268435456
 
 -- the book over that file has no sample, and one mark of the present moment
-pub record HasBegun {D V : Type 0} (story : D → Option Story) (moment : D → ℕ) (asked : D → Option (List ℕ × Role)) (which : V → ℕ)
-    (file : Gated D) (layouts : List Layout) (block_limit session_limit : ℕ) (view : V) (book : Account D V) : Type 0 where
-  pub disk : book.disk ≡ file.disk
-  pub view_is : book.view ≡ view
+pub record HasBegun {D V N : Type 0} (disk : DiskOf D) (view : ViewOf V N)
+    (file : Gated D) (layouts : List Layout) (block_limit session_limit : ℕ) (first : V) (book : Account D V) : Type 0 where
+  pub disk_is : book.disk ≡ file.disk
+  pub view_is : book.view ≡ first
   pub history : book.history ≡ []
-  pub marks : book.marks ≡ record { moment = moment file.disk; through = 0 } ∷ []
+  pub marks : book.marks ≡ record { moment = disk.moment file.disk; through = 0 } ∷ []
   pub going : book.stopped ≡ false
   pub terms : book.terms ≡ record {
     layouts = layouts;
     block_limit = block_limit;
     session_limit = session_limit;
-    which = which view;
-    head = head_of (story file.disk) file.first;
+    which = view.which first;
+    head = head_of (disk.story file.disk) file.first;
     start = file.start;
     faults = file.faults;
-    told = is_some (story file.disk);
-    asked = asked file.disk;
+    told = is_some (disk.story file.disk);
+    asked = disk.asked file.disk;
   }

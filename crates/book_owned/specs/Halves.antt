@@ -1,35 +1,47 @@
 -- The halves of a book: what it holds in memory, and its file.
-use Rattle.std.specs.Prelude.{ℕ, ◌≡◌, ◌≢◌, ◌+◌, ◌^◌, ◌≤◌, false, List, [], ◌∷◌, ◌++◌, length, take, drop, All, sum_by, Option, is_some}
+use Rattle.std.specs.Prelude.{ℕ, ◌≡◌, ◌≢◌, ◌+◌, ◌^◌, ◌≤◌, Bool, false, List, [], ◌∷◌, ◌++◌, length, take, drop, All, sum_by, Option, is_some}
 use Rattle.std.specs.List.{concat}
-use mathlib.Core.List.{IsPrefix}
 use Rattle.mdf_disk.specs.Story.{Story}
-use Rattle.mdf_disk.specs.declared.role.Role.{Role}
+use Rattle.mdf_disk.specs.State.{state_of}
 use Rattle.mdf_layout.specs.Layout.{Layout, AreDisjoint}
-use Rattle.mdf_layout.specs.Record.{AreRecords, IsRecord, cost_of, history_cost}
+use Rattle.mdf_layout.specs.Record.{AreRecords, IsRecord, SampleFits, cost_of, history_cost}
 use Rattle.mdf_layout.specs.declared.sample.Sample.{Sample}
 use Rattle.mdf_gate.specs.Gated.{Gated, RestsOn}
 use Rattle.mdf_gate.specs.Images.{head_of}
+use Rattle.book_owned.specs.Members.{DiskOf, ViewOf}
 use Rattle.book_owned.specs.Marks.{durable}
-use Rattle.book_owned.specs.Account.{Terms}
-use Rattle.book_owned.specs.Kept.{IsKept}
-use Rattle.book_owned.specs.declared.halves.Front.{Front}
+use Rattle.book_owned.specs.Account.{Account, Terms}
+use Rattle.book_owned.specs.Kept.{IsKept, IsShowing}
+use Rattle.book_owned.specs.declared.in_memory.InMemory.{InMemory}
 
 -- what no call changes
-abbrev pub terms_of : {D V : Type 0} → (D → Option (List ℕ × Role)) → (D → Option Story) → (V → ℕ) → Front V → Gated D → Terms
-terms_of asked story which front file = record {
+abbrev pub terms_of : {D V N : Type 0} → DiskOf D → ViewOf V N → InMemory V → Gated D → Terms
+terms_of disk view front file = record {
   layouts = front.shapes;
   block_limit = front.block.limit;
   session_limit = front.session_limit;
-  which = which front.view;
-  head = head_of (story file.disk) file.first;
+  which = view.which front.view;
+  head = head_of (disk.story file.disk) file.first;
   start = file.start;
   faults = file.faults;
-  told = is_some (story file.disk);
-  asked = asked file.disk;
+  told = is_some (disk.story file.disk);
+  asked = disk.asked file.disk;
 }
 
--- The layouts and limits are admissible, and what the history costs is counted.
-pub record IsCounted {V : Type 0} (front : Front V) : Type 0 where
+-- what contracts see of a book with these halves
+abbrev pub account_of : {D V N : Type 0} → DiskOf D → ViewOf V N → InMemory V → Gated D → Account D V
+account_of disk view front file = record {
+  history = front.history.items;
+  marks = front.marks.items;
+  stopped = file.failed;
+  terms = terms_of disk view front file;
+  disk = file.disk;
+  view = front.view;
+}
+
+-- The layouts and limits are admissible, each sample is one of theirs, and what the history costs is counted.
+pub record IsCounted {V : Type 0} (front : InMemory V) : Type 0 where
+  pub fit : All (SampleFits front.shapes) front.history.items
   pub held : front.held ≡ history_cost front.shapes front.history.items
   pub within : front.held ≤ front.session_limit
   pub session : front.session_limit ≤ 268435456
@@ -40,17 +52,12 @@ pub record IsCounted {V : Type 0} (front : Front V) : Type 0 where
   pub fields : sum_by (λ layout. length layout.rows) front.shapes ≤ 1024
   pub disjoint : All (λ layout. AreDisjoint layout.rows) front.shapes
 
--- The buffer holds the records of the samples behind the last mark, and there is room for the mark of a full one.
-pub record IsPending {V : Type 0} (front : Front V) : Type 0 where
-  pub through : durable front.marks.items ≤ length front.history.items
-  pub records : AreRecords front.shapes front.block.bytes (drop (durable front.marks.items) front.history.items)
+-- While no call failed, the buffer holds the records of the samples from there on; and there is room for the mark of a
+-- full one.
+pub record IsPending {V : Type 0} (from : ℕ) (failed : Bool) (front : InMemory V) : Type 0 where
+  pub through : from ≤ length front.history.items
+  pub records : failed ≡ false → AreRecords front.shapes front.block.bytes (drop from front.history.items)
   pub room : front.block.bytes ≢ [] → 1 ≤ front.marks.spare
-
--- The view shows a beginning of the durable samples, and handed no other samples on.
-pub record IsShown {V : Type 0} (shows hands : V → List Sample → Type 0) (count : V → ℕ) (front : Front V) : Type 0 where
-  pub most : count front.view ≤ durable front.marks.items
-  pub shown : shows front.view (take (count front.view) front.history.items)
-  pub handed : (handed : List Sample) → hands front.view handed → IsPrefix handed (take (durable front.marks.items) front.history.items)
 
 -- the file at rest holds the records of the durable samples
 pub record IsWritten (content : Option (List ℕ)) (story : Option Story) (first place : ℕ) (layouts : List Layout) (samples : List Sample) : Type 0 where
@@ -59,21 +66,21 @@ pub record IsWritten (content : Option (List ℕ)) (story : Option Story) (first
   pub records : AreRecords layouts (concat blocks) samples
 
 -- What the file keeps whatever happens, and where it stands while no call failed.
-pub record IsBack {D V : Type 0} (content : D → Option (List ℕ)) (story : D → Option Story) (moment : D → ℕ) (front : Front V) (file : Gated D) (terms : Terms) : Type 0 where
-  pub kept : IsKept terms (story file.disk) (moment file.disk) front.history.items front.marks.items
-  pub written : file.failed ≡ false → IsWritten (content file.disk) (story file.disk) file.first file.place front.shapes (take (durable front.marks.items) front.history.items)
+pub record IsBack {D V : Type 0} (disk : DiskOf D) (front : InMemory V) (file : Gated D) (terms : Terms) : Type 0 where
+  pub kept : IsKept terms (state_of disk file.disk) front.history.items front.marks.items
+  pub written : file.failed ≡ false → IsWritten (disk.content file.disk) (disk.story file.disk) file.first file.place front.shapes (take (durable front.marks.items) front.history.items)
   pub reach : file.failed ≡ false → file.place ≤ 2 ^ 61 + history_cost front.shapes (take (durable front.marks.items) front.history.items)
 
 -- the halves of a book between two calls
-pub record IsBook {D V : Type 0} (content : D → Option (List ℕ)) (story : D → Option Story) (moment : D → ℕ) (asked : D → Option (List ℕ × Role))
-    (shows hands : V → List Sample → Type 0) (count which : V → ℕ) (front : Front V) (file : Gated D) : Type 0 where
+pub record IsBook {D V N : Type 0} (disk : DiskOf D) (view : ViewOf V N) (front : InMemory V) (file : Gated D) : Type 0 where
   pub counted : IsCounted front
-  pub pending : IsPending front
-  pub shown : IsShown shows hands count front
-  pub back : IsBack content story moment front file (terms_of asked story which front file)
+  pub pending : IsPending (durable front.marks.items) file.failed front
+  pub shown : IsShowing view front.view front.history.items front.marks.items
+  pub back : IsBack disk front file (terms_of disk view front file)
 
 -- a sample was put behind the history, and its record behind the pending ones
-pub record IsPut {V : Type 0} (old new : Front V) (sample : Sample) : Type 0 where
+pub record IsPut {V : Type 0} (old new : InMemory V) (sample : Sample) : Type 0 where
+  pub fits : SampleFits old.shapes sample
   pub record_bytes : List ℕ
   pub record_is : IsRecord old.shapes record_bytes sample
   pub block : new.block.bytes ≡ old.block.bytes ++ record_bytes

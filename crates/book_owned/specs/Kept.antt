@@ -1,11 +1,14 @@
 -- What a book keeps of its file, whatever happens.
 use Rattle.std.specs.Prelude.{ℕ, ◌≤◌, ◌⊎◌, List, length, take, All, Option, is_some}
+use mathlib.Core.List.{IsPrefix}
 use Rattle.mdf_disk.specs.Story.{Story}
 use Rattle.mdf_disk.specs.Crash.{HoldsSince}
+use Rattle.mdf_disk.specs.State.{DiskState}
 use Rattle.mdf_layout.specs.Layout.{Layout}
 use Rattle.mdf_layout.specs.declared.sample.Sample.{Sample}
 use Rattle.mdf_gate.specs.Images.{IsNotMdf}
 use Rattle.mdf_gate.specs.Carried.{Carries, IsCarried}
+use Rattle.book_owned.specs.Members.{ViewOf}
 use Rattle.book_owned.specs.Marks.{AreRising, durable}
 use Rattle.book_owned.specs.Account.{Terms}
 use Rattle.book_owned.specs.declared.mark.Mark.{Mark}
@@ -27,10 +30,17 @@ abbrev pub StartHolds : List Layout → List ℕ → Option Story → ℕ → Li
 StartHolds layouts head story start history =
     HoldsSince story start (λ file. IsNotMdf file ⊎ Carries layouts head history 0 file)
 
-pub record IsKept (terms : Terms) (story : Option Story) (clock : ℕ) (history : List Sample) (marks : List Mark) : Type 0 where
-  pub marks_hold : MarksHold terms.layouts terms.head story clock history marks
-  pub start_holds : StartHolds terms.layouts terms.head story terms.start history
-  pub marks_rise : AreRising (is_some story) marks
+-- What is true of a book's disk, whatever happens.
+pub record IsKept (terms : Terms) (disk : DiskState) (history : List Sample) (marks : List Mark) : Type 0 where
+  pub marks_hold : MarksHold terms.layouts terms.head disk.story disk.moment history marks
+  pub start_holds : StartHolds terms.layouts terms.head disk.story terms.start history
+  pub marks_rise : AreRising (is_some disk.story) marks
+
+-- The view shows a beginning of the durable samples, and handed no other samples on.
+pub record IsShowing {V N : Type 0} (view : ViewOf V N) (now : V) (history : List Sample) (marks : List Mark) : Type 0 where
+  pub most : view.count now ≤ durable marks
+  pub shown : view.shows now (take (view.count now) history)
+  pub handed : (handed : List Sample) → view.hands now handed → IsPrefix handed (take (durable marks) history)
 
 -- the data of the file's opened blocks are the records of the durable samples
 abbrev pub HoldsDurable : Terms → List Sample → List Mark → List ℕ → Type 0

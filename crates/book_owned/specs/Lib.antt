@@ -1,3 +1,4 @@
+pub mod Members
 pub mod Marks
 pub mod Account
 pub mod Kept

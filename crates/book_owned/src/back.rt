@@ -1,11 +1,12 @@
 ghost use Rattle.std.specs.Prelude.{◌≡◌, ◌+◌, ◌≤◌, ◌<◌, ◌≢◌, ◌⊎◌, false, [], length, OnOk, OnErr, IfErr, IfSome, IfNone};
 ghost use Rattle.mdf_layout.specs.Record.{SampleFits, encoded_size};
 ghost use Rattle.book_owned.specs.Halves.{IsBook, IsCounted};
-ghost use Rattle.book_owned.specs.Hand.{Hands, IsHandFault, HasWritten, Takes, Refuses};
+ghost use Rattle.book_owned.specs.Hand.{Hands, IsHandFault, HasWritten, MakesRoom, Takes, Refuses};
 
 use crate::fault::Fault;
 use crate::front::{last_mark, publish};
-use crate::{Append, Front, Mark, Shown};
+use crate::in_memory::InMemory;
+use crate::{Append, Mark, Shown};
 use mdf_disk::Disk;
 use mdf_gate::GatedFile;
 use mdf_layout::Sample;
@@ -13,15 +14,20 @@ use std::sync::Wait;
 use std::thread::Threads;
 
 /// Hands the pending records over to the file, and marks what is durable then. It takes no memory.
-fn hand_over<D: Disk, V: Shown>(front: &mut Front<V>, file: &mut GatedFile<D>) -> Result<(), Fault>
-    requires book { IsBook D.content D.story D.moment D.asked V.shows V.hands V.count V.which front.old file.old }
+fn hand_over<D: Disk, V: Shown>(
+    front: &mut InMemory<V>,
+    file: &mut GatedFile<D>,
+) -> Result<(), Fault>
+    requires book { IsBook D.Disk V.Shown front.old file.old }
     requires going { file.old.failed ≡ false }
     requires some { front.old.block.bytes ≢ [] }
-    ensures book { IsBook D.content D.story D.moment D.asked V.shows V.hands V.count V.which front.new file.new }
-    ensures hands { Hands D.story D.asked V.which front.old file.old front.new file.new }
-    ensures written { OnOk result (HasWritten D.moment front.old file.old front.new file.new) }
+    ensures book { IsBook D.Disk V.Shown front.new file.new }
+    ensures hands { Hands D.Disk V.Shown front.old file.old front.new file.new }
+    ensures written { OnOk result (HasWritten D.Disk front.old file.old front.new file.new) }
     ensures view { front.new.view ≡ front.old.view }
-    ensures fault { IfErr result (IsHandFault D.faults front.old file.old front.new file.new) }
+    ensures fault { IfErr result (IsHandFault D.Disk front.old file.old front.new file.new) }
+    ensures later { D.faults file.old.disk ≤ D.faults file.new.disk }
+    ensures clock { D.moment file.old.disk ≤ D.moment file.new.disk }
 {
     let before = file.faults();
     let Ok(()) = file.append(&mut front.block) else {
@@ -39,16 +45,18 @@ fn hand_over<D: Disk, V: Shown>(front: &mut Front<V>, file: &mut GatedFile<D>) -
 
 /// Hands the pending records over where there are any.
 pub(crate) fn write_pending<D: Disk, V: Shown>(
-    front: &mut Front<V>,
+    front: &mut InMemory<V>,
     file: &mut GatedFile<D>,
 ) -> Result<(), Fault>
-    requires book { IsBook D.content D.story D.moment D.asked V.shows V.hands V.count V.which front.old file.old }
+    requires book { IsBook D.Disk V.Shown front.old file.old }
     requires going { file.old.failed ≡ false }
-    ensures book { IsBook D.content D.story D.moment D.asked V.shows V.hands V.count V.which front.new file.new }
-    ensures hands { Hands D.story D.asked V.which front.old file.old front.new file.new }
-    ensures written { OnOk result (HasWritten D.moment front.old file.old front.new file.new) }
+    ensures book { IsBook D.Disk V.Shown front.new file.new }
+    ensures hands { Hands D.Disk V.Shown front.old file.old front.new file.new }
+    ensures written { OnOk result (HasWritten D.Disk front.old file.old front.new file.new) }
     ensures view { front.new.view ≡ front.old.view }
-    ensures fault { IfErr result (IsHandFault D.faults front.old file.old front.new file.new) }
+    ensures fault { IfErr result (IsHandFault D.Disk front.old file.old front.new file.new) }
+    ensures later { D.faults file.old.disk ≤ D.faults file.new.disk }
+    ensures clock { D.moment file.old.disk ≤ D.moment file.new.disk }
 {
     if front.block.is_empty() {
         return Ok(());
@@ -59,21 +67,23 @@ pub(crate) fn write_pending<D: Disk, V: Shown>(
 /// Makes room for a record of so many bytes: where it would pass the block limit, the pending ones are handed over and
 /// published.
 pub(crate) fn make_room<D: Disk, V: Shown, R: Threads + Wait + Sync>(
-    front: &mut Front<V>,
+    front: &mut InMemory<V>,
     file: &mut GatedFile<D>,
     rt: &R,
     size: u64,
 ) -> Result<(), Fault>
-    requires book { IsBook D.content D.story D.moment D.asked V.shows V.hands V.count V.which front.old file.old }
+    requires book { IsBook D.Disk V.Shown front.old file.old }
     requires going { file.old.failed ≡ false }
     requires small { size ≤ front.old.block.limit }
-    ensures book { IsBook D.content D.story D.moment D.asked V.shows V.hands V.count V.which front.new file.new }
-    ensures hands { Hands D.story D.asked V.which front.old file.old front.new file.new }
+    ensures book { IsBook D.Disk V.Shown front.new file.new }
+    ensures hands { Hands D.Disk V.Shown front.old file.old front.new file.new }
     ensures going { OnOk result (file.new.failed ≡ false) }
     ensures room { OnOk result (length front.new.block.bytes + size ≤ front.new.block.limit) }
-    ensures stays { (front.new.marks ≡ front.old.marks) ⊎ (front.old.block.limit < length front.old.block.bytes + size) }
+    ensures turns { OnOk result (MakesRoom D.Disk V.Shown front.old file.old size front.new file.new) }
     ensures full { OnErr result (front.old.block.limit < length front.old.block.bytes + size) }
-    ensures fault { IfErr result (IsHandFault D.faults front.old file.old front.new file.new) }
+    ensures fault { IfErr result (IsHandFault D.Disk front.old file.old front.new file.new) }
+    ensures later { D.faults file.old.disk ≤ D.faults file.new.disk }
+    ensures clock { D.moment file.old.disk ≤ D.moment file.new.disk }
 {
     if front.block.len() as u64 + size <= front.block.limit() as u64 {
         return Ok(());
@@ -84,18 +94,14 @@ pub(crate) fn make_room<D: Disk, V: Shown, R: Threads + Wait + Sync>(
 }
 
 /// Why a sample is not taken, before anything changes.
-pub(crate) fn refusal<D: Disk, V>(
-    front: &Front<V>,
-    file: &GatedFile<D>,
-    sample: &Sample,
-) -> Option<Append>
+pub(crate) fn refusal<V>(front: &InMemory<V>, failed: bool, sample: &Sample) -> Option<Append>
     requires counted { IsCounted front.now }
     requires fits { SampleFits front.now.shapes sample.now }
     requires size { encoded_size front.now.shapes sample.now ≤ front.now.block.limit }
-    ensures none { IfNone result (Takes front.now file.now sample.now) }
-    ensures refused { IfSome result (Refuses front.now file.now sample.now) }
+    ensures none { IfNone result (Takes front.now failed sample.now) }
+    ensures refused { IfSome result (Refuses front.now failed sample.now) }
 {
-    if file.failed() {
+    if failed {
         return Some(Append::Stopped {
             mark: last_mark(&front.marks),
         });

@@ -1,14 +1,16 @@
 ghost use Rattle.std.specs.Prelude.{◌≡◌, ◌+◌, ◌≤◌, ◌<◌, ◌^◌, ℕ, List, [], ◌∷◌, ◌++◌, true, false, length, All, sum_by, drop, is_some, IfOk, IfErr, IfSome};
 ghost use Rattle.mdf_format.specs.Cause.{Rose};
 ghost use Rattle.mdf_disk.specs.Crash.{HoldsSince};
+ghost use Rattle.mdf_disk.specs.State.{state_of};
 ghost use Rattle.mdf_layout.specs.Layout.{AreDisjoint};
 ghost use Rattle.mdf_layout.specs.Record.{SampleFits, encoded_size, cost_of, history_cost, history_size};
 ghost use Rattle.mdf_gate.specs.Gated.{RestsOn};
 ghost use Rattle.mdf_gate.specs.Images.{head_of, IsBegun};
 
 use crate::back::{make_room, refusal, write_pending};
-use crate::front::{accept, last_mark, publish, reserve};
-use crate::{Append, Flush, Front, Mark, Marks, Shown};
+use crate::front::{accept, last_mark, publish, reserve, size_behind};
+use crate::in_memory::InMemory;
+use crate::{Append, Flush, Mark, Marks, Shown};
 use mdf_disk::Disk;
 use mdf_gate::{Block, GatedFile};
 use mdf_layout::{Reserved, Sample, Samples, Shapes};
@@ -20,19 +22,19 @@ use std::thread::Threads;
 
 /// A recording in progress: the accepted samples, and the file that holds them.
 pub struct Book<D: Disk, V: Shown> {
-    front: Front<V>,
+    front: InMemory<V>,
     file: GatedFile<D>,
 }
 
 impl<D: Disk, V: Shown> Model for Book<D, V> {
     ghost use Rattle.book_owned.specs.Account.{Account};
-    ghost use Rattle.book_owned.specs.Halves.{IsBook, terms_of};
+    ghost use Rattle.book_owned.specs.Halves.{IsBook, account_of};
 
     ghost Value = { Account D V };
 
-    ghost view = { λ b. record { history = b.front.history.items; marks = b.front.marks.items; stopped = b.file.failed; terms = terms_of D.asked D.story V.which b.front b.file; disk = b.file.disk; view = b.front.view } };
+    ghost view = { λ b. account_of D.Disk V.Shown b.front b.file };
 
-    ghost invariant = { λ b. IsBook D.content D.story D.moment D.asked V.shows V.hands V.count V.which b.front b.file };
+    ghost invariant = { λ b. IsBook D.Disk V.Shown b.front b.file };
 }
 
 /// The buffers of a book: that of a block, one for a record, and the list of marks with room for one.
@@ -52,7 +54,7 @@ fn buffers(alloc: Global, block_limit: u32) -> Result<(Block, Vec<u8>, Marks), M
 impl<D: Disk, V: Shown> Book<D, V> {
     ghost use Rattle.book_owned.specs.Marks.{last_mark, durable};
     ghost use Rattle.book_owned.specs.Account.{Account, Steps};
-    ghost use Rattle.book_owned.specs.Kept.{HoldsDurable, IsKept};
+    ghost use Rattle.book_owned.specs.Kept.{HoldsDurable, IsKept, IsShowing};
     ghost use Rattle.book_owned.specs.Begun.{IsNewFile, IsAdmissible, HasBegun};
     ghost use Rattle.book_owned.specs.Answers.{AppendAnswers, FlushAnswers, accepted_by};
 
@@ -68,12 +70,13 @@ impl<D: Disk, V: Shown> Book<D, V> {
         session_limit: u64,
         view: V,
     ) -> Result<Book<D, V>, (Memory, GatedFile<D>, V)>
-        requires created { IsNewFile D.content D.story file }
+        requires created { IsNewFile D.Disk file }
         requires admissible { IsAdmissible shapes block_limit session_limit }
         requires nothing_shown { (V.shows view []) × (V.count view ≡ 0) }
         requires nothing_handed { (handed : List Sample) → V.hands view handed → handed ≡ [] }
-        ensures begun { IfOk result (λ book. HasBegun D.story D.moment D.asked V.which file shapes block_limit session_limit view book) }
-        ensures kept { IfOk result (λ book. IsKept book.terms (D.story book.disk) (D.moment book.disk) book.history book.marks) }
+        ensures begun { IfOk result (λ book. HasBegun D.Disk V.Shown file shapes block_limit session_limit view book) }
+        ensures kept { IfOk result (λ book. IsKept book.terms (state_of D.Disk book.disk) book.history book.marks) }
+        ensures shown { IfOk result (λ book. IsShowing V.Shown book.view book.history book.marks) }
         ensures handed_back { IfErr result (λ parts. (parts.1 ≡ file) × (parts.2 ≡ view)) }
     {
         let Ok((block, scratch, mut marks)) = buffers(alloc, block_limit) else {
@@ -84,7 +87,7 @@ impl<D: Disk, V: Shown> Book<D, V> {
             through: 0,
         });
         Ok(Book {
-            front: Front {
+            front: InMemory {
                 shapes,
                 history: Samples::empty(alloc),
                 marks,
@@ -103,10 +106,13 @@ impl<D: Disk, V: Shown> Book<D, V> {
         requires fits { SampleFits self.old.terms.layouts sample }
         requires size { encoded_size self.old.terms.layouts sample ≤ self.old.terms.block_limit }
         ensures steps { Steps self.old self.new (accepted_by result sample) }
-        ensures answer { AppendAnswers D.faults self.old self.new sample result }
-        ensures kept { IsKept self.new.terms (D.story self.new.disk) (D.moment self.new.disk) self.new.history self.new.marks }
+        ensures answer { AppendAnswers D.Disk V.Shown self.old self.new sample result }
+        ensures kept { IsKept self.new.terms (state_of D.Disk self.new.disk) self.new.history self.new.marks }
+        ensures shown { IsShowing V.Shown self.new.view self.new.history self.new.marks }
+        ensures later { D.faults self.old.disk ≤ D.faults self.new.disk }
+        ensures clock { D.moment self.old.disk ≤ D.moment self.new.disk }
     {
-        if let Some(refused) = refusal(&self.front, &self.file, &sample) {
+        if let Some(refused) = refusal(&self.front, self.file.failed(), &sample) {
             return refused;
         }
         let Ok(()) = reserve(&mut self.front) else {
@@ -128,8 +134,11 @@ impl<D: Disk, V: Shown> Book<D, V> {
     /// mark.
     pub fn flush<R: Threads + Wait + Sync>(&mut self, rt: &R) -> Flush<V::Note>
         ensures steps { Steps self.old self.new [] }
-        ensures answer { FlushAnswers D.faults D.moment V.count self.old self.new result }
-        ensures kept { IsKept self.new.terms (D.story self.new.disk) (D.moment self.new.disk) self.new.history self.new.marks }
+        ensures answer { FlushAnswers D.Disk V.Shown self.old self.new result }
+        ensures kept { IsKept self.new.terms (state_of D.Disk self.new.disk) self.new.history self.new.marks }
+        ensures shown { IsShowing V.Shown self.new.view self.new.history self.new.marks }
+        ensures later { D.faults self.old.disk ≤ D.faults self.new.disk }
+        ensures clock { D.moment self.old.disk ≤ D.moment self.new.disk }
     {
         if self.file.failed() {
             return Flush::Stopped {
@@ -160,10 +169,11 @@ impl<D: Disk, V: Shown> Book<D, V> {
         ensures asked { D.asked self.disk ≡ self.terms.asked }
         ensures told { is_some (D.story self.disk) ≡ self.terms.told }
         ensures content { self.stopped ≡ false → IfSome (D.content self.disk) (HoldsDurable self.terms self.history self.marks) }
-        ensures kept { IsKept self.terms (D.story self.disk) (D.moment self.disk) self.history self.marks }
+        ensures kept { IsKept self.terms (state_of D.Disk self.disk) self.history self.marks }
+        ensures shown { IsShowing V.Shown self.view self.history self.marks }
     {
         let Book { front, file } = self;
-        let Front {
+        let InMemory {
             shapes: _,
             history,
             marks,
@@ -197,6 +207,9 @@ impl<D: Disk, V: Shown> Book<D, V> {
     pub fn pending(&self) -> u64
         ensures { result ≡ history_size self.now.terms.layouts (drop (durable self.now.marks) self.now.history) }
     {
+        if self.file.failed() {
+            return size_behind(&self.front, last_mark(&self.front.marks).through);
+        }
         self.front.block.len() as u64
     }
 

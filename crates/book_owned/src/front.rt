@@ -1,11 +1,14 @@
-ghost use Rattle.std.specs.Prelude.{◌≡◌, ◌+◌, ◌≤◌, ◌<◌, ◌⊎◌, ℕ, List, [], ◌∷◌, ◌++◌, length, take, All, OnOk};
+ghost use Rattle.std.specs.Prelude.{◌≡◌, ◌+◌, ◌≤◌, ◌<◌, ◌⊎◌, ℕ, List, [], ◌∷◌, ◌++◌, length, take, drop, All, OnOk};
 ghost use Rattle.mdf_layout.specs.declared.sample.Sample.{Sample};
 ghost use Rattle.mdf_layout.specs.Layout.{AreDisjoint};
-ghost use Rattle.mdf_layout.specs.Record.{SampleFits, IsRecord, encoded_size, cost_of};
+ghost use Rattle.mdf_layout.specs.Record.{SampleFits, IsRecord, encoded_size, cost_of, history_size};
 ghost use Rattle.book_owned.specs.Marks.{last_mark, durable};
-ghost use Rattle.book_owned.specs.Halves.{IsCounted, IsShown, IsPut};
+ghost use Rattle.book_owned.specs.Kept.{IsShowing};
+ghost use Rattle.book_owned.specs.Answers.{ShowsAll};
+ghost use Rattle.book_owned.specs.Halves.{IsCounted, IsPut};
 
-use crate::{Front, Mark, Marks, Shown};
+use crate::in_memory::InMemory;
+use crate::{Mark, Marks, Shown};
 use mdf_layout::{Sample, Shapes};
 use mdf_num::Memory;
 use std::sync::Wait;
@@ -13,7 +16,7 @@ use std::thread::Threads;
 
 /// Finds room for one sample more, and for two marks: that of a hand-over on the way, and
 /// that of the sample itself.
-pub(crate) fn reserve<V>(front: &mut Front<V>) -> Result<(), Memory>
+pub(crate) fn reserve<V>(front: &mut InMemory<V>) -> Result<(), Memory>
     ensures rest { front.new ≡ record front.old { history = front.new.history; marks = front.new.marks } }
     ensures history { front.new.history.items ≡ front.old.history.items }
     ensures marks { front.new.marks.items ≡ front.old.marks.items }
@@ -44,7 +47,7 @@ fn encode(shapes: &Shapes, sample: &Sample, out: &mut [u8]) -> usize
 }
 
 /// Puts a sample behind the history, and its record behind the pending ones. It takes no memory.
-pub(crate) fn accept<V>(front: &mut Front<V>, sample: Sample)
+pub(crate) fn accept<V>(front: &mut InMemory<V>, sample: Sample)
     requires counted { IsCounted front.old }
     requires fits { SampleFits front.old.shapes sample }
     requires room { 1 ≤ front.old.history.spare }
@@ -58,21 +61,39 @@ pub(crate) fn accept<V>(front: &mut Front<V>, sample: Sample)
     front.history.put(sample);
 }
 
-/// Publishes all samples that are not shown yet. Where the view finds no memory it shows what it showed.
-pub(crate) fn publish<V: Shown, R: Threads + Wait + Sync>(front: &mut Front<V>, rt: &R)
+/// Publishes the durable samples that are not shown yet. Where the view finds no memory it shows what it showed.
+pub(crate) fn publish<V: Shown, R: Threads + Wait + Sync>(front: &mut InMemory<V>, rt: &R)
     requires counted { IsCounted front.old }
-    requires shown { IsShown V.shows V.hands V.count front.old }
-    requires all { durable front.old.marks.items ≡ length front.old.history.items }
-    ensures shown { IsShown V.shows V.hands V.count front.new }
+    requires shown { IsShowing V.Shown front.old.view front.old.history.items front.old.marks.items }
+    requires within { durable front.old.marks.items ≤ length front.old.history.items }
+    ensures shown { IsShowing V.Shown front.new.view front.new.history.items front.new.marks.items }
     ensures rest { front.new ≡ record front.old { view = front.new.view } }
     ensures which { V.which front.new.view ≡ V.which front.old.view }
-    ensures count { (V.count front.new.view ≡ length front.old.history.items) ⊎ (V.count front.new.view ≡ V.count front.old.view) }
+    ensures count { ShowsAll V.Shown front.old.view front.new.view (durable front.old.marks.items) }
 {
     let shown = front.view.shown();
-    match front.view.publish(rt, front.history.rest(shown)) {
+    let more = last_mark(&front.marks).through - shown;
+    match front
+        .view
+        .publish(rt, &front.history.rest(shown)[..more as usize])
+    {
         Ok(()) => {}
         Err(_) => {}
     }
+}
+
+/// How many bytes the records of the samples from there on have.
+pub(crate) fn size_behind<V>(front: &InMemory<V>, from: u64) -> u64
+    requires counted { IsCounted front.now }
+    requires within { from ≤ length front.now.history.items }
+    ensures { result ≡ history_size front.now.shapes (drop from front.now.history.items) }
+{
+    let behind = front.history.rest(from);
+    let mut size = 0;
+    for sample in behind {
+        size += front.shapes.encoded_size(sample);
+    }
+    size
 }
 
 /// The last mark.

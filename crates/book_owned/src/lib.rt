@@ -11,12 +11,11 @@ mod back;
 mod book;
 mod fault;
 mod front;
-mod halves;
+mod in_memory;
 mod mark;
 mod view;
 
 pub use answer::{Append, Flush};
 pub use book::Book;
-pub use halves::Front;
 pub use mark::{Mark, Marks};
 pub use view::{NoView, Shown};

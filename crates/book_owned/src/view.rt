@@ -1,5 +1,6 @@
-ghost use Rattle.std.specs.Prelude.{◌≡◌, ◌+◌, ◌^◌, ◌<◌, ℕ, List, [], ◌++◌, length, OnOk, OnErr};
+ghost use Rattle.std.specs.Prelude.{◌≡◌, ◌+◌, ◌^◌, ◌<◌, ℕ, Bool, true, List, [], ◌++◌, length, OnOk, OnErr};
 ghost use mathlib.Core.List.{IsPrefix};
+ghost use Rattle.mdf_num.specs.Halt.{Wants};
 ghost use Rattle.mdf_layout.specs.declared.sample.Sample.{Sample};
 
 use mdf_layout::Sample;
@@ -12,6 +13,9 @@ pub trait Shown {
     /// What tells a reader of it how much is shown.
     type Note: Drop;
 
+    /// Whether a publishing may want memory.
+    ghost may_want: { Bool } = { true };
+
     /// A list of samples that may be the one that is shown. A view that only counts does not tell them apart.
     ghost shows: { Self → List Sample → Type 0 };
 
@@ -23,6 +27,9 @@ pub trait Shown {
 
     /// Which view it is.
     ghost which: { Self → ℕ };
+
+    /// What a note tells of: which view, and a list of samples that may be the one that was shown when it was made.
+    ghost tells: { Self.Note → ℕ → List Sample → Type 0 };
 
     /// Shows these samples too. What was handed to readers before has to begin what is shown with them.
     ///
@@ -43,7 +50,8 @@ pub trait Shown {
         ensures handed { (shown : List Sample) → shows self.old shown
             → ((handed : List Sample) → hands self.old handed → IsPrefix handed (shown ++ samples.now))
             → (handed : List Sample) → hands self.new handed → IsPrefix handed (shown ++ samples.now) }
-        ensures same { which self.new ≡ which self.old };
+        ensures same { which self.new ≡ which self.old }
+        ensures wants { OnErr result (Wants may_want) };
 
     /// How many samples are shown.
     fn shown(&self) -> u64
@@ -51,13 +59,14 @@ pub trait Shown {
 
     /// A note of what is shown now.
     fn told(&mut self) -> Self::Note
+        ensures note { (shown : List Sample) → shows self.old shown → tells result (which self.old) shown }
         ensures shown { (shown : List Sample) → shows self.old shown → shows self.new shown }
         ensures handed { (handed : List Sample) → hands self.new handed → hands self.old handed }
         ensures counted { count self.new ≡ count self.old }
         ensures same { which self.new ≡ which self.old };
 }
 
-/// A view that counts and shows nobody anything.
+/// A view that counts and shows nobody anything. It wants no memory.
 #[derive(Debug, Drop)]
 pub struct NoView {
     count: u64,
@@ -72,9 +81,11 @@ impl NoView {
 }
 
 impl Shown for NoView {
-    ghost use Rattle.std.specs.Prelude.{◌≡◌, [], length};
+    ghost use Rattle.std.specs.Prelude.{◌≡◌, false, [], length};
 
     type Note = ();
+
+    ghost may_want = { false };
 
     ghost shows = { λ view samples. length samples ≡ view.count };
 
@@ -83,6 +94,8 @@ impl Shown for NoView {
     ghost count = { λ view. view.count };
 
     ghost which = { λ view. 0 };
+
+    ghost tells = { λ note which shown. Unit {0} };
 
     fn publish<R: Threads + Wait + Sync>(
         &mut self,

@@ -8,13 +8,13 @@ only_one : {A : Type 0} (P : A → Type 0) (x : A) → P x → All P (x ∷ [])
 only_one P x here zero d below = here
 only_one P x here (suc k) d below = absurd (omega arith)
 
-pub one_group : (shapes : List Layout) (shape : Layout) (limit : ℕ) → shapes ≡ shape ∷ [] → length shape.rows ≤ 1024 → AreDisjoint shape.rows
-    → limit ≤ 268435456 → IsAdmissible shapes 65536 limit
-one_group shapes shape limit is few disjoint within = subst (λ s. IsAdmissible s 65536 limit) (sym is) (record {
+pub one_group : (shapes : List Layout) (shape : Layout) (block session : ℕ) → shapes ≡ shape ∷ [] → length shape.rows ≤ 1024 → AreDisjoint shape.rows
+    → 1 ≤ block → block ≤ 16777216 → session ≤ 268435456 → IsAdmissible shapes block session
+one_group shapes shape block session is few disjoint some most within = subst (λ s. IsAdmissible s block session) (sym is) (record {
   groups = omega arith;
   fields = omega (arith, few, sum_by-cons (λ layout. length layout.rows) shape []);
   disjoint = only_one (λ layout. AreDisjoint layout.rows) shape disjoint;
-  some = omega arith;
-  block = omega arith;
+  some = some;
+  block = most;
   session = within;
 })

@@ -1,15 +1,15 @@
 ghost use Rattle.std.specs.Prelude.{◌≡◌, ◌≤◌, true, None, [], ◌∷◌, All, IfOk, length};
 ghost use Rattle.mdf_layout.specs.Field.{IsWordRow};
-ghost use Rattle.mdf_layout.specs.Layout.{AreDisjoint};
+ghost use Rattle.mdf_layout.specs.Layout.{Layout, AreDisjoint};
 ghost use Rattle.mdf_gate.specs.Gated.{IsRecordingHead};
 ghost use Rattle.book_owned.specs.Begun.{IsNewFile};
 
 use crate::disks::{image, name};
 use crate::layouts::{sample, word_row};
-use book_owned::{Book, Marks, NoView};
+use book_owned::{Book, Marks, NoView, Shown};
 use mdf_disk::{Disk, MemoryDisk, Role};
 use mdf_gate::{GateFault, GatedFile, Opened, opened};
-use mdf_layout::{FieldRow, Samples, Shape, ShapeFault, Shapes, shape_of};
+use mdf_layout::{FieldRow, Shape, ShapeFault, Shapes, shape_of};
 use mdf_num::{Memory, Numbers, Rows};
 use std::alloc::Global;
 use std::process::Abort;
@@ -62,7 +62,7 @@ fn created<D: Disk + Drop, R: Abort>(
     mut disk: D,
 ) -> Result<GatedFile<D>, Fail>
     requires { D.asked disk ≡ None }
-    ensures { IfOk result (λ file. IsNewFile D.content D.story file) }
+    ensures { IfOk result (λ file. IsNewFile D.Disk file) }
 {
     let head = head();
     assert!(rt; is_head(&head));
@@ -95,6 +95,54 @@ fn group_of<R: AllocGlobal + Abort>(rt: &R, rows: &Rows<FieldRow>) -> Result<Sha
     Ok(shape)
 }
 
+/// The layout of one channel, and the list of just this layout.
+fn shapes_of<R: AllocGlobal + Abort>(rt: &R) -> Result<(Shape, Shapes), Fail>
+    ensures list { IfOk result (λ shapes. shapes.1 ≡ shapes.0 ∷ []) }
+    ensures few { IfOk result (λ shapes. length shapes.0.rows ≤ 1024) }
+    ensures disjoint { IfOk result (λ shapes. AreDisjoint shapes.0.rows) }
+{
+    let rows = one_row(rt.alloc())?;
+    let shape = group_of(rt, &rows)?;
+    let mut shapes = Shapes::empty(rt.alloc());
+    shapes.push(group_of(rt, &rows)?)?;
+    Ok((shape, shapes))
+}
+
+/// A recording on a disk that fails at these calls.
+fn file_failing_at<R: AllocGlobal + Abort>(
+    rt: &R,
+    failing: &[u64],
+) -> Result<GatedFile<MemoryDisk>, Fail>
+    ensures { IfOk result (λ file. IsNewFile ⟦<MemoryDisk as Disk>⟧ file) }
+{
+    let alloc = rt.alloc();
+    let mut disk = MemoryDisk::new(alloc);
+    disk.fail_at(Numbers::from_vec(failing.to_vec(alloc)?));
+    created(rt, alloc, disk)
+}
+
+/// A book over a new file, with these limits in bytes.
+fn begun<R: AllocGlobal + Abort>(
+    rt: &R,
+    file: GatedFile<MemoryDisk>,
+    shapes: Shapes,
+    block: u32,
+    session: u64,
+) -> Result<Book<MemoryDisk, NoView>, Fail>
+    requires created { IsNewFile ⟦<MemoryDisk as Disk>⟧ file }
+    requires one { (shape : Layout) × (shapes ≡ shape ∷ []) × (length shape.rows ≤ 1024) × AreDisjoint shape.rows }
+    ensures { IfOk result (λ book. book.terms.layouts ≡ shapes) }
+{
+    assert!(rt; 1 <= block && block <= 16_777_216 && session <= SESSION);
+    match Book::begin(rt.alloc(), file, shapes, block, session, NoView::new()) {
+        Ok(book) => Ok(book),
+        Err((memory, file, _)) => {
+            drop(file.into_disk());
+            Err(memory.into())
+        }
+    }
+}
+
 /// Appends a sample of this number, or flushes, and tells the answer.
 fn step<R>(
     rt: &R,
@@ -119,75 +167,74 @@ where
     Ok(format!(in rt.alloc(); "{answer:?}")?)
 }
 
-/// Does these tasks, and tells the answers.
+/// Does these tasks, and tells the answers, each behind the one before on a line of its own.
 fn feed<R>(
     rt: &R,
     shape: &Shape,
     book: &mut Book<MemoryDisk, NoView>,
     tasks: &[Option<u64>],
-) -> Result<Vec<String>, Fail>
+) -> Result<String, Fail>
 where
     R: AllocGlobal + Abort + Threads + Wait + Sync,
     requires { book.old.terms.layouts ≡ shape.now ∷ [] }
 {
-    let mut told = Vec::new(rt.alloc());
+    let mut told = String::new(rt.alloc());
     for task in tasks {
-        told.push(step(rt, shape, book, *task)?)?;
+        let answer = step(rt, shape, book, *task)?;
+        told.push_str(answer.as_str())?;
+        told.push('\n')?;
     }
     Ok(told)
 }
 
-/// What a recording left.
-#[derive(Drop)]
-struct Ended {
-    told: Vec<String>,
-    disk: MemoryDisk,
-    history: Samples,
-    marks: Marks,
+/// A recording: which calls of the disk fail, the limits of a block and of the session in bytes, and its tasks, a sample
+/// of this number or a flush.
+struct Recording {
+    failing: &'static [u64],
+    block: u32,
+    session: u64,
+    tasks: &'static [Option<u64>],
 }
 
-/// Records on a disk that fails at these calls.
-fn record<R>(
-    rt: &R,
-    failing: &[u64],
-    session_limit: u64,
-    tasks: &[Option<u64>],
-) -> Result<Ended, Fail>
+/// What a recording left: the answers, how many bytes are pending, the disk, the marks, and how many samples are shown.
+#[derive(Drop)]
+struct Ended {
+    answers: String,
+    pending: u64,
+    disk: MemoryDisk,
+    marks: Marks,
+    shown: u64,
+}
+
+fn record<R>(rt: &R, recording: &Recording) -> Result<Ended, Fail>
 where
     R: AllocGlobal + Abort + Threads + Wait + Sync,
-    requires { session_limit ≤ 268435456 }
 {
-    let alloc = rt.alloc();
-    let rows = one_row(alloc)?;
-    let shape = group_of(rt, &rows)?;
-    let group = group_of(rt, &rows)?;
-    let mut shapes = Shapes::empty(alloc);
-    shapes.push(group)?;
-    let mut disk = MemoryDisk::new(alloc);
-    disk.fail_at(Numbers::from_vec(failing.to_vec(alloc)?));
-    let file = created(rt, alloc, disk)?;
-    let mut book = match Book::begin(alloc, file, shapes, 65_536, session_limit, NoView::new()) {
-        Ok(book) => book,
-        Err((memory, file, _)) => {
-            drop(file.into_disk());
-            return Err(memory.into());
-        }
-    };
-    let told = feed(rt, &shape, &mut book, tasks);
-    let (disk, history, marks, _) = book.close();
+    let (shape, shapes) = shapes_of(rt)?;
+    let file = file_failing_at(rt, recording.failing)?;
+    let mut book = begun(rt, file, shapes, recording.block, recording.session)?;
+    let answers = feed(rt, &shape, &mut book, recording.tasks);
+    let pending = book.pending();
+    let (disk, _, marks, view) = book.close();
     Ok(Ended {
-        told: told?,
+        answers: answers?,
+        pending,
         disk,
-        history,
         marks,
+        shown: view.shown(),
     })
 }
 
+const SESSION: u64 = 268_435_456;
+
 // The numbers 1 and 2, a flush, the number 3, and a flush. A record has 9 bytes, so the first block has 24 and 18 bytes
 // at 232, the second 24 and 9 at 280, and the last place is 320.
-const TWO_BLOCKS: [Option<u64>; 5] = [Some(1), Some(2), None, Some(3), None];
-
-const SESSION: u64 = 268_435_456;
+const TWO_BLOCKS: Recording = Recording {
+    failing: &[],
+    block: 65_536,
+    session: SESSION,
+    tasks: &[Some(1), Some(2), None, Some(3), None],
+};
 
 /// How many blocks of the recording a file has opened: a digit, or `x` for no MDF file.
 fn blocks_in(file: &[u8]) -> char
@@ -223,89 +270,130 @@ fn blocks_in(file: &[u8]) -> char
     }
 }
 
-#[test]
-fn a_recording_of_two_blocks(rt: HostRuntime) -> Result<(), Fail> {
-    let ended = record(&rt, &[], SESSION, &TWO_BLOCKS)?;
-    let file = ended.disk.bytes();
-    assert_eq!(rt; file.len(), 321);
-    assert_eq!(rt; blocks_in(file), '2');
-    assert_eq!(rt; &file[232..236], b"##DT".as_slice());
-    assert_eq!(rt;
-        &file[256..274],
-        b"\x01\x01\0\0\0\0\0\0\0\x01\x02\0\0\0\0\0\0\0".as_slice()
-    );
-    assert_eq!(rt; &file[280..284], b"##DT".as_slice());
-    assert_eq!(rt; &file[304..313], b"\x01\x03\0\0\0\0\0\0\0".as_slice());
-    assert_eq!(rt; ended.history.len(), 3);
-    assert_eq!(rt; ended.marks.len(), 3);
-    for (i, through) in [(0, 0), (1, 2), (2, 3)] {
-        assert_eq!(rt; ended.marks.get(i).map(|mark| mark.through), Some(through));
+/// The answers of a recording, and what it left, as text: of each mark the moment and how far it goes, how many samples
+/// are shown, how many bytes are pending, how long the file is and how many blocks it has opened.
+fn line(alloc: Global, ended: &Ended) -> Result<String, Fail> {
+    let mut line = ended.answers.clone()?;
+    for i in 0..ended.marks.len() {
+        if let Some(mark) = ended.marks.get(i) {
+            let mark = format!(in alloc; "{}:{} ", mark.moment, mark.through)?;
+            line.push_str(mark.as_str())?;
+        }
     }
-    Ok(())
+    let file = ended.disk.bytes();
+    let blocks = if file.len() <= 1000 { blocks_in(file) } else { '?' };
+    let left = format!(in alloc; "shown {} pending {} bytes {} blocks {blocks}", ended.shown, ended.pending, file.len())?;
+    line.push_str(left.as_str())?;
+    Ok(line)
 }
 
-// Which calls of the disk fail, the session limit, the tasks, and the answers. Calls 0 to 7 make the file, and each flush
-// with something pending makes four.
-const ANSWERS: [(&[u64], u64, &[Option<u64>], &[&str]); 3] = [
+fn told<R>(rt: &R, recording: &Recording) -> Result<String, Fail>
+where
+    R: AllocGlobal + Abort + Threads + Wait + Sync,
+{
+    let ended = record(rt, recording)?;
+    line(rt.alloc(), &ended)
+}
+
+// Recordings and what is told of them. Calls 0 to 7 of the disk make the file, which is moment 7, and each hand-over
+// makes four. In a block of 18 bytes the third record has no room: the append hands the first two over.
+const TOLD: [(Recording, &str); 7] = [
     (
-        &[],
-        SESSION,
-        &TWO_BLOCKS,
-        &[
-            "Accepted { place: 0 }",
-            "Accepted { place: 1 }",
-            "Done { through: 2, shown: 2, note: () }",
-            "Accepted { place: 2 }",
-            "Done { through: 3, shown: 3, note: () }",
-        ],
+        TWO_BLOCKS,
+        "Accepted { place: 0 }\nAccepted { place: 1 }\nDone { through: 2, shown: 2, note: () }\n\
+         Accepted { place: 2 }\nDone { through: 3, shown: 3, note: () }\n\
+         7:0 11:2 15:3 shown 3 pending 0 bytes 321 blocks 2",
     ),
     (
-        &[],
-        290,
-        &[Some(1), Some(2), Some(3), None],
-        &[
-            "Accepted { place: 0 }",
-            "Accepted { place: 1 }",
-            "SessionFull { held: 290, size: 145, limit: 290 }",
-            "Done { through: 2, shown: 2, note: () }",
-        ],
+        Recording {
+            failing: &[],
+            block: 65_536,
+            session: SESSION,
+            tasks: &[None],
+        },
+        "Done { through: 0, shown: 0, note: () }\n7:0 shown 0 pending 0 bytes 233 blocks 0",
     ),
     (
-        &[15],
-        SESSION,
-        &[Some(1), Some(2), None, Some(3), None, None, Some(4)],
-        &[
-            "Accepted { place: 0 }",
-            "Accepted { place: 1 }",
-            "Done { through: 2, shown: 2, note: () }",
-            "Accepted { place: 2 }",
-            "DiskFault { before: 0, after: 1 }",
-            "Stopped { mark: Mark { moment: 11, through: 2 } }",
-            "Stopped { mark: Mark { moment: 11, through: 2 } }",
-        ],
+        Recording {
+            failing: &[],
+            block: 65_536,
+            session: 290,
+            tasks: &[Some(1), Some(2), Some(3), None],
+        },
+        "Accepted { place: 0 }\nAccepted { place: 1 }\nSessionFull { held: 290, size: 145, limit: 290 }\n\
+         Done { through: 2, shown: 2, note: () }\n7:0 11:2 shown 2 pending 0 bytes 281 blocks 1",
+    ),
+    (
+        Recording {
+            failing: &[15],
+            block: 65_536,
+            session: SESSION,
+            tasks: &[Some(1), Some(2), None, Some(3), None, None, Some(4)],
+        },
+        "Accepted { place: 0 }\nAccepted { place: 1 }\nDone { through: 2, shown: 2, note: () }\n\
+         Accepted { place: 2 }\nDiskFault { before: 0, after: 1 }\n\
+         Stopped { mark: Mark { moment: 11, through: 2 } }\nStopped { mark: Mark { moment: 11, through: 2 } }\n\
+         7:0 11:2 shown 2 pending 9 bytes 321 blocks 2",
+    ),
+    (
+        Recording {
+            failing: &[],
+            block: 18,
+            session: SESSION,
+            tasks: &[Some(1), Some(2), Some(3)],
+        },
+        "Accepted { place: 0 }\nAccepted { place: 1 }\nAccepted { place: 2 }\n\
+         7:0 11:2 shown 2 pending 9 bytes 281 blocks 1",
+    ),
+    (
+        Recording {
+            failing: &[],
+            block: 18,
+            session: SESSION,
+            tasks: &[Some(1), Some(2), Some(3), None],
+        },
+        "Accepted { place: 0 }\nAccepted { place: 1 }\nAccepted { place: 2 }\nDone { through: 3, shown: 3, note: () }\n\
+         7:0 11:2 15:3 shown 3 pending 0 bytes 321 blocks 2",
+    ),
+    (
+        Recording {
+            failing: &[11],
+            block: 18,
+            session: SESSION,
+            tasks: &[Some(1), Some(2), Some(3), Some(4)],
+        },
+        "Accepted { place: 0 }\nAccepted { place: 1 }\nDiskFault { before: 0, after: 1 }\n\
+         Stopped { mark: Mark { moment: 7, through: 0 } }\n7:0 shown 0 pending 18 bytes 281 blocks 1",
     ),
 ];
 
 #[test]
-fn answers_of_a_book(rt: HostRuntime) -> Result<(), Fail> {
-    for (failing, session, tasks, answers) in ANSWERS {
-        assert!(rt; session <= SESSION);
-        let ended = record(&rt, failing, session, tasks)?;
-        assert_eq!(rt; ended.told.len(), answers.len());
-        for i in 0..answers.len() {
-            assert_eq!(rt; ended.told[i].as_str(), answers[i]);
-        }
+fn recordings_are_told(rt: HostRuntime) -> Result<(), Fail> {
+    for (recording, text) in &TOLD {
+        assert_eq!(rt; told(&rt, recording)?.as_str(), *text);
     }
+    Ok(())
+}
+
+// The two blocks from 232 on: of each the header of 24 bytes, the records, and zero bytes up to the next place; and the
+// closed byte of the last place.
+const BLOCKS: &[u8; 89] = b"##DT\0\0\0\0\x2A\0\0\0\0\0\0\0\0\0\0\0\0\0\0\0\
+    \x01\x01\0\0\0\0\0\0\0\x01\x02\0\0\0\0\0\0\0\0\0\0\0\0\0\
+    ##DT\0\0\0\0\x21\0\0\0\0\0\0\0\0\0\0\0\0\0\0\0\
+    \x01\x03\0\0\0\0\0\0\0\0\0\0\0\0\0\0\0";
+
+#[test]
+fn a_recording_of_two_blocks(rt: HostRuntime) -> Result<(), Fail> {
+    let ended = record(&rt, &TWO_BLOCKS)?;
+    let file = ended.disk.bytes();
+    assert_eq!(rt; file.get(232..), Some(BLOCKS.as_slice()));
     Ok(())
 }
 
 // The blocks that a crash inside each call leaves opened, by each of the four picks. The calls are the attach; a write of
 // the closed byte and its sync, two writes of what follows and their sync, the first byte and its sync; and for each block
 // the write behind its gate and its sync, the gate and its sync.
-const LEFT: [&str; 16] = [
-    "xxxx", "xxxx", "xxxx", "xxxx", "xxxx", "xxxx", "x0xx", "x0xx", "0000", "0000", "0101", "0101",
-    "1111", "1111", "1212", "1212",
-];
+const LEFT: &str = "xxxx xxxx xxxx xxxx xxxx xxxx x0xx x0xx 0000 0000 0101 0101 1111 1111 1212 1212 ";
 
 /// The blocks that a crash inside this call leaves opened.
 fn left_in<R: AllocGlobal + Abort>(rt: &R, disk: &MemoryDisk, call: u64) -> Result<String, Fail> {
@@ -318,13 +406,19 @@ fn left_in<R: AllocGlobal + Abort>(rt: &R, disk: &MemoryDisk, call: u64) -> Resu
     Ok(left)
 }
 
+/// That of each call.
+fn left_of<R: AllocGlobal + Abort>(rt: &R, disk: &MemoryDisk) -> Result<String, Fail> {
+    let mut left = String::new(rt.alloc());
+    for call in 0..disk.calls() {
+        left.push_str(left_in(rt, disk, call)?.as_str())?;
+        left.push(' ')?;
+    }
+    Ok(left)
+}
+
 #[test]
 fn crash_in_each_call(rt: HostRuntime) -> Result<(), Fail> {
-    let ended = record(&rt, &[], SESSION, &TWO_BLOCKS)?;
-    assert_eq!(rt; ended.disk.calls(), 16);
-    for call in 0..16 {
-        let left = left_in(&rt, &ended.disk, call)?;
-        assert_eq!(rt; left.as_str(), LEFT[call as usize], "call {call}");
-    }
+    let ended = record(&rt, &TWO_BLOCKS)?;
+    assert_eq!(rt; left_of(&rt, &ended.disk)?.as_str(), LEFT);
     Ok(())
 }

@@ -8,23 +8,23 @@ use Rattle.book_owned.proofs.back.hand_over.Goals as goal
 pub append-requires-clause-short : goal.append-requires-clause-short
 append-requires-clause-short g c =
     let book = c.requires.book in
-    let small = block_small _ _ _ book.pending.records c.requires.some in
+    let small = block_small _ _ _ (book.pending.records c.requires.going) c.requires.some in
     let parts = cost_parts c.args.front.now.shapes c.args.front.now.history.items (durable c.args.front.now.marks.items) in
     omega (arith, book.back.reach c.requires.going, small, parts, book.counted.held, book.counted.within, book.counted.session)
 
 pub returns-in_default-clause-book : goal.returns-in_default-clause-book
 returns-in_default-clause-book g c =
-    let adds = adds_carry g.D.Disk.content g.D.Disk.story g.D.Disk.moment g.D.Disk.asked g.V.Shown.shows g.V.Shown.hands g.V.Shown.count g.V.Shown.which
+    let adds = adds_carry g.D.Disk g.V.Shown
     c.args.front.now c.args.file.now c.append.new.self c.append.new.block c.requires.book c.requires.going c.append.ensures.any_moment in
-    book_failed g.D.Disk.content g.D.Disk.story g.D.Disk.moment g.D.Disk.asked g.V.Shown.shows g.V.Shown.hands g.V.Shown.count g.V.Shown.which
+    book_failed g.D.Disk g.V.Shown
     c.args.front.now c.args.file.now c.append.new.self c.append.new.block c.requires.book
     c.in_default.ensures.left c.append.ensures.limit c.in_default.ensures.failed (search rules) adds c.append.ensures.moment c.append.ensures.told
 
 pub returns-clause-book : goal.returns-clause-book
 returns-clause-book g c =
-    let adds = adds_carry g.D.Disk.content g.D.Disk.story g.D.Disk.moment g.D.Disk.asked g.V.Shown.shows g.V.Shown.hands g.V.Shown.count g.V.Shown.which
+    let adds = adds_carry g.D.Disk g.V.Shown
     c.args.front.now c.args.file.now c.append.new.self c.append.new.block c.requires.book c.requires.going c.append.ensures.any_moment in
-    book_marked g.D.Disk.content g.D.Disk.story g.D.Disk.moment g.D.Disk.asked g.V.Shown.shows g.V.Shown.hands g.V.Shown.count g.V.Shown.which
+    book_marked g.D.Disk g.V.Shown
     c.args.front.now c.args.file.now c.append.new.self c.append.new.block
     (record { moment = c.moment.result; through = c.len.result }) c.put.new.self.items c.put.new.self.spare
     c.requires.book c.requires.going c.requires.some c.put.ensures.items (c.in-Ok.ensures.emptied) c.append.ensures.limit (search rules) adds c.append.ensures.moment

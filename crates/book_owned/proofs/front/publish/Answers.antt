@@ -1,26 +1,31 @@
-use Rattle.std.proofs.Common.{◌∙◌, ap, arith, length, drop, length-drop}
-use Rattle.book_owned.proofs.Costs.{history_cost-least}
-use Rattle.book_owned.proofs.Showing.{shown_as_before}
+use Rattle.std.proofs.Common.{◌-◌, ◌≡◌, ◌∙◌, ap, arith, take, length}
+use Rattle.book_owned.specs.Marks.{durable}
+use Rattle.book_owned.proofs.Showing.{part_is, length_part, begins, shown_as_before, shown_more}
 use Rattle.book_owned.proofs.front.publish.Goals as goal
 
-pub publish-requires-clause-room : goal.publish-requires-clause-room
-publish-requires-clause-room g c =
+pub publish-requires-clause-handed : goal.publish-requires-clause-handed
+publish-requires-clause-handed g c =
     let front = c.args.front.now in
-    let rest = ap length c.rest.ensures ∙ length-drop c.shown-shown.result front.history.items in
-    omega (
-      arith,
-      rest,
-      c.shown-shown.ensures,
-      c.requires.shown.most,
-      c.requires.all,
-      history_cost-least front.shapes front.history.items,
-      c.requires.counted.held,
-      c.requires.counted.within,
-      c.requires.counted.session,
-    )
+    let samples = take (c.last_mark.result.through - c.shown-shown.result) c.rest.result.now in
+    let is = part_is front.history.items c.rest.result.now c.shown-shown.result c.last_mark.result.through (g.V.Shown.count front.view) (durable front.marks.items)
+    c.rest.ensures c.shown-shown.ensures (ap (λ m. m.through) c.last_mark.ensures) in
+    (take (g.V.Shown.count front.view) front.history.items, c.requires.shown.shown, begins g.V.Shown front front.view samples c.requires.shown is)
+
+pub returns-in-Ok-clause-shown : goal.returns-in-Ok-clause-shown
+returns-in-Ok-clause-shown g c =
+    let front = c.args.front.now in
+    let samples = take (c.last_mark.result.through - c.shown-shown.result) c.rest.result.now in
+    let is = part_is front.history.items c.rest.result.now c.shown-shown.result c.last_mark.result.through (g.V.Shown.count front.view) (durable front.marks.items)
+    c.rest.ensures c.shown-shown.ensures (ap (λ m. m.through) c.last_mark.ensures) in
+    let more : length samples ≡ durable front.marks.items - g.V.Shown.count front.view =
+    ap length is ∙ length_part (durable front.marks.items) (g.V.Shown.count front.view) front.history.items c.requires.within in
+    shown_more g.V.Shown front c.publish.new.self samples c.requires.shown is c.in-Ok.ensures.ok
+    (omega (arith, c.in-Ok.ensures.counted, more, c.requires.shown.most)) c.publish.ensures.handed
 
 pub returns-in-Err-clause-shown : goal.returns-in-Err-clause-shown
 returns-in-Err-clause-shown g c =
-    shown_as_before g.V.Shown.shows g.V.Shown.hands g.V.Shown.count c.args.front.now c.publish.new.self c.rest.result.now c.requires.shown c.requires.all
-    (c.rest.ensures ∙ ap (λ n. drop n c.args.front.now.history.items) c.shown-shown.ensures)
-    (c.in-Err.ensures.err) (c.in-Err.ensures.as_before) (c.publish.ensures.handed)
+    let front = c.args.front.now in
+    let samples = take (c.last_mark.result.through - c.shown-shown.result) c.rest.result.now in
+    let is = part_is front.history.items c.rest.result.now c.shown-shown.result c.last_mark.result.through (g.V.Shown.count front.view) (durable front.marks.items)
+    c.rest.ensures c.shown-shown.ensures (ap (λ m. m.through) c.last_mark.ensures) in
+    shown_as_before g.V.Shown front c.publish.new.self samples c.requires.shown is c.in-Err.ensures.err c.in-Err.ensures.as_before c.publish.ensures.handed

@@ -10,7 +10,7 @@ invariant_of-result g c =
     let created = c.requires.created in
     let at_first = subst (λ t. HoldsSince (g.D.Disk.story c.args.file.disk) t (Opens (head_of (g.D.Disk.story c.args.file.disk) c.args.file.first) []))
     c.moment.ensures.moment (c.moment.ensures.leaves [] created.rests) in
-    book_begun g.D.Disk.content g.D.Disk.story g.D.Disk.moment g.D.Disk.asked g.V.Shown.shows g.V.Shown.hands g.V.Shown.count g.V.Shown.which _ c.args.file created
+    book_begun g.D.Disk g.V.Shown _ c.args.file created
     (subst (λ limit. IsAdmissible c.args.shapes limit c.args.session_limit) (sym c.in-Ok.ensures.block.1) c.requires.admissible)
     c.empty.ensures
     (c.put.ensures.items ∙ ap (λ ms. ms ++ record { moment = c.moment.result; through = 0 } ∷ []) c.in-Ok.ensures.marks.0

@@ -1,7 +1,7 @@
 use Rattle.std.proofs.Common.{◌∙◌, ap, subst, take}
 use Rattle.std.specs.Prelude.{IfSome}
 use Rattle.mdf_gate.proofs.Carrying.{rests_carry}
-use Rattle.book_owned.specs.Kept.{HoldsDurable}
+use Rattle.book_owned.specs.Kept.{HoldsDurable, IsShowing}
 use Rattle.book_owned.specs.Marks.{durable}
 use Rattle.book_owned.proofs.book.Book.close.Goals as goal
 
@@ -13,3 +13,6 @@ returns-clause-content g c = λ going.
     subst (λ a. IfSome (g.D.Disk.content a.disk) (HoldsDurable a.terms a.history a.marks)) c.self.view_is
     (rests_carry front.shapes (g.D.Disk.content file.disk) (g.D.Disk.story file.disk) file.first file.place written.blocks
     (take (durable front.marks.items) front.history.items) written.rests written.records)
+
+pub returns-clause-shown : goal.returns-clause-shown
+returns-clause-shown g c = subst (λ a. IsShowing g.V.Shown a.view a.history a.marks) c.self.view_is c.self.invariant.shown

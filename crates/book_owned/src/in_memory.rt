@@ -3,7 +3,7 @@ use mdf_gate::Block;
 use mdf_layout::{Samples, Shapes};
 
 /// What a book holds in memory.
-pub struct Front<V> {
+pub struct InMemory<V> {
     /// The layouts of the groups.
     pub(crate) shapes: Shapes,
     /// The accepted samples.
