@@ -133,7 +133,9 @@ fn begun<R: AllocGlobal + Abort>(
     requires one { (shape : Layout) × (shapes ≡ shape ∷ []) × (length shape.rows ≤ 1024) × AreDisjoint shape.rows }
     ensures { IfOk result (λ book. book.terms.layouts ≡ shapes) }
 {
-    assert!(rt; 1 <= block && block <= 16_777_216 && session <= SESSION);
+    assert!(rt; 1 <= block);
+    assert!(rt; block <= 16_777_216);
+    assert!(rt; session <= 268_435_456);
     match Book::begin(rt.alloc(), file, shapes, block, session, NoView::new()) {
         Ok(book) => Ok(book),
         Err((memory, file, _)) => {
@@ -281,8 +283,17 @@ fn line(alloc: Global, ended: &Ended) -> Result<String, Fail> {
         }
     }
     let file = ended.disk.bytes();
-    let blocks = if file.len() <= 1000 { blocks_in(file) } else { '?' };
-    let left = format!(in alloc; "shown {} pending {} bytes {} blocks {blocks}", ended.shown, ended.pending, file.len())?;
+    let blocks = if file.len() <= 1000 {
+        blocks_in(file)
+    } else {
+        '?'
+    };
+    let left = format!(in alloc;
+        "shown {} pending {} bytes {} blocks {blocks}",
+        ended.shown,
+        ended.pending,
+        file.len()
+    )?;
     line.push_str(left.as_str())?;
     Ok(line)
 }
@@ -393,7 +404,8 @@ fn a_recording_of_two_blocks(rt: HostRuntime) -> Result<(), Fail> {
 // The blocks that a crash inside each call leaves opened, by each of the four picks. The calls are the attach; a write of
 // the closed byte and its sync, two writes of what follows and their sync, the first byte and its sync; and for each block
 // the write behind its gate and its sync, the gate and its sync.
-const LEFT: &str = "xxxx xxxx xxxx xxxx xxxx xxxx x0xx x0xx 0000 0000 0101 0101 1111 1111 1212 1212 ";
+const LEFT: &str =
+    "xxxx xxxx xxxx xxxx xxxx xxxx x0xx x0xx 0000 0000 0101 0101 1111 1111 1212 1212 ";
 
 /// The blocks that a crash inside this call leaves opened.
 fn left_in<R: AllocGlobal + Abort>(rt: &R, disk: &MemoryDisk, call: u64) -> Result<String, Fail> {
