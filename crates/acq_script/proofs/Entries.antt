@@ -1,5 +1,5 @@
 -- The values of a sample.
-use Rattle.std.proofs.Common.{◌≡◌, ◌∙◌, sym, ap, subst, ℕ, zero, suc, ◌*◌, ◌^◌, ◌<◌, ◌≤◌, true, false, Option, Some, None, List, [], ◌∷◌, ◌++◌, length, get_or, refl, arith, append_assoc, append-nil}
+use Rattle.std.proofs.Common.{◌≡◌, ◌∙◌, sym, ap, subst, ℕ, zero, suc, ◌+◌, ◌*◌, ◌^◌, ◌<◌, ◌≤◌, true, false, Option, Some, None, List, [], ◌∷◌, ◌++◌, length, get_or, refl, arith, append_assoc, append-nil}
 use Rattle.std.specs.Option.{option_map, option_and_then}
 use Rattle.mdf_layout.specs.declared.sample.Value.TheVariants.{Unsigned}
 use Rattle.mdf_layout.specs.declared.sample.Entry.{Entry}
@@ -7,6 +7,7 @@ use Rattle.std.proofs.lemmas.Bool.{false≢true}
 use Rattle.acq_script.specs.Text.{is_end}
 use Rattle.acq_script.specs.Number.{number_of}
 use Rattle.acq_script.specs.Stage.{entries_of, sample_with}
+use Rattle.acq_script.specs.declared.plan.Outline.{Outline}
 use Rattle.acq_script.specs.Plan.{word_row, words, plan_of, TaskFits}
 use Rattle.acq_script.specs.declared.script.Task.TheVariants as task
 use Rattle.mdf_layout.specs.Field.{EntryFits}
@@ -86,18 +87,18 @@ are_values (suc n) [] entries e = absurd (cc)
 are_values (suc n) (word ∷ words) entries e =
     joined (number_of word) (entries_of n words) n entries (number_below word) (are_values n words) e
 
--- a sample of so many values fits the plan of so many channels
-pub sample_fits : (n : ℕ) (entries : List Entry) → n ≤ 256 → AreValues n entries → TaskFits (plan_of n) (task.Sample (sample_with entries))
-sample_fits n entries few are = (
+-- a sample of so many values, whose record is no longer than a block, fits the plan
+pub sample_fits : (outline : Outline) (entries : List Entry) → outline.channels ≤ 256 → 1 + 8 * outline.channels ≤ outline.block → AreValues outline.channels entries → TaskFits (plan_of outline) (task.Sample (sample_with entries))
+sample_fits outline entries few room are = (
   record {
-    layout = words n;
+    layout = words outline.channels;
     known = refl;
     entries = record {
-      count = are.count ∙ sym (length-word_rows n);
+      count = are.count ∙ sym (length-word_rows outline.channels);
       each = λ k row entry below. subst (λ r. EntryFits r (get_or entries k entry))
-          (sym (row_at n k row (omega (arith, length-word_rows n))))
-          (at_row (8 * k) _ (are.each k entry (omega (arith, are.count, length-word_rows n))));
+          (sym (row_at outline.channels k row (omega (arith, below, are.count, length-word_rows outline.channels))))
+          (at_row (8 * k) _ (are.each k entry (omega (arith, below, are.count, length-word_rows outline.channels))));
     };
   },
-  omega arith,
+  omega (arith, room),
 )

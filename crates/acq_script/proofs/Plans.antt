@@ -8,6 +8,7 @@ use mathlib.Core.Logic.{◌⊎◌, inl, inr}
 use Rattle.mdf_layout.specs.Field.{IsWordRow}
 use Rattle.mdf_layout.specs.Layout.{IsInside, SharesNoBit, AreDisjoint, IsFirstOutside}
 use Rattle.mdf_layout.specs.declared.field.FieldRow.{FieldRow}
+use Rattle.acq_script.specs.declared.plan.Outline.{Outline}
 use Rattle.acq_script.specs.Plan.{word_row, word_rows, words, plan_of, IsWords, IsPlan}
 
 pub length-word_rows : (n : ℕ) → length (word_rows n) ≡ n
@@ -73,16 +74,23 @@ group_is n some few = record {
   disjoint = all_apart n;
 }
 
-pub plan_is : (n : ℕ) → 1 ≤ n → n ≤ 256 → IsPlan (plan_of n)
-plan_is n some few = record {
-  layout = words n;
+-- limits that a recording can keep
+pub record AreLimits (block session : ℕ) : Type 0 where
+  pub block_low : 1 ≤ block
+  pub block_high : block ≤ 16777216
+  pub session_low : 1 ≤ session
+  pub session_high : session ≤ 268435456
+
+pub plan_is : (outline : Outline) → 1 ≤ outline.channels → outline.channels ≤ 256 → AreLimits outline.block outline.session → IsPlan (plan_of outline)
+plan_is outline some few limits = record {
+  layout = words outline.channels;
   one = refl;
-  group = group_is n some few;
+  group = group_is outline.channels some few;
   owners = refl;
   sources = refl;
-  block_low = omega arith;
-  block_high = omega arith;
-  session_low = omega arith;
-  session_high = omega arith;
+  block_low = limits.block_low;
+  block_high = limits.block_high;
+  session_low = limits.session_low;
+  session_high = limits.session_high;
   live = refl;
 }

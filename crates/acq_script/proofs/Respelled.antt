@@ -1,12 +1,12 @@
 -- A script that was spelled is read as what it was spelled for, line by line.
-use Rattle.std.proofs.Common.{◌≡◌, ◌∙◌, sym, ap, subst, ℕ, zero, suc, ◌+◌, ◌*◌, ◌<◌, ◌≤◌, Bool, true, false, cond, Some, None, List, [], ◌∷◌, ◌++◌, length, get_or, map, refl, arith, append_assoc, append-nil, All}
-use Rattle.std.specs.Prelude.{◌&&◌, ◌||◌, not, Result, Ok, option_to_list, count_by, codes, decimal, slice_get}
-use Rattle.std.specs.Option.{option_map, option_and_then, ok_or}
-use Rattle.std.proofs.lemmas.Bool.{lt-ltb}
+use Rattle.std.proofs.Common.{◌≡◌, ◌∙◌, sym, ap, subst, ℕ, zero, suc, ◌+◌, ◌*◌, ◌<◌, ◌≤◌, Bool, true, false, cond, Option, Some, None, List, [], ◌∷◌, ◌++◌, length, get_or, map, refl, arith, append_assoc, append-nil, All, ◌^◌}
+use Rattle.std.specs.Prelude.{◌&&◌, ◌||◌, not, Result, Ok, option_to_list, count_by, codes, decimal, slice_get, nat_le, IfSome}
+use Rattle.std.specs.Option.{ok_or, option_and_then, option_map, option_map_or}
+use Rattle.std.proofs.lemmas.Bool.{lt-ltb, le-leb}
 use Rattle.std.proofs.lemmas.List.Elements.{All-nil, All-cons, All-head, All-tail}
 use Rattle.std.proofs.lemmas.List.Sums.{sum_by-cons}
 use Rattle.mdf_layout.specs.Field.{EntryFits, IsNumberOf}
-use Rattle.mdf_layout.specs.Layout.{Layout}
+use Rattle.mdf_layout.specs.Layout.{Layout, record_size}
 use Rattle.mdf_layout.specs.Record.{SampleFits}
 use Rattle.mdf_layout.specs.declared.sample.Value.{Value}
 use Rattle.mdf_layout.specs.declared.sample.Value.TheVariants as value
@@ -15,11 +15,12 @@ use Rattle.mdf_layout.specs.declared.sample.Sample.{Sample}
 use Rattle.acq_script.specs.Text.{lines_of, is_name}
 use Rattle.acq_script.specs.Number.{number_of}
 use Rattle.acq_script.specs.Line as said
-use Rattle.acq_script.specs.Line.{line_of, worded, group_of, channel_of, master_of, flush_of, alone}
-use Rattle.acq_script.specs.Stage.{step, entries_of, sample_with, with_sample, with_channel, to}
-use Rattle.acq_script.specs.Plan.{word_row, words, plan_of, TaskFits}
+use Rattle.acq_script.specs.Line.{line_of, worded, group_of, channel_of, master_of, one_number, block_of, session_of, flush_of, alone}
+use Rattle.acq_script.specs.Stage.{step, entries_of, sample_with, with_channel, to}
+use Rattle.acq_script.specs.Plan.{word_row, words, outline_of, plan_of, TaskFits}
+use Rattle.acq_script.specs.declared.plan.Outline.{Outline}
 use Rattle.acq_script.specs.Script.{read_from, told_of}
-use Rattle.acq_script.specs.Spelled.{Channel, group_words, channel_words, value_word, task_words, line_with, text_with, spelled, IsSpellable}
+use Rattle.acq_script.specs.Spelled.{Channel, Spelling, outline_said, limit_lines, group_words, channel_words, value_word, task_words, line_with, text_with, spelled, IsSpellable}
 use Rattle.acq_script.specs.declared.script.Task.{Task}
 use Rattle.acq_script.specs.declared.script.Task.TheVariants as task
 use Rattle.acq_script.specs.declared.stage.Stage.{Stage}
@@ -33,10 +34,10 @@ use Rattle.acq_script.proofs.Steps.{taken, at_end}
 use Rattle.acq_script.proofs.Spells.{IsByte, AreWords, line_back, line_said, literal, name_bytes, digit_bytes}
 
 -- what these lines make of the lines before them
-abbrev pub reads : Stage → List Task → ℕ → List (List (List ℕ)) → Result (ℕ × List Task) ℕ
+abbrev pub reads : Stage → List Task → ℕ → List (List (List ℕ)) → Result (Outline × List Task) ℕ
 reads stage tasks line lines = read_from stage tasks line (lines_of (text_with lines))
 
-one_line : (stage : Stage) (tasks : List Task) (line : ℕ) (words : List (List ℕ)) (lines : List (List (List ℕ))) (says : said.Line) (change : Change) (told : ℕ × List Task) → AreWords words → line_of (line_with words) ≡ Some says → step stage says ≡ Some change → reads change.stage (tasks ++ option_to_list change.task) (line + 1) lines ≡ Ok told → reads stage tasks line (words ∷ lines) ≡ Ok told
+one_line : (stage : Stage) (tasks : List Task) (line : ℕ) (words : List (List ℕ)) (lines : List (List (List ℕ))) (says : said.Line) (change : Change) (told : Outline × List Task) → AreWords words → line_of (line_with words) ≡ Some says → step stage says ≡ Some change → reads change.stage (tasks ++ option_to_list change.task) (line + 1) lines ≡ Ok told → reads stage tasks line (words ∷ lines) ≡ Ok told
 one_line stage tasks line words lines says change told are is steps follows =
     ap (read_from stage tasks line) (line_back words lines are)
     ∙ taken stage tasks line (line_with words) (lines_of (text_with lines)) change (some_part 10 (text_with lines))
@@ -84,23 +85,26 @@ one_master true false rest few = (refl, omega arith)
 one_master false true rest few = (refl, omega arith)
 one_master false false rest few = (refl, omega arith)
 
-admitted : (n : ℕ) (had master : Bool) → n < 256 → not (had && master) ≡ true → with_channel n had master ≡ to (Planned (n + 1) (had || master))
-admitted n had master room one =
-    ap (λ b. cond (b && not (had && master)) (to (Planned (n + 1) (had || master))) None) (lt-ltb n 256 room)
-    ∙ ap (λ b. cond b (to (Planned (n + 1) (had || master))) None) one
+abbrev pub outline_at : ℕ → ℕ → ℕ → Outline
+outline_at block session n = record { channels = n; block = block; session = session }
 
-channels_read : (n m : ℕ) (had : Bool) (channels : List Channel) (line : ℕ) (lines : List (List (List ℕ))) (told : ℕ × List Task) → n + length channels ≡ m → m ≤ 256 → cond had 1 0 + count_by (λ c. c.master) channels ≤ 1 → All (λ c. is_name c.name ≡ true) channels → ((had : Bool) (line : ℕ) → reads (Planned m had) [] line lines ≡ Ok told) → reads (Planned n had) [] line (map channel_words channels ++ lines) ≡ Ok told
+admitted : (block session n : ℕ) (had master : Bool) → n < 256 → not (had && master) ≡ true → with_channel (outline_at block session n) had master ≡ to (Planned (outline_at block session (n + 1)) (had || master))
+admitted block session n had master room one =
+    ap (λ b. cond (b && not (had && master)) (to (Planned (outline_at block session (n + 1)) (had || master))) None) (lt-ltb n 256 room)
+    ∙ ap (λ b. cond b (to (Planned (outline_at block session (n + 1)) (had || master))) None) one
+
+channels_read : (block session n m : ℕ) (had : Bool) (channels : List Channel) (line : ℕ) (lines : List (List (List ℕ))) (told : Outline × List Task) → n + length channels ≡ m → m ≤ 256 → cond had 1 0 + count_by (λ c. c.master) channels ≤ 1 → All (λ c. is_name c.name ≡ true) channels → ((had : Bool) (line : ℕ) → reads (Planned (outline_at block session m) had) [] line lines ≡ Ok told) → reads (Planned (outline_at block session n) had) [] line (map channel_words channels ++ lines) ≡ Ok told
 unfolding step
-channels_read n m had [] line lines told count few one names follow =
+channels_read block session n m had [] line lines told count few one names follow =
     let same : m ≡ n = omega (arith, count) in
-    subst (λ k. reads (Planned k had) [] line lines ≡ Ok told) same (follow had line)
-channels_read n m had (channel ∷ channels) line lines told count few one names follow =
+    subst (λ k. reads (Planned (outline_at block session k) had) [] line lines ≡ Ok told) same (follow had line)
+channels_read block session n m had (channel ∷ channels) line lines told count few one names follow =
     let name : is_name channel.name ≡ true = All-head (λ (c : Channel). is_name c.name ≡ true) channel channels names in
     let more : count_by (λ c. c.master) (channel ∷ channels) ≡ cond channel.master 1 0 + count_by (λ c. c.master) channels = sum_by-cons (λ (c : Channel). cond c.master 1 0) channel channels in
     let master : (not (had && channel.master) ≡ true) × (cond (had || channel.master) 1 0 + count_by (λ c. c.master) channels ≤ 1) = one_master had channel.master (count_by (λ c. c.master) channels) (subst (λ k. cond had 1 0 + k ≤ 1) more one) in
-    one_line (Planned n had) [] line (channel_words channel) (map channel_words channels ++ lines) (said.Channel channel.name channel.master) (record { stage = Planned (n + 1) (had || channel.master); task = None }) told
-    (channel_are channel.name channel.master name) (channel_says channel.name channel.master name) (admitted n had channel.master (omega (arith, count, few)) master.0)
-    (channels_read (n + 1) m (had || channel.master) channels (line + 1) lines told (omega (arith, count)) few master.1
+    one_line (Planned (outline_at block session n) had) [] line (channel_words channel) (map channel_words channels ++ lines) (said.Channel channel.name channel.master) (record { stage = Planned (outline_at block session (n + 1)) (had || channel.master); task = None }) told
+    (channel_are channel.name channel.master name) (channel_says channel.name channel.master name) (admitted block session n had channel.master (omega (arith, count, few)) master.0)
+    (channels_read block session (n + 1) m (had || channel.master) channels (line + 1) lines told (omega (arith, count)) few master.1
     (All-tail (λ (c : Channel). is_name c.name ≡ true) channel channels names) follow)
 
 -- the values of a sample
@@ -165,30 +169,35 @@ of_group n sample fits =
           record { valid = there.valid; number = there.number };
     }
 
+-- the record of a sample of the group is no longer than a block
+record_fits : (n block group : ℕ) → group ≡ 0 → option_map_or (λ layout. 1 + record_size layout) (slice_get (words n ∷ []) group) 0 ≤ block → 1 + 8 * n ≤ block
+record_fits n block zero is size = omega (arith, size)
+record_fits n block (suc group) is size = absurd (omega (arith, is))
+
 -- the lines of what the source does
-record IsTaken (n : ℕ) (does : Task) : Type 0 where
+record IsTaken (outline : Outline) (does : Task) : Type 0 where
   says : said.Line
   are : AreWords (task_words does)
   line : line_of (line_with (task_words does)) ≡ Some says
-  steps : step (Running n) says ≡ Some (record { stage = Running n; task = Some does })
+  steps : step (Running outline) says ≡ Some (record { stage = Running outline; task = Some does })
 
-sample_taken : (n : ℕ) (sample : Sample) → IsOfGroup n sample → IsTaken n (task.Sample sample)
+sample_taken : (outline : Outline) (sample : Sample) → IsOfGroup outline.channels sample → 1 + 8 * outline.channels ≤ outline.block → IsTaken outline (task.Sample sample)
 unfolding worded step
-sample_taken n sample of =
-    let are : AreWords (task_words (task.Sample sample)) = All-cons (All IsByte) (codes "0") (map word_of sample.values) (literal (codes "0") refl) (values_are sample.values of.fit) in record {
+sample_taken outline sample of room =
+    let are : AreWords (task_words (task.Sample sample)) = All-cons (All IsByte) (codes "0") (map word_of sample.values) (literal (codes "0") refl) (values_are sample.values of.fit) in
+    let entries : entries_of outline.channels (map word_of sample.values) ≡ Some sample.values = ap (λ k. entries_of k (map word_of sample.values)) (sym of.count) ∙ entries_back sample.values of.fit in record {
       says = said.Sample 0 (map word_of sample.values);
       are = are;
       line = line_said 48 [] (map word_of sample.values) refl are ∙ ap (option_map (λ group. said.Sample group (map word_of sample.values))) number_zero;
       steps =
-          ap (λ k. with_sample k (map word_of sample.values)) (sym of.count)
-          ∙ ap (option_map (λ es. record { stage = Running (length sample.values); task = Some (task.Sample (sample_with es)) })) (entries_back sample.values of.fit)
-          ∙ ap (λ k. Some (record { stage = Running k; task = Some (task.Sample (sample_with sample.values)) })) of.count
-          ∙ ap (λ g. Some (record { stage = Running n; task = Some (task.Sample (record { group = g; values = sample.values })) })) (sym of.group);
+          ap (λ b. cond b (option_map (λ es. record { stage = Running outline; task = Some (task.Sample (sample_with es)) }) (entries_of outline.channels (map word_of sample.values))) None) (le-leb (1 + 8 * outline.channels) outline.block room)
+          ∙ ap (option_map (λ es. record { stage = Running outline; task = Some (task.Sample (sample_with es)) })) entries
+          ∙ ap (λ g. Some (record { stage = Running outline; task = Some (task.Sample (record { group = g; values = sample.values })) })) (sym of.group);
     }
 
-flush_taken : (n : ℕ) → IsTaken n task.Flush
-unfolding worded flush_of step
-flush_taken n =
+flush_taken : (outline : Outline) → IsTaken outline task.Flush
+unfolding worded flush_of one_number step
+flush_taken outline =
     let are : AreWords (task_words task.Flush) = two (codes "!") (codes "0") (literal (codes "!") refl) (literal (codes "0") refl) in record {
       says = said.Flush 0;
       are = are;
@@ -196,17 +205,19 @@ flush_taken n =
       steps = refl;
     }
 
-task_taken : (n : ℕ) (does : Task) → TaskFits (plan_of n) does → IsTaken n does
-task_taken n (task.Sample sample) fits = sample_taken n sample (of_group n sample fits.0)
-task_taken n task.Flush fits = flush_taken n
+task_taken : (outline : Outline) (does : Task) → TaskFits (plan_of outline) does → IsTaken outline does
+task_taken outline (task.Sample sample) fits =
+    let of : IsOfGroup outline.channels sample = of_group outline.channels sample fits.0 in
+    sample_taken outline sample of (record_fits outline.channels outline.block sample.group of.group fits.1)
+task_taken outline task.Flush fits = flush_taken outline
 
-tasks_read : (n : ℕ) (done tasks : List Task) (line : ℕ) (lines : List (List (List ℕ))) (told : ℕ × List Task) → All (TaskFits (plan_of n)) tasks → ((line : ℕ) → reads (Running n) (done ++ tasks) line lines ≡ Ok told) → reads (Running n) done line (map task_words tasks ++ lines) ≡ Ok told
-tasks_read n done [] line lines told fit follow = subst (λ all. reads (Running n) all line lines ≡ Ok told) (append-nil done) (follow line)
-tasks_read n done (does ∷ tasks) line lines told fit follow =
-    let taken : IsTaken n does = task_taken n does (All-head (TaskFits (plan_of n)) does tasks fit) in
-    one_line (Running n) done line (task_words does) (map task_words tasks ++ lines) taken.says (record { stage = Running n; task = Some does }) told taken.are taken.line taken.steps
-    (tasks_read n (done ++ does ∷ []) tasks (line + 1) lines told (All-tail (TaskFits (plan_of n)) does tasks fit)
-    (λ line. subst (λ all. reads (Running n) all line lines ≡ Ok told) (sym (append_assoc done (does ∷ []) tasks)) (follow line)))
+tasks_read : (outline : Outline) (done tasks : List Task) (line : ℕ) (lines : List (List (List ℕ))) (told : Outline × List Task) → All (TaskFits (plan_of outline)) tasks → ((line : ℕ) → reads (Running outline) (done ++ tasks) line lines ≡ Ok told) → reads (Running outline) done line (map task_words tasks ++ lines) ≡ Ok told
+tasks_read outline done [] line lines told fit follow = subst (λ all. reads (Running outline) all line lines ≡ Ok told) (append-nil done) (follow line)
+tasks_read outline done (does ∷ tasks) line lines told fit follow =
+    let taken : IsTaken outline does = task_taken outline does (All-head (TaskFits (plan_of outline)) does tasks fit) in
+    one_line (Running outline) done line (task_words does) (map task_words tasks ++ lines) taken.says (record { stage = Running outline; task = Some does }) told taken.are taken.line taken.steps
+    (tasks_read outline (done ++ does ∷ []) tasks (line + 1) lines told (All-tail (TaskFits (plan_of outline)) does tasks fit)
+    (λ line. subst (λ all. reads (Running outline) all line lines ≡ Ok told) (sym (append_assoc done (does ∷ []) tasks)) (follow line)))
 
 -- the lines `begin` and `end`
 begin_says : line_of (line_with (codes "begin" ∷ [])) ≡ Some said.Begin
@@ -217,24 +228,69 @@ end_says : line_of (line_with (codes "end" ∷ [])) ≡ Some said.End
 unfolding worded alone
 end_says = line_said 101 (codes "nd") [] refl (one (codes "end") (literal (codes "end") refl))
 
-end_read : (n : ℕ) (tasks : List Task) (line : ℕ) → reads (Running n) tasks line ((codes "end" ∷ []) ∷ []) ≡ Ok (n, tasks)
+end_read : (outline : Outline) (tasks : List Task) (line : ℕ) → reads (Running outline) tasks line ((codes "end" ∷ []) ∷ []) ≡ Ok (outline, tasks)
 unfolding step
-end_read n tasks line =
-    one_line (Running n) tasks line (codes "end" ∷ []) [] said.End (record { stage = Ended n; task = None }) (n, tasks) (one (codes "end") (literal (codes "end") refl)) end_says refl
-    (subst (λ all. reads (Ended n) all (line + 1) [] ≡ Ok (n, tasks)) (sym (append-nil tasks)) (at_end (Ended n) tasks (line + 1) []))
+end_read outline tasks line =
+    one_line (Running outline) tasks line (codes "end" ∷ []) [] said.End (record { stage = Ended outline; task = None }) (outline, tasks) (one (codes "end") (literal (codes "end") refl)) end_says refl
+    (subst (λ all. reads (Ended outline) all (line + 1) [] ≡ Ok (outline, tasks)) (sym (append-nil tasks)) (at_end (Ended outline) tasks (line + 1) []))
 
-begin_read : (n : ℕ) (had : Bool) (line : ℕ) (lines : List (List (List ℕ))) (told : ℕ × List Task) → 1 ≤ n → reads (Running n) [] (line + 1) lines ≡ Ok told → reads (Planned n had) [] line ((codes "begin" ∷ []) ∷ lines) ≡ Ok told
+begin_read : (outline : Outline) (had : Bool) (line : ℕ) (lines : List (List (List ℕ))) (told : Outline × List Task) → 1 ≤ outline.channels → reads (Running outline) [] (line + 1) lines ≡ Ok told → reads (Planned outline had) [] line ((codes "begin" ∷ []) ∷ lines) ≡ Ok told
 unfolding step
-begin_read n had line lines told some follows =
-    one_line (Planned n had) [] line (codes "begin" ∷ []) lines said.Begin (record { stage = Running n; task = None }) told (one (codes "begin") (literal (codes "begin") refl)) begin_says
-    (ap (λ b. cond b (to (Running n)) None) (lt-ltb 0 n (omega arith))) follows
+begin_read outline had line lines told some follows =
+    one_line (Planned outline had) [] line (codes "begin" ∷ []) lines said.Begin (record { stage = Running outline; task = None }) told (one (codes "begin") (literal (codes "begin") refl)) begin_says
+    (ap (λ b. cond b (to (Running outline)) None) (lt-ltb 0 outline.channels (omega arith))) follows
+
+-- the lines of the limits
+abbrev pub IsLimit : ℕ → Option ℕ → Type 0
+IsLimit most limit = IfSome limit (λ n. (1 ≤ n) × (n ≤ most))
+
+limit_are : (word : List ℕ) (limit : ℕ) → All IsByte word → limit < 2 ^ 64 → AreWords (word ∷ decimal limit ∷ [])
+limit_are word limit bytes small = two word (decimal limit) bytes (digit_bytes (decimal limit) (decimal_digits limit small))
+
+block_says : (limit : ℕ) → limit < 2 ^ 64 → line_of (line_with (codes "block" ∷ decimal limit ∷ [])) ≡ Some (said.Block limit)
+unfolding worded block_of one_number
+block_says limit small =
+    line_said 98 (codes "lock") (decimal limit ∷ []) refl (limit_are (codes "block") limit (literal (codes "block") refl) small)
+    ∙ ap (option_map said.Block) (of_decimal (decimal limit) limit small refl)
+
+session_says : (limit : ℕ) → limit < 2 ^ 64 → line_of (line_with (codes "session" ∷ decimal limit ∷ [])) ≡ Some (said.Session limit)
+unfolding worded session_of one_number
+session_says limit small =
+    line_said 115 (codes "ession") (decimal limit ∷ []) refl (limit_are (codes "session") limit (literal (codes "session") refl) small)
+    ∙ ap (option_map said.Session) (of_decimal (decimal limit) limit small refl)
+
+in_range : (limit most : ℕ) (change : Option Change) → 1 ≤ limit → limit ≤ most → cond (nat_le 1 limit && nat_le limit most) change None ≡ change
+in_range limit most change low high =
+    ap (λ b. cond (b && nat_le limit most) change None) (le-leb 1 limit low) ∙ ap (λ b. cond b change None) (le-leb limit most high)
+
+block_read : (block : Option ℕ) (lines : List (List (List ℕ))) (told : Outline × List Task) → IsLimit 16777216 block → ((line : ℕ) → reads (Empty block None) [] line lines ≡ Ok told) → (line : ℕ) → reads (Empty None None) [] line (limit_lines (codes "block") block ++ lines) ≡ Ok told
+unfolding step
+block_read None lines told is follow line = follow line
+block_read (Some limit) lines told is follow line =
+    one_line (Empty None None) [] line (codes "block" ∷ decimal limit ∷ []) lines (said.Block limit) (record { stage = Empty (Some limit) None; task = None }) told
+    (limit_are (codes "block") limit (literal (codes "block") refl) (omega (arith, is.1))) (block_says limit (omega (arith, is.1)))
+    (in_range limit 16777216 (to (Empty (Some limit) None)) is.0 is.1) (follow (line + 1))
+
+session_read : (block session : Option ℕ) (lines : List (List (List ℕ))) (told : Outline × List Task) → IsLimit 268435456 session → ((line : ℕ) → reads (Empty block session) [] line lines ≡ Ok told) → (line : ℕ) → reads (Empty block None) [] line (limit_lines (codes "session") session ++ lines) ≡ Ok told
+unfolding step
+session_read block None lines told is follow line = follow line
+session_read block (Some limit) lines told is follow line =
+    one_line (Empty block None) [] line (codes "session" ∷ decimal limit ∷ []) lines (said.Session limit) (record { stage = Empty block (Some limit); task = None }) told
+    (limit_are (codes "session") limit (literal (codes "session") refl) (omega (arith, is.1))) (session_says limit (omega (arith, is.1)))
+    (in_range limit 268435456 (to (Empty block (Some limit))) is.0 is.1) (follow (line + 1))
 
 -- the whole
-pub spelled_told : (name : List ℕ) (channels : List Channel) (tasks : List Task) → IsSpellable name channels tasks → told_of (spelled name channels tasks) ≡ Ok (length channels, tasks)
+group_read : (s : Spelling) → IsSpellable s → (line : ℕ) → reads (Empty s.block s.session) [] line (group_words s.name ∷ (map channel_words s.channels ++ (codes "begin" ∷ []) ∷ (map task_words s.tasks ++ (codes "end" ∷ []) ∷ []))) ≡ Ok (outline_said s, s.tasks)
 unfolding step
-spelled_told name channels tasks is =
-    let behind : List (List (List ℕ)) = (codes "begin" ∷ []) ∷ (map task_words tasks ++ (codes "end" ∷ []) ∷ []) in
-    one_line Empty [] 1 (group_words name) (map channel_words channels ++ behind) (said.Group 0 name) (record { stage = Planned 0 false; task = None }) (length channels, tasks) (group_are name is.named) (group_says name is.named) refl
-    (channels_read 0 (length channels) false channels 2 behind (length channels, tasks) (omega arith) is.few (omega (arith, is.master)) is.names
-    (λ had line. begin_read (length channels) had line (map task_words tasks ++ (codes "end" ∷ []) ∷ []) (length channels, tasks) is.some
-    (tasks_read (length channels) [] tasks (line + 1) ((codes "end" ∷ []) ∷ []) (length channels, tasks) is.fit (λ line. end_read (length channels) tasks line))))
+group_read s is line =
+    let behind : List (List (List ℕ)) = (codes "begin" ∷ []) ∷ (map task_words s.tasks ++ (codes "end" ∷ []) ∷ []) in
+    let outline : Outline = outline_said s in
+    one_line (Empty s.block s.session) [] line (group_words s.name) (map channel_words s.channels ++ behind) (said.Group 0 s.name) (record { stage = Planned (outline_of s.block s.session 0) false; task = None }) (outline, s.tasks) (group_are s.name is.name) (group_says s.name is.name) refl
+    (channels_read outline.block outline.session 0 (length s.channels) false s.channels (line + 1) behind (outline, s.tasks) (omega arith) is.few (omega (arith, is.master)) is.names
+    (λ had line. begin_read outline had line (map task_words s.tasks ++ (codes "end" ∷ []) ∷ []) (outline, s.tasks) is.some
+    (tasks_read outline [] s.tasks (line + 1) ((codes "end" ∷ []) ∷ []) (outline, s.tasks) is.tasks (λ line. end_read outline s.tasks line))))
+
+pub spelled_told : (s : Spelling) → IsSpellable s → told_of (spelled s) ≡ Ok (outline_said s, s.tasks)
+spelled_told s is =
+    block_read s.block _ (outline_said s, s.tasks) is.block
+    (session_read s.block s.session _ (outline_said s, s.tasks) is.session (group_read s is)) 1

@@ -9,6 +9,9 @@ use Rattle.acq_script.specs.Number.{number_of}
 pub data Line : Type 0 where
   -- nothing: it is empty or a comment
   Passed : Line
+  -- how many data bytes a block has at most, and what the samples cost in all at most
+  Block : ℕ → Line
+  Session : ℕ → Line
   -- the source of the next group, and its name
   Group : ℕ → List ℕ → Line
   -- the name of the next channel, and whether it is the master
@@ -37,10 +40,20 @@ channel_of (name ∷ kind ∷ words) =
     if is_name name && bytes_eq kind (codes "u64") then option_map (Channel name) (master_of words) else None
 channel_of _ = None
 
--- `! SOURCE`
+-- one word, which is a number
+unfoldable pub one_number : List (List ℕ) → Option ℕ
+one_number (word ∷ words) = if is_end words then number_of word else None
+one_number _ = None
+
+-- `block LIMIT`, `session LIMIT`, and `! SOURCE`
+unfoldable pub block_of : List (List ℕ) → Option Line
+block_of words = option_map Block (one_number words)
+
+unfoldable pub session_of : List (List ℕ) → Option Line
+session_of words = option_map Session (one_number words)
+
 unfoldable pub flush_of : List (List ℕ) → Option Line
-flush_of (source ∷ words) = if is_end words then option_map Flush (number_of source) else None
-flush_of _ = None
+flush_of words = option_map Flush (one_number words)
 
 -- a line of one word
 unfoldable pub alone : Line → List (List ℕ) → Option Line
@@ -49,12 +62,14 @@ alone line words = if is_end words then Some line else None
 -- `GROUP V V V`, or one of the lines above
 unfoldable pub worded : List ℕ → List (List ℕ) → Option Line
 worded word words =
-    if bytes_eq word (codes "group") then group_of words
+    if bytes_eq word (codes "block") then block_of words
+    else (if bytes_eq word (codes "session") then session_of words
+    else (if bytes_eq word (codes "group") then group_of words
     else (if bytes_eq word (codes "channel") then channel_of words
     else (if bytes_eq word (codes "begin") then alone Begin words
     else (if bytes_eq word (codes "!") then flush_of words
     else (if bytes_eq word (codes "end") then alone End words
-    else option_map (λ group. Sample group words) (number_of word)))))
+    else option_map (λ group. Sample group words) (number_of word)))))))
 
 abbrev pub worded_list : List (List ℕ) → Option Line
 worded_list [] = None

@@ -1,10 +1,11 @@
 -- The plan of a script.
-use Rattle.std.specs.Prelude.{ℕ, zero, suc, ◌≡◌, ◌*◌, ◌≤◌, false, List, [], ◌∷◌, ◌++◌, length, All, None}
+use Rattle.std.specs.Prelude.{ℕ, zero, suc, ◌≡◌, ◌*◌, ◌≤◌, false, List, [], ◌∷◌, ◌++◌, length, All, Option, None, unwrap_or}
 use Rattle.mdf_layout.specs.Field.{IsWordRow}
 use Rattle.mdf_layout.specs.Layout.{Layout, IsInside, AreDisjoint}
 use Rattle.mdf_layout.specs.Record.{SampleFits, encoded_size}
 use Rattle.mdf_layout.specs.declared.field.FieldKind.TheVariants.{Unsigned}
 use Rattle.mdf_layout.specs.declared.field.FieldRow.{FieldRow}
+use Rattle.acq_script.specs.declared.plan.Outline.{Outline}
 use Rattle.acq_script.specs.declared.script.Plan.{Plan}
 use Rattle.acq_script.specs.declared.script.Task.{Task}
 use Rattle.acq_script.specs.declared.script.Task.TheVariants as task
@@ -20,14 +21,19 @@ word_rows (suc n) = word_rows n ++ word_row (8 * n) ∷ []
 abbrev pub words : ℕ → Layout
 words n = record { rows = word_rows n; data_bytes = 8 * n; inval_bytes = 0 }
 
--- the plan of one group of so many channels
-abbrev pub plan_of : ℕ → Plan
-plan_of n = record {
-  shapes = words n ∷ [];
+-- so many channels, under these limits where the script says them
+abbrev pub outline_of : Option ℕ → Option ℕ → ℕ → Outline
+outline_of block session n =
+    record { channels = n; block = unwrap_or block 65536; session = unwrap_or session 268435456 }
+
+-- the plan of one group of so many channels, under these limits
+abbrev pub plan_of : Outline → Plan
+plan_of outline = record {
+  shapes = words outline.channels ∷ [];
   owners = 0 ∷ [];
   sources = 1;
-  block = 65536;
-  session = 268435456;
+  block = outline.block;
+  session = outline.session;
   live = false;
 }
 

@@ -2,10 +2,12 @@
 use Rattle.acq_script.specs.Text.{words_left}
 use Rattle.acq_script.specs.Line as said
 use Rattle.acq_script.specs.declared.line.Line.{Line}
-use Rattle.acq_script.specs.declared.line.Line.TheVariants.{Passed, Group, Channel, Begin, Sample, Flush, End}
+use Rattle.acq_script.specs.declared.line.Line.TheVariants.{Passed, Block, Session, Group, Channel, Begin, Sample, Flush, End}
 
 abbrev pub seen : Line → said.Line
 seen Passed = said.Passed
+seen (Block limit) = said.Block limit
+seen (Session limit) = said.Session limit
 seen (Group source name) = said.Group source name.now
 seen (Channel name master) = said.Channel name.now master
 seen Begin = said.Begin

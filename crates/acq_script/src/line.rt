@@ -1,7 +1,7 @@
 ghost use Rattle.std.specs.Prelude.{◌≡◌};
 ghost use Rattle.std.specs.Option.{option_map};
 ghost use Rattle.acq_script.specs.Text.{words_left};
-ghost use Rattle.acq_script.specs.Line.{line_of, worded, group_of, channel_of, master_of, flush_of, alone};
+ghost use Rattle.acq_script.specs.Line.{line_of, worded, one_number, group_of, channel_of, master_of, block_of, session_of, flush_of, alone};
 ghost use Rattle.acq_script.specs.View.{seen};
 
 use crate::number::number_of;
@@ -12,6 +12,14 @@ use crate::text::{cut, is_end, is_name};
 pub(crate) enum Line<'a> {
     /// An empty line or a comment.
     Passed,
+    /// How many data bytes a block has at most.
+    Block {
+        limit: u64,
+    },
+    /// What the samples cost in all at most.
+    Session {
+        limit: u64,
+    },
     /// The next group.
     Group {
         source: u64,
@@ -80,16 +88,42 @@ fn channel_of(words: Option<&[u8]>) -> Option<Line<'_>>
     Some(Line::Channel { name, master })
 }
 
+/// The number that the one word is.
+#[tactic(auto, unfolding(crate::specs::Line::one_number))]
+fn one_number(words: Option<&[u8]>) -> Option<u64>
+    ensures { result ≡ one_number (words_left words.entry) }
+{
+    let (word, words) = cut(words?, b' ');
+    if !is_end(words) {
+        return None;
+    }
+    number_of(word)
+}
+
+/// The line of these words behind `block`.
+#[tactic(auto, unfolding(crate::specs::Line::block_of))]
+fn block_of(words: Option<&[u8]>) -> Option<Line<'_>>
+    ensures { option_map seen result ≡ block_of (words_left words.entry) }
+{
+    let limit = one_number(words)?;
+    Some(Line::Block { limit })
+}
+
+/// The line of these words behind `session`.
+#[tactic(auto, unfolding(crate::specs::Line::session_of))]
+fn session_of(words: Option<&[u8]>) -> Option<Line<'_>>
+    ensures { option_map seen result ≡ session_of (words_left words.entry) }
+{
+    let limit = one_number(words)?;
+    Some(Line::Session { limit })
+}
+
 /// The line of these words behind `!`.
 #[tactic(auto, unfolding(crate::specs::Line::flush_of))]
 fn flush_of(words: Option<&[u8]>) -> Option<Line<'_>>
     ensures { option_map seen result ≡ flush_of (words_left words.entry) }
 {
-    let (source, words) = cut(words?, b' ');
-    if !is_end(words) {
-        return None;
-    }
-    let source = number_of(source)?;
+    let source = one_number(words)?;
     Some(Line::Flush { source })
 }
 
@@ -109,6 +143,12 @@ fn alone<'a>(line: Line<'a>, words: Option<&[u8]>) -> Option<Line<'a>>
 fn worded<'a>(word: &[u8], words: Option<&'a [u8]>) -> Option<Line<'a>>
     ensures { option_map seen result ≡ worded word.now (words_left words.entry) }
 {
+    if word == b"block".as_slice() {
+        return block_of(words);
+    }
+    if word == b"session".as_slice() {
+        return session_of(words);
+    }
     if word == b"group".as_slice() {
         return group_of(words);
     }

@@ -4,7 +4,7 @@ ghost use Rattle.acq_script.specs.Script.{GivesScript, change_of, ended, told_of
 
 use crate::ScriptFault;
 use crate::line::line_of;
-use crate::plan::plan_of;
+use crate::plan::{Outline, plan_of};
 use crate::script::{Script, Task};
 use crate::stage::{Change, Stage, step};
 use crate::text::cut;
@@ -37,8 +37,7 @@ fn push_task(tasks: &mut Rows<Task>, task: Option<Task>) -> Result<(), Memory>
     }
 }
 
-/// How many channels the group has, and what its source does, where the script has ended and nothing stands behind its
-/// last LF.
+/// What the plan is made of, and what the source does, where the script has ended and nothing stands behind its last LF.
 ///
 /// # Errors
 /// `Line` exactly where it has not or something does, with the number handed in.
@@ -47,20 +46,23 @@ fn ended(
     tasks: Rows<Task>,
     line: u64,
     rest: &[u8],
-) -> Result<(u32, Rows<Task>), ScriptFault>
+) -> Result<(Outline, Rows<Task>), ScriptFault>
     ensures { GivesScript result (ended stage tasks line rest.now) }
 {
     match stage {
-        Stage::Ended { channels } if rest.is_empty() => Ok((channels, tasks)),
+        Stage::Ended { outline } if rest.is_empty() => Ok((outline, tasks)),
         _ => Err(ScriptFault::Line { line }),
     }
 }
 
-/// How many channels the group of a script has, and what its source does.
-fn told_of(alloc: Global, bytes: &[u8]) -> Result<(u32, Rows<Task>), ScriptFault>
+/// What the plan of a script is made of, and what its source does.
+fn told_of(alloc: Global, bytes: &[u8]) -> Result<(Outline, Rows<Task>), ScriptFault>
     ensures { GivesScript result (told_of bytes.now) }
 {
-    let mut stage = Stage::Empty;
+    let mut stage = Stage::Empty {
+        block: None,
+        session: None,
+    };
     let mut tasks = Rows::empty(alloc);
     let mut line = 1;
     let (mut text, mut rest) = cut(bytes, b'\n');
@@ -86,8 +88,8 @@ pub fn read_script(alloc: Global, bytes: &[u8]) -> Result<Script, ScriptFault>
     ensures samples { IfOk result (λ script. All (λ tasks. All (TaskFits script.plan) tasks) script.lists) }
     ensures lists { IfOk result (λ script. length script.lists ≡ 1) }
 {
-    let (channels, tasks) = told_of(alloc, bytes)?;
-    let plan = plan_of(alloc, channels)?;
+    let (outline, tasks) = told_of(alloc, bytes)?;
+    let plan = plan_of(alloc, outline)?;
     let mut lists = Rows::empty(alloc);
     lists.push(tasks)?;
     Ok(Script { plan, lists })

@@ -4,4 +4,4 @@ use Rattle.acq_script.proofs.Respelled.{spelled_told}
 use Rattle.acq_script.proofs.law.spelled_is_read.Goals as goal
 
 pub returns : goal.returns
-returns c = λ name channels tasks is. ap script_in (spelled_told name channels tasks is)
+returns c = λ s is. ap script_in (spelled_told s is)
