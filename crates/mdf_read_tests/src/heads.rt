@@ -1,9 +1,129 @@
+use crate::files::{Piece, file_of};
 use crate::span::span_over;
-use mdf_block::{Draft, Kind, Note, What};
-use mdf_head::{Head, HeadFault, History, Ident, IdentFault, ident, read_head, read_head_in};
-use mdf_num::{Bytes, Halt, Memory, Rows, Span, Stop};
+use mdf_head::{Head, HeadFault, History, ident, read_head, read_head_in};
+use mdf_num::{Halt, Memory, Rows, Span, Stop};
 use std::alloc::Global;
 use std::test::Fail;
+
+// The body of a header, and that of an entry of the history.
+const HEADER: [u8; 32] = [
+    1, 2, 3, 4, 5, 6, 7, 8, 60, 0, 0xC4, 0xFF, 1, 16, 3, 0, 9, 0, 0, 0, 0, 0, 0, 0, 0, 0, 0, 0, 0,
+    0, 0, 128,
+];
+
+const ENTRY: [u8; 16] = [42, 0, 0, 0, 0, 0, 0, 0, 0xFF, 0x7F, 0x00, 0x80, 2, 0, 0, 0];
+
+// A header with a comment, and two entries of the history, the first with a comment.
+const HD: Piece = (64, b"##HD", &[352, 168, 0, 0, 0, 280], &HEADER);
+
+const FIRST: Piece = (168, b"##FH", &[224, 320], &ENTRY);
+
+const LAST: Piece = (224, b"##FH", &[0, 0], &ENTRY);
+
+const MD: Piece = (280, b"##MD", &[], b"<HDcomment/>\0\0\0\0");
+
+const TX: Piece = (320, b"##TX", &[], b"changed\0");
+
+const WHOLE: &[Piece] = &[HD, FIRST, LAST, MD, TX];
+
+// The blocks of a file, the bytes that texts may have, and what is told: the answer, and the bytes that are left.
+const TOLD: &[(&[Piece], u64, &str)] = &[
+    (
+        WHOLE,
+        100,
+        "Ok((Head { start: 578437695752307201, zone: 60, daylight: -60, time_flags: 1, time_class: 16, flags: 3, angle: 9, distance: 9223372036854775808, comment: Xml(Bytes { items: [60, 72, 68, 99, 111, 109, 109, 101, 110, 116, 47, 62] }), first_dg: 352 }, Rows { items: [History { at: 168, time: 42, zone: 32767, daylight: -32768, flags: 2, comment: Plain(Bytes { items: [99, 104, 97, 110, 103, 101, 100] }) }, History { at: 224, time: 42, zone: 32767, daylight: -32768, flags: 2, comment: Nothing }] })) 81",
+    ),
+    (
+        &[(64, b"##HD", &[352, 0, 0, 0, 0, 0], &HEADER)],
+        0,
+        "Ok((Head { start: 578437695752307201, zone: 60, daylight: -60, time_flags: 1, time_class: 16, flags: 3, angle: 9, distance: 9223372036854775808, comment: Nothing, first_dg: 352 }, Rows { items: [] })) 0",
+    ),
+    (&[], 100, "Err(Bad { at: 64, want: Hd }) 100"),
+    (
+        &[
+            (64, b"##HD", &[352, 168, 0, 0, 0, 224], &HEADER),
+            FIRST,
+            LAST,
+            TX,
+        ],
+        100,
+        "Err(Bad { at: 224, want: Tx }) 100",
+    ),
+    (WHOLE, 11, "Err(TooMany { what: Text, at: 280 }) 11"),
+    (
+        &[HD, (168, b"##FH", &[224, 64], &ENTRY), LAST, MD],
+        100,
+        "Err(Bad { at: 64, want: Tx }) 100",
+    ),
+    (WHOLE, 18, "Err(TooMany { what: Text, at: 320 }) 18"),
+    (
+        &[HD, FIRST, (224, b"##FH", &[280, 0], &ENTRY), MD, TX],
+        100,
+        "Err(Bad { at: 280, want: Fh }) 100",
+    ),
+    (
+        &[HD, FIRST, (224, b"##FH", &[224, 0], &ENTRY), MD, TX],
+        100,
+        "Err(TooMany { what: Fh, at: 224 }) 100",
+    ),
+];
+
+fn line(
+    alloc: Global,
+    answer: &Result<(Head, Rows<History>), HeadFault>,
+    left: u64,
+) -> Result<String, Memory> {
+    Ok(format!(in alloc; "{answer:?} {left}")?)
+}
+
+fn told(alloc: Global, pieces: &[Piece], budget: u64) -> Result<String, Memory> {
+    let file = file_of(alloc, 352, pieces)?;
+    let mut left = budget;
+    let answer = read_head(alloc, file.as_slice(), &mut left);
+    line(alloc, &answer, left)
+}
+
+#[test]
+fn headers_are_told(rt: HostRuntime) -> Result<(), Fail> {
+    for (pieces, budget, want) in TOLD {
+        assert_eq!(rt; told(rt.alloc(), pieces, *budget)?.as_str(), *want);
+    }
+    Ok(())
+}
+
+fn line_over(
+    alloc: Global,
+    answer: &Result<(Head, Rows<History>), Halt<HeadFault>>,
+    left: u64,
+    faults: u64,
+) -> Result<String, Memory> {
+    Ok(format!(in alloc; "{answer:?} {left} {faults}")?)
+}
+
+// What a reader answers over a span that stops after so many calls, and how many faults that span then counts.
+fn told_over(alloc: Global, file: &[u8], calls: u64, stop: Stop) -> Result<String, Memory> {
+    let mut span = span_over(file, calls, stop);
+    let mut left = 100;
+    let answer = read_head_in(alloc, &mut span, &mut left);
+    line_over(alloc, &answer, left, span.faults())
+}
+
+#[test]
+fn a_span_that_stops_stops_the_reader(rt: HostRuntime) -> Result<(), Fail> {
+    let file = file_of(rt.alloc(), 352, WHOLE)?;
+    for (stop, want) in [
+        (Stop::Failed, "Err(Failed) 100 1"),
+        (Stop::Memory, "Err(Memory) 100 0"),
+    ] {
+        for calls in 0..20 {
+            assert_eq!(rt;
+                told_over(rt.alloc(), file.as_slice(), calls, stop)?.as_str(),
+                want
+            );
+        }
+    }
+    Ok(())
+}
 
 // The first 64 bytes of a file.
 fn first(name: &[u8; 8], ver: u16) -> [u8; 64] {
@@ -15,205 +135,47 @@ fn first(name: &[u8; 8], ver: u16) -> [u8; 64] {
     bytes
 }
 
-// The body of a header, and that of an entry of the history.
-const HEADER: [u8; 32] = [
-    1, 2, 3, 4, 5, 6, 7, 8, 60, 0, 0xC4, 0xFF, 1, 16, 3, 0, 9, 0, 0, 0, 0, 0, 0, 0, 0, 0, 0, 0, 0,
-    0, 0, 128,
+// The name and the version of an identification, how many of its bytes there are, and what is told.
+const IDENTIFIED: &[(&[u8; 8], u16, usize, &str)] = &[
+    (
+        b"MDF     ",
+        410,
+        64,
+        "Ok(Ident { finalized: true, ver: 410, std_flags: 33, custom_flags: 1 })",
+    ),
+    (
+        b"UnFinMF ",
+        419,
+        64,
+        "Ok(Ident { finalized: false, ver: 419, std_flags: 33, custom_flags: 1 })",
+    ),
+    (
+        b"MDF     ",
+        400,
+        64,
+        "Ok(Ident { finalized: true, ver: 400, std_flags: 33, custom_flags: 1 })",
+    ),
+    (b"MDF     ", 399, 64, "Err(Version { ver: 399 })"),
+    (b"UnFinMF ", 420, 64, "Err(Version { ver: 420 })"),
+    (b"MDF     ", 0, 64, "Err(Version { ver: 0 })"),
+    (b"MDF     ", 65535, 64, "Err(Version { ver: 65535 })"),
+    (b"MDF4    ", 410, 64, "Err(NotMdf)"),
+    (b"UnFinMF\0", 410, 64, "Err(NotMdf)"),
+    (b"MDF     ", 410, 63, "Err(NotMdf)"),
+    (b"MDF     ", 410, 0, "Err(NotMdf)"),
 ];
 
-const ENTRY: [u8; 16] = [42, 0, 0, 0, 0, 0, 0, 0, 0xFF, 0x7F, 0x00, 0x80, 2, 0, 0, 0];
+fn identified(alloc: Global, bytes: &[u8]) -> Result<String, Memory> {
+    let answer = ident(bytes);
+    Ok(format!(in alloc; "{answer:?}")?)
+}
 
-// A header with a comment, and two entries of the history, the first with a comment. The last entry goes on to `to`.
-fn written(alloc: Global, to: Option<u32>) -> Result<Bytes, Memory> {
-    let mut draft = Draft::new(alloc);
-    let header = Bytes::from_slice(alloc, &HEADER)?;
-    let first_entry = Bytes::from_slice(alloc, &ENTRY)?;
-    let second_entry = Bytes::from_slice(alloc, &ENTRY)?;
-    let remark = Bytes::from_slice(alloc, b"<HDcomment/>\0\0\0\0")?;
-    let change = Bytes::from_slice(alloc, b"changed\0")?;
-    let hd = draft.place(Kind::Hd, 6, header)?;
-    let one = draft.place(Kind::Fh, 2, first_entry)?;
-    let two = draft.place(Kind::Fh, 2, second_entry)?;
-    let md = draft.place(Kind::Md, 0, remark)?;
-    let tx = draft.place(Kind::Tx, 0, change)?;
-    draft.link_end(hd, 0);
-    draft.link(hd, 1, one);
-    draft.link(hd, 5, md);
-    draft.link(one, 0, two);
-    draft.link(one, 1, tx);
-    if let Some(n) = to {
-        draft.link(two, 0, n);
+#[test]
+fn identifications_are_told(rt: HostRuntime) -> Result<(), Fail> {
+    for (name, ver, len, want) in IDENTIFIED {
+        let bytes = first(name, *ver);
+        let end = bytes.len().min(*len);
+        assert_eq!(rt; identified(rt.alloc(), &bytes[..end])?.as_str(), *want);
     }
-    draft.bytes(&first(b"MDF     ", 410))
-}
-
-#[test]
-fn a_draft_reads_back_equal(rt: HostRuntime) -> Result<(), Fail> {
-    let bytes = written(rt.alloc(), None)?;
-    let mut budget = 100;
-    let (head, history) = read_head(rt.alloc(), bytes.as_slice(), &mut budget)?;
-    assert_eq!(rt; budget, 81);
-    assert_eq!(rt; head.start, 0x0807060504030201);
-    assert_eq!(rt; head.zone, 60);
-    assert_eq!(rt; head.daylight, -60);
-    assert_eq!(rt; (head.time_flags, head.time_class, head.flags), (1, 16, 3));
-    assert_eq!(rt; (head.angle, head.distance), (9, 1 << 63));
-    assert_eq!(rt; head.first_dg, 352);
-    let Note::Xml(remark) = &head.comment else {
-        return Err("a comment in XML".into());
-    };
-    assert_eq!(rt; remark.as_slice(), b"<HDcomment/>".as_slice());
-    assert_eq!(rt; history.len(), 2);
-    let Some(one) = history.get(0) else {
-        return Err("an entry".into());
-    };
-    assert_eq!(rt; (one.at, one.time, one.flags), (168, 42, 2));
-    assert_eq!(rt; (one.zone, one.daylight), (i16::MAX, i16::MIN));
-    let Note::Plain(change) = &one.comment else {
-        return Err("a plain comment".into());
-    };
-    assert_eq!(rt; change.as_slice(), b"changed".as_slice());
-    let Some(two) = history.get(1) else {
-        return Err("another entry".into());
-    };
-    assert_eq!(rt; two.at, 224);
-    assert!(rt; matches!(two.comment, Note::Nothing));
-    Ok(())
-}
-
-#[test]
-fn a_loop_of_entries_is_too_many(rt: HostRuntime) -> Result<(), Fail> {
-    let bytes = written(rt.alloc(), Some(2))?;
-    let mut budget = 100;
-    let fault = read_head(rt.alloc(), bytes.as_slice(), &mut budget).err();
-    assert_eq!(rt;
-        fault,
-        Some(HeadFault::TooMany {
-            what: What::Fh,
-            at: 224
-        })
-    );
-    assert_eq!(rt; budget, 100);
-    Ok(())
-}
-
-#[test]
-fn the_first_fault_is_answered(rt: HostRuntime) -> Result<(), Fail> {
-    let bytes = written(rt.alloc(), Some(3))?;
-    let mut budget = 100;
-    let fault = read_head(rt.alloc(), bytes.as_slice(), &mut budget).err();
-    assert_eq!(rt;
-        fault,
-        Some(HeadFault::Bad {
-            at: 280,
-            want: Kind::Fh
-        })
-    );
-    let mut none = 11;
-    let fault = read_head(rt.alloc(), bytes.as_slice(), &mut none).err();
-    assert_eq!(rt;
-        fault,
-        Some(HeadFault::TooMany {
-            what: What::Text,
-            at: 280
-        })
-    );
-    let mut few = 18;
-    let fault = read_head(rt.alloc(), bytes.as_slice(), &mut few).err();
-    assert_eq!(rt;
-        fault,
-        Some(HeadFault::TooMany {
-            what: What::Text,
-            at: 320
-        })
-    );
-    assert_eq!(rt; (budget, none, few), (100, 11, 18));
-    let fault = read_head(rt.alloc(), &[0; 64], &mut budget).err();
-    assert_eq!(rt;
-        fault,
-        Some(HeadFault::Bad {
-            at: 64,
-            want: Kind::Hd
-        })
-    );
-    Ok(())
-}
-
-// What a reader answers over a span that stops after so many calls, and how many faults that span then counts.
-fn stopped(
-    alloc: Global,
-    bytes: &[u8],
-    calls: u64,
-    stop: Stop,
-) -> (Result<(Head, Rows<History>), Halt<HeadFault>>, u64) {
-    let mut span = span_over(bytes, calls, stop);
-    let mut budget = 100;
-    let answer = read_head_in(alloc, &mut span, &mut budget);
-    (answer, span.faults())
-}
-
-#[test]
-fn a_span_that_fails_stops_the_reader(rt: HostRuntime) -> Result<(), Fail> {
-    let bytes = written(rt.alloc(), None)?;
-    for calls in 0..20 {
-        let (answer, faults) = stopped(rt.alloc(), bytes.as_slice(), calls, Stop::Failed);
-        assert!(rt; matches!(answer, Err(Halt::Failed)));
-        assert_eq!(rt; faults, 1);
-    }
-    Ok(())
-}
-
-#[test]
-fn a_span_that_wants_memory_stops_the_reader(rt: HostRuntime) -> Result<(), Fail> {
-    let bytes = written(rt.alloc(), None)?;
-    for calls in 0..20 {
-        let (answer, faults) = stopped(rt.alloc(), bytes.as_slice(), calls, Stop::Memory);
-        assert!(rt; matches!(answer, Err(Halt::Memory)));
-        assert_eq!(rt; faults, 0);
-    }
-    Ok(())
-}
-
-#[test]
-fn the_identification_is_read(rt: HostRuntime) -> Result<(), Fail> {
-    let finalized = ident(&first(b"MDF     ", 410))?;
-    assert_eq!(rt;
-        finalized,
-        Ident {
-            finalized: true,
-            ver: 410,
-            std_flags: 33,
-            custom_flags: 1
-        }
-    );
-    let recording = ident(&first(b"UnFinMF ", 419))?;
-    assert_eq!(rt;
-        recording,
-        Ident {
-            finalized: false,
-            ver: 419,
-            std_flags: 33,
-            custom_flags: 1
-        }
-    );
-    assert_eq!(rt; ident(&first(b"MDF     ", 400))?.ver, 400);
-    Ok(())
-}
-
-#[test]
-fn other_versions_are_refused(rt: HostRuntime) -> Result<(), Fail> {
-    for ver in [399u16, 420, 0, u16::MAX, 300] {
-        let answer = ident(&first(b"MDF     ", ver));
-        assert_eq!(rt; answer, Err(IdentFault::Version { ver }));
-    }
-    Ok(())
-}
-
-#[test]
-fn other_names_are_refused(rt: HostRuntime) -> Result<(), Fail> {
-    assert_eq!(rt; ident(&[]), Err(IdentFault::NotMdf));
-    assert_eq!(rt; ident(&[0; 63]), Err(IdentFault::NotMdf));
-    assert_eq!(rt; ident(&first(b"MDF4    ", 410)), Err(IdentFault::NotMdf));
-    assert_eq!(rt; ident(&first(b"UnFinMF\0", 410)), Err(IdentFault::NotMdf));
     Ok(())
 }
