@@ -4,10 +4,11 @@ use Rattle.mdf_format.specs.Number.{le_number, bytes_at}
 use Rattle.mdf_block.specs.declared.place.BlockAt.{BlockAt}
 use Rattle.mdf_block.specs.Block.{body_of}
 use Rattle.mdf_block.proofs.Parts.{bytes_at-bytes_at, part_same, byte_same}
+use Rattle.mdf_conv.specs.declared.front.ConvFront.{ConvFront}
 use Rattle.mdf_conv.specs.declared.row.Conversion.{Conversion}
 use Rattle.mdf_conv.specs.declared.row.Ref.{Ref}
 use Rattle.mdf_conv.specs.declared.texts.Texts.{Texts}
-use Rattle.mdf_conv.specs.Conv.{HoldsValues, numbers_at, the_conversion}
+use Rattle.mdf_conv.specs.Conv.{HoldsValues, numbers_at, the_front, the_conversion}
 
 -- numbers of the file are numbers of the body
 pub numbers_same : (f : List ℕ) (place len k count : ℕ) → k + 8 * count ≤ len
@@ -31,22 +32,18 @@ numbers_next f start k count below =
     ap (numbers_at f (start + 8 * k)) more
     ∙ ap (λ (place : ℕ). le_number (bytes_at 8 f (start + 8 * k)) ∷ numbers_at f place (count - (k + 1))) next
 
--- the conversion that is read is the one of the body
-abbrev pub made_conversion : List ℕ → Texts → List Ref → ℕ → ℕ → ℕ → List ℕ → Conversion
-made_conversion front texts references flags low high numbers = record {
+-- the front that is read is that of the body
+abbrev pub made_front : List ℕ → ℕ → ℕ → ℕ → ℕ → ConvFront
+made_front front flags count low high = record {
   kind = get_or front 0 0;
   precision = get_or front 1 0;
   flags = flags;
+  count = count;
   low = low;
   high = high;
-  numbers = numbers;
-  refs = references;
-  name = texts.name;
-  unit = texts.unit;
-  comment = texts.comment;
 }
 
-module _ (f front : List ℕ) (b : BlockAt) (texts : Texts) (references : List Ref) (least : 24 ≤ b.body_len) (is_front : front ≡ bytes_at 24 f b.body_at) where
+module _ (f front : List ℕ) (b : BlockAt) (least : 24 ≤ b.body_len) (is_front : front ≡ bytes_at 24 f b.body_at) where
   -- a number in the front
   number_is : (n k value : ℕ) → k + n ≤ 24 → value ≡ le_number (bytes_at n front k) → value ≡ le_number (bytes_at n (body_of f b) k)
   number_is n k value within is =
@@ -55,27 +52,49 @@ module _ (f front : List ℕ) (b : BlockAt) (texts : Texts) (references : List R
   byte_is : (k : ℕ) → k < 24 → get_or front k 0 ≡ get_or (body_of f b) k 0
   byte_is k within = ap (λ (bytes : List ℕ). get_or bytes k 0) is_front ∙ byte_same f b.body_at 24 b.body_len least k within
 
-  pub same_conversion : (count flags low high : ℕ) (numbers : List ℕ) → HoldsValues f b
-      → count ≡ le_number (bytes_at 2 front 6) → flags ≡ le_number (bytes_at 2 front 2) → low ≡ le_number (bytes_at 8 front 8)
-      → high ≡ le_number (bytes_at 8 front 16) → numbers ≡ numbers_at f (b.body_at + 24) count
-      → the_conversion (body_of f b) texts references ≡ made_conversion front texts references flags low high numbers
-  same_conversion count flags low high numbers holds is_count is_flags is_low is_high is_numbers =
-      let count_is = number_is 2 6 count (omega arith) is_count in
+  pub same_front : (flags count low high : ℕ) → flags ≡ le_number (bytes_at 2 front 2) → count ≡ le_number (bytes_at 2 front 6)
+      → low ≡ le_number (bytes_at 8 front 8) → high ≡ le_number (bytes_at 8 front 16)
+      → made_front front flags count low high ≡ the_front (body_of f b)
+  same_front flags count low high is_flags is_count is_low is_high =
       let flags_is = number_is 2 2 flags (omega arith) is_flags in
+      let count_is = number_is 2 6 count (omega arith) is_count in
       let low_is = number_is 8 8 low (omega arith) is_low in
       let high_is = number_is 8 16 high (omega arith) is_high in
       let kind_is = byte_is 0 (omega arith) in
       let precision_is = byte_is 1 (omega arith) in
+      rw (kind_is, precision_is, flags_is, count_is, low_is, high_is)
+
+-- the conversion with this front and these numbers
+abbrev pub conversion_with : ConvFront → List ℕ → Texts → List Ref → Conversion
+conversion_with front numbers texts references = record {
+  kind = front.kind;
+  precision = front.precision;
+  flags = front.flags;
+  low = front.low;
+  high = front.high;
+  numbers = numbers;
+  refs = references;
+  name = texts.name;
+  unit = texts.unit;
+  comment = texts.comment;
+}
+
+module _ (f : List ℕ) (b : BlockAt) (front : ConvFront) (is : front ≡ the_front (body_of f b)) (holds : HoldsValues f b) where
+  pub same_conversion : (texts : Texts) (references : List Ref) (numbers : List ℕ) → numbers ≡ numbers_at f (b.body_at + 24) front.count
+      → the_conversion (body_of f b) texts references ≡ conversion_with front numbers texts references
+  same_conversion texts references numbers is_numbers =
+      let count : front.count ≡ le_number (bytes_at 2 (body_of f b) 6) = ap (λ (x : ConvFront). x.count) is in
       let numbers_are : numbers ≡ numbers_at (body_of f b) 24 (le_number (bytes_at 2 (body_of f b) 6)) =
-      is_numbers ∙ numbers_same f b.body_at b.body_len 24 count (omega (arith, holds, count_is))
-      ∙ ap (numbers_at (body_of f b) 24) count_is in
-      rw (kind_is, precision_is, flags_is, low_is, high_is, numbers_are)
+      is_numbers ∙ numbers_same f b.body_at b.body_len 24 front.count (omega (arith, holds, count))
+      ∙ ap (numbers_at (body_of f b) 24) count in
+      ap (λ (ns : List ℕ). conversion_with (the_front (body_of f b)) ns texts references) (sym numbers_are)
+      ∙ ap (λ (x : ConvFront). conversion_with x numbers texts references) (sym is)
 
   -- more numbers are counted than there is room for
-  pub counts_past : (count : ℕ) → HoldsValues f b → count ≡ le_number (bytes_at 2 front 6) → (b.body_len - 24) / 8 < count → ⊥
-  counts_past count holds is_count past =
-      let count_is = number_is 2 6 count (omega arith) is_count in
-      omega (arith, holds, count_is, past, least)
+  pub counts_past : 24 ≤ b.body_len → (b.body_len - 24) / 8 < front.count → ⊥
+  counts_past least past =
+      let count : front.count ≡ le_number (bytes_at 2 (body_of f b) 6) = ap (λ (x : ConvFront). x.count) is in
+      omega (arith, holds, count, past, least)
 
 -- a word that was read alone
 pub word_is : (f word : List ℕ) (place : ℕ) → word ≡ bytes_at 8 f place → le_number (bytes_at 8 word 0) ≡ le_number (bytes_at 8 f place)

@@ -2,3 +2,5 @@ pub mod Fronts
 mod Lifts
 mod Levels
 pub mod Founds
+pub mod Costs
+pub mod Truths

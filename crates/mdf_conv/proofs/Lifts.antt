@@ -1,5 +1,5 @@
 -- A text that is read is what a link's words are.
-use Rattle.std.proofs.Common.{◌≡◌, ℕ, List, ap}
+use Rattle.std.proofs.Common.{ℕ, List, refl, ap}
 use Rattle.std.specs.Prelude.{true, Result, Ok, Err, IfErr}
 use Rattle.mdf_num.specs.Halt.{HaltCause, HaltReason}
 use Rattle.mdf_num.specs.declared.halt.Halt.{Halt}
@@ -7,7 +7,7 @@ use Rattle.mdf_num.specs.declared.halt.Halt.TheVariants as halts
 use Rattle.mdf_block.specs.declared.note.Note.{Note}
 use Rattle.mdf_block.specs.declared.fault.NoteFault.{NoteFault}
 use Rattle.mdf_block.specs.declared.fault.NoteFault.TheVariants as notes
-use Rattle.mdf_block.specs.Refusal.{Read, ◌>>=◌, Halts, Gives}
+use Rattle.mdf_block.specs.Refusal.{Read, ◌>>=◌, Halts, Gives, IsPlain}
 use Rattle.mdf_block.specs.Text.{note, note_refusal}
 use Rattle.mdf_conv.specs.declared.limits.Budget.{Budget}
 use Rattle.mdf_conv.specs.Conv.{words, conv_refusal}
@@ -31,6 +31,18 @@ module _ (file : List ℕ) (at : ℕ) (left : Budget) where
   unfolding words
   gives_words (Ok found) is = ap behind is
   gives_words (Err halt) is = halts_words halt is
+
+plain_note : (halt : Halt NoteFault) → IsPlain conv_refusal (halt_of_note halt)
+plain_note (halts.Fault (notes.Bad at)) = refl
+plain_note (halts.Fault (notes.TooMany at)) = refl
+plain_note (halts.Fault notes.Memory) = tt
+plain_note halts.Failed = tt
+plain_note halts.Memory = tt
+
+-- the fault of a text is a reason to refuse
+pub plain_words : (left : Budget) (outcome : Result (Note × ℕ) (Halt NoteFault)) → IfErr (text_read left outcome) (IsPlain conv_refusal)
+plain_words left (Ok found) = tt
+plain_words left (Err halt) = plain_note halt
 
 reason_words : (before now : ℕ) (halt : Halt NoteFault) → HaltReason true before now halt → HaltReason true before now (halt_of_note halt)
 reason_words before now (halts.Fault (notes.Bad at)) reason = tt

@@ -15,6 +15,8 @@ use Rattle.mdf_conv.specs.declared.row.SourceInfo.{SourceInfo}
 use Rattle.mdf_conv.specs.declared.row.Conversion.{Conversion}
 use Rattle.mdf_conv.specs.declared.row.Ref.{Ref}
 use Rattle.mdf_conv.specs.declared.row.Ref.TheVariants as refs
+use Rattle.mdf_conv.specs.declared.front.ConvFront.{ConvFront}
+use Rattle.mdf_conv.specs.declared.texts.SourceTexts.{SourceTexts}
 use Rattle.mdf_conv.specs.declared.texts.Texts.{Texts}
 use Rattle.mdf_conv.specs.Left.{with_dropped, link_count}
 use Rattle.mdf_conv.specs.declared.fault.ConvFault.{ConvFault}
@@ -48,19 +50,36 @@ the_source body name path comment = record {
   comment = comment;
 }
 
--- a source at an address: its block, and then its name, its path and its comment
+-- the texts of the source at an address: its name, its path and its comment
+unfoldable pub source_texts : List ℕ → ℕ → Budget → Read (SourceTexts × Budget)
+source_texts file at left = do
+  name ← words file (link_at file at 0) left
+  path ← words file (link_at file at 1) name.1
+  comment ← words file (link_at file at 2) path.1
+  Ok (record { name = name.0; path = path.0; comment = comment.0 }, comment.1)
+
+-- a source at an address: its block, and then its texts
 unfoldable pub source : List ℕ → ℕ → Budget → Read (SourceInfo × Budget)
 source file at left = do
   b ← block file at Si
-  name ← words file (link_at file b.at 0) left
-  path ← words file (link_at file b.at 1) name.1
-  comment ← words file (link_at file b.at 2) path.1
-  Ok (the_source (body_of file b) name.0 path.0 comment.0, comment.1)
+  texts ← source_texts file b.at left
+  Ok (the_source (body_of file b) texts.0.name texts.0.path texts.0.comment, texts.1)
 
 -- so many numbers of 8 bytes from a place of a body on
 abbrev pub numbers_at : List ℕ → ℕ → ℕ → List ℕ
 numbers_at body place zero = []
 numbers_at body place (suc count) = le_number (bytes_at 8 body place) ∷ numbers_at body (place + 8) count
+
+-- the numbers in the first 24 bytes of the body of a conversion
+abbrev pub the_front : List ℕ → ConvFront
+the_front body = record {
+  kind = slice_index body 0;
+  precision = slice_index body 1;
+  flags = le_number (bytes_at 2 body 2);
+  count = le_number (bytes_at 2 body 6);
+  low = le_number (bytes_at 8 body 8);
+  high = le_number (bytes_at 8 body 16);
+}
 
 -- a conversion, from its body, which counts the numbers behind its first 24 bytes
 abbrev pub the_conversion : List ℕ → Texts → List Ref → Conversion
@@ -101,15 +120,20 @@ ref_by inner file at left =
 abbrev pub item_by : (ℕ → Budget → Read (Conversion × Budget)) → List ℕ → ℕ → ℕ → Budget → Read (Ref × Budget)
 item_by inner file at k left = ref_by inner file (link_at file at k) left
 
--- a conversion at an address: its block, its texts, and then all links after the fourth in order; the fourth, which
--- names an inverse conversion, is passed over
+-- the conversion of a block: its texts, and then all links after the fourth in order; the fourth, which names an
+-- inverse conversion, is passed over
+unfoldable pub conv_of_block : (ℕ → Budget → Read (Conversion × Budget)) → List ℕ → BlockAt → Budget → Read (Conversion × Budget)
+conv_of_block inner file b left = do
+  words ← texts file b.at left
+  references ← each (item_by inner file b.at) 4 (b.links - 4) words.1
+  Ok (the_conversion (body_of file b) words.0 references.0, with_dropped (link_count (link_at file b.at 3)) references.1)
+
+-- a conversion at an address: its block, and then what it holds, where one more may come
 unfoldable pub conv_by : (ℕ → Budget → Read (Conversion × Budget)) → List ℕ → ℕ → Budget → Read (Conversion × Budget)
 conv_by inner file at left = do
   b ← block file at Cc
   one ← counted at left
-  words ← texts file b.at one
-  references ← each (item_by inner file b.at) 4 (b.links - 4) words.1
-  Ok (the_conversion (body_of file b) words.0 references.0, with_dropped (link_count (link_at file b.at 3)) references.1)
+  conv_of_block inner file b one
 
 -- with so many levels of conversions; the one below them is too deep, after it has been found to be one
 unfoldable pub conv : ℕ → List ℕ → ℕ → Budget → Read (Conversion × Budget)

@@ -1,11 +1,16 @@
-ghost use Rattle.std.specs.Prelude.{◌≡◌, ◌-◌, ◌≤◌, ℕ, List, Some, true};
+ghost use Rattle.std.specs.Prelude.{◌≡◌, ◌-◌, ◌≤◌, ℕ, List, Some, Ok, true, IfOk, IfErr};
+ghost use Rattle.mdf_format.specs.Block.{link_at};
+ghost use Rattle.mdf_format.specs.declared.kind.Kind.TheVariants.{Cc};
 ghost use Rattle.mdf_num.specs.Halt.{HaltCause};
-ghost use Rattle.mdf_block.specs.Refusal.{Gives};
-ghost use Rattle.mdf_block.specs.Block.{IsInside};
+ghost use Rattle.mdf_block.specs.Refusal.{Gives, IsPlain};
+ghost use Rattle.mdf_block.specs.Block.{body_of, IsInside, IsFilled};
 ghost use Rattle.mdf_block.specs.Each.{each};
-ghost use Rattle.mdf_conv.specs.Conv.{texts, ref_by, item_by, conv_by, conv, conversion, conv_refusal};
+ghost use Rattle.mdf_conv.specs.Left.{with_dropped, link_count};
+ghost use Rattle.mdf_conv.specs.Cost.{Spends, conv_cost};
+ghost use Rattle.mdf_conv.specs.Conv.{HoldsValues, texts, ref_by, item_by, the_conversion, conv_of_block, conv_by, conv, conversion, conv_refusal};
 
 use crate::field::conversion_of;
+use crate::link::words_at;
 use crate::lower::{block_with, conv_block_of, is_conv_in, words_in};
 use crate::texts::Texts;
 use crate::{Budget, ConvFault, Conversion, Ref, link_count};
@@ -28,16 +33,14 @@ fn texts_in<P: Span>(
     requires inside { IsInside (P.size span.old) block.now }
     requires linked { 4 ≤ block.now.links }
     ensures found { (f : List ℕ) → P.bytes span.old ≡ Some f → Gives conv_refusal result (texts f block.now.at budget) }
+    ensures plain { IfErr result (IsPlain conv_refusal) }
     ensures same { P.bytes span.new ≡ P.bytes span.old }
     ensures size { P.size span.new ≡ P.size span.old }
     ensures cause { HaltCause true (P.faults span.old) (P.faults span.new) result }
 {
-    let name = link_in(span, block, 0)?;
-    let (name, left) = words_in(alloc, span, name, budget)?;
-    let unit = link_in(span, block, 1)?;
-    let (unit, left) = words_in(alloc, span, unit, left)?;
-    let comment = link_in(span, block, 2)?;
-    let (comment, left) = words_in(alloc, span, comment, left)?;
+    let (name, left) = words_at(alloc, span, block, 0, budget)?;
+    let (unit, left) = words_at(alloc, span, block, 1, left)?;
+    let (comment, left) = words_at(alloc, span, block, 2, left)?;
     let texts = Texts {
         name,
         unit,
@@ -57,6 +60,7 @@ fn ref_in<P: Span>(
     levels: u64,
 ) -> Result<(Ref, Budget), Halt<ConvFault>>
     ensures found { (f : List ℕ) → P.bytes span.old ≡ Some f → Gives conv_refusal result (ref_by (conv levels f) f at budget) }
+    ensures plain { IfErr result (IsPlain conv_refusal) }
     ensures same { P.bytes span.new ≡ P.bytes span.old }
     ensures size { P.size span.new ≡ P.size span.old }
     ensures cause { HaltCause true (P.faults span.old) (P.faults span.new) result }
@@ -87,6 +91,7 @@ fn refs_in<P: Span>(
     requires inside { IsInside (P.size span.old) block.now }
     ensures found { (f : List ℕ) → P.bytes span.old ≡ Some f →
         Gives conv_refusal result (each (item_by (conv levels f) f block.now.at) 4 (block.now.links - 4) budget) }
+    ensures plain { IfErr result (IsPlain conv_refusal) }
     ensures same { P.bytes span.new ≡ P.bytes span.old }
     ensures size { P.size span.new ≡ P.size span.old }
     ensures cause { HaltCause true (P.faults span.old) (P.faults span.new) result }
@@ -105,6 +110,53 @@ fn refs_in<P: Span>(
     Ok((refs, left))
 }
 
+/// The conversion of a block with these texts and references, and what may still come.
+fn finished_in<P: Span>(
+    alloc: Global,
+    span: &mut P,
+    block: &BlockAt,
+    texts: Texts,
+    refs: Rows<Ref>,
+    budget: Budget,
+) -> Result<(Conversion, Budget), Halt<ConvFault>>
+    requires inside { IsInside (P.size span.old) block.now }
+    requires filled { IsFilled Cc block.now }
+    ensures found { (f : List ℕ) → P.bytes span.old ≡ Some f → HoldsValues f block.now →
+        Gives conv_refusal result (Ok (the_conversion (body_of f block.now) texts refs, with_dropped (link_count (link_at f block.now.at 3)) budget)) }
+    ensures plain { IfErr result (IsPlain conv_refusal) }
+    ensures same { P.bytes span.new ≡ P.bytes span.old }
+    ensures size { P.size span.new ≡ P.size span.old }
+    ensures cause { HaltCause true (P.faults span.old) (P.faults span.new) result }
+{
+    let inverse = link_in(span, block, 3)?;
+    let found = conversion_of(alloc, span, block, texts, refs)?;
+    Ok((found, budget.with_dropped(link_count(inverse))))
+}
+
+/// The conversion of a block, with so many levels of conversions below it, and what may still come.
+#[cycle(conv)]
+#[tactic(auto, unfolding(crate::specs::Conv::conv_of_block))]
+fn held_in<P: Span>(
+    alloc: Global,
+    span: &mut P,
+    block: &BlockAt,
+    budget: Budget,
+    levels: u64,
+) -> Result<(Conversion, Budget), Halt<ConvFault>>
+    requires inside { IsInside (P.size span.old) block.now }
+    requires filled { IsFilled Cc block.now }
+    ensures found { (f : List ℕ) → P.bytes span.old ≡ Some f → HoldsValues f block.now →
+        Gives conv_refusal result (conv_of_block (conv levels f) f block.now budget) }
+    ensures plain { IfErr result (IsPlain conv_refusal) }
+    ensures same { P.bytes span.new ≡ P.bytes span.old }
+    ensures size { P.size span.new ≡ P.size span.old }
+    ensures cause { HaltCause true (P.faults span.old) (P.faults span.new) result }
+{
+    let (texts, left) = texts_in(alloc, span, block, budget)?;
+    let (refs, left) = refs_in(alloc, span, block, left, levels)?;
+    finished_in(alloc, span, block, texts, refs, left)
+}
+
 /// The conversion at `at`, with so many levels of conversions below it, and what may still come.
 #[cycle(conv)]
 #[tactic(auto, unfolding(crate::specs::Conv::conv_by, crate::specs::Conv::counted))]
@@ -116,6 +168,7 @@ fn whole_in<P: Span>(
     levels: u64,
 ) -> Result<(Conversion, Budget), Halt<ConvFault>>
     ensures found { (f : List ℕ) → P.bytes span.old ≡ Some f → Gives conv_refusal result (conv_by (conv levels f) f at budget) }
+    ensures plain { IfErr result (IsPlain conv_refusal) }
     ensures same { P.bytes span.new ≡ P.bytes span.old }
     ensures size { P.size span.new ≡ P.size span.old }
     ensures cause { HaltCause true (P.faults span.old) (P.faults span.new) result }
@@ -128,11 +181,7 @@ fn whole_in<P: Span>(
         conversions: budget.conversions - 1,
         ..budget
     };
-    let (texts, left) = texts_in(alloc, span, &block, left)?;
-    let (refs, left) = refs_in(alloc, span, &block, left, levels)?;
-    let inverse = link_in(span, &block, 3)?;
-    let found = conversion_of(alloc, span, &block, texts, refs)?;
-    Ok((found, left.with_dropped(link_count(inverse))))
+    held_in(alloc, span, &block, left, levels)
 }
 
 /// The conversion at `at`, with so many levels of conversions, and what may still come.
@@ -145,6 +194,7 @@ fn level_in<P: Span>(
     levels: u64,
 ) -> Result<(Conversion, Budget), Halt<ConvFault>>
     ensures found { (f : List ℕ) → P.bytes span.old ≡ Some f → Gives conv_refusal result (conv levels f at budget) }
+    ensures plain { IfErr result (IsPlain conv_refusal) }
     ensures same { P.bytes span.new ≡ P.bytes span.old }
     ensures size { P.size span.new ≡ P.size span.old }
     ensures cause { HaltCause true (P.faults span.old) (P.faults span.new) result }
@@ -167,6 +217,8 @@ pub fn conv_in<P: Span>(
     budget: Budget,
 ) -> Result<(Conversion, Budget), Halt<ConvFault>>
     ensures found { (f : List ℕ) → P.bytes span.old ≡ Some f → Gives conv_refusal result (conversion f at budget) }
+    ensures spent { (f : List ℕ) → P.bytes span.old ≡ Some f → IfOk result (λ found. Spends budget (conv_cost 4 f at) found.1) }
+    ensures plain { IfErr result (IsPlain conv_refusal) }
     ensures same { P.bytes span.new ≡ P.bytes span.old }
     ensures size { P.size span.new ≡ P.size span.old }
     ensures cause { HaltCause true (P.faults span.old) (P.faults span.new) result }

@@ -1,14 +1,15 @@
-ghost use Rattle.std.specs.Prelude.{◌≡◌, ◌+◌, ◌*◌, ◌≤◌, ◌<◌, ◌^◌, ℕ, List, Some, Ok, true, length, IfOk};
+ghost use Rattle.std.specs.Prelude.{◌≡◌, ◌+◌, ◌*◌, ◌≤◌, ◌<◌, ◌^◌, ℕ, List, Some, Ok, true, length, IfOk, IfErr};
 ghost use Rattle.mdf_format.specs.Number.{le_number, bytes_at};
 ghost use Rattle.mdf_format.specs.declared.kind.Kind.TheVariants.{Cc, Si};
 ghost use Rattle.mdf_num.specs.Halt.{StopCause, HaltCause};
-ghost use Rattle.mdf_block.specs.Refusal.{Gives};
+ghost use Rattle.mdf_block.specs.Refusal.{Gives, IsPlain};
 ghost use Rattle.mdf_block.specs.Block.{body_of, IsInside, IsFilled};
-ghost use Rattle.mdf_conv.specs.Conv.{HoldsValues, numbers_at, the_source, the_conversion, conv_refusal};
+ghost use Rattle.mdf_conv.specs.Conv.{HoldsValues, numbers_at, the_source, the_front, the_conversion, conv_refusal};
 
-use crate::texts::Texts;
+use crate::front::ConvFront;
+use crate::texts::{SourceTexts, Texts};
 use crate::{ConvFault, Conversion, Ref, SourceInfo};
-use mdf_block::{BlockAt, Kind, Note, body_in, u16_field, u64_field};
+use mdf_block::{BlockAt, Kind, body_in, u16_field, u64_field};
 use mdf_num::{Halt, Numbers, Rows, Span, Stop};
 use std::alloc::Global;
 
@@ -16,13 +17,11 @@ use std::alloc::Global;
 pub(crate) fn source_of<P: Span>(
     span: &mut P,
     block: &BlockAt,
-    name: Note,
-    path: Note,
-    comment: Note,
+    texts: SourceTexts,
 ) -> Result<SourceInfo, Stop>
     requires inside { IsInside (P.size span.old) block.now }
     requires filled { IsFilled Si block.now }
-    ensures fields { IfOk result (λ source. (f : List ℕ) → P.bytes span.old ≡ Some f → source ≡ the_source (body_of f block.now) name path comment) }
+    ensures fields { IfOk result (λ source. (f : List ℕ) → P.bytes span.old ≡ Some f → source ≡ the_source (body_of f block.now) texts.name texts.path texts.comment) }
     ensures same { P.bytes span.new ≡ P.bytes span.old }
     ensures size { P.size span.new ≡ P.size span.old }
     ensures cause { StopCause P.may_want (P.faults span.old) (P.faults span.new) result }
@@ -33,9 +32,9 @@ pub(crate) fn source_of<P: Span>(
         kind: body[0],
         bus: body[1],
         flags: body[2],
-        name,
-        path,
-        comment,
+        name: texts.name,
+        path: texts.path,
+        comment: texts.comment,
     })
 }
 
@@ -61,6 +60,27 @@ fn numbers_in<P: Span>(alloc: Global, span: &mut P, start: u64, count: u64) -> R
     Ok(numbers)
 }
 
+/// The numbers in the first 24 bytes of the body of a conversion.
+fn front_in<P: Span>(span: &mut P, block: &BlockAt) -> Result<ConvFront, Stop>
+    requires inside { IsInside (P.size span.old) block.now }
+    requires filled { IsFilled Cc block.now }
+    ensures front { IfOk result (λ front. (f : List ℕ) → P.bytes span.old ≡ Some f → front ≡ the_front (body_of f block.now)) }
+    ensures same { P.bytes span.new ≡ P.bytes span.old }
+    ensures size { P.size span.new ≡ P.size span.old }
+    ensures cause { StopCause P.may_want (P.faults span.old) (P.faults span.new) result }
+{
+    let mut body = [0u8; 24];
+    body_in(span, block, &mut body)?;
+    Ok(ConvFront {
+        kind: body[0],
+        precision: body[1],
+        flags: u16_field(&body, 2),
+        count: u16_field(&body, 6),
+        low: u64_field(&body, 8),
+        high: u64_field(&body, 16),
+    })
+}
+
 /// The conversion of a block, with these texts and references.
 ///
 /// # Errors
@@ -76,13 +96,13 @@ pub(crate) fn conversion_of<P: Span>(
     requires filled { IsFilled Cc block.now }
     ensures fields { (f : List ℕ) → P.bytes span.old ≡ Some f → HoldsValues f block.now →
         Gives conv_refusal result (Ok (the_conversion (body_of f block.now) texts refs)) }
+    ensures plain { IfErr result (IsPlain conv_refusal) }
     ensures same { P.bytes span.new ≡ P.bytes span.old }
     ensures size { P.size span.new ≡ P.size span.old }
     ensures cause { HaltCause true (P.faults span.old) (P.faults span.new) result }
 {
-    let mut body = [0u8; 24];
-    body_in(span, block, &mut body)?;
-    let count = u16_field(&body, 6) as u64;
+    let front = front_in(span, block)?;
+    let count = front.count as u64;
     if count > (block.body_len - 24) / 8 {
         return Err(Halt::Fault(ConvFault::Bad {
             at: block.at,
@@ -91,11 +111,11 @@ pub(crate) fn conversion_of<P: Span>(
     }
     let numbers = numbers_in(alloc, span, block.body_at + 24, count)?;
     Ok(Conversion {
-        kind: body[0],
-        precision: body[1],
-        flags: u16_field(&body, 2),
-        low: u64_field(&body, 8),
-        high: u64_field(&body, 16),
+        kind: front.kind,
+        precision: front.precision,
+        flags: front.flags,
+        low: front.low,
+        high: front.high,
         numbers,
         refs,
         name: texts.name,

@@ -1,8 +1,8 @@
-ghost use Rattle.std.specs.Prelude.{◌≡◌, ℕ, List, Some, false, true, IfOk};
+ghost use Rattle.std.specs.Prelude.{◌≡◌, ℕ, List, Some, false, true, IfOk, IfErr};
 ghost use Rattle.mdf_num.specs.Halt.{StopCause, HaltCause};
 ghost use Rattle.mdf_format.specs.declared.kind.Kind.{Kind};
 ghost use Rattle.mdf_format.specs.declared.kind.Kind.TheVariants as kinds;
-ghost use Rattle.mdf_block.specs.Refusal.{Gives};
+ghost use Rattle.mdf_block.specs.Refusal.{Gives, IsPlain};
 ghost use Rattle.mdf_block.specs.Block.{block, is_data, is_named, IsInside, IsFilled};
 ghost use Rattle.mdf_conv.specs.Conv.{words, HoldsValues, conv_refusal};
 ghost use Rattle.mdf_conv.specs.Lift.{text_read};
@@ -21,6 +21,7 @@ pub fn block_with<P: Span>(span: &mut P, at: u64, want: Kind) -> Result<BlockAt,
     ensures found { (f : List ℕ) → P.bytes span.old ≡ Some f → Gives conv_refusal result (block f at want) }
     ensures inside { IfOk result (IsInside (P.size span.old)) }
     ensures filled { IfOk result (IsFilled want) }
+    ensures plain { IfErr result (IsPlain conv_refusal) }
     ensures same { P.bytes span.new ≡ P.bytes span.old }
     ensures size { P.size span.new ≡ P.size span.old }
     ensures cause { HaltCause P.may_want (P.faults span.old) (P.faults span.new) result }
@@ -43,6 +44,7 @@ pub(crate) fn conv_block_of<P: Span>(span: &mut P, at: u64) -> Result<BlockAt, H
     ensures values { IfOk result (λ b. (f : List ℕ) → P.bytes span.old ≡ Some f → HoldsValues f b) }
     ensures inside { IfOk result (IsInside (P.size span.old)) }
     ensures filled { IfOk result (IsFilled kinds.Cc) }
+    ensures plain { IfErr result (IsPlain conv_refusal) }
     ensures same { P.bytes span.new ≡ P.bytes span.old }
     ensures size { P.size span.new ≡ P.size span.old }
     ensures cause { HaltCause P.may_want (P.faults span.old) (P.faults span.new) result }
@@ -98,6 +100,7 @@ pub fn words_in<P: Span>(
     budget: Budget,
 ) -> Result<(Note, Budget), Halt<ConvFault>>
     ensures found { (f : List ℕ) → P.bytes span.old ≡ Some f → Gives conv_refusal result (words f at budget) }
+    ensures plain { IfErr result (IsPlain conv_refusal) }
     ensures same { P.bytes span.new ≡ P.bytes span.old }
     ensures size { P.size span.new ≡ P.size span.old }
     ensures cause { HaltCause true (P.faults span.old) (P.faults span.new) result }

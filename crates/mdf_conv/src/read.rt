@@ -1,7 +1,9 @@
-ghost use Rattle.std.specs.Prelude.{◌≡◌, ℕ, List, Some, true, IfOk, OnErr};
+ghost use Rattle.std.specs.Prelude.{◌≡◌, ℕ, List, Some, true, IfOk, IfErr, IfSome, OnErr};
 ghost use Rattle.mdf_num.specs.Halt.{HaltCause};
-ghost use Rattle.mdf_block.specs.Refusal.{GivesAnd, GivesSlice};
+ghost use Rattle.mdf_block.specs.Refusal.{GivesAnd, GivesSlice, IsPlain};
+ghost use Rattle.mdf_block.specs.Truth.{IsTrueOf};
 ghost use Rattle.mdf_conv.specs.Conv.{conversion, source, conv_refusal};
+ghost use Rattle.mdf_conv.specs.Cost.{Spends, source_cost, conv_cost};
 ghost use Rattle.mdf_conv.specs.Standing.{IsConversion, IsSource};
 
 use crate::convert::conv_in;
@@ -23,7 +25,9 @@ pub fn read_conv_in<P: Span>(
 ) -> Result<Conversion, Halt<ConvFault>>
     ensures exact { (f : List ℕ) → P.bytes span.old ≡ Some f → GivesAnd conv_refusal result budget.new (conversion f at budget.old) }
     ensures found { (f : List ℕ) → P.bytes span.old ≡ Some f → IfOk result (IsConversion 4 f at) }
+    ensures spent { (f : List ℕ) → P.bytes span.old ≡ Some f → IfOk result (λ _. Spends budget.old (conv_cost 4 f at) budget.new) }
     ensures budget { OnErr result (budget.new ≡ budget.old) }
+    ensures plain { IfErr result (IsPlain conv_refusal) }
     ensures same { P.bytes span.new ≡ P.bytes span.old }
     ensures size { P.size span.new ≡ P.size span.old }
     ensures cause { HaltCause true (P.faults span.old) (P.faults span.new) result }
@@ -50,6 +54,8 @@ pub fn read_conv(
 ) -> Result<Conversion, ConvFault>
     ensures exact { GivesSlice conv_refusal result budget.new (conversion bytes.now at budget.old) }
     ensures found { IfOk result (IsConversion 4 bytes.now at) }
+    ensures spent { IfOk result (λ _. Spends budget.old (conv_cost 4 bytes.now at) budget.new) }
+    ensures refused { IfErr result (λ fault. IfSome (conv_refusal fault) (IsTrueOf bytes.now)) }
     ensures budget { OnErr result (budget.new ≡ budget.old) }
 {
     match read_conv_in(alloc, &mut SliceSpan::new(bytes), at, budget) {
@@ -73,7 +79,9 @@ pub fn read_source_in<P: Span>(
 ) -> Result<SourceInfo, Halt<ConvFault>>
     ensures exact { (f : List ℕ) → P.bytes span.old ≡ Some f → GivesAnd conv_refusal result budget.new (source f at budget.old) }
     ensures found { (f : List ℕ) → P.bytes span.old ≡ Some f → IfOk result (IsSource f at) }
+    ensures spent { (f : List ℕ) → P.bytes span.old ≡ Some f → IfOk result (λ found. Spends budget.old (source_cost found) budget.new) }
     ensures budget { OnErr result (budget.new ≡ budget.old) }
+    ensures plain { IfErr result (IsPlain conv_refusal) }
     ensures same { P.bytes span.new ≡ P.bytes span.old }
     ensures size { P.size span.new ≡ P.size span.old }
     ensures cause { HaltCause true (P.faults span.old) (P.faults span.new) result }
@@ -97,6 +105,8 @@ pub fn read_source(
 ) -> Result<SourceInfo, ConvFault>
     ensures exact { GivesSlice conv_refusal result budget.new (source bytes.now at budget.old) }
     ensures found { IfOk result (IsSource bytes.now at) }
+    ensures spent { IfOk result (λ found. Spends budget.old (source_cost found) budget.new) }
+    ensures refused { IfErr result (λ fault. IfSome (conv_refusal fault) (IsTrueOf bytes.now)) }
     ensures budget { OnErr result (budget.new ≡ budget.old) }
 {
     match read_source_in(alloc, &mut SliceSpan::new(bytes), at, budget) {

@@ -5,16 +5,19 @@ use Rattle.mdf_conv.specs.Conv.{item_by, conv}
 use Rattle.mdf_conv.proofs.convert.+conv.Given as goal
 
 abbrev pub decreases-level_in : goal.decreases-level_in
-decreases-level_in g l = 4 * l.levels
+decreases-level_in g l = 5 * l.levels
 
 abbrev pub decreases-ref_in : goal.decreases-ref_in
-decreases-ref_in g l = 4 * l.levels + 1
+decreases-ref_in g l = 5 * l.levels + 1
 
 abbrev pub decreases-refs_in : goal.decreases-refs_in
-decreases-refs_in g l = 4 * l.levels + 2
+decreases-refs_in g l = 5 * l.levels + 2
+
+abbrev pub decreases-held_in : goal.decreases-held_in
+decreases-held_in g l = 5 * l.levels + 3
 
 abbrev pub decreases-whole_in : goal.decreases-whole_in
-decreases-whole_in g l = 4 * l.levels + 3
+decreases-whole_in g l = 5 * l.levels + 4
 
 abbrev pub invariant-refs_in-loop-k : goal.invariant-refs_in-loop-k
 invariant-refs_in-loop-k g l = record {
