@@ -3,4 +3,6 @@ mod Rows
 mod Extras
 mod Onces
 mod Stands
-mod Plans
+mod Recordables
+mod Costs
+mod Truths

@@ -1,10 +1,10 @@
 -- What holds of what is read below holds with the faults of the groups too.
-use Rattle.std.proofs.Common.{ℕ}
-use Rattle.std.specs.Prelude.{Bool, true, Result, Ok, Err, IfOk, IfErr}
+use Rattle.std.proofs.Common.{◌≡◌, ℕ, true, false, refl}
+use Rattle.std.specs.Prelude.{Bool, Result, Ok, Err, IfOk, IfErr}
 use Rattle.mdf_num.specs.Halt.{HaltCause, HaltReason}
 use Rattle.mdf_num.specs.declared.halt.Halt.{Halt}
 use Rattle.mdf_num.specs.declared.halt.Halt.TheVariants as halts
-use Rattle.mdf_block.specs.Refusal.{Read, Halts, Gives}
+use Rattle.mdf_block.specs.Refusal.{Read, Halts, Gives, IsPlain}
 use Rattle.mdf_conv.specs.Conv.{conv_refusal}
 use Rattle.mdf_conv.specs.declared.fault.ConvFault.{ConvFault}
 use Rattle.mdf_conv.specs.declared.fault.ConvFault.TheVariants as convs
@@ -24,23 +24,39 @@ pub gives_lifted : {T : Type 0} (outcome : Result T (Halt ConvFault)) (read : Re
 gives_lifted (Ok found) read gives = gives
 gives_lifted (Err halt) read gives = halts_lifted halt read gives
 
-reason_lifted : (may_want : Bool) (before now : ℕ) (halt : Halt ConvFault) → HaltReason may_want before now halt
-    → HaltReason true before now (halt_of_conv halt)
-reason_lifted may_want before now (halts.Fault (convs.Bad at want)) reason = tt
-reason_lifted may_want before now (halts.Fault (convs.Deep at)) reason = tt
-reason_lifted may_want before now (halts.Fault (convs.TooMany what at)) reason = tt
-reason_lifted may_want before now (halts.Fault convs.Memory) reason = tt
-reason_lifted may_want before now halts.Failed reason = reason
-reason_lifted may_want before now halts.Memory reason = tt
+plain_halt : (halt : Halt ConvFault) → IsPlain group_refusal (halt_of_conv halt)
+plain_halt (halts.Fault (convs.Bad at want)) = refl
+plain_halt (halts.Fault (convs.Deep at)) = refl
+plain_halt (halts.Fault (convs.TooMany what at)) = refl
+plain_halt (halts.Fault convs.Memory) = tt
+plain_halt halts.Failed = tt
+plain_halt halts.Memory = tt
 
-if_err_lifted : {T : Type 0} (may_want : Bool) (before now : ℕ) (outcome : Result T (Halt ConvFault)) → IfErr outcome (HaltReason may_want before now)
-    → IfErr (lifted outcome) (HaltReason true before now)
-if_err_lifted may_want before now (Ok found) none = tt
-if_err_lifted may_want before now (Err halt) reason = reason_lifted may_want before now halt reason
+pub plain_lifted : {T : Type 0} (outcome : Result T (Halt ConvFault)) → IfErr (lifted outcome) (IsPlain group_refusal)
+plain_lifted (Ok found) = tt
+plain_lifted (Err halt) = plain_halt halt
 
-pub cause_lifted : {T : Type 0} (may_want : Bool) (before now : ℕ) (outcome : Result T (Halt ConvFault)) → HaltCause may_want before now outcome
-    → HaltCause true before now (lifted outcome)
-cause_lifted may_want before now outcome cause = record { later = cause.later; reason = if_err_lifted may_want before now outcome cause.reason }
+reason_lifted : (may_want : Bool) (before now : ℕ) (halt : Halt ConvFault) → IsPlain conv_refusal halt → HaltReason may_want before now halt
+    → HaltReason may_want before now (halt_of_conv halt)
+reason_lifted may_want before now (halts.Fault (convs.Bad at want)) plain reason = tt
+reason_lifted may_want before now (halts.Fault (convs.Deep at)) plain reason = tt
+reason_lifted may_want before now (halts.Fault (convs.TooMany what at)) plain reason = tt
+reason_lifted may_want before now (halts.Fault convs.Memory) plain reason = let wrong : false ≡ true = plain in cc
+reason_lifted may_want before now halts.Failed plain reason = reason
+reason_lifted may_want before now halts.Memory plain reason = reason
+
+if_err_lifted : {T : Type 0} (may_want : Bool) (before now : ℕ) (outcome : Result T (Halt ConvFault)) → IfErr outcome (IsPlain conv_refusal)
+    → IfErr outcome (HaltReason may_want before now) → IfErr (lifted outcome) (HaltReason may_want before now)
+if_err_lifted may_want before now (Ok found) plain none = tt
+if_err_lifted may_want before now (Err halt) plain reason = reason_lifted may_want before now halt plain reason
+
+-- the cause stays, since no fault below is want of memory
+pub cause_lifted : {T : Type 0} (may_want : Bool) (before now : ℕ) (outcome : Result T (Halt ConvFault)) → IfErr outcome (IsPlain conv_refusal)
+    → HaltCause may_want before now outcome → HaltCause may_want before now (lifted outcome)
+cause_lifted may_want before now outcome plain cause = record {
+  later = cause.later;
+  reason = if_err_lifted may_want before now outcome plain cause.reason;
+}
 
 pub if_ok_lifted : {T : Type 0} (P : T → Type 0) (outcome : Result T (Halt ConvFault)) → IfOk outcome P → IfOk (lifted outcome) P
 if_ok_lifted P (Ok found) holds = holds

@@ -4,10 +4,9 @@ use Rattle.mdf_format.specs.Number.{le_number, bytes_at}
 use Rattle.mdf_conv.specs.Conv.{numbers_at}
 use Rattle.mdf_block.proofs.Parts.{part_same, byte_same}
 use Rattle.mdf_conv.proofs.Fronts.{numbers_same}
-use Rattle.mdf_group.specs.declared.room.ChannelLinks.{ChannelLinks}
 use Rattle.mdf_group.specs.declared.room.GroupLinks.{GroupLinks}
 use Rattle.mdf_group.specs.declared.row.ChannelRow.{ChannelRow}
-use Rattle.mdf_group.specs.Channel.{the_channel}
+use Rattle.mdf_group.specs.Channel.{channel_front}
 use Rattle.mdf_group.specs.Group.{the_group}
 
 module _ (f : List ℕ) (place front len : ℕ) (least : front ≤ len) where
@@ -15,9 +14,8 @@ module _ (f : List ℕ) (place front len : ℕ) (least : front ≤ len) where
   number_same : (n k : ℕ) → k + n ≤ front → le_number (bytes_at n (bytes_at front f place) k) ≡ le_number (bytes_at n (bytes_at len f place) k)
   number_same n k within = ap le_number (part_same f place front len least n k within)
 
-  pub the_channel-front : (at : ℕ) (links : ChannelLinks) (values extra : ℕ) → 72 ≤ front
-      → the_channel at (bytes_at front f place) links values extra ≡ the_channel at (bytes_at len f place) links values extra
-  the_channel-front at links values extra room =
+  pub channel_front-same : 72 ≤ front → channel_front (bytes_at front f place) ≡ channel_front (bytes_at len f place)
+  channel_front-same room =
       let kind = byte_same f place front len least 0 (omega (arith, room)) in
       let sync = byte_same f place front len least 1 (omega (arith, room)) in
       let data_type = byte_same f place front len least 2 (omega (arith, room)) in

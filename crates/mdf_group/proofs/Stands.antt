@@ -20,17 +20,21 @@ use Rattle.mdf_conv.specs.declared.limits.Budget.{Budget}
 use Rattle.mdf_conv.specs.declared.row.SourceInfo.{SourceInfo}
 use Rattle.mdf_conv.specs.declared.row.Conversion.{Conversion}
 use Rattle.mdf_conv.specs.Conv.{words, source, conversion}
+use Rattle.mdf_conv.specs.Link.{source_of_link, conv_of_link}
 use Rattle.mdf_conv.proofs.Founds.{ok_injective, words_found, source_found, conv_found}
+use Rattle.mdf_group.specs.declared.room.ChannelOrigin.{ChannelOrigin}
 use Rattle.mdf_group.specs.declared.room.ChannelLinks.{ChannelLinks}
 use Rattle.mdf_group.specs.declared.room.GroupLinks.{GroupLinks}
+use Rattle.mdf_group.specs.declared.room.GroupContents.{GroupContents}
+use Rattle.mdf_group.specs.declared.room.DataContents.{DataContents}
 use Rattle.mdf_group.specs.declared.room.Room.{Room}
 use Rattle.mdf_group.specs.declared.room.DataRoom.{DataRoom}
 use Rattle.mdf_group.specs.declared.row.ChannelRow.{ChannelRow}
 use Rattle.mdf_group.specs.declared.row.GroupRow.{GroupRow}
 use Rattle.mdf_group.specs.declared.row.DataRow.{DataRow}
-use Rattle.mdf_group.specs.Link.{source_of_link, conv_of_link, channel_links, group_links, links_named}
-use Rattle.mdf_group.specs.Channel.{is_refused_kind, accepted, the_channel, channel, channels_from}
-use Rattle.mdf_group.specs.Group.{the_group, group, groups_from, the_data_group, data_group, data_groups_from, groups}
+use Rattle.mdf_group.specs.Link.{channel_origin, channel_links, group_links, links_named}
+use Rattle.mdf_group.specs.Channel.{is_refused_kind, accepted, the_channel, channel_of_block, channel, channels_from}
+use Rattle.mdf_group.specs.Group.{the_group, group_contents, group, groups_from, the_data_group, data_contents, data_group, data_groups_from, groups}
 use Rattle.mdf_group.specs.Standing.{IsSourceLink, IsConvLink, AreDistinct, IsChannel, AreChannels, IsGroup, AreGroups, IsDataGroup, AreDataGroups}
 use Rattle.mdf_group.proofs.Onces.{chain_once, chain_some}
 
@@ -95,20 +99,46 @@ record AreChannelLinks (f : List ℕ) (at : ℕ) (links : ChannelLinks) : Type 0
   unit : IsNote f (link_at f at 6) links.unit
   comment : IsNote f (link_at f at 7) links.comment
 
+-- the first of them
+record AreOrigins (f : List ℕ) (at : ℕ) (origin : ChannelOrigin) : Type 0 where
+  name : IsNote f (link_at f at 2) origin.name
+  source : IsSourceLink f (link_at f at 3) origin.source
+  conv : IsConvLink f (link_at f at 4) origin.conv
+
+origin_found : (f : List ℕ) (at : ℕ) (left : Budget) (found : ChannelOrigin × Budget) → channel_origin f at left ≡ Ok found
+    → AreOrigins f at found.0
+unfolding channel_origin
+origin_found f at left found is =
+    let name = bind_ok (words f (link_at f at 2) left) _ found is in
+    let source = bind_ok (source_of_link f (link_at f at 3) name.0.1) _ found name.2 in
+    let conv = bind_ok (conv_of_link f (link_at f at 4) source.0.1) _ found source.2 in
+    let whole : AreOrigins f at (record { name = name.0.0; source = source.0.0; conv = conv.0.0 }) = record {
+      name = words_found f _ left name.0 name.1;
+      source = source_link_found f _ name.0.1 source.0 source.1;
+      conv = conv_link_found f _ source.0.1 conv.0 conv.1;
+    } in
+    subst (λ (y : ChannelOrigin × Budget). AreOrigins f at y.0) (ok_injective _ _ conv.2) whole
+
 channel_links_found : (f : List ℕ) (at : ℕ) (left : Budget) (found : ChannelLinks × Budget) → channel_links f at left ≡ Ok found
     → AreChannelLinks f at found.0
 unfolding channel_links
 channel_links_found f at left found is =
-    let name = bind_ok (words f (link_at f at 2) left) _ found is in
-    let source = bind_ok (source_of_link f (link_at f at 3) name.0.1) _ found name.2 in
-    let conv = bind_ok (conv_of_link f (link_at f at 4) source.0.1) _ found source.2 in
-    let unit = bind_ok (words f (link_at f at 6) conv.0.1) _ found conv.2 in
+    let origin = bind_ok (channel_origin f at left) _ found is in
+    let there = origin_found f at left origin.0 origin.1 in
+    let unit = bind_ok (words f (link_at f at 6) origin.0.1) _ found origin.2 in
     let comment = bind_ok (words f (link_at f at 7) unit.0.1) _ found unit.2 in
-    let whole : AreChannelLinks f at (record { name = name.0.0; source = source.0.0; conv = conv.0.0; unit = unit.0.0; comment = comment.0.0 }) = record {
-      name = words_found f _ left name.0 name.1;
-      source = source_link_found f _ name.0.1 source.0 source.1;
-      conv = conv_link_found f _ source.0.1 conv.0 conv.1;
-      unit = words_found f _ conv.0.1 unit.0 unit.1;
+    let links : ChannelLinks = record {
+      name = origin.0.0.name;
+      source = origin.0.0.source;
+      conv = origin.0.0.conv;
+      unit = unit.0.0;
+      comment = comment.0.0;
+    } in
+    let whole : AreChannelLinks f at links = record {
+      name = there.name;
+      source = there.source;
+      conv = there.conv;
+      unit = words_found f _ origin.0.1 unit.0 unit.1;
       comment = words_found f _ unit.0.1 comment.0 comment.1;
     } in
     subst (λ (y : ChannelLinks × Budget). AreChannelLinks f at y.0) (ok_injective _ _ comment.2) whole
@@ -149,13 +179,13 @@ accepted_found at kind data_type found is =
 
 -- a channel
 channel_finds : (f : List ℕ) → FindsAt f Cn (λ (row : ChannelRow). row.at) (IsChannel f) (channel f)
-unfolding channel
+unfolding channel channel_of_block
 channel_finds f = record {
   there = λ at left found is.
       let first = bind_ok (block f at Cn) _ found is in
       let here = block_found f at Cn first.0 first.1 in
-      let read = bind_ok (accepted at (get_or (body_of f first.0) 0 0) (get_or (body_of f first.0) 2 0)) _ found first.2 in
-      let kinds = accepted_found at _ _ read.0 read.1 in
+      let read = bind_ok (accepted first.0.at (get_or (body_of f first.0) 0 0) (get_or (body_of f first.0) 2 0)) _ found first.2 in
+      let kinds = accepted_found first.0.at _ _ read.0 read.1 in
       let given = bind_ok (channel_links f first.0.at left) _ found read.2 in
       let links = channel_links_found f first.0.at left given.0 given.1 in
       let place : first.0.at ≡ at = ap (λ (b : BlockAt). b.at) here.1 in
@@ -185,6 +215,23 @@ channels_found f most at left found is =
     let all = along f Cn whats.Cn (λ (row : ChannelRow). row.at) (IsChannel f) (channel f) (channel_finds f) most at left found is in
     record { chain = all.chain; once = all.once; each = all.each }
 
+-- what a channel group holds
+record AreContents (f : List ℕ) (at : ℕ) (contents : GroupContents) : Type 0 where
+  links : AreGroupLinks f at contents.links
+  channels : AreChannels f (link_at f at 1) contents.rows
+
+contents_found : (f : List ℕ) (b : BlockAt) (left : Room) (found : GroupContents × Room) → group_contents f b left ≡ Ok found
+    → AreContents f b.at found.0
+unfolding group_contents
+contents_found f b left found is =
+    let given = bind_ok (group_links f b.at left.budget) _ found is in
+    let rows = bind_ok (channels_from f left.channels (link_at f b.at 1) given.0.1) _ found given.2 in
+    let whole : AreContents f b.at (record { links = given.0.0; rows = rows.0.0 }) = record {
+      links = group_links_found f b.at left.budget given.0 given.1;
+      channels = channels_found f left.channels (link_at f b.at 1) given.0.1 rows.0 rows.1;
+    } in
+    subst (λ (y : GroupContents × Room). AreContents f b.at y.0) (ok_injective _ _ rows.2) whole
+
 -- a channel group
 group_finds : (f : List ℕ) → FindsAt f Cg (λ (row : GroupRow). row.at) (IsGroup f) (group f)
 unfolding group
@@ -192,23 +239,22 @@ group_finds f = record {
   there = λ at left found is.
       let first = bind_ok (block f at Cg) _ found is in
       let here = block_found f at Cg first.0 first.1 in
-      let given = bind_ok (group_links f first.0.at left.budget) _ found first.2 in
-      let links = group_links_found f first.0.at left.budget given.0 given.1 in
-      let rows = bind_ok (channels_from f left.channels (link_at f first.0.at 1) given.0.1) _ found given.2 in
-      let channels = channels_found f left.channels (link_at f first.0.at 1) given.0.1 rows.0 rows.1 in
+      let contents = bind_ok (group_contents f first.0 left) _ found first.2 in
       let place : first.0.at ≡ at = ap (λ (b : BlockAt). b.at) here.1 in
-      let row_of : BlockAt → GroupRow = λ b. the_group b.at (body_of f b) given.0.0 rows.0.0 in
+      let inside : AreContents f at contents.0.0 =
+      subst (λ (a : ℕ). AreContents f a contents.0.0) place (contents_found f first.0 left contents.0 contents.1) in
+      let row_of : BlockAt → GroupRow = λ b. the_group b.at (body_of f b) contents.0.0.links contents.0.0.rows in
       let row : row_of (the_block f at Cg) ≡ found.0 =
-      ap row_of (sym here.1) ∙ ap (λ (y : GroupRow × ℕ × Room). y.0) (ok_injective _ _ rows.2) in
+      ap row_of (sym here.1) ∙ ap (λ (y : GroupRow × ℕ × Room). y.0) (ok_injective _ _ contents.2) in
       let next : link_at f at 0 ≡ found.1 =
-      ap (λ (a : ℕ). link_at f a 0) (sym place) ∙ ap (λ (y : GroupRow × ℕ × Room). y.1) (ok_injective _ _ rows.2) in
+      ap (λ (a : ℕ). link_at f a 0) (sym place) ∙ ap (λ (y : GroupRow × ℕ × Room). y.1) (ok_injective _ _ contents.2) in
       let whole : IsGroup f (row_of (the_block f at Cg)) = record {
-        links = given.0.0;
+        links = contents.0.0.links;
         fields = refl;
-        name = subst (λ (a : ℕ). IsNote f (link_at f a 2) given.0.0.name) place links.name;
-        source = subst (λ (a : ℕ). IsSourceLink f (link_at f a 3) given.0.0.source) place links.source;
-        comment = subst (λ (a : ℕ). IsNote f (link_at f a 5) given.0.0.comment) place links.comment;
-        channels = subst (λ (a : ℕ). AreChannels f (link_at f a 1) rows.0.0) place channels;
+        name = inside.links.name;
+        source = inside.links.source;
+        comment = inside.links.comment;
+        channels = inside.channels;
       } in
       (sym (ap (λ (r : GroupRow). r.at) row), (here.0, (sym next, subst (IsGroup f) row whole)));
 }
@@ -219,6 +265,24 @@ groups_found f most at left found is =
     let all = along f Cg whats.Cg (λ (row : GroupRow). row.at) (IsGroup f) (group f) (group_finds f) most at left found is in
     record { chain = all.chain; once = all.once; each = all.each }
 
+-- what a data group holds
+record AreDataContents (f : List ℕ) (at : ℕ) (contents : DataContents) : Type 0 where
+  comment : IsNote f (link_at f at 3) contents.comment
+  groups : AreGroups f (link_at f at 1) contents.rows
+
+data_contents_found : (f : List ℕ) (b : BlockAt) (left : DataRoom) (found : DataContents × DataRoom) → data_contents f b left ≡ Ok found
+    → AreDataContents f b.at found.0
+unfolding data_contents
+data_contents_found f b left found is =
+    let text = bind_ok (words f (link_at f b.at 3) left.room.budget) _ found is in
+    let start : Room = record { channels = left.room.channels; budget = text.0.1 } in
+    let rows = bind_ok (groups_from f left.groups (link_at f b.at 1) start) _ found text.2 in
+    let whole : AreDataContents f b.at (record { comment = text.0.0; rows = rows.0.0 }) = record {
+      comment = words_found f (link_at f b.at 3) left.room.budget text.0 text.1;
+      groups = groups_found f left.groups (link_at f b.at 1) start rows.0 rows.1;
+    } in
+    subst (λ (y : DataContents × DataRoom). AreDataContents f b.at y.0) (ok_injective _ _ rows.2) whole
+
 -- a data group
 data_group_finds : (f : List ℕ) → FindsAt f Dg (λ (row : DataRow). row.at) (IsDataGroup f) (data_group f)
 unfolding data_group
@@ -226,21 +290,19 @@ data_group_finds f = record {
   there = λ at left found is.
       let first = bind_ok (block f at Dg) _ found is in
       let here = block_found f at Dg first.0 first.1 in
-      let text = bind_ok (words f (link_at f first.0.at 3) left.room.budget) _ found first.2 in
-      let comment = words_found f (link_at f first.0.at 3) left.room.budget text.0 text.1 in
-      let start : Room = record { channels = left.room.channels; budget = text.0.1 } in
-      let rows = bind_ok (groups_from f left.groups (link_at f first.0.at 1) start) _ found text.2 in
-      let inner = groups_found f left.groups (link_at f first.0.at 1) start rows.0 rows.1 in
+      let contents = bind_ok (data_contents f first.0 left) _ found first.2 in
       let place : first.0.at ≡ at = ap (λ (b : BlockAt). b.at) here.1 in
-      let row_of : BlockAt → DataRow = λ b. the_data_group b.at (body_of f b) text.0.0 (link_at f b.at 2) rows.0.0 in
+      let inside : AreDataContents f at contents.0.0 =
+      subst (λ (a : ℕ). AreDataContents f a contents.0.0) place (data_contents_found f first.0 left contents.0 contents.1) in
+      let row_of : BlockAt → DataRow = λ b. the_data_group b.at (body_of f b) contents.0.0.comment (link_at f b.at 2) contents.0.0.rows in
       let row : row_of (the_block f at Dg) ≡ found.0 =
-      ap row_of (sym here.1) ∙ ap (λ (y : DataRow × ℕ × DataRoom). y.0) (ok_injective _ _ rows.2) in
+      ap row_of (sym here.1) ∙ ap (λ (y : DataRow × ℕ × DataRoom). y.0) (ok_injective _ _ contents.2) in
       let next : link_at f at 0 ≡ found.1 =
-      ap (λ (a : ℕ). link_at f a 0) (sym place) ∙ ap (λ (y : DataRow × ℕ × DataRoom). y.1) (ok_injective _ _ rows.2) in
+      ap (λ (a : ℕ). link_at f a 0) (sym place) ∙ ap (λ (y : DataRow × ℕ × DataRoom). y.1) (ok_injective _ _ contents.2) in
       let whole : IsDataGroup f (row_of (the_block f at Dg)) = record {
         fields = refl;
-        comment = subst (λ (a : ℕ). IsNote f (link_at f a 3) text.0.0) place comment;
-        groups = subst (λ (a : ℕ). AreGroups f (link_at f a 1) rows.0.0) place inner;
+        comment = inside.comment;
+        groups = inside.groups;
       } in
       (sym (ap (λ (r : DataRow). r.at) row), (here.0, (sym next, subst (IsDataGroup f) row whole)));
 }

@@ -5,6 +5,7 @@ use Rattle.mdf_format.specs.Number.{le_number, bytes_at}
 use Rattle.mdf_format.specs.Block.{link_at}
 use Rattle.mdf_format.specs.declared.kind.Kind.TheVariants.{Dg, Cg}
 use Rattle.mdf_block.specs.declared.note.Note.{Note}
+use Rattle.mdf_block.specs.declared.place.BlockAt.{BlockAt}
 use Rattle.mdf_block.specs.declared.what.What.TheVariants as whats
 use Rattle.mdf_block.specs.Refusal.{Read, ◌>>=◌}
 use Rattle.mdf_block.specs.Block.{block, body_of}
@@ -15,6 +16,8 @@ use Rattle.mdf_conv.specs.Conv.{words}
 use Rattle.mdf_group.specs.declared.room.Room.{Room}
 use Rattle.mdf_group.specs.declared.room.DataRoom.{DataRoom}
 use Rattle.mdf_group.specs.declared.room.GroupLinks.{GroupLinks}
+use Rattle.mdf_group.specs.declared.room.GroupContents.{GroupContents}
+use Rattle.mdf_group.specs.declared.room.DataContents.{DataContents}
 use Rattle.mdf_group.specs.declared.row.ChannelRow.{ChannelRow}
 use Rattle.mdf_group.specs.declared.row.GroupRow.{GroupRow}
 use Rattle.mdf_group.specs.declared.row.DataRow.{DataRow}
@@ -37,18 +40,27 @@ the_group at body links channels = record {
   channels = channels;
 }
 
--- a channel group at an address: its block, what its links lead to, and then its channels; the link to its first
--- sample reduction is passed over
+-- what the channel group of a block holds: what its links lead to, and then its channels
+unfoldable pub group_contents : List ℕ → BlockAt → Room → Read (GroupContents × Room)
+group_contents file b left = do
+  links ← group_links file b.at left.budget
+  channels ← channels_from file left.channels (link_at file b.at 1) links.1
+  Ok (record { links = links.0; rows = channels.0 }, record { channels = channels.1; budget = channels.2 })
+
+-- the channel group of a block with these contents; the link to its first sample reduction is passed over
+abbrev pub finished_group : List ℕ → BlockAt → GroupContents → Room → GroupRow × ℕ × Room
+finished_group file b contents left = (
+  the_group b.at (body_of file b) contents.links contents.rows,
+  link_at file b.at 0,
+  record { channels = left.channels; budget = with_dropped (link_count (link_at file b.at 4)) left.budget },
+)
+
+-- a channel group at an address: its block, and then what it holds
 unfoldable pub group : List ℕ → Step GroupRow Room
 group file at left = do
   b ← block file at Cg
-  links ← group_links file b.at left.budget
-  channels ← channels_from file left.channels (link_at file b.at 1) links.1
-  Ok (
-    the_group b.at (body_of file b) links.0 channels.0,
-    link_at file b.at 0,
-    record { channels = channels.1; budget = with_dropped (link_count (link_at file b.at 4)) channels.2 },
-  )
+  contents ← group_contents file b left
+  Ok (finished_group file b contents.0 contents.1)
 
 -- the channel groups from an address on: at most so many
 abbrev pub groups_from : List ℕ → ℕ → ℕ → Room → Read (List GroupRow × ℕ × Room)
@@ -83,21 +95,31 @@ the_data_group at body comment content groups = record {
   groups = groups;
 }
 
--- a data group at an address: its block, its comment, and then its channel groups; a group of values that no channel
--- names counts as a link that was passed over
+-- what the data group of a block holds: its comment, and then its channel groups
+unfoldable pub data_contents : List ℕ → BlockAt → DataRoom → Read (DataContents × DataRoom)
+data_contents file b left = do
+  comment ← words file (link_at file b.at 3) left.room.budget
+  groups ← groups_from file left.groups (link_at file b.at 1) (record left.room { budget = comment.1 })
+  Ok (record { comment = comment.0; rows = groups.0 }, record { groups = groups.1; room = groups.2 })
+
+-- the data group of a block with these contents; a group of values that no channel names counts as a link that was
+-- passed over
+abbrev pub finished_data_group : List ℕ → BlockAt → DataContents → DataRoom → DataRow × ℕ × DataRoom
+finished_data_group file b contents left = (
+  the_data_group b.at (body_of file b) contents.comment (link_at file b.at 2) contents.rows,
+  link_at file b.at 0,
+  record {
+    groups = left.groups;
+    room = record { channels = left.room.channels; budget = with_dropped (unnamed_count contents.rows) left.room.budget };
+  },
+)
+
+-- a data group at an address: its block, and then what it holds
 unfoldable pub data_group : List ℕ → Step DataRow DataRoom
 data_group file at left = do
   b ← block file at Dg
-  comment ← words file (link_at file b.at 3) left.room.budget
-  groups ← groups_from file left.groups (link_at file b.at 1) (record left.room { budget = comment.1 })
-  Ok (
-    the_data_group b.at (body_of file b) comment.0 (link_at file b.at 2) groups.0,
-    link_at file b.at 0,
-    record {
-      groups = groups.1;
-      room = record { channels = groups.2.channels; budget = with_dropped (unnamed_count groups.0) groups.2.budget };
-    },
-  )
+  contents ← data_contents file b left
+  Ok (finished_data_group file b contents.0 contents.1)
 
 -- the data groups from an address on: at most 65,535 of them, with at most 65,535 channel groups and 1,048,576 channels
 -- in all

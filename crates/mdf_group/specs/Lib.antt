@@ -3,4 +3,5 @@ pub mod Lift
 pub mod Channel
 pub mod Group
 pub mod Standing
-pub mod Planned
+pub mod Cost
+pub mod Recordable

@@ -1,12 +1,12 @@
 -- What the links of a group and of a channel lead to, and why the groups are refused.
-use Rattle.std.specs.Prelude.{ℕ, zero, suc, ◌+◌, nat_eq, if◌then◌else◌, List, Option, Some, None, Ok}
+use Rattle.std.specs.Prelude.{ℕ, zero, suc, ◌+◌, List, Option, Some, None, Ok}
 use Rattle.mdf_format.specs.Block.{link_at}
 use Rattle.mdf_block.specs.Refusal.{Refusal, Bad, TooMany, ChannelKind, ChannelType, Deep, Read, ◌>>=◌}
 use Rattle.mdf_conv.specs.declared.limits.Budget.{Budget}
-use Rattle.mdf_conv.specs.declared.row.SourceInfo.{SourceInfo}
-use Rattle.mdf_conv.specs.declared.row.Conversion.{Conversion}
 use Rattle.mdf_conv.specs.Left.{link_count}
-use Rattle.mdf_conv.specs.Conv.{words, source, conversion}
+use Rattle.mdf_conv.specs.Conv.{words}
+use Rattle.mdf_conv.specs.Link.{source_of_link, conv_of_link}
+use Rattle.mdf_group.specs.declared.room.ChannelOrigin.{ChannelOrigin}
 use Rattle.mdf_group.specs.declared.room.ChannelLinks.{ChannelLinks}
 use Rattle.mdf_group.specs.declared.room.GroupLinks.{GroupLinks}
 use Rattle.mdf_group.specs.declared.fault.GroupFault.{GroupFault}
@@ -20,25 +20,30 @@ group_refusal (faults.ChannelType at value) = Some (ChannelType at value)
 group_refusal (faults.Deep at) = Some (Deep at)
 group_refusal faults.Memory = None
 
--- the source that a link names, where 0 names none
-unfoldable pub source_of_link : List ℕ → ℕ → Budget → Read (Option SourceInfo × Budget)
-source_of_link file at left =
-    if nat_eq at 0 then Ok (None, left) else (source file at left >>= λ found. Ok (Some found.0, found.1))
-
--- the conversion that a link names, where 0 names none
-unfoldable pub conv_of_link : List ℕ → ℕ → Budget → Read (Option Conversion × Budget)
-conv_of_link file at left =
-    if nat_eq at 0 then Ok (None, left) else (conversion file at left >>= λ found. Ok (Some found.0, found.1))
-
--- what the links of the channel at an address lead to: its name, its source, its conversion, its unit and its comment
-unfoldable pub channel_links : List ℕ → ℕ → Budget → Read (ChannelLinks × Budget)
-channel_links file at left = do
+-- what the first links of the channel at an address lead to: its name, its source and its conversion
+unfoldable pub channel_origin : List ℕ → ℕ → Budget → Read (ChannelOrigin × Budget)
+channel_origin file at left = do
   name ← words file (link_at file at 2) left
   source ← source_of_link file (link_at file at 3) name.1
   conv ← conv_of_link file (link_at file at 4) source.1
-  unit ← words file (link_at file at 6) conv.1
+  Ok (record { name = name.0; source = source.0; conv = conv.0 }, conv.1)
+
+-- what all its links lead to: those, its unit and its comment
+unfoldable pub channel_links : List ℕ → ℕ → Budget → Read (ChannelLinks × Budget)
+channel_links file at left = do
+  origin ← channel_origin file at left
+  unit ← words file (link_at file at 6) origin.1
   comment ← words file (link_at file at 7) unit.1
-  Ok (record { name = name.0; source = source.0; conv = conv.0; unit = unit.0; comment = comment.0 }, comment.1)
+  Ok (
+    record {
+      name = origin.0.name;
+      source = origin.0.source;
+      conv = origin.0.conv;
+      unit = unit.0;
+      comment = comment.0;
+    },
+    comment.1,
+  )
 
 -- what the links of the channel group at an address lead to: its name, its source and its comment
 unfoldable pub group_links : List ℕ → ℕ → Budget → Read (GroupLinks × Budget)

@@ -1,19 +1,43 @@
-ghost use Rattle.std.specs.Prelude.{◌≡◌, ◌≤◌, ℕ, List, Some, true};
-ghost use Rattle.mdf_num.specs.Halt.{HaltCause};
-ghost use Rattle.mdf_block.specs.Refusal.{Gives};
-ghost use Rattle.mdf_block.specs.Block.{IsInside};
-ghost use Rattle.mdf_group.specs.Link.{channel_links, group_refusal};
-ghost use Rattle.mdf_group.specs.Channel.{channel, channels_from};
+ghost use Rattle.std.specs.Prelude.{◌≡◌, ◌+◌, ◌≤◌, ℕ, List, Some, true, slice_index, IfOk, IfErr};
+ghost use Rattle.mdf_format.specs.declared.kind.Kind.TheVariants.{Cn};
+ghost use Rattle.mdf_num.specs.Halt.{StopCause, HaltCause};
+ghost use Rattle.mdf_block.specs.Refusal.{Gives, IsPlain};
+ghost use Rattle.mdf_block.specs.Block.{body_of, IsInside, IsFilled};
+ghost use Rattle.mdf_group.specs.Link.{channel_origin, channel_links, group_refusal};
+ghost use Rattle.mdf_group.specs.Channel.{accepted, passed_of, channel_of_block, channel, channels_from};
 
 use crate::extra::extra_in;
 use crate::field::{channel_of, kinds_in};
 use crate::lower::{block_of, conv_of, source_of, words_of};
-use crate::room::ChannelLinks;
+use crate::room::{ChannelLinks, ChannelOrigin, Passed};
 use crate::{ChannelRow, GroupFault};
 use mdf_block::{BlockAt, Kind, What, link_in};
 use mdf_conv::{Budget, link_count};
-use mdf_num::{Halt, Rows, Span};
+use mdf_num::{Halt, Rows, Span, Stop};
 use std::alloc::Global;
+
+/// What the first links of a channel lead to, and what may still come.
+#[tactic(auto, unfolding(crate::specs::Link::channel_origin))]
+fn channel_origin_in<P: Span>(
+    alloc: Global,
+    span: &mut P,
+    block: &BlockAt,
+    budget: Budget,
+) -> Result<(ChannelOrigin, Budget), Halt<GroupFault>>
+    requires inside { IsInside (P.size span.old) block.now }
+    requires linked { 8 ≤ block.now.links }
+    ensures found { (f : List ℕ) → P.bytes span.old ≡ Some f → Gives group_refusal result (channel_origin f block.now.at budget) }
+    ensures plain { IfErr result (IsPlain group_refusal) }
+    ensures same { P.bytes span.new ≡ P.bytes span.old }
+    ensures size { P.size span.new ≡ P.size span.old }
+    ensures cause { HaltCause true (P.faults span.old) (P.faults span.new) result }
+{
+    let (name, left) = words_of(alloc, span, block, 2, budget)?;
+    let (source, left) = source_of(alloc, span, block, 3, left)?;
+    let (conv, left) = conv_of(alloc, span, block, 4, left)?;
+    let origin = ChannelOrigin { name, source, conv };
+    Ok((origin, left))
+}
 
 /// What the links of a channel lead to, and what may still come.
 #[tactic(auto, unfolding(crate::specs::Link::channel_links))]
@@ -26,45 +50,38 @@ fn channel_links_in<P: Span>(
     requires inside { IsInside (P.size span.old) block.now }
     requires linked { 8 ≤ block.now.links }
     ensures found { (f : List ℕ) → P.bytes span.old ≡ Some f → Gives group_refusal result (channel_links f block.now.at budget) }
+    ensures plain { IfErr result (IsPlain group_refusal) }
     ensures same { P.bytes span.new ≡ P.bytes span.old }
     ensures size { P.size span.new ≡ P.size span.old }
     ensures cause { HaltCause true (P.faults span.old) (P.faults span.new) result }
 {
-    let name = link_in(span, block, 2)?;
-    let (name, left) = words_of(alloc, span, name, budget)?;
-    let source = link_in(span, block, 3)?;
-    let (source, left) = source_of(alloc, span, source, left)?;
-    let conv = link_in(span, block, 4)?;
-    let (conv, left) = conv_of(alloc, span, conv, left)?;
-    let unit = link_in(span, block, 6)?;
-    let (unit, left) = words_of(alloc, span, unit, left)?;
-    let comment = link_in(span, block, 7)?;
-    let (comment, left) = words_of(alloc, span, comment, left)?;
+    let (origin, left) = channel_origin_in(alloc, span, block, budget)?;
+    let (unit, left) = words_of(alloc, span, block, 6, left)?;
+    let (comment, left) = words_of(alloc, span, block, 7, left)?;
     let links = ChannelLinks {
-        name,
-        source,
-        conv,
+        name: origin.name,
+        source: origin.source,
+        conv: origin.conv,
         unit,
         comment,
     };
     Ok((links, left))
 }
 
-/// The channel at `at`, the address of the next one, and what may still come.
-#[tactic(auto, unfolding(crate::specs::Channel::channel, crate::specs::Channel::accepted))]
-fn channel_in<P: Span>(
-    alloc: Global,
-    span: &mut P,
-    at: u64,
-    budget: Budget,
-) -> Result<(ChannelRow, u64, Budget), Halt<GroupFault>>
-    ensures found { (f : List ℕ) → P.bytes span.old ≡ Some f → Gives group_refusal result (channel f at budget) }
+/// Nothing, where the kind and the data type of a channel are read.
+#[tactic(auto, unfolding(crate::specs::Channel::accepted))]
+fn accepted_in<P: Span>(span: &mut P, block: &BlockAt) -> Result<(), Halt<GroupFault>>
+    requires inside { IsInside (P.size span.old) block.now }
+    requires filled { IsFilled Cn block.now }
+    ensures found { (f : List ℕ) → P.bytes span.old ≡ Some f →
+        Gives group_refusal result (accepted block.now.at (slice_index (body_of f block.now) 0) (slice_index (body_of f block.now) 2)) }
+    ensures plain { IfErr result (IsPlain group_refusal) }
     ensures same { P.bytes span.new ≡ P.bytes span.old }
     ensures size { P.size span.new ≡ P.size span.old }
-    ensures cause { HaltCause true (P.faults span.old) (P.faults span.new) result }
+    ensures cause { HaltCause P.may_want (P.faults span.old) (P.faults span.new) result }
 {
-    let block = block_of(span, at, Kind::Cn)?;
-    let (kind, data_type) = kinds_in(span, &block)?;
+    let at = block.at;
+    let (kind, data_type) = kinds_in(span, block)?;
     if kind == 4 || kind == 5 || kind > 6 {
         return Err(Halt::Fault(GroupFault::ChannelKind { at, kind }));
     }
@@ -74,17 +91,71 @@ fn channel_in<P: Span>(
             value: data_type,
         }));
     }
-    let (links, left) = channel_links_in(alloc, span, &block, budget)?;
-    let next = link_in(span, &block, 0)?;
-    let composition = link_in(span, &block, 1)?;
-    let values = link_in(span, &block, 5)?;
-    let extra = extra_in(span, &block)?;
-    let row = channel_of(span, &block, links, values, extra)?;
-    Ok((
-        row,
+    Ok(())
+}
+
+/// The links of a channel that are not followed inside it.
+fn passed_in<P: Span>(span: &mut P, block: &BlockAt) -> Result<Passed, Stop>
+    requires inside { IsInside (P.size span.old) block.now }
+    requires linked { 8 ≤ block.now.links }
+    ensures passed { IfOk result (λ passed. (f : List ℕ) → P.bytes span.old ≡ Some f → passed ≡ passed_of f block.now) }
+    ensures few { IfOk result (λ passed. passed.composed + passed.extra ≤ block.now.links + 1) }
+    ensures same { P.bytes span.new ≡ P.bytes span.old }
+    ensures size { P.size span.new ≡ P.size span.old }
+    ensures cause { StopCause P.may_want (P.faults span.old) (P.faults span.new) result }
+{
+    let next = link_in(span, block, 0)?;
+    let composition = link_in(span, block, 1)?;
+    let values = link_in(span, block, 5)?;
+    let extra = extra_in(span, block)?;
+    Ok(Passed {
         next,
-        left.with_dropped(link_count(composition) + extra),
-    ))
+        values,
+        composed: link_count(composition),
+        extra,
+    })
+}
+
+/// The channel of a block, the address of the next one, and what may still come.
+#[tactic(auto, unfolding(crate::specs::Channel::channel_of_block))]
+fn channel_of_block<P: Span>(
+    alloc: Global,
+    span: &mut P,
+    block: &BlockAt,
+    budget: Budget,
+) -> Result<(ChannelRow, u64, Budget), Halt<GroupFault>>
+    requires inside { IsInside (P.size span.old) block.now }
+    requires filled { IsFilled Cn block.now }
+    ensures found { (f : List ℕ) → P.bytes span.old ≡ Some f → Gives group_refusal result (channel_of_block f block.now budget) }
+    ensures plain { IfErr result (IsPlain group_refusal) }
+    ensures same { P.bytes span.new ≡ P.bytes span.old }
+    ensures size { P.size span.new ≡ P.size span.old }
+    ensures cause { HaltCause true (P.faults span.old) (P.faults span.new) result }
+{
+    let passed = passed_in(span, block)?;
+    let (links, left) = channel_links_in(alloc, span, block, budget)?;
+    let row = channel_of(span, block, links, passed.values, passed.extra)?;
+    let dropped = passed.composed + passed.extra;
+    Ok((row, passed.next, left.with_dropped(dropped)))
+}
+
+/// The channel at `at`, the address of the next one, and what may still come.
+#[tactic(auto, unfolding(crate::specs::Channel::channel))]
+fn channel_in<P: Span>(
+    alloc: Global,
+    span: &mut P,
+    at: u64,
+    budget: Budget,
+) -> Result<(ChannelRow, u64, Budget), Halt<GroupFault>>
+    ensures found { (f : List ℕ) → P.bytes span.old ≡ Some f → Gives group_refusal result (channel f at budget) }
+    ensures plain { IfErr result (IsPlain group_refusal) }
+    ensures same { P.bytes span.new ≡ P.bytes span.old }
+    ensures size { P.size span.new ≡ P.size span.old }
+    ensures cause { HaltCause true (P.faults span.old) (P.faults span.new) result }
+{
+    let block = block_of(span, at, Kind::Cn)?;
+    accepted_in(span, &block)?;
+    channel_of_block(alloc, span, &block, budget)
 }
 
 /// The channels from `first` on, how many more may come, and what else.
@@ -96,6 +167,7 @@ pub(crate) fn channels_in<P: Span>(
     budget: Budget,
 ) -> Result<(Rows<ChannelRow>, u64, Budget), Halt<GroupFault>>
     ensures found { (f : List ℕ) → P.bytes span.old ≡ Some f → Gives group_refusal result (channels_from f most first budget) }
+    ensures plain { IfErr result (IsPlain group_refusal) }
     ensures same { P.bytes span.new ≡ P.bytes span.old }
     ensures size { P.size span.new ≡ P.size span.old }
     ensures cause { HaltCause true (P.faults span.old) (P.faults span.new) result }

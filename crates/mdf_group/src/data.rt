@@ -1,16 +1,18 @@
-ghost use Rattle.std.specs.Prelude.{◌≡◌, ℕ, List, Some, true};
+ghost use Rattle.std.specs.Prelude.{◌≡◌, ◌≤◌, ℕ, List, Some, Ok, true, IfErr};
+ghost use Rattle.mdf_format.specs.declared.kind.Kind.TheVariants.{Dg};
 ghost use Rattle.mdf_num.specs.Halt.{HaltCause};
-ghost use Rattle.mdf_block.specs.Refusal.{Gives};
+ghost use Rattle.mdf_block.specs.Refusal.{Gives, IsPlain};
+ghost use Rattle.mdf_block.specs.Block.{IsInside, IsFilled};
 ghost use Rattle.mdf_group.specs.Link.{group_refusal};
-ghost use Rattle.mdf_group.specs.Group.{data_group, data_groups_from};
+ghost use Rattle.mdf_group.specs.Group.{data_contents, finished_data_group, data_group, data_groups_from};
 
 use crate::field::data_of;
 use crate::group::groups_in;
 use crate::lower::{block_of, words_of};
 use crate::named::unnamed_count;
-use crate::room::{DataRoom, Room};
+use crate::room::{DataContents, DataRoom, Room};
 use crate::{DataRow, GroupFault};
-use mdf_block::{Kind, What, link_in};
+use mdf_block::{BlockAt, Kind, What, link_in};
 use mdf_conv::Budget;
 use mdf_num::{Halt, Rows, Span};
 use std::alloc::Global;
@@ -22,6 +24,60 @@ const MOST_GROUPS: u64 = 65_535;
 
 const MOST_CHANNELS: u64 = 1_048_576;
 
+/// What a data group holds, and what may still come.
+#[tactic(auto, unfolding(crate::specs::Group::data_contents))]
+fn data_contents_in<P: Span>(
+    alloc: Global,
+    span: &mut P,
+    block: &BlockAt,
+    left: DataRoom,
+) -> Result<(DataContents, DataRoom), Halt<GroupFault>>
+    requires inside { IsInside (P.size span.old) block.now }
+    requires linked { 4 ≤ block.now.links }
+    ensures found { (f : List ℕ) → P.bytes span.old ≡ Some f → Gives group_refusal result (data_contents f block.now left) }
+    ensures plain { IfErr result (IsPlain group_refusal) }
+    ensures same { P.bytes span.new ≡ P.bytes span.old }
+    ensures size { P.size span.new ≡ P.size span.old }
+    ensures cause { HaltCause true (P.faults span.old) (P.faults span.new) result }
+{
+    let first = link_in(span, block, 1)?;
+    let (comment, budget) = words_of(alloc, span, block, 3, left.room.budget)?;
+    let start = Room {
+        budget,
+        ..left.room
+    };
+    let (rows, groups, room) = groups_in(alloc, span, first, left.groups, start)?;
+    Ok((DataContents { comment, rows }, DataRoom { groups, room }))
+}
+
+/// The data group of a block with these contents, the address of the next one, and what may still come.
+fn finished_in<P: Span>(
+    alloc: Global,
+    span: &mut P,
+    block: &BlockAt,
+    contents: DataContents,
+    left: DataRoom,
+) -> Result<(DataRow, u64, DataRoom), Halt<GroupFault>>
+    requires inside { IsInside (P.size span.old) block.now }
+    requires filled { IsFilled Dg block.now }
+    ensures finished { (f : List ℕ) → P.bytes span.old ≡ Some f → Gives group_refusal result (Ok (finished_data_group f block.now contents left)) }
+    ensures plain { IfErr result (IsPlain group_refusal) }
+    ensures same { P.bytes span.new ≡ P.bytes span.old }
+    ensures size { P.size span.new ≡ P.size span.old }
+    ensures cause { HaltCause true (P.faults span.old) (P.faults span.new) result }
+{
+    let next = link_in(span, block, 0)?;
+    let content = link_in(span, block, 2)?;
+    let unnamed = unnamed_count(alloc, contents.rows.as_slice())?;
+    let row = data_of(span, block, contents.comment, content, contents.rows)?;
+    let room = Room {
+        channels: left.room.channels,
+        budget: left.room.budget.with_dropped(unnamed),
+    };
+    let groups = left.groups;
+    Ok((row, next, DataRoom { groups, room }))
+}
+
 /// The data group at `at`, the address of the next one, and what may still come.
 #[tactic(auto, unfolding(crate::specs::Group::data_group))]
 fn data_group_in<P: Span>(
@@ -31,28 +87,14 @@ fn data_group_in<P: Span>(
     left: DataRoom,
 ) -> Result<(DataRow, u64, DataRoom), Halt<GroupFault>>
     ensures found { (f : List ℕ) → P.bytes span.old ≡ Some f → Gives group_refusal result (data_group f at left) }
+    ensures plain { IfErr result (IsPlain group_refusal) }
     ensures same { P.bytes span.new ≡ P.bytes span.old }
     ensures size { P.size span.new ≡ P.size span.old }
     ensures cause { HaltCause true (P.faults span.old) (P.faults span.new) result }
 {
     let block = block_of(span, at, Kind::Dg)?;
-    let comment = link_in(span, &block, 3)?;
-    let (comment, budget) = words_of(alloc, span, comment, left.room.budget)?;
-    let first = link_in(span, &block, 1)?;
-    let start = Room {
-        budget,
-        ..left.room
-    };
-    let (rows, groups, room) = groups_in(alloc, span, first, left.groups, start)?;
-    let unnamed = unnamed_count(alloc, rows.as_slice())?;
-    let next = link_in(span, &block, 0)?;
-    let content = link_in(span, &block, 2)?;
-    let row = data_of(span, &block, comment, content, rows)?;
-    let room = Room {
-        channels: room.channels,
-        budget: room.budget.with_dropped(unnamed),
-    };
-    Ok((row, next, DataRoom { groups, room }))
+    let (contents, left) = data_contents_in(alloc, span, &block, left)?;
+    finished_in(alloc, span, &block, contents, left)
 }
 
 /// The data groups from `first` on, how many more may come, and what else.
@@ -63,6 +105,7 @@ pub(crate) fn data_groups_in<P: Span>(
     budget: Budget,
 ) -> Result<(Rows<DataRow>, u64, DataRoom), Halt<GroupFault>>
     ensures found { (f : List ℕ) → P.bytes span.old ≡ Some f → Gives group_refusal result (data_groups_from f first budget) }
+    ensures plain { IfErr result (IsPlain group_refusal) }
     ensures same { P.bytes span.new ≡ P.bytes span.old }
     ensures size { P.size span.new ≡ P.size span.old }
     ensures cause { HaltCause true (P.faults span.old) (P.faults span.new) result }

@@ -4,10 +4,10 @@ ghost use Rattle.mdf_format.specs.declared.kind.Kind.TheVariants.{Dg, Cg, Cn};
 ghost use Rattle.mdf_num.specs.Halt.{StopCause};
 ghost use Rattle.mdf_block.specs.Block.{body_of, IsInside, IsFilled};
 ghost use Rattle.mdf_conv.specs.Conv.{numbers_at};
-ghost use Rattle.mdf_group.specs.Channel.{the_channel};
+ghost use Rattle.mdf_group.specs.Channel.{channel_front, the_channel};
 ghost use Rattle.mdf_group.specs.Group.{the_group, the_data_group};
 
-use crate::room::{ChannelLinks, GroupLinks};
+use crate::room::{ChannelFront, ChannelLinks, GroupLinks};
 use crate::{ChannelRow, DataRow, GroupRow};
 use mdf_block::{BlockAt, Note, body_in, u16_field, u32_field, u64_field};
 use mdf_num::{Rows, Span, Stop};
@@ -42,6 +42,31 @@ fn ranges_of(body: &[u8]) -> [u64; 6]
     ]
 }
 
+/// The numbers in the body of a channel.
+fn channel_front_in<P: Span>(span: &mut P, block: &BlockAt) -> Result<ChannelFront, Stop>
+    requires inside { IsInside (P.size span.old) block.now }
+    requires filled { IsFilled Cn block.now }
+    ensures front { IfOk result (λ front. (f : List ℕ) → P.bytes span.old ≡ Some f → front ≡ channel_front (body_of f block.now)) }
+    ensures same { P.bytes span.new ≡ P.bytes span.old }
+    ensures size { P.size span.new ≡ P.size span.old }
+    ensures cause { StopCause P.may_want (P.faults span.old) (P.faults span.new) result }
+{
+    let mut body = [0u8; 72];
+    body_in(span, block, &mut body)?;
+    Ok(ChannelFront {
+        kind: body[0],
+        sync: body[1],
+        data_type: body[2],
+        bit: body[3],
+        byte: u32_field(&body, 4),
+        bits: u32_field(&body, 8),
+        flags: u32_field(&body, 12),
+        inval: u32_field(&body, 16),
+        precision: body[20],
+        ranges: ranges_of(&body),
+    })
+}
+
 /// The channel of a block, with what its links lead to.
 pub(crate) fn channel_of<P: Span>(
     span: &mut P,
@@ -58,20 +83,20 @@ pub(crate) fn channel_of<P: Span>(
     ensures size { P.size span.new ≡ P.size span.old }
     ensures cause { StopCause P.may_want (P.faults span.old) (P.faults span.new) result }
 {
-    let mut body = [0u8; 72];
-    body_in(span, block, &mut body)?;
+    let front = channel_front_in(span, block)?;
+    let ranges = front.ranges;
     Ok(ChannelRow {
         at: block.at,
-        kind: body[0],
-        sync: body[1],
-        data_type: body[2],
-        bit: body[3],
-        byte: u32_field(&body, 4),
-        bits: u32_field(&body, 8),
-        flags: u32_field(&body, 12),
-        inval: u32_field(&body, 16),
-        precision: body[20],
-        ranges: ranges_of(&body),
+        kind: front.kind,
+        sync: front.sync,
+        data_type: front.data_type,
+        bit: front.bit,
+        byte: front.byte,
+        bits: front.bits,
+        flags: front.flags,
+        inval: front.inval,
+        precision: front.precision,
+        ranges,
         name: links.name,
         source: links.source,
         conv: links.conv,

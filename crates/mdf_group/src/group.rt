@@ -1,18 +1,19 @@
-ghost use Rattle.std.specs.Prelude.{◌≡◌, ◌≤◌, ℕ, List, Some, true};
-ghost use Rattle.mdf_num.specs.Halt.{HaltCause};
-ghost use Rattle.mdf_block.specs.Refusal.{Gives};
-ghost use Rattle.mdf_block.specs.Block.{IsInside};
+ghost use Rattle.std.specs.Prelude.{◌≡◌, ◌≤◌, ℕ, List, Some, true, IfOk, IfErr};
+ghost use Rattle.mdf_format.specs.declared.kind.Kind.TheVariants.{Cg};
+ghost use Rattle.mdf_num.specs.Halt.{StopCause, HaltCause};
+ghost use Rattle.mdf_block.specs.Refusal.{Gives, IsPlain};
+ghost use Rattle.mdf_block.specs.Block.{IsInside, IsFilled};
 ghost use Rattle.mdf_group.specs.Link.{group_links, group_refusal};
-ghost use Rattle.mdf_group.specs.Group.{group, groups_from};
+ghost use Rattle.mdf_group.specs.Group.{group_contents, finished_group, group, groups_from};
 
 use crate::channel::channels_in;
 use crate::field::group_of;
 use crate::lower::{block_of, source_of, words_of};
-use crate::room::{GroupLinks, Room};
+use crate::room::{GroupContents, GroupLinks, Room};
 use crate::{GroupFault, GroupRow};
 use mdf_block::{BlockAt, Kind, What, link_in};
 use mdf_conv::{Budget, link_count};
-use mdf_num::{Halt, Rows, Span};
+use mdf_num::{Halt, Rows, Span, Stop};
 use std::alloc::Global;
 
 /// What the links of a channel group lead to, and what may still come.
@@ -26,22 +27,66 @@ fn group_links_in<P: Span>(
     requires inside { IsInside (P.size span.old) block.now }
     requires linked { 6 ≤ block.now.links }
     ensures found { (f : List ℕ) → P.bytes span.old ≡ Some f → Gives group_refusal result (group_links f block.now.at budget) }
+    ensures plain { IfErr result (IsPlain group_refusal) }
     ensures same { P.bytes span.new ≡ P.bytes span.old }
     ensures size { P.size span.new ≡ P.size span.old }
     ensures cause { HaltCause true (P.faults span.old) (P.faults span.new) result }
 {
-    let name = link_in(span, block, 2)?;
-    let (name, left) = words_of(alloc, span, name, budget)?;
-    let source = link_in(span, block, 3)?;
-    let (source, left) = source_of(alloc, span, source, left)?;
-    let comment = link_in(span, block, 5)?;
-    let (comment, left) = words_of(alloc, span, comment, left)?;
+    let (name, left) = words_of(alloc, span, block, 2, budget)?;
+    let (source, left) = source_of(alloc, span, block, 3, left)?;
+    let (comment, left) = words_of(alloc, span, block, 5, left)?;
     let links = GroupLinks {
         name,
         source,
         comment,
     };
     Ok((links, left))
+}
+
+/// What a channel group holds, and what may still come.
+#[tactic(auto, unfolding(crate::specs::Group::group_contents))]
+fn group_contents_in<P: Span>(
+    alloc: Global,
+    span: &mut P,
+    block: &BlockAt,
+    room: Room,
+) -> Result<(GroupContents, Room), Halt<GroupFault>>
+    requires inside { IsInside (P.size span.old) block.now }
+    requires linked { 6 ≤ block.now.links }
+    ensures found { (f : List ℕ) → P.bytes span.old ≡ Some f → Gives group_refusal result (group_contents f block.now room) }
+    ensures plain { IfErr result (IsPlain group_refusal) }
+    ensures same { P.bytes span.new ≡ P.bytes span.old }
+    ensures size { P.size span.new ≡ P.size span.old }
+    ensures cause { HaltCause true (P.faults span.old) (P.faults span.new) result }
+{
+    let first = link_in(span, block, 1)?;
+    let (links, left) = group_links_in(alloc, span, block, room.budget)?;
+    let (rows, channels, budget) = channels_in(alloc, span, first, room.channels, left)?;
+    Ok((GroupContents { links, rows }, Room { channels, budget }))
+}
+
+/// The channel group of a block with these contents, the address of the next one, and what may still come.
+fn finished_in<P: Span>(
+    span: &mut P,
+    block: &BlockAt,
+    contents: GroupContents,
+    room: Room,
+) -> Result<(GroupRow, u64, Room), Stop>
+    requires inside { IsInside (P.size span.old) block.now }
+    requires filled { IsFilled Cg block.now }
+    ensures finished { IfOk result (λ found. (f : List ℕ) → P.bytes span.old ≡ Some f → found ≡ finished_group f block.now contents room) }
+    ensures same { P.bytes span.new ≡ P.bytes span.old }
+    ensures size { P.size span.new ≡ P.size span.old }
+    ensures cause { StopCause P.may_want (P.faults span.old) (P.faults span.new) result }
+{
+    let next = link_in(span, block, 0)?;
+    let reduction = link_in(span, block, 4)?;
+    let row = group_of(span, block, contents.links, contents.rows)?;
+    let left = Room {
+        channels: room.channels,
+        budget: room.budget.with_dropped(link_count(reduction)),
+    };
+    Ok((row, next, left))
 }
 
 /// The channel group at `at`, the address of the next one, and what may still come.
@@ -53,19 +98,14 @@ fn group_in<P: Span>(
     room: Room,
 ) -> Result<(GroupRow, u64, Room), Halt<GroupFault>>
     ensures found { (f : List ℕ) → P.bytes span.old ≡ Some f → Gives group_refusal result (group f at room) }
+    ensures plain { IfErr result (IsPlain group_refusal) }
     ensures same { P.bytes span.new ≡ P.bytes span.old }
     ensures size { P.size span.new ≡ P.size span.old }
     ensures cause { HaltCause true (P.faults span.old) (P.faults span.new) result }
 {
     let block = block_of(span, at, Kind::Cg)?;
-    let (links, left) = group_links_in(alloc, span, &block, room.budget)?;
-    let first = link_in(span, &block, 1)?;
-    let (rows, channels, left) = channels_in(alloc, span, first, room.channels, left)?;
-    let next = link_in(span, &block, 0)?;
-    let reduction = link_in(span, &block, 4)?;
-    let row = group_of(span, &block, links, rows)?;
-    let budget = left.with_dropped(link_count(reduction));
-    Ok((row, next, Room { channels, budget }))
+    let (contents, left) = group_contents_in(alloc, span, &block, room)?;
+    Ok(finished_in(span, &block, contents, left)?)
 }
 
 /// The channel groups from `first` on, how many more may come, and what else.
@@ -77,6 +117,7 @@ pub(crate) fn groups_in<P: Span>(
     start: Room,
 ) -> Result<(Rows<GroupRow>, u64, Room), Halt<GroupFault>>
     ensures found { (f : List ℕ) → P.bytes span.old ≡ Some f → Gives group_refusal result (groups_from f most first start) }
+    ensures plain { IfErr result (IsPlain group_refusal) }
     ensures same { P.bytes span.new ≡ P.bytes span.old }
     ensures size { P.size span.new ≡ P.size span.old }
     ensures cause { HaltCause true (P.faults span.old) (P.faults span.new) result }

@@ -1,8 +1,11 @@
-ghost use Rattle.std.specs.Prelude.{◌≡◌, ℕ, List, Some, true, IfOk, OnErr};
+ghost use Rattle.std.specs.Prelude.{◌≡◌, ℕ, List, Some, true, IfOk, IfErr, IfSome, OnErr};
 ghost use Rattle.mdf_num.specs.Halt.{HaltCause};
-ghost use Rattle.mdf_block.specs.Refusal.{Gives, GivesAnd, GivesSlice};
+ghost use Rattle.mdf_block.specs.Refusal.{Gives, GivesAnd, GivesSlice, IsPlain};
+ghost use Rattle.mdf_block.specs.Truth.{IsTrueOf};
+ghost use Rattle.mdf_conv.specs.Cost.{Spends};
 ghost use Rattle.mdf_group.specs.Link.{group_refusal};
 ghost use Rattle.mdf_group.specs.Group.{groups};
+ghost use Rattle.mdf_group.specs.Cost.{AreFew, rows_cost};
 ghost use Rattle.mdf_group.specs.Standing.{AreDataGroups};
 
 use crate::data::data_groups_in;
@@ -20,6 +23,9 @@ fn all_in<P: Span>(
     budget: Budget,
 ) -> Result<(Rows<DataRow>, Budget), Halt<GroupFault>>
     ensures found { (f : List ℕ) → P.bytes span.old ≡ Some f → Gives group_refusal result (groups f first budget) }
+    ensures few { (f : List ℕ) → P.bytes span.old ≡ Some f → IfOk result (λ found. AreFew found.0) }
+    ensures spent { (f : List ℕ) → P.bytes span.old ≡ Some f → IfOk result (λ found. Spends budget (rows_cost f found.0) found.1) }
+    ensures plain { IfErr result (IsPlain group_refusal) }
     ensures same { P.bytes span.new ≡ P.bytes span.old }
     ensures size { P.size span.new ≡ P.size span.old }
     ensures cause { HaltCause true (P.faults span.old) (P.faults span.new) result }
@@ -41,7 +47,10 @@ pub fn read_groups_in<P: Span>(
 ) -> Result<Rows<DataRow>, Halt<GroupFault>>
     ensures exact { (f : List ℕ) → P.bytes span.old ≡ Some f → GivesAnd group_refusal result budget.new (groups f first budget.old) }
     ensures found { (f : List ℕ) → P.bytes span.old ≡ Some f → IfOk result (AreDataGroups f first) }
+    ensures few { (f : List ℕ) → P.bytes span.old ≡ Some f → IfOk result AreFew }
+    ensures spent { (f : List ℕ) → P.bytes span.old ≡ Some f → IfOk result (λ rows. Spends budget.old (rows_cost f rows) budget.new) }
     ensures budget { OnErr result (budget.new ≡ budget.old) }
+    ensures plain { IfErr result (IsPlain group_refusal) }
     ensures same { P.bytes span.new ≡ P.bytes span.old }
     ensures size { P.size span.new ≡ P.size span.old }
     ensures cause { HaltCause true (P.faults span.old) (P.faults span.new) result }
@@ -73,6 +82,9 @@ pub fn read_groups(
 ) -> Result<Rows<DataRow>, GroupFault>
     ensures exact { GivesSlice group_refusal result budget.new (groups bytes.now first budget.old) }
     ensures found { IfOk result (AreDataGroups bytes.now first) }
+    ensures few { IfOk result AreFew }
+    ensures spent { IfOk result (λ rows. Spends budget.old (rows_cost bytes.now rows) budget.new) }
+    ensures refused { IfErr result (λ fault. IfSome (group_refusal fault) (IsTrueOf bytes.now)) }
     ensures budget { OnErr result (budget.new ≡ budget.old) }
 {
     match read_groups_in(alloc, &mut SliceSpan::new(bytes), first, budget) {

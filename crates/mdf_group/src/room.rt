@@ -1,5 +1,7 @@
+use crate::row::{ChannelRow, GroupRow};
 use mdf_block::Note;
 use mdf_conv::{Budget, Conversion, SourceInfo};
+use mdf_num::Rows;
 
 /// What may still come inside a channel group.
 #[derive(Clone, Copy, Debug)]
@@ -19,6 +21,42 @@ pub(crate) struct DataRoom {
     pub(crate) room: Room,
 }
 
+/// The numbers in the body of a channel.
+#[derive(Clone, Copy, Debug)]
+pub(crate) struct ChannelFront {
+    pub(crate) kind: u8,
+    pub(crate) sync: u8,
+    pub(crate) data_type: u8,
+    pub(crate) bit: u8,
+    pub(crate) byte: u32,
+    pub(crate) bits: u32,
+    pub(crate) flags: u32,
+    pub(crate) inval: u32,
+    pub(crate) precision: u8,
+    pub(crate) ranges: [u64; 6],
+}
+
+/// The links of a channel that are not followed inside it.
+#[derive(Clone, Copy, Debug)]
+pub(crate) struct Passed {
+    /// The address of the next channel.
+    pub(crate) next: u64,
+    /// The address of its own data.
+    pub(crate) values: u64,
+    /// How many compositions it names, one at most.
+    pub(crate) composed: u64,
+    /// How many links after the eighth name something.
+    pub(crate) extra: u64,
+}
+
+/// What the first links of a channel lead to.
+#[derive(Debug, Drop)]
+pub(crate) struct ChannelOrigin {
+    pub(crate) name: Note,
+    pub(crate) source: Option<SourceInfo>,
+    pub(crate) conv: Option<Conversion>,
+}
+
 /// What the links of a channel lead to.
 #[derive(Debug, Drop)]
 pub(crate) struct ChannelLinks {
@@ -35,4 +73,18 @@ pub(crate) struct GroupLinks {
     pub(crate) name: Note,
     pub(crate) source: Option<SourceInfo>,
     pub(crate) comment: Note,
+}
+
+/// What a channel group holds.
+#[derive(Debug, Drop)]
+pub(crate) struct GroupContents {
+    pub(crate) links: GroupLinks,
+    pub(crate) rows: Rows<ChannelRow>,
+}
+
+/// What a data group holds.
+#[derive(Debug, Drop)]
+pub(crate) struct DataContents {
+    pub(crate) comment: Note,
+    pub(crate) rows: Rows<GroupRow>,
 }

@@ -1,5 +1,5 @@
 use Rattle.mdf_block.specs.Block.{IsInside, IsFilled}
-use Rattle.mdf_group.proofs.Lifts.{gives_lifted, cause_lifted, if_ok_lifted}
+use Rattle.mdf_group.proofs.Lifts.{gives_lifted, plain_lifted, cause_lifted, if_ok_lifted}
 use Rattle.mdf_group.proofs.lower.block_of.Goals as goal
 
 pub returns-clause-found : goal.returns-clause-found
@@ -11,5 +11,8 @@ returns-clause-inside g c = rw c.lifted.ensures (if_ok_lifted (IsInside (g.P.Spa
 pub returns-clause-filled : goal.returns-clause-filled
 returns-clause-filled g c = rw c.lifted.ensures (if_ok_lifted (IsFilled c.args.want) c.block_with.result c.block_with.ensures.filled)
 
+pub returns-clause-plain : goal.returns-clause-plain
+returns-clause-plain g c = rw c.lifted.ensures (plain_lifted c.block_with.result)
+
 pub returns-clause-cause : goal.returns-clause-cause
-returns-clause-cause g c = rw c.lifted.ensures (cause_lifted _ _ _ _ c.block_with.ensures.cause)
+returns-clause-cause g c = rw c.lifted.ensures (cause_lifted _ _ _ _ c.block_with.ensures.plain c.block_with.ensures.cause)

@@ -42,7 +42,7 @@ is_of_values row = nat_eq row.kind 1
 
 -- a channel of fixed or variable length or a master, of no data type over 10, with a name, and with no source,
 -- conversion, comment or link of its own; an offset has 64 bits
-pub record IsPlannedChannel (row : ChannelRow) : Type 0 where
+pub record IsRecordableChannel (row : ChannelRow) : Type 0 where
   pub kind : row.kind ≤ 2
   pub data_type : row.data_type ≤ 10
   pub flags : (row.flags ≡ 0) ⊎ (row.flags ≡ 2)
@@ -62,20 +62,20 @@ pub record ArePlaced (data_bytes inval_bytes : ℕ) (rows : List RowNumbers) : T
   pub positions : AllPairs (λ one other. UsesInval one → UsesInval other → one.inval ≢ other.inval) rows
 
 -- a group of records of 1 to 256 such channels, with a name, and with no source or comment
-pub record IsPlannedGroup (row : GroupRow) : Type 0 where
+pub record IsRecordableGroup (row : GroupRow) : Type 0 where
   pub flags : row.flags ≡ 0
   pub name : IsName row.name
   pub source : row.source ≡ None
   pub comment : row.comment ≡ notes.Nothing
   pub some : 1 ≤ length row.channels
   pub few : length row.channels ≤ 256
-  pub each : AllByRecursion IsPlannedChannel row.channels
+  pub each : AllByRecursion IsRecordableChannel row.channels
   pub placed : ArePlaced row.data_bytes row.inval_bytes (map numbers_of row.channels)
 
 -- 1 to 64 such groups, of at most 1,024 channels in all, and at most 128 with values of variable length
-pub record IsPlanned (rows : List GroupRow) : Type 0 where
+pub record AreRecordable (rows : List GroupRow) : Type 0 where
   pub some : 1 ≤ length rows
   pub few : length rows ≤ 64
   pub channels : sum_by (λ row. length row.channels) rows ≤ 1024
   pub variable : sum_by (λ row. length (filter is_of_values row.channels)) rows ≤ 128
-  pub each : AllByRecursion IsPlannedGroup rows
+  pub each : AllByRecursion IsRecordableGroup rows

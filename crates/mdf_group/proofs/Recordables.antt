@@ -5,7 +5,7 @@ use Rattle.mdf_format.specs.Row.{RowNumbers, Unsigned, Variable, BreaksRowRule}
 use Rattle.mdf_block.specs.declared.note.Note.TheVariants as notes
 use Rattle.mdf_group.specs.declared.row.ChannelRow.{ChannelRow}
 use Rattle.mdf_group.specs.declared.row.GroupRow.{GroupRow}
-use Rattle.mdf_group.specs.Planned.{numbers_of, ArePlaced, IsPlanned}
+use Rattle.mdf_group.specs.Recordable.{numbers_of, ArePlaced, AreRecordable}
 
 abbrev master : ChannelRow
 master = record {
@@ -60,8 +60,8 @@ is_placed = record {
   positions = λ i j d before within. absurd (omega (arith, before, within));
 }
 
-pub some_are_planned : IsPlanned (one_group ∷ [])
-some_are_planned = record {
+pub some_are_recordable : AreRecordable (one_group ∷ [])
+some_are_recordable = record {
   some = omega arith;
   few = omega arith;
   channels = lit≤ tt;
