@@ -4,6 +4,7 @@ use Rattle.std.specs.Prelude.{IfSome, OnOk}
 use Rattle.std.specs.Option.{option_map}
 use Rattle.std.proofs.lemmas.List.{take_all, drop_all, drop_more, append-nil, length-take-le}
 use Rattle.mdf_format.specs.Number.{patched}
+use Rattle.mdf_gate.specs.Gated.{opened_at}
 use Rattle.mdf_gate.specs.Images.{IsTorn, IsStage}
 use Rattle.mdf_gate.proofs.Left.{left_behind, left_one, patched_gate}
 
@@ -52,3 +53,11 @@ module _ (place : ℕ) (kept payload : List ℕ) (ends : length kept ≡ place +
       ap (patched place (35 ∷ [])) staged
       ∙ ap (λ (at : ℕ). patched at (35 ∷ []) (take place kept ++ get_or kept place 0 ∷ payload)) (sym long)
       ∙ patched_gate (take place kept) (get_or kept place 0) 35 payload
+
+-- a content that ends at the place, after both writes
+pub written_twice : (place : ℕ) (payload : List ℕ) (old mid new : Option (List ℕ)) → IfSome old (λ file. length file ≡ place + 1)
+    → mid ≡ option_map (patched (place + 1) payload) old → new ≡ option_map (patched place (35 ∷ [])) mid
+    → new ≡ option_map (opened_at place payload) old
+written_twice place payload None mid new ends first second = second ∙ ap (option_map (patched place (35 ∷ []))) first
+written_twice place payload (Some file) mid new ends first second =
+    second ∙ ap (option_map (patched place (35 ∷ []))) first ∙ ap Some (opened place file payload ends)

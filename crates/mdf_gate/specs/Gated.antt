@@ -1,5 +1,5 @@
 -- A recording that is being written, block by block, and the buffer of its next block.
-use Rattle.std.specs.Prelude.{ℕ, ◌≡◌, ◌+◌, ◌-◌, ◌%◌, ◌^◌, ◌≤◌, ◌<◌, Bool, true, false, List, ◌++◌, length, take, get_or, replicate, codes, Option, IfSome, Result, Ok, Err}
+use Rattle.std.specs.Prelude.{ℕ, ◌≡◌, ◌+◌, ◌-◌, ◌%◌, ◌^◌, ◌≤◌, ◌<◌, Bool, true, false, List, ◌∷◌, ◌++◌, length, take, get_or, replicate, codes, Option, IfSome, Result, Ok, Err}
 use Rattle.std.specs.Int.{to_le_bytes, w64}
 use Rattle.mdf_format.specs.Number.{aligned}
 use Rattle.mdf_format.specs.Cause.{Rose}
@@ -67,3 +67,7 @@ room_of count = aligned (24 + count)
 -- and on it, so that its gate is closed
 abbrev pub payload_of : List ℕ → List ℕ
 payload_of body = header_of (length body) ++ body ++ replicate (room_of (length body) - (23 + length body)) 0
+
+-- the file with a payload behind the gate of a place, and that gate open
+abbrev pub opened_at : ℕ → List ℕ → List ℕ → List ℕ
+opened_at place payload file = take place file ++ 35 ∷ payload

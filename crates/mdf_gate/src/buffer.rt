@@ -1,9 +1,10 @@
 ghost use Rattle.std.specs.Prelude.{◌≡◌, ◌+◌, ◌≤◌, ◌<◌, ◌^◌, ◌↔◌, ℕ, List, [], ◌∷◌, ◌++◌, length, take, true, is_some, IsTrue, IfSome, IfOk, OnOk};
+ghost use Rattle.std.specs.Option.{option_map};
 ghost use Rattle.mdf_format.specs.Number.{bytes_at, patched};
 ghost use Rattle.mdf_format.specs.Cause.{HasCause};
 ghost use Rattle.mdf_disk.specs.Crash.{Adds};
 ghost use Rattle.mdf_seal.specs.Seal.{IsKept};
-ghost use Rattle.mdf_gate.specs.Gated.{header_of, room_of, payload_of};
+ghost use Rattle.mdf_gate.specs.Gated.{header_of, room_of, payload_of, opened_at};
 ghost use Rattle.mdf_gate.specs.Images.{IsStage};
 
 use crate::stage::write_block;
@@ -141,6 +142,7 @@ impl Block {
         ensures same { self.new ≡ self.old }
         ensures ok { (kept : List ℕ) → IsKept (D.content disk.old) (D.story disk.old) kept → length kept ≡ place + 1
             → OnOk result (IsKept (D.content disk.new) (D.story disk.new) (take place kept ++ 35 ∷ payload_of self.old.bytes)) }
+        ensures content { OnOk result (D.content disk.new ≡ option_map (opened_at place (payload_of self.old.bytes)) (D.content disk.old)) }
         ensures any_moment { (kept : List ℕ) → IsKept (D.content disk.old) (D.story disk.old) kept → length kept ≡ place + 1
             → Adds (D.story disk.old) (D.story disk.new) (IsStage place kept (payload_of self.old.bytes)) }
         ensures told { is_some (D.story disk.new) ≡ is_some (D.story disk.old) }

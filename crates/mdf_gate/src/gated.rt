@@ -1,9 +1,10 @@
 ghost use Rattle.std.specs.Prelude.{◌≡◌, ◌+◌, ◌%◌, ◌≤◌, ◌<◌, ◌^◌, ◌++◌, ℕ, List, [], ◌∷◌, length, is_some, true, false, IsSome, IfSome, IfOk, OnOk, OnErr};
+ghost use Rattle.std.specs.Option.{option_map};
 ghost use Rattle.mdf_format.specs.Number.{aligned};
 ghost use Rattle.mdf_format.specs.Cause.{Rose, HasCause};
 ghost use Rattle.mdf_disk.specs.Crash.{Adds, HoldsSince};
 ghost use Rattle.mdf_seal.specs.Seal.{IsBlank, IsKept};
-ghost use Rattle.mdf_gate.specs.Gated.{IsRecordingHead, RestsOn, disk_of};
+ghost use Rattle.mdf_gate.specs.Gated.{IsRecordingHead, RestsOn, disk_of, payload_of, opened_at};
 ghost use Rattle.mdf_gate.specs.Images.{head_of, Opens, OpensEither, IsBegun};
 
 use crate::Block;
@@ -110,6 +111,8 @@ impl<D: Disk> GatedFile<D> {
         requires short { self.old.place + length block.old.bytes + 32 < 2 ^ 62 }
         ensures rests { (blocks : List (List ℕ)) → RestsOn (D.content self.old.disk) (D.story self.old.disk) self.old.first blocks self.old.place
             → OnOk result (RestsOn (D.content self.new.disk) (D.story self.new.disk) self.new.first (blocks ++ block.old.bytes ∷ []) self.new.place) }
+        ensures content { OnOk result (D.content self.new.disk
+            ≡ option_map (opened_at self.old.place (payload_of block.old.bytes)) (D.content self.old.disk)) }
         ensures any_moment { (blocks : List (List ℕ)) → RestsOn (D.content self.old.disk) (D.story self.old.disk) self.old.first blocks self.old.place
             → Adds (D.story self.old.disk) (D.story self.new.disk) (OpensEither (head_of (D.story self.old.disk) self.old.first) blocks block.old.bytes) }
         ensures head { head_of (D.story self.new.disk) self.new.first ≡ head_of (D.story self.old.disk) self.old.first }

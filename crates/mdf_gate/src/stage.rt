@@ -5,6 +5,7 @@ ghost use Rattle.mdf_format.specs.Cause.{HasCause};
 ghost use Rattle.mdf_disk.specs.Story.{settled};
 ghost use Rattle.mdf_disk.specs.Crash.{Adds, NowHas};
 ghost use Rattle.mdf_seal.specs.Seal.{IsKept};
+ghost use Rattle.mdf_gate.specs.Gated.{opened_at};
 ghost use Rattle.mdf_gate.specs.Images.{IsTorn, IsStage};
 
 use mdf_disk::Disk;
@@ -38,6 +39,7 @@ pub fn write_block<D: Disk>(disk: &mut D, place: u64, payload: &[u8]) -> Result<
     requires ends { IfSome (D.content disk.old) (λ file. length file ≡ place + 1) }
     ensures ok { (kept : List ℕ) → IsKept (D.content disk.old) (D.story disk.old) kept → length kept ≡ place + 1
         → OnOk result (IsKept (D.content disk.new) (D.story disk.new) (take place kept ++ 35 ∷ payload.now)) }
+    ensures content { OnOk result (D.content disk.new ≡ option_map (opened_at place payload.now) (D.content disk.old)) }
     ensures any_moment { (kept : List ℕ) → IsKept (D.content disk.old) (D.story disk.old) kept → length kept ≡ place + 1
         → Adds (D.story disk.old) (D.story disk.new) (IsStage place kept payload.now) }
     ensures told { is_some (D.story disk.new) ≡ is_some (D.story disk.old) }

@@ -1,9 +1,10 @@
 use Rattle.std.proofs.Common.{◌+◌, ◌++◌, [], ◌∷◌, length, take, subst}
 use Rattle.mdf_format.specs.Number.{patched}
+use Rattle.std.proofs.lemmas.Result.{on_ok_weaker}
 use Rattle.mdf_disk.proofs.Crash.{adds_both, adds_more}
 use Rattle.mdf_seal.specs.Seal.{IsKept}
 use Rattle.mdf_gate.specs.Images.{IsTorn, IsStage}
-use Rattle.mdf_gate.proofs.Stages.{both_ok, changed_twice, first_stage, second_stage, opened}
+use Rattle.mdf_gate.proofs.Stages.{both_ok, changed_twice, written_twice, first_stage, second_stage, opened}
 use Rattle.mdf_gate.proofs.stage.write_block.Goals as goal
 
 pub returns-in_err-write_and_sync-clause-any_moment : goal.returns-in_err-write_and_sync-clause-any_moment
@@ -44,3 +45,11 @@ returns-clause-any_moment g c = λ kept is ends.
     (c.write_and_sync.ensures.any_moment kept is.kept))
     (adds_more mid new (IsTorn place 1 staged) (IsStage place kept payload) (second_stage place kept payload ends)
     (c.write_and_sync-2.ensures.any_moment staged (c.in_ok-write_and_sync.ensures.kept kept is.kept)))
+
+pub returns-clause-content : goal.returns-clause-content
+returns-clause-content g c =
+    let content = g.D.Disk.content in
+    on_ok_weaker c.write_and_sync-2.result
+    (written_twice c.args.place c.args.payload.now (content c.args.disk.now) (content c.write_and_sync.new.disk) (content c.write_and_sync-2.new.disk)
+    c.requires.ends c.in_ok-write_and_sync.ensures.content)
+    c.write_and_sync-2.ensures.content

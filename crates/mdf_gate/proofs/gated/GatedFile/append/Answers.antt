@@ -81,3 +81,6 @@ returns-clause-head g c = rw (← c.self.view_is) (
     (g.met.D.Disk.agrees file.disk) (g.met.D.Disk.agrees c.write.new.disk) c.write.ensures.moment rests.1 c.write.ensures.told
     (adds_after (g.D.Disk.story file.disk) (g.D.Disk.story c.write.new.disk) (g.D.Disk.content file.disk) _ file.first rests.0 file.place body
     (g.met.D.Disk.agrees file.disk) rests.1 c.self.invariant.1.on_eight small c.write.ensures.told c.write.ensures.any_moment))
+
+pub returns-clause-content : goal.returns-clause-content
+returns-clause-content g c = rw (← c.self.view_is) c.in_ok-write.ensures.content
