@@ -1,25 +1,10 @@
-//! The program: its command words, what it prints, and how it ends.
+//! The program: it hands the command words, the time, the standard streams and the files of the machine to `run`.
 #![tactic(auto)]
 
-mod command;
-mod drive;
-mod fault;
-mod gate;
-mod head;
-mod opened;
-mod record;
-mod report;
-mod run;
-#[cfg(test)]
-mod tests;
-
-use fault::Fault;
-use gate::Open;
 use mdf_hostfile::FileDisk;
 use mdf_num::{Bytes, Memory, Rows};
 use mdf_port::{StdSink, StdSource};
-use run::run;
-use std::alloc::Global;
+use mdf_run::{Open, run, run_unread};
 use std::env;
 use std::process::ExitCode;
 use std::rt::{Clock, Env};
@@ -53,8 +38,7 @@ fn main(rt: HostRuntime) -> ExitCode {
     let alloc = rt.alloc();
     let mut sink = StdSink::new(rt.stdout());
     let Ok(words) = words(&rt) else {
-        let given = Fault::Memory.give(&mut sink);
-        return ExitCode::from(report::status_after(given, 7));
+        return ExitCode::from(run_unread(&mut sink));
     };
     let mut source = StdSource::new(rt.stdin());
     let mut second = FileDisk::new(&rt);

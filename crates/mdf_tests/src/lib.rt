@@ -1,4 +1,4 @@
-//! Tests of the crates below the program: calls that succeed, worked examples, and faults. What is proved needs none.
+//! Tests of what records, up to the program's commands: calls that succeed, worked examples, and faults. What is proved needs none.
 #![tactic(auto)]
 
 #[cfg(test)]
@@ -11,6 +11,10 @@ mod hostfiles;
 mod layouts;
 #[cfg(test)]
 mod lists;
+#[cfg(test)]
+mod recordings;
+#[cfg(test)]
+mod runs;
 #[cfg(test)]
 mod scripts;
 #[cfg(test)]

@@ -1,0 +1,114 @@
+-- What a recording keeps, whatever happened.
+use Rattle.std.proofs.Common.{◌≡◌, ◌⊎◌, ◌<◌, ◌≤◌, inl, inr, ⊎_elim, ℕ, List, [], ◌∷◌, length, Option, Some, None, Ok, refl, subst, arith}
+use Rattle.std.specs.Prelude.{is_some, IfSome}
+use mathlib.Core.List.{IsPrefix}
+use Rattle.mdf_port.specs.State.{SinkState, SourceState}
+use Rattle.mdf_disk.specs.State.{DiskState}
+use Rattle.mdf_layout.specs.declared.sample.Sample.{Sample}
+use Rattle.mdf_gate.proofs.Carrying.{carries_begun}
+use Rattle.book_owned.specs.Kept.{MarksHold, StartHolds}
+use Rattle.book_owned.specs.Marks.{AreRising}
+use Rattle.book_owned.specs.declared.mark.Mark.{Mark}
+use Rattle.acq_script.specs.Script.{script_of}
+use Rattle.acq_script.specs.Tasks.{samples_of}
+use Rattle.acq_script.specs.declared.script.Script.{Script}
+use Rattle.acq_script.specs.declared.script.Task.{Task}
+use Rattle.mdf_run.specs.Drive.{AreMarked}
+use Rattle.mdf_run.specs.Faults.{fault_status}
+use Rattle.mdf_run.specs.Head.{plain_head}
+use Rattle.mdf_run.specs.Kept.{IsDone}
+use Rattle.mdf_run.specs.Record.{CloseComes, IsComplete, Outcome, fault_code, record_status, record_text}
+use Rattle.mdf_run.specs.Script.{SCRIPT_LIMIT}
+use Rattle.mdf_run.specs.Recorded.{IsClosed, IsRefused, RecordComes}
+use Rattle.mdf_run.specs.Texts.{Prints, unwritten_status}
+use Rattle.mdf_run.specs.declared.fault.Fault.{Fault}
+use Rattle.mdf_run.specs.declared.fault.Fault.TheVariants as fault
+use Rattle.mdf_run.specs.declared.record.RecordEnd.{RecordEnd}
+use Rattle.mdf_run.specs.declared.record.RecordEnd.TheVariants.{Refused, Closed}
+use Rattle.mdf_run.proofs.Recording.{none_marked}
+
+-- a status that was printed is that of the end, or stands for it
+was_status : (text : List ℕ) (status : ℕ) (sink sink' : SinkState) (result : ℕ) → Prints text status sink sink' result
+    → (result ≡ status) ⊎ (result ≡ unwritten_status status)
+was_status text status sink sink' result prints = ⊎_elim (λ all. inl all.1) (λ front. inr front.2) prints
+
+-- no fault has the status of a command that did what it was asked for
+not_done : (problem : Fault) (result : ℕ) → (result ≡ fault_status problem) ⊎ (result ≡ unwritten_status (fault_status problem)) → ¬ IsDone result
+not_done (fault.Gate refused) result is done = absurd (omega (arith, is, done))
+not_done fault.Source result is done = absurd (omega (arith, is, done))
+not_done fault.Device result is done = absurd (omega (arith, is, done))
+not_done (fault.InputOver size limit) result is done = absurd (omega (arith, is, done))
+not_done (fault.ScriptOver limit) result is done = absurd (omega (arith, is, done))
+not_done (fault.SessionFull held size limit) result is done = absurd (omega (arith, is, done))
+not_done fault.Memory result is done = absurd (omega (arith, is, done))
+not_done (fault.Script number) result is done = absurd (omega (arith, is, done))
+
+completes : (script : Script) (tasks : List Task) (faults : ℕ) (left : Outcome) (result : ℕ) (problem : Option Fault)
+    → (result ≡ fault_code problem) ⊎ (result ≡ unwritten_status (fault_code problem)) → IsDone result
+    → CloseComes script.plan tasks faults left problem → IsComplete script.plan tasks left
+completes script tasks faults left result None is done comes = comes
+completes script tasks faults left result (Some problem) is done comes = absurd (not_done problem result is done)
+
+-- one script has one meaning
+same_script : (text : List ℕ) (script other : Script) → script_of text ≡ Ok script → script_of text ≡ Ok other → script ≡ other
+same_script text script other is also = cc
+
+same_tasks : (script : Script) (tasks other : List Task) → script.lists ≡ tasks ∷ [] → script.lists ≡ other ∷ [] → tasks ≡ other
+same_tasks script tasks other is also = cc
+
+-- the clauses on a recording that began at this moment of its disk
+pub record Keeps (start now : ℕ) (script : Script) (tasks : List Task) (disk : DiskState) (history : List Sample) (marks : List Mark) (status : ℕ) : Type 0 where
+  pub marks_hold : MarksHold script.plan.shapes (plain_head now) disk.story disk.moment history marks
+  pub start_holds : StartHolds script.plan.shapes (plain_head now) disk.story start history
+  pub marks_rise : (marks ≡ []) ⊎ AreRising (is_some disk.story) marks
+  pub own_prefix : IsPrefix history (samples_of tasks)
+  pub flush_lines : AreMarked (λ n. n < length history) tasks 0 marks
+  pub complete : IsDone status → IsComplete script.plan tasks (record { disk = disk; history = history; marks = marks })
+
+module _ (source source' : SourceState) (name : List ℕ) (now : ℕ) (out disk : DiskState) (history : List Sample) (marks : List Mark) (status : ℕ)
+    (text : List ℕ) (told : source.left ≡ Some text) (script : Script) (means : script_of text ≡ Ok script) (tasks : List Task) (one : script.lists ≡ tasks ∷ []) where
+  abbrev left : Outcome
+  left = record { disk = disk; history = history; marks = marks }
+
+  abbrev Keep : List Sample → List Mark → Type 0
+  Keep samples ms = Keeps out.moment now script tasks disk samples ms status
+
+  of_refused : (problem : Fault) → IsRefused source source' name now out left problem
+      → (status ≡ fault_status problem) ⊎ (status ≡ unwritten_status (fault_status problem)) → Keep history marks
+  of_refused problem refused is = rw (refused.history, refused.marks) (record {
+    marks_hold = λ k mark within. absurd (omega (arith, within));
+    start_holds = λ file may. carries_begun script.plan.shapes (plain_head now) [] file (refused.begun file may);
+    marks_rise = inl refl;
+    own_prefix = (samples_of tasks, refl);
+    flush_lines = none_marked 0 tasks 0 [] (omega arith);
+    complete = λ done. absurd (not_done problem status is done);
+  })
+
+  of_closed : (accepted last : ℕ) (problem : Option Fault) → IsClosed source name now out left accepted last problem
+      → (status ≡ fault_code problem) ⊎ (status ≡ unwritten_status (fault_code problem)) → Keep history marks
+  of_closed accepted last problem closed is =
+      let says = subst (λ l. IfSome l (λ t. script_of t ≡ Ok closed.script)) told (of_says source.left closed.says) in
+      let script_is : closed.script ≡ script = same_script text closed.script script says means in
+      let tasks_are : closed.tasks ≡ tasks = same_tasks script closed.tasks tasks (subst (λ (s : Script). s.lists ≡ closed.tasks ∷ []) script_is closed.recorded.one) one in
+      let recorded = rw (script_is, tasks_are) at closed.recorded in
+      let comes = rw (script_is, tasks_are) at closed.comes in
+      record {
+        marks_hold = recorded.marks_hold;
+        start_holds = recorded.start_holds;
+        marks_rise = inr recorded.marks_rise;
+        own_prefix = recorded.own_prefix;
+        flush_lines = recorded.flush_lines;
+        complete = λ done. completes script tasks out.faults left status problem is done comes;
+      } where
+        of_says : (l : Option (List ℕ)) → IfSome l (λ t. (script_of t ≡ Ok closed.script) × (length t ≤ SCRIPT_LIMIT)) → IfSome l (λ t. script_of t ≡ Ok closed.script)
+        of_says None says = tt
+        of_says (Some t) says = says.0
+
+  of_end : (end : RecordEnd) → RecordComes source source' name now out left end
+      → (status ≡ record_status end) ⊎ (status ≡ unwritten_status (record_status end)) → Keep history marks
+  of_end (Refused problem) comes is = of_refused problem comes is
+  of_end (Closed accepted last problem) comes is = of_closed accepted last problem comes is
+
+  pub recording_keeps : (end : RecordEnd) (sink sink' : SinkState) → RecordComes source source' name now out left end
+      → Prints (record_text end) (record_status end) sink sink' status → Keep history marks
+  recording_keeps end sink sink' comes prints = of_end end comes (was_status (record_text end) (record_status end) sink sink' status prints)

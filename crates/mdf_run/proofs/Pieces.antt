@@ -1,0 +1,71 @@
+-- The parts of a line, given one behind the other.
+use Rattle.std.proofs.Common.{◌≡◌, ◌≤◌, ◌<◌, ◌+◌, Result, Ok, Err, map, arith, ℕ, List, [], ◌∷◌, ◌++◌, length, take, drop, get_or, Option, Some, None, refl, sym, ◌∙◌, ap, subst, add-one, append_assoc, append-nil, take-append-drop}
+use Rattle.std.proofs.Math.Seq.{take-suc}
+use Rattle.std.proofs.lemmas.Grind.{flat_map-append}
+use Rattle.std.specs.Io.KnownBytes.{Appends}
+use Rattle.mdf_port.specs.State.{SinkState}
+use Rattle.mdf_run.specs.Texts.{Gives, line, piece_text, pieces_text}
+use Rattle.std.proofs.lemmas.List.Concat.{flat_map-cons}
+use Rattle.mdf_run.specs.declared.report.Piece.{Piece}
+
+-- known bytes that grow twice grow by both
+pub appends_both : (old mid new : Option (List ℕ)) (xs ys : List ℕ) → Appends old mid xs → Appends mid new ys → Appends old new (xs ++ ys)
+appends_both None mid new xs ys first second = tt
+appends_both (Some held) None new xs ys first second = absurd first
+appends_both (Some held) (Some more) None xs ys first second = absurd second
+appends_both (Some held) (Some more) (Some all) xs ys first second = second ∙ ap (λ zs. zs ++ ys) first ∙ append_assoc held xs ys
+
+pub appends_none : (held : Option (List ℕ)) → Appends held held []
+appends_none None = tt
+appends_none (Some held) = sym (append-nil held)
+
+-- a text behind a text that was given
+pub gives_behind : {E : Type 0} (xs ys : List ℕ) (old mid new : SinkState) (result : Result Unit E)
+    → Appends old.held mid.held xs → old.faults ≤ mid.faults → Gives ys mid new result → Gives (xs ++ ys) old new result
+gives_behind xs ys old mid new (Ok done) first later gives = record {
+  ok = appends_both old.held mid.held new.held xs ys first gives.ok;
+  err = tt;
+  cause = record { later = omega (arith, gives.cause.later); failed = tt };
+}
+gives_behind xs ys old mid new (Err e) first later gives = record {
+  ok = tt;
+  err = let front = gives.err in
+      (xs ++ front.0, (front.1.0, append_assoc xs front.0 front.1.0 ∙ ap (λ zs. xs ++ zs) front.1.1), appends_both old.held mid.held new.held xs front.0 first front.2);
+  cause = record { later = omega (arith, gives.cause.later); failed = omega (arith, gives.cause.failed) };
+}
+
+-- a longer text, of which giving the first part failed
+pub gives_failed : {E F : Type 0} (xs rest : List ℕ) (old new : SinkState) (e : E) (f : F)
+    → Gives xs old new (Err e) → Gives (xs ++ rest) old new (Err f)
+gives_failed xs rest old new e f gives = record {
+  ok = tt;
+  err = let front = gives.err in
+      (front.0, (front.1.0 ++ rest, sym (append_assoc front.0 front.1.0 rest) ∙ ap (λ zs. zs ++ rest) front.1.1), front.2);
+  cause = record { later = gives.cause.later; failed = gives.cause.failed };
+}
+
+-- the same text, written in another way
+pub gives_same : {E : Type 0} (xs ys : List ℕ) (old new : SinkState) (result : Result Unit E)
+    → xs ≡ ys → Gives xs old new result → Gives ys old new result
+gives_same xs ys old new result same gives = subst (λ text. Gives text old new result) same gives
+
+-- a line is its parts and LF
+pub line-pieces : (pieces : List Piece) → line (map piece_text pieces) ≡ pieces_text pieces ++ 10 ∷ []
+line-pieces [] = refl
+line-pieces (piece ∷ pieces) =
+    ap (λ zs. piece_text piece ++ zs) (line-pieces pieces) ∙ sym (append_assoc (piece_text piece) (pieces_text pieces) (10 ∷ []))
+    ∙ ap (λ zs. zs ++ 10 ∷ []) (sym (flat_map-cons piece_text piece pieces))
+
+-- the parts up to one, that one, and those behind it
+pub pieces_more : (pieces : List Piece) (i : ℕ) (d : Piece) → i < length pieces
+    → pieces_text (take (i + 1) pieces) ≡ pieces_text (take i pieces) ++ piece_text (get_or pieces i d)
+pieces_more pieces i d within =
+    ap pieces_text (ap (λ n. take n pieces) (add-one i) ∙ take-suc pieces i d within) ∙ flat_map-append piece_text (take i pieces) (get_or pieces i d ∷ [])
+    ∙ ap (λ last. pieces_text (take i pieces) ++ last) (append-nil (piece_text (get_or pieces i d)))
+
+pub pieces_around : (pieces : List Piece) (i : ℕ) (d : Piece) → i < length pieces
+    → pieces_text pieces ≡ pieces_text (take i pieces) ++ (piece_text (get_or pieces i d) ++ pieces_text (drop (i + 1) pieces))
+pieces_around pieces i d within =
+    sym (ap pieces_text (take-append-drop (i + 1) pieces)) ∙ flat_map-append piece_text (take (i + 1) pieces) (drop (i + 1) pieces)
+    ∙ ap (λ front. front ++ pieces_text (drop (i + 1) pieces)) (pieces_more pieces i d within)
+    ∙ append_assoc (pieces_text (take i pieces)) (piece_text (get_or pieces i d)) (pieces_text (drop (i + 1) pieces))

@@ -1,0 +1,100 @@
+-- The command `record OUT`.
+use Rattle.std.specs.Prelude.{ℕ, ◌≡◌, ◌+◌, ◌≤◌, ◌<◌, List, [], ◌∷◌, ◌++◌, length, codes, slice_get, Option, Some, None, IfSome, is_some}
+use Rattle.std.specs.Fmt.{decimal}
+use mathlib.Core.List.{IsPrefix}
+use Rattle.mdf_format.specs.Cause.{Rose}
+use Rattle.mdf_disk.specs.State.{DiskState, state_of}
+use Rattle.book_owned.specs.Members.{DiskOf}
+use Rattle.mdf_layout.specs.Record.{cost_of, history_cost}
+use Rattle.mdf_layout.specs.declared.sample.Sample.{Sample}
+use Rattle.mdf_gate.specs.Carried.{IsCarried}
+use Rattle.book_owned.specs.Marks.{durable, AreRising}
+use Rattle.book_owned.specs.Kept.{MarksHold, StartHolds}
+use Rattle.book_owned.specs.declared.mark.Mark.{Mark}
+use Rattle.acq_script.specs.Tasks.{samples_of}
+use Rattle.acq_script.specs.declared.script.Plan.{Plan}
+use Rattle.acq_script.specs.declared.script.Script.{Script}
+use Rattle.acq_script.specs.declared.script.Task.{Task}
+use Rattle.mdf_run.specs.Texts.{line}
+use Rattle.mdf_run.specs.Faults.{fault_line, fault_status}
+use Rattle.mdf_run.specs.Drive.{AreMarked}
+use Rattle.mdf_run.specs.declared.fault.Fault.{Fault}
+use Rattle.mdf_run.specs.declared.fault.Fault.TheVariants as fault
+use Rattle.mdf_run.specs.declared.record.RecordEnd.{RecordEnd}
+use Rattle.mdf_run.specs.declared.record.RecordEnd.TheVariants.{Refused, Closed}
+
+-- the lines on the recording
+abbrev pub summary_text : ℕ → ℕ → List ℕ
+summary_text accepted durable =
+    line (codes "source 0 accepted " ∷ decimal accepted ∷ []) ++ line (codes "samples " ∷ decimal accepted ∷ codes " durable " ∷ decimal durable ∷ [])
+
+abbrev pub fault_text : Option Fault → List ℕ
+fault_text None = []
+fault_text (Some fault) = fault_line fault
+
+abbrev pub fault_code : Option Fault → ℕ
+fault_code None = 0
+fault_code (Some fault) = fault_status fault
+
+abbrev pub record_text : RecordEnd → List ℕ
+record_text (Refused fault) = fault_line fault
+record_text (Closed accepted durable fault) = summary_text accepted durable ++ fault_text fault
+
+abbrev pub record_status : RecordEnd → ℕ
+record_status (Refused fault) = fault_status fault
+record_status (Closed accepted durable fault) = fault_code fault
+
+-- what a recording leaves: its disk, as that tells it, the samples that were accepted, in order, and the marks
+pub record Outcome : Type 0 where
+  pub disk : DiskState
+  pub history : List Sample
+  pub marks : List Mark
+
+-- that of a disk, some samples and some marks. In a clause of code that is generic in C: Disk it is `outcome C.Disk out history marks`
+abbrev pub outcome : {C : Type 0} → DiskOf C → C → List Sample → List Mark → Outcome
+outcome tells out history marks = record { disk = state_of tells out; history = history; marks = marks }
+
+-- All that was accepted is durable, and the file, where its disk tells it, carries just that.
+pub record IsSaved (plan : Plan) (left : Outcome) : Type 0 where
+  pub all_durable : durable left.marks ≡ length left.history
+  pub holds : IfSome left.disk.content (λ file. IsCarried plan.shapes file left.history)
+
+-- The whole script was recorded and saved, each flush has its mark, and the samples cost no more than the session limit.
+pub record IsComplete (plan : Plan) (tasks : List Task) (left : Outcome) : Type 0 where
+  pub history_is : left.history ≡ samples_of tasks
+  pub flush_lines : AreMarked (λ n. Unit {0}) tasks 0 left.marks
+  pub cost : history_cost plan.shapes left.history ≤ plan.session
+  pub saved : IsSaved plan left
+
+-- The next sample would have passed the session limit, and all before it is saved.
+pub record IsFull (plan : Plan) (tasks : List Task) (left : Outcome) (held size limit : ℕ) : Type 0 where
+  pub sample : Sample
+  pub next : slice_get (samples_of tasks) (length left.history) ≡ Some sample
+  pub held_is : held ≡ history_cost plan.shapes left.history
+  pub size_is : size ≡ cost_of plan.shapes sample
+  pub limit_is : limit ≡ plan.session
+  pub over : limit < held + size
+  pub saved : IsSaved plan left
+
+-- How a recording that was begun ends, where the disk's count of faults was `faults` before: all was done, the disk failed,
+-- the session is full, or memory was wanted. All that was accepted is saved but where the disk failed.
+abbrev pub CloseComes : Plan → List Task → ℕ → Outcome → Option Fault → Type 0
+CloseComes plan tasks faults left None = IsComplete plan tasks left
+CloseComes plan tasks faults left (Some (fault.Gate refused)) = ⊥
+CloseComes plan tasks faults left (Some fault.Source) = ⊥
+CloseComes plan tasks faults left (Some fault.Device) = Rose faults left.disk.faults
+CloseComes plan tasks faults left (Some (fault.InputOver size limit)) = ⊥
+CloseComes plan tasks faults left (Some (fault.ScriptOver limit)) = ⊥
+CloseComes plan tasks faults left (Some (fault.SessionFull held size limit)) = IsFull plan tasks left held size limit
+CloseComes plan tasks faults left (Some fault.Memory) = IsSaved plan left
+CloseComes plan tasks faults left (Some (fault.Script number)) = ⊥
+
+-- What a recording of this script keeps, whatever happened: of its marks, of what a crash since its start may leave, and of
+-- the samples and the flushes of its source.
+pub record IsRecorded (script : Script) (tasks : List Task) (head : List ℕ) (start : ℕ) (left : Outcome) : Type 0 where
+  pub one : script.lists ≡ tasks ∷ []
+  pub marks_hold : MarksHold script.plan.shapes head left.disk.story left.disk.moment left.history left.marks
+  pub start_holds : StartHolds script.plan.shapes head left.disk.story start left.history
+  pub marks_rise : AreRising (is_some left.disk.story) left.marks
+  pub own_prefix : IsPrefix left.history (samples_of tasks)
+  pub flush_lines : AreMarked (λ n. n < length left.history) tasks 0 left.marks

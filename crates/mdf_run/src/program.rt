@@ -1,0 +1,174 @@
+ghost use Rattle.std.specs.Prelude.{◌≡◌, ◌↔◌, ◌⊎◌, ◌<◌, List, ℕ, [], length, None, is_some};
+ghost use mathlib.Core.List.{IsPrefix};
+ghost use Rattle.mdf_format.specs.Cause.{Rose};
+ghost use Rattle.mdf_port.specs.State.{sink_state, source_state};
+ghost use Rattle.mdf_disk.specs.State.{state_of};
+ghost use Rattle.book_owned.specs.Kept.{MarksHold, StartHolds};
+ghost use Rattle.book_owned.specs.Marks.{AreRising};
+ghost use Rattle.acq_script.specs.Tasks.{samples_of};
+ghost use Rattle.mdf_run.specs.Words.{AsksOpened, AsksRecord, AsksInput, AsksOutput, IsUsage};
+ghost use Rattle.mdf_run.specs.Texts.{Prints, usage_line};
+ghost use Rattle.mdf_run.specs.Opened.{EndsOpened};
+ghost use Rattle.mdf_run.specs.Drive.{AreMarked};
+ghost use Rattle.mdf_run.specs.Head.{plain_head};
+ghost use Rattle.mdf_run.specs.Record.{IsComplete, outcome};
+ghost use Rattle.mdf_run.specs.Recorded.{EndsRecord};
+ghost use Rattle.mdf_run.specs.Kept.{OfRecording, IsDone};
+
+use crate::command::{Command, command_of};
+use crate::gate::Gate;
+use crate::opened::run_opened;
+use crate::record::{Recorded, run_record};
+use crate::report::Piece::Text;
+use crate::report::{give_line, status_after};
+use book_owned::Marks;
+use mdf_disk::Disk;
+use mdf_layout::Samples;
+use mdf_num::{Bytes, Rows};
+use mdf_port::{Sink, Source};
+use std::alloc::Global;
+use std::sync::Wait;
+use std::thread::Threads;
+
+/// What is printed where the words are no command. It names the commands that are not built yet too.
+const USAGE: &[u8] =
+    b"usage: opened IN | record OUT | finalize IN OUT | check IN | info IN | sort IN OUT | cut IN OUT FROM TO | concat A B OUT | export IN GROUP | gen N OUT";
+
+/// Prints the usage line.
+fn run_usage<K: Sink>(sink: &mut K) -> u8
+    ensures { Prints usage_line 1 (sink_state K.Sink sink.old) (sink_state K.Sink sink.new) result }
+{
+    let given = give_line(sink, &[Text(USAGE)]);
+    status_after(given, 1)
+}
+
+/// How a run ended: the program's status, and the disks that were handed in, as the run left them.
+#[derive(Drop)]
+pub struct Finished<A, C> {
+    pub status: u8,
+    pub first: A,
+    pub out: C,
+    /// The samples that a recording accepted, in order, and its marks; both empty for the other commands.
+    pub history: Samples,
+    pub marks: Marks,
+}
+
+/// What a command other than a recording leaves.
+fn without_recording<A, C>(alloc: Global, status: u8, first: A, out: C) -> Finished<A, C>
+    ensures status { result.status ≡ status }
+    ensures first { result.first ≡ first }
+    ensures out { result.out ≡ out }
+    ensures history { result.history.items ≡ [] }
+    ensures marks { result.marks.items ≡ [] }
+{
+    Finished {
+        status,
+        first,
+        out,
+        history: Samples::empty(alloc),
+        marks: Marks::empty(alloc),
+    }
+}
+
+/// Runs the command that the words name.
+///
+/// `now_ns` is the time in nanoseconds since 1970. The input file is read on `first`, a second one on `second`; a file
+/// is made on `out`. Nothing was asked of these disks before.
+pub fn run<R, S, K, A, B, C, G>(
+    rt: &R,
+    alloc: Global,
+    words: &Rows<Bytes>,
+    now_ns: u64,
+    source: &mut S,
+    sink: &mut K,
+    first: A,
+    _second: &mut B,
+    out: C,
+    gate: &G,
+) -> Finished<A, C>
+where
+    R: Threads + Wait + Sync,
+    S: Source,
+    K: Sink,
+    A: Disk,
+    B: Disk,
+    C: Disk + Send,
+    G: Gate + Sync,
+    requires first { A.asked first ≡ None }
+    requires second { B.asked _second.old ≡ None }
+    requires out { C.asked out ≡ None }
+
+    // What each command prints and how it ends.
+    ensures usage { (result.status ≡ 1) ↔ IsUsage words.now }
+    ensures usage_printed { IsUsage words.now
+        → Prints usage_line 1 (sink_state K.Sink sink.old) (sink_state K.Sink sink.new) result.status }
+    ensures opened { (input : List ℕ) → AsksOpened words.now input
+        → EndsOpened (state_of A.Disk first) (state_of A.Disk result.first)
+        (sink_state K.Sink sink.old) (sink_state K.Sink sink.new) result.status }
+    ensures record { (name : List ℕ) → AsksRecord words.now name
+        → EndsRecord (source_state S.Source source.old) (source_state S.Source source.new) name now_ns (state_of C.Disk out)
+        (outcome C.Disk result.out result.history.items result.marks.items)
+        (sink_state K.Sink sink.old) (sink_state K.Sink sink.new) result.status }
+
+    // What a recording keeps, whatever happens: of each crash, of the marks, of the samples of its source and of its
+    // flushes; and what it has done where the status is 0, or 6.
+    ensures marks_hold { OfRecording words.now (S.left source.old) (λ script _. MarksHold script.plan.shapes (plain_head now_ns)
+        (C.story result.out) (C.moment result.out) result.history.items result.marks.items) }
+    ensures start_holds { OfRecording words.now (S.left source.old) (λ script _. StartHolds script.plan.shapes (plain_head now_ns)
+        (C.story result.out) (C.moment out) result.history.items) }
+    ensures marks_rise { OfRecording words.now (S.left source.old) (λ _ _.
+        (result.marks.items ≡ []) ⊎ AreRising (is_some (C.story result.out)) result.marks.items) }
+    ensures own_prefix { OfRecording words.now (S.left source.old) (λ _ tasks. IsPrefix result.history.items (samples_of tasks)) }
+    ensures flush_lines { OfRecording words.now (S.left source.old) (λ _ tasks.
+        AreMarked (λ n. n < length result.history.items) tasks 0 result.marks.items) }
+    ensures complete { OfRecording words.now (S.left source.old) (λ script tasks. IsDone result.status
+        → IsComplete script.plan tasks (outcome C.Disk result.out result.history.items result.marks.items)) }
+
+    // Another command has no history and no marks, and takes nothing from the source.
+    ensures no_history { ((name : List ℕ) → ¬ AsksRecord words.now name) → result.history.items ≡ [] }
+    ensures no_marks { ((name : List ℕ) → ¬ AsksRecord words.now name) → result.marks.items ≡ [] }
+    ensures source { ((name : List ℕ) → ¬ AsksRecord words.now name) → source.new ≡ source.old }
+
+    // A status that speaks of a disk, of the source or of the sink comes only where that has failed.
+    ensures source_fault { result.status ≡ 2 → Rose (S.faults source.old) (S.faults source.new) }
+    ensures device_fault { result.status ≡ 4 → Rose (A.faults first) (A.faults result.first) ⊎ Rose (C.faults out) (C.faults result.out) }
+    ensures sink_fault { result.status ≡ 6 → Rose (K.faults sink.old) (K.faults sink.new) }
+
+    // The disks: only the input and the output that the words name are asked for, the one to be read and the other to be
+    // made; no content of an input changes, and a disk that is asked for nothing is as before.
+    ensures input { AsksInput words.now (A.asked result.first) }
+    ensures input_content { A.content result.first ≡ A.content first }
+    ensures input_untouched { A.asked result.first ≡ None → result.first ≡ first }
+    ensures second { _second.new ≡ _second.old }
+    ensures output { AsksOutput words.now (C.asked result.out) }
+    ensures output_untouched { C.asked result.out ≡ None → result.out ≡ out }
+    ensures out { ((name : List ℕ) → ¬ AsksRecord words.now name) → result.out ≡ out }
+{
+    match command_of(words) {
+        Some(Command::Opened { input }) => {
+            let mut first = first;
+            let status = run_opened(alloc, input, sink, &mut first);
+            without_recording(alloc, status, first, out)
+        }
+        Some(Command::Record { output }) => {
+            let (status, recorded) = run_record(rt, alloc, output, now_ns, source, sink, out, gate);
+            let Recorded {
+                end: _,
+                out,
+                history,
+                marks,
+            } = recorded;
+            Finished {
+                status,
+                first,
+                out,
+                history,
+                marks,
+            }
+        }
+        None => {
+            let status = run_usage(sink);
+            without_recording(alloc, status, first, out)
+        }
+    }
+}

@@ -1,0 +1,475 @@
+ghost use Rattle.std.specs.Prelude.{◌≡◌, None, IfOk};
+
+use crate::recordings::{Part, recording};
+use book_owned::Marks;
+use mdf_disk::{Disk, MemoryDisk, Role};
+use mdf_num::{Bytes, Failed, FaultCount, Numbers, Rows};
+use mdf_port::{MemorySink, MemorySource};
+use mdf_run::{Finished, Open, run};
+use std::alloc::Global;
+use std::sync::Wait;
+use std::test::Fail;
+use std::thread::Threads;
+
+/// What a run is given: the command words, the text at the source, and which calls of the source and of the sink fail.
+#[derive(Clone, Copy)]
+struct Given {
+    words: &'static [&'static str],
+    script: &'static str,
+    broken: &'static [u64],
+    failing: &'static [u64],
+}
+
+/// What a run left, and what it printed.
+#[derive(Drop)]
+struct Ended<A> {
+    finished: Finished<A, MemoryDisk>,
+    sink: MemorySink,
+}
+
+fn words(alloc: Global, texts: &[&str]) -> Result<Rows<Bytes>, Fail> {
+    let mut words = Rows::empty(alloc);
+    for text in texts {
+        words.push(Bytes::from_slice(alloc, text.as_bytes())?)?;
+    }
+    Ok(words)
+}
+
+fn numbers(alloc: Global, items: &[u64]) -> Result<Numbers, Fail> {
+    let mut numbers = Numbers::empty(alloc);
+    for item in items {
+        numbers.push(*item)?;
+    }
+    Ok(numbers)
+}
+
+fn source_of(alloc: Global, given: Given) -> Result<MemorySource, Fail> {
+    let broken = numbers(alloc, given.broken)?;
+    let script = Bytes::from_slice(alloc, given.script.as_bytes())?;
+    Ok(MemorySource::new(script, broken))
+}
+
+/// Runs what is given over these disks.
+fn ended<R, A>(rt: &R, given: Given, first: A, out: MemoryDisk) -> Result<Ended<A>, Fail>
+where
+    R: AllocGlobal + Threads + Wait + Sync,
+    A: Disk + Drop,
+    requires first { A.asked first ≡ None }
+    requires out { ⟦<MemoryDisk as Disk>⟧.asked out ≡ None }
+{
+    let alloc = rt.alloc();
+    let words = words(alloc, given.words)?;
+    let mut source = source_of(alloc, given)?;
+    let mut sink = MemorySink::new(alloc, numbers(alloc, given.failing)?);
+    let mut second = MemoryDisk::new(alloc);
+    let finished = run(
+        rt,
+        alloc,
+        &words,
+        0,
+        &mut source,
+        &mut sink,
+        first,
+        &mut second,
+        out,
+        &Open,
+    );
+    Ok(Ended { finished, sink })
+}
+
+/// The status and the printed text.
+fn line<A>(alloc: Global, ended: &Ended<A>) -> Result<String, Fail> {
+    let status = ended.finished.status;
+    let text = str::from_utf8(ended.sink.bytes())?;
+    Ok(format!(in alloc; "{status} {text}")?)
+}
+
+/// The number of samples of each mark.
+fn throughs(alloc: Global, marks: &Marks) -> Result<Numbers, Fail> {
+    let mut throughs = Numbers::empty(alloc);
+    for mark in marks.rest(0) {
+        throughs.push(mark.through)?;
+    }
+    Ok(throughs)
+}
+
+/// That line; how many bytes the file that was made has, and how many samples were accepted; and how many samples each
+/// mark has.
+fn record_line<A>(alloc: Global, ended: &Ended<A>) -> Result<String, Fail> {
+    let line = line(alloc, ended)?;
+    let length = ended.finished.out.bytes().len();
+    let accepted = ended.finished.history.len();
+    let marks = throughs(alloc, &ended.finished.marks)?;
+    let marks = marks.as_slice();
+    Ok(format!(in alloc; "{line}file {length} history {accepted} marks {marks:?}")?)
+}
+
+fn told<R, A>(rt: &R, given: Given, first: A) -> Result<String, Fail>
+where
+    R: AllocGlobal + Threads + Wait + Sync,
+    A: Disk + Drop,
+    requires { A.asked first ≡ None }
+{
+    let alloc = rt.alloc();
+    let ended = ended(rt, given, first, MemoryDisk::new(alloc))?;
+    line(alloc, &ended)
+}
+
+fn record_told<R>(rt: &R, given: Given, out: MemoryDisk) -> Result<String, Fail>
+where
+    R: AllocGlobal + Threads + Wait + Sync,
+    requires { ⟦<MemoryDisk as Disk>⟧.asked out ≡ None }
+{
+    let alloc = rt.alloc();
+    let ended = ended(rt, given, MemoryDisk::new(alloc), out)?;
+    record_line(alloc, &ended)
+}
+
+const fn opened(failing: &'static [u64]) -> Given {
+    Given {
+        words: &["opened", "in.mf4"],
+        script: "",
+        broken: &[],
+        failing,
+    }
+}
+
+const fn record(script: &'static str, broken: &'static [u64], failing: &'static [u64]) -> Given {
+    Given {
+        words: &["record", "out.mf4"],
+        script,
+        broken,
+        failing,
+    }
+}
+
+/// A disk that holds so many bytes of the recording of two blocks, with this part put in, and fails at these calls.
+fn two_blocks(
+    alloc: Global,
+    length: usize,
+    change: Part,
+    failing: &[u64],
+) -> Result<MemoryDisk, Fail>
+    ensures { IfOk result (λ disk. ⟦<MemoryDisk as Disk>⟧.asked disk ≡ None) }
+{
+    let failing = numbers(alloc, failing)?;
+    let file = recording(alloc, length, change)?;
+    let mut disk = MemoryDisk::holding(alloc, Bytes::from_vec(file));
+    disk.fail_at(failing);
+    Ok(disk)
+}
+
+// The length of the recording of two blocks and the part that is put into it; which calls of its disk and of the sink
+// fail; the status and what is printed.
+const OPENED: [(usize, Part, &[u64], &[u64], &str); 14] = [
+    (233, (232, b"\0"), &[], &[], "0 blocks 0 bytes 0\n"),
+    (313, (0, b""), &[], &[], "0 blocks 2 bytes 26\n"),
+    (313, (272, b"\""), &[], &[], "0 blocks 1 bytes 10\n"),
+    (312, (0, b""), &[], &[], "0 blocks 2 bytes 26\n"),
+    (313, (0, b"\0"), &[], &[], "3 not MDF\n"),
+    (313, (274, b"X"), &[], &[], "3 block at 272 is not ##DT\n"),
+    (313, (28, b"\xA4"), &[], &[], "3 version 420\n"),
+    (313, (62, b"\x02"), &[], &[], "3 not a recording 33 2\n"),
+    (313, (0, b""), &[0], &[], "4 device fault\n"),
+    (313, (0, b""), &[1], &[], "4 device fault\n"),
+    (313, (0, b""), &[2], &[], "4 device fault\n"),
+    (313, (0, b""), &[], &[0], "6 "),
+    (313, (0, b""), &[], &[3], "6 blocks 2 bytes "),
+    (0, (0, b""), &[], &[0], "3 "),
+];
+
+#[test]
+fn opened_prints_its_line(rt: HostRuntime) -> Result<(), Fail> {
+    for (length, change, faults, failing, want) in OPENED {
+        let first = two_blocks(rt.alloc(), length, change, faults)?;
+        let text = told(&rt, opened(failing), first)?;
+        assert_eq!(rt; text.as_str(), want);
+    }
+    Ok(())
+}
+
+const USAGE: &str =
+    "1 usage: opened IN | record OUT | finalize IN OUT | check IN | info IN | sort IN OUT | cut IN OUT FROM TO | concat A B OUT | export IN GROUP | gen N OUT\n";
+
+// Words that are no command.
+const WRONG: [&[&str]; 8] = [
+    &[],
+    &["frob"],
+    &["opened"],
+    &["opened", "a", "b"],
+    &["record"],
+    &["record", "a", "b"],
+    &["Record", "a"],
+    &["", "a"],
+];
+
+#[test]
+fn wrong_words_print_the_usage(rt: HostRuntime) -> Result<(), Fail> {
+    for words in WRONG {
+        let given = Given {
+            words,
+            ..opened(&[])
+        };
+        let text = told(&rt, given, MemoryDisk::new(rt.alloc()))?;
+        assert_eq!(rt; text.as_str(), USAGE);
+    }
+    Ok(())
+}
+
+/// A disk whose file is one byte over the limit of an input, and can't be read.
+#[derive(Drop)]
+struct Large {
+    asked: Option<(Bytes, Role)>,
+    faults: FaultCount,
+}
+
+impl Disk for Large {
+    ghost use Rattle.std.specs.Prelude.{None, is_some};
+    ghost use Rattle.std.proofs.Common.{rules};
+
+    ghost asked = { λ d. d.asked };
+
+    ghost attached = { λ d. is_some d.asked };
+
+    ghost content = { λ _. None };
+
+    ghost story = { λ _. None };
+
+    ghost moment = { λ _. 0 };
+
+    ghost faults = { λ d. d.faults };
+
+    ghost agrees = { λ _. tt };
+
+    ghost unasked = { λ d none. Prim.search rules };
+
+    ghost unattached = { λ _ _. tt };
+
+    fn attach(&mut self, name: Bytes, role: Role) -> Result<(), Failed> {
+        self.asked = Some((name, role));
+        Ok(())
+    }
+
+    fn size(&mut self) -> Result<u64, Failed> {
+        Ok(536_870_913)
+    }
+
+    fn read_at(&mut self, _at: u64, _buf: &mut [u8]) -> Result<(), Failed> {
+        Err(self.faults.fail())
+    }
+
+    fn write_at(&mut self, _at: u64, _bytes: &[u8]) -> Result<(), Failed> {
+        Err(self.faults.fail())
+    }
+
+    fn sync(&mut self) -> Result<(), Failed> {
+        Err(self.faults.fail())
+    }
+
+    fn moment(&self) -> u64 {
+        0
+    }
+
+    fn faults(&self) -> u64 {
+        self.faults.get()
+    }
+}
+
+#[test]
+fn an_input_over_the_limit_is_refused(rt: HostRuntime) -> Result<(), Fail> {
+    let first = Large {
+        asked: None,
+        faults: FaultCount::zero(),
+    };
+    let text = told(&rt, opened(&[]), first)?;
+    assert_eq!(rt; text.as_str(), "5 input over 536870913 536870912\n");
+    Ok(())
+}
+
+// Three samples of one channel, with a flush after the second.
+const COUNTING: &str = "group 0 g\nchannel t u64 master\nbegin\n0 1\n0 2\n! 0\n0 3\nend\n";
+
+// A script; which calls of the source, of the disk and of the sink fail; the status and what is printed, with what is
+// left. The head and its closed gate are 233 bytes, the first block with its closed gate 48 more, the second 40.
+const RECORDED: [(&str, &[u64], &[u64], &[u64], &str); 17] = [
+    (
+        COUNTING,
+        &[],
+        &[],
+        &[],
+        "0 source 0 accepted 3\nsamples 3 durable 3\nfile 321 history 3 marks [0, 2, 3]",
+    ),
+    (
+        COUNTING,
+        &[0],
+        &[],
+        &[],
+        "2 source fault\nfile 0 history 0 marks []",
+    ),
+    (
+        COUNTING,
+        &[1],
+        &[],
+        &[],
+        "2 source fault\nfile 0 history 0 marks []",
+    ),
+    (
+        "group 0 g\ngroup 0 g\n",
+        &[],
+        &[],
+        &[],
+        "8 script line 2\nfile 0 history 0 marks []",
+    ),
+    (
+        COUNTING,
+        &[],
+        &[0],
+        &[],
+        "4 device fault\nfile 0 history 0 marks []",
+    ),
+    (
+        COUNTING,
+        &[],
+        &[8],
+        &[],
+        "4 source 0 accepted 2\nsamples 2 durable 0\ndevice fault\nfile 233 history 2 marks [0]",
+    ),
+    (
+        COUNTING,
+        &[],
+        &[12],
+        &[],
+        "4 source 0 accepted 3\nsamples 3 durable 2\ndevice fault\nfile 281 history 3 marks [0, 2]",
+    ),
+    (COUNTING, &[], &[8], &[0], "4 file 233 history 2 marks [0]"),
+    (
+        COUNTING,
+        &[],
+        &[],
+        &[0],
+        "6 file 321 history 3 marks [0, 2, 3]",
+    ),
+    (
+        COUNTING,
+        &[],
+        &[],
+        &[1],
+        "6 source 0 accepted file 321 history 3 marks [0, 2, 3]",
+    ),
+    (
+        COUNTING,
+        &[],
+        &[],
+        &[2],
+        "6 source 0 accepted 3file 321 history 3 marks [0, 2, 3]",
+    ),
+    (
+        COUNTING,
+        &[],
+        &[],
+        &[3],
+        "6 source 0 accepted 3\nfile 321 history 3 marks [0, 2, 3]",
+    ),
+    (
+        COUNTING,
+        &[],
+        &[],
+        &[4],
+        "6 source 0 accepted 3\nsamples file 321 history 3 marks [0, 2, 3]",
+    ),
+    (
+        COUNTING,
+        &[],
+        &[],
+        &[5],
+        "6 source 0 accepted 3\nsamples 3file 321 history 3 marks [0, 2, 3]",
+    ),
+    (
+        COUNTING,
+        &[],
+        &[],
+        &[6],
+        "6 source 0 accepted 3\nsamples 3 durable file 321 history 3 marks [0, 2, 3]",
+    ),
+    (
+        COUNTING,
+        &[],
+        &[],
+        &[7],
+        "6 source 0 accepted 3\nsamples 3 durable 3file 321 history 3 marks [0, 2, 3]",
+    ),
+    ("", &[], &[], &[0], "8 file 0 history 0 marks []"),
+];
+
+fn failing_disk(alloc: Global, failing: &[u64]) -> Result<MemoryDisk, Fail>
+    ensures { IfOk result (λ disk. ⟦<MemoryDisk as Disk>⟧.asked disk ≡ None) }
+{
+    let failing = numbers(alloc, failing)?;
+    let mut disk = MemoryDisk::new(alloc);
+    disk.fail_at(failing);
+    Ok(disk)
+}
+
+#[test]
+fn a_script_is_recorded(rt: HostRuntime) -> Result<(), Fail> {
+    for (script, broken, faults, failing, want) in RECORDED {
+        let out = failing_disk(rt.alloc(), faults)?;
+        let text = record_told(&rt, record(script, broken, failing), out)?;
+        assert_eq!(rt; text.as_str(), want);
+    }
+    Ok(())
+}
+
+#[test]
+fn a_taken_name_is_not_recorded_over(rt: HostRuntime) -> Result<(), Fail> {
+    let alloc = rt.alloc();
+    let taken = MemoryDisk::holding(alloc, Bytes::from_slice(alloc, b"taken")?);
+    let text = record_told(&rt, record(COUNTING, &[], &[]), taken)?;
+    let want = "4 device fault\nfile 5 history 0 marks []";
+    assert_eq!(rt; text.as_str(), want);
+    Ok(())
+}
+
+/// The bytes of that recording.
+fn recorded<R>(rt: &R) -> Result<Bytes, Fail>
+where
+    R: AllocGlobal + Threads + Wait + Sync,
+{
+    let alloc = rt.alloc();
+    let (first, out) = (MemoryDisk::new(alloc), MemoryDisk::new(alloc));
+    let ended = ended(rt, record(COUNTING, &[], &[]), first, out)?;
+    Ok(Bytes::from_slice(alloc, ended.finished.out.bytes())?)
+}
+
+// The two blocks of that recording, and the closed place behind them.
+const COUNTED: [Part; 7] = [
+    (232, b"##DT\0\0\0\0\x2A\0\0\0\0\0\0\0"),
+    (256, b"\x01\x01\0\0\0\0\0\0\0"),
+    (265, b"\x01\x02\0\0\0\0\0\0\0"),
+    (274, b"\0\0\0\0\0\0"),
+    (280, b"##DT\0\0\0\0\x21\0\0\0\0\0\0\0"),
+    (304, b"\x01\x03\0\0\0\0\0\0\0"),
+    (313, b"\0\0\0\0\0\0\0\0"),
+];
+
+/// Whether the part stands in the file.
+fn stands(file: &[u8], (at, part): Part) -> bool {
+    at <= file.len() && file[at..].starts_with(part)
+}
+
+#[test]
+fn a_recording_has_its_blocks(rt: HostRuntime) -> Result<(), Fail> {
+    let file = recorded(&rt)?;
+    for (at, part) in COUNTED {
+        assert!(rt; stands(file.as_slice(), (at, part)), "at {at}");
+    }
+    Ok(())
+}
+
+#[test]
+fn a_recording_is_opened(rt: HostRuntime) -> Result<(), Fail> {
+    let first = MemoryDisk::holding(rt.alloc(), recorded(&rt)?);
+    let text = told(&rt, opened(&[]), first)?;
+    assert_eq!(rt; text.as_str(), "0 blocks 2 bytes 27\n");
+    Ok(())
+}
