@@ -10,6 +10,7 @@ use Rattle.mdf_layout.specs.Layout.{Layout}
 use Rattle.mdf_layout.specs.Record.{AreRecords}
 use Rattle.mdf_layout.specs.declared.sample.Sample.{Sample}
 use Rattle.mdf_layout.proofs.Records.{are_records-append, no_records}
+use Rattle.mdf_layout.proofs.WordsRead.{records_read}
 use Rattle.mdf_gate.specs.Recording.{IsOpened}
 use Rattle.mdf_gate.specs.Images.{IsNotMdf, IsBegun, OpensEither}
 use Rattle.mdf_gate.specs.Carried.{Carries, IsCarried}
@@ -61,7 +62,7 @@ module _ (layouts : List Layout) (head : List ℕ) where
   carries_opened history samples blocks file begins opened records beginning = record {
     begins = begins;
     samples = samples;
-    carried = record { blocks = blocks; opened = opened; records = records };
+    carried = record { blocks = blocks; opened = opened; records = records_read layouts (concat blocks) samples records };
     beginning = beginning;
     enough = omega arith;
   }
@@ -97,4 +98,4 @@ pub rests_carry : (layouts : List Layout) (content : Option (List ℕ)) (story :
     → RestsOn content story first blocks place → AreRecords layouts (concat blocks) samples → IfSome content (λ file. IsCarried layouts file samples)
 rests_carry layouts None story first place blocks samples rests records = tt
 rests_carry layouts (Some file) story first place blocks samples rests records =
-    record { blocks = blocks; opened = (rests_opens first blocks place file rests.rests).1; records = records }
+    record { blocks = blocks; opened = (rests_opens first blocks place file rests.rests).1; records = records_read layouts (concat blocks) samples records }

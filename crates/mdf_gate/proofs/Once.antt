@@ -4,9 +4,9 @@ use Rattle.std.proofs.lemmas.List.{get_or-take, get_or-drop}
 use Rattle.std.specs.List.{concat}
 use Rattle.mdf_format.specs.Recording.{IsOpenPlace, IsUnit, AreUnits, unit_data, next_place}
 use Rattle.mdf_layout.specs.Layout.{Layout}
-use Rattle.mdf_layout.specs.Record.{AreRecords}
+use Rattle.mdf_layout.specs.Read.{AreRead}
 use Rattle.mdf_layout.specs.declared.sample.Sample.{Sample}
-use Rattle.mdf_layout.proofs.Records.{records_once}
+use Rattle.mdf_layout.proofs.Pieces.{read_once}
 use Rattle.mdf_gate.specs.Recording.{IsOpened, first_place}
 use Rattle.mdf_gate.specs.Carried.{IsCarried}
 
@@ -38,5 +38,5 @@ opened_once file blocks others (last, one) (last', two) =
 pub carried_once : (layouts : List Layout) (file : List ℕ) (samples others : List Sample) → IsCarried layouts file samples
     → IsCarried layouts file others → samples ≡ others
 carried_once layouts file samples others one two =
-    records_once layouts (concat one.blocks) samples others one.records
-    (subst (λ blocks. AreRecords layouts (concat blocks) others) (sym (opened_once file one.blocks two.blocks one.opened two.opened)) two.records)
+    read_once layouts (concat one.blocks) samples others one.records
+    (subst (λ blocks. AreRead layouts (concat blocks) others) (sym (opened_once file one.blocks two.blocks one.opened two.opened)) two.records)

@@ -3,15 +3,15 @@ use Rattle.std.specs.Prelude.{ℕ, ◌≤◌, List, length}
 use Rattle.std.specs.List.{concat}
 use mathlib.Core.List.{IsPrefix}
 use Rattle.mdf_layout.specs.Layout.{Layout}
-use Rattle.mdf_layout.specs.Record.{AreRecords}
+use Rattle.mdf_layout.specs.Read.{AreRead}
 use Rattle.mdf_layout.specs.declared.sample.Sample.{Sample}
 use Rattle.mdf_gate.specs.Recording.{IsOpened}
 
--- the data of the file's opened blocks, one behind the other, are the records of these samples
+-- the data of the file's opened blocks, one behind the other, are read as records of these samples
 pub record IsCarried (layouts : List Layout) (file : List ℕ) (samples : List Sample) : Type 0 where
   pub blocks : List (List ℕ)
   pub opened : IsOpened file blocks
-  pub records : AreRecords layouts (concat blocks) samples
+  pub records : AreRead layouts (concat blocks) samples
 
 -- the file begins with the head, and carries a beginning of the history with at least so many samples
 pub record Carries (layouts : List Layout) (head : List ℕ) (history : List Sample) (through : ℕ) (file : List ℕ) : Type 0 where

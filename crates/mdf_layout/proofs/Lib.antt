@@ -1,11 +1,16 @@
 mod Puts
 mod Samples
 mod Stays
+mod Apart
 mod RoundTrip
 mod Rules
 mod Numbers
 mod Steps
+mod Later
 mod Once
+pub mod Pieces
+pub mod WordsRead
 pub mod Behind
 pub mod Words
 pub mod Records
+pub mod Encodings

@@ -17,7 +17,7 @@ use Rattle.mdf_layout.specs.declared.sample.Entry.{Entry}
 use Rattle.mdf_layout.specs.declared.sample.Sample.{Sample}
 
 -- two parts of one length at the front of the same bytes, and what is behind them
-part_once : (xs ys more more' : List ℕ) → length xs ≡ length ys → xs ++ more ≡ ys ++ more' → (xs ≡ ys) × (more ≡ more')
+pub part_once : (xs ys more more' : List ℕ) → length xs ≡ length ys → xs ++ more ≡ ys ++ more' → (xs ≡ ys) × (more ≡ more')
 part_once xs ys more more' long same =
     let first : xs ≡ ys = sym (take-append_seam xs more) ∙ ap (take (length xs)) same ∙ ap (λ n. take n (ys ++ more')) long ∙ take-append_seam ys more' in
     (first, append_cancel_left xs more more' (same ∙ ap (λ zs. zs ++ more') (sym first)))

@@ -9,3 +9,4 @@ pub mod Fault
 pub mod Record
 pub mod History
 pub mod Behind
+pub mod Read

@@ -1,5 +1,5 @@
 -- Values written into a record.
-use Rattle.std.specs.Prelude.{ℕ, ◌≡◌, ◌+◌, ◌-◌, ◌*◌, ◌/◌, ◌^◌, ◌<◌, ◌⊎◌, Bool, true, false, if◌then◌else◌, List, length, All, AllPairs, Option, Some, None, is_some}
+use Rattle.std.specs.Prelude.{ℕ, ◌≡◌, ◌+◌, ◌-◌, ◌*◌, ◌/◌, ◌%◌, ◌^◌, ◌<◌, ◌⊎◌, Bool, true, false, if◌then◌else◌, List, length, All, AllPairs, Option, Some, None, is_some}
 use Rattle.std.specs.List.{slice_index_or}
 use Rattle.mdf_format.specs.Field.{Spot, HasBit, bit_of, field_number}
 use Rattle.mdf_bits.specs.Field.{IsSignedOf}
@@ -31,6 +31,17 @@ pub record IsEntryOf (row : FieldRow) (entry : Entry) : Type 0 where
 pub record AreEntriesOf (rows : List FieldRow) (values : List Entry) : Type 0 where
   pub count : length values ≡ length rows
   pub each : (k : ℕ) (row : FieldRow) (entry : Entry) → k < length rows → IsEntryOf (slice_index_or rows k row) (slice_index_or values k entry)
+
+-- a field of whole bytes
+pub record IsWhole (spot : Spot) : Type 0 where
+  pub bit : spot.bit ≡ 0
+  pub bits : spot.bits % 8 ≡ 0
+
+-- two channels have one position of an invalidation bit
+pub record SharesPosition (one other : FieldRow) : Type 0 where
+  pub p : ℕ
+  pub first : one.inval ≡ Some p
+  pub second : other.inval ≡ Some p
 
 -- no bit of a record belongs to both channels, in the data bytes or in the invalidation bytes
 pub record IsApart (row other : FieldRow) : Type 0 where

@@ -7,6 +7,7 @@
 #![tactic(auto)]
 
 mod field;
+mod fitting;
 mod law;
 mod number;
 mod reading;
@@ -19,6 +20,7 @@ mod shapes;
 mod writing;
 
 pub use field::{FieldKind, FieldRow};
+pub use fitting::{are_apart, entries_fit};
 pub use law::records_are_of_one_list;
 pub use reading::{DecodeFault, decode};
 pub use reserved::Reserved;

@@ -75,7 +75,7 @@ pub(crate) fn are_disjoint(rows: &[FieldRow]) -> bool
 }
 
 /// Whether so many bits hold the number.
-fn has_bits(number: u64, bits: u32) -> bool
+pub(crate) fn has_bits(number: u64, bits: u32) -> bool
     ensures { IsTrue result ↔ (number < 2 ^ bits) }
 {
     bits >= 64 || number < 1 << bits

@@ -1,5 +1,6 @@
 // The rules that the channels of a layout keep.
-ghost use Rattle.std.specs.Prelude.{◌≡◌, ◌≢◌, ◌+◌, ◌*◌, ◌^◌, ◌<◌, ◌≤◌, length, slice_get, Some, IfSome, IfNone};
+ghost use Rattle.std.specs.Prelude.{◌≡◌, ◌≢◌, ◌+◌, ◌*◌, ◌^◌, ◌<◌, ◌≤◌, length, slice_get, Some, IfSome, IfNone, All};
+ghost use Rattle.mdf_layout.specs.Values.{IsRowPlaced};
 ghost use Rattle.mdf_format.specs.Field.{covered_size, covered_end, place_of};
 ghost use Rattle.mdf_bits.specs.Field as bits;
 ghost use Rattle.mdf_bits.specs.Field.{bit_within};
@@ -30,7 +31,7 @@ pub(crate) fn row_at(rows: &[FieldRow], k: usize) -> FieldRow
 }
 
 /// How many bits of a record are the channel's.
-fn bits_of(row: FieldRow) -> u64
+pub(crate) fn bits_of(row: FieldRow) -> u64
     ensures { result ≡ bits_in row.kind row.bits }
 {
     match row.kind {
@@ -192,6 +193,7 @@ pub fn first_bad(rows: &[FieldRow], data_bytes: u32, inval_bytes: u32) -> Option
     requires few { length rows.now < 2 ^ 32 }
     ensures bad { IfSome result (IsFirstBad data_bytes inval_bytes rows.now) }
     ensures none { IfNone result (AreRuled data_bytes inval_bytes rows.now (length rows.now)) }
+    ensures placed { IfNone result (All (IsRowPlaced data_bytes inval_bytes) rows.now) }
 {
     for channel in 0..rows.len() {
         if breaks_rule(rows, channel, rows[channel], data_bytes, inval_bytes) {

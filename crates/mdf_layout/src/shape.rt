@@ -139,6 +139,8 @@ impl Shape {
         requires disjoint { AreDisjoint self.now.rows }
         requires fits { EntriesFit self.now.rows values.now }
         requires size { length out.old ≡ record_size self.now }
+        ensures words { All IsWordRow self.now.rows }
+        ensures inside { All (IsInside self.now.data_bytes) self.now.rows }
         ensures values { map (entry_in out.new) self.now.rows ≡ values.now }
         ensures unused { (p : ℕ) → IsUnused self.now.rows p → bit_of out.new p ≡ 0 }
         ensures size { length out.new ≡ record_size self.now }

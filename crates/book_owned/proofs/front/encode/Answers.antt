@@ -12,6 +12,8 @@ returns-clause-record c =
     record {
       layout = c.in-Some.shape.now;
       known = known;
+      words = c.encode.ensures.words;
+      inside = c.encode.ensures.inside;
       content = c.encode.new.out;
       bytes_are = take-put_behind c.args.out.now c.encode.new.out (c.args.sample.now.group + 1) c.record_size.result (1 + c.record_size.result - 1)
           (omega arith) (c.encode.ensures.size ∙ sym c.record_size.ensures.size) (omega (arith, size));
