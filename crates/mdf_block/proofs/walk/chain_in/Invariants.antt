@@ -1,15 +1,12 @@
 use Rattle.std.proofs.Common.{◌≡◌, ◌≤◌, ℕ, List, Some}
-use Rattle.mdf_format.specs.declared.kind.Kind.TheVariants.{Fh}
-use Rattle.mdf_block.specs.declared.what.What.TheVariants as whats
-use Rattle.mdf_block.specs.Chain.{chain, full}
+use Rattle.mdf_block.specs.Chain.{chain}
 use Rattle.mdf_block.proofs.Chains.{with_front}
-use Rattle.mdf_head.specs.Head.{history, histories}
-use Rattle.mdf_head.proofs.chain.histories_in.Given as goal
+use Rattle.mdf_block.proofs.walk.chain_in.Given as goal
 
 abbrev pub invariant-loop-at : goal.invariant-loop-at
 invariant-loop-at g l = record {
   found : (f : List ℕ) → g.P.Span.bytes l.initial.span ≡ Some f
-      → with_front l.rows (chain (history f) (full whats.Fh Fh f) l.room l.at l.left) ≡ histories f l.first l.budget;
+      → with_front l.rows (chain (g.W.Walk.step l.walk f) (g.W.Walk.full l.walk f) l.room l.at l.left) ≡ chain (g.W.Walk.step l.walk f) (g.W.Walk.full l.walk f) l.most l.first l.fn.start;
   same : g.P.Span.bytes l.span ≡ g.P.Span.bytes l.initial.span;
   size : g.P.Span.size l.span ≡ g.P.Span.size l.initial.span;
   later : g.P.Span.faults l.initial.span ≤ g.P.Span.faults l.span;
