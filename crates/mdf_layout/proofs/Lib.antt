@@ -8,6 +8,8 @@ mod Numbers
 mod Steps
 mod Later
 mod Once
+pub mod Found
+pub mod Bridge
 pub mod Pieces
 pub mod WordsRead
 pub mod Behind

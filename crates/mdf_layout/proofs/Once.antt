@@ -54,7 +54,7 @@ values_once id (v ∷ vs) (w ∷ ws) more more' count short short' same =
 abbrev values_in : Layout → ℕ
 values_in layout = length (variables layout.rows)
 
-ids_rise : (layouts : List Layout) (g h : ℕ) (layout : Layout) → slice_get layouts g ≡ Some layout → g < h
+pub ids_rise : (layouts : List Layout) (g h : ℕ) (layout : Layout) → slice_get layouts g ≡ Some layout → g < h
     → first_id layouts g + length (variables layout.rows) ≤ first_id layouts h
 ids_rise layouts g h layout known less =
     let next = sum_by_more values_in layouts g layout (slice_get_within layouts g layout known) in

@@ -16,7 +16,7 @@ use Rattle.mdf_layout.specs.declared.field.FieldRow.{FieldRow}
 use Rattle.mdf_layout.specs.declared.sample.Entry.{Entry}
 
 -- the parts of a list of entries that is defined
-parts : (one : Option Entry) (rest : Option (List Entry)) (entries : List Entry)
+pub parts : (one : Option Entry) (rest : Option (List Entry)) (entries : List Entry)
     → option_and_then (λ entry. option_map (λ entries. entry ∷ entries) rest) one ≡ Some entries
     → (entry : Entry) × (behind : List Entry) × (one ≡ Some entry) × (rest ≡ Some behind) × (entry ∷ behind ≡ entries)
 parts None rest entries is = let wrong : ◌≡◌ {A = Option (List Entry)} None (Some entries) = is in cc
