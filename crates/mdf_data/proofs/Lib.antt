@@ -1,0 +1,7 @@
+pub mod Joins
+pub mod Links
+pub mod Streams
+pub mod Groups
+pub mod Spreads
+pub mod Steps
+pub mod Splits

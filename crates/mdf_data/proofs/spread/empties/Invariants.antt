@@ -1,0 +1,5 @@
+use Rattle.std.proofs.Common.{◌≡◌, ℕ, List, [], replicate}
+use Rattle.mdf_data.proofs.spread.empties.Given as goal
+
+abbrev pub invariant-loop-k : goal.invariant-loop-k
+invariant-loop-k l = l.lists.items ≡ replicate l._k []

@@ -1,0 +1,9 @@
+pub mod Parts
+pub mod Stretch
+pub mod Link
+pub mod Stream
+pub mod Record
+pub mod Splitting
+pub mod Places
+pub mod Table
+pub mod Split

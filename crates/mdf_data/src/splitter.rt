@@ -1,0 +1,99 @@
+ghost use Rattle.std.specs.Prelude.{◌≡◌, ◌-◌, ◌^◌, ◌≤◌, ◌<◌, ℕ, List, Some, length, IfOk, IfSome, OnErr};
+ghost use Rattle.mdf_num.specs.Halt.{HaltCause};
+ghost use Rattle.mdf_block.specs.Refusal.{Gives, GivesOf};
+ghost use Rattle.mdf_data.specs.Parts.{stream_of, stream_size, ArePartsInside};
+ghost use Rattle.mdf_data.specs.Record.{IsIdSize, piece_at, split_refusal, IsPieceAt};
+ghost use Rattle.mdf_data.specs.Splitting.{advanced};
+
+use crate::record::piece_in;
+use crate::{DataView, Known, Piece, SplitFault};
+use mdf_num::{Halt, Rows, SliceSpan, Span};
+use std::marker::Model;
+
+/// A place in a stream of records, and the groups that its records belong to.
+#[derive(Debug, Drop)]
+pub struct Splitter {
+    id_size: u8,
+    known: Rows<Known>,
+    place: u64,
+}
+
+impl Model for Splitter {
+    ghost use Rattle.std.specs.Prelude.{length, ◌<◌, ◌^◌};
+    ghost use Rattle.mdf_data.specs.Record.{IsIdSize};
+    ghost use Rattle.mdf_data.specs.Splitting.{Splitting};
+
+    ghost Value = { Splitting };
+
+    ghost view = { λ s. record { id_size = s.id_size; known = s.known; place = s.place } };
+
+    ghost invariant = { λ s. IsIdSize s.id_size × (length s.known < 2 ^ 32) };
+}
+
+impl Splitter {
+    /// At the begin of a stream whose records have ids of so many bytes and belong to these groups. An id that stands
+    /// twice belongs to the first. It takes no memory.
+    pub fn new(id_size: u8, known: Rows<Known>) -> Splitter
+        requires id_size { IsIdSize id_size }
+        requires few { length known < 2 ^ 32 }
+        ensures { result ≡ record { id_size = id_size; known = known; place = 0 } }
+    {
+        Splitter {
+            id_size,
+            known,
+            place: 0,
+        }
+    }
+
+    /// The next whole record of the stream, read through a span, and None exactly at the end. It takes no memory of its
+    /// own.
+    ///
+    /// # Errors
+    /// As `next`, and the span's own. The splitter is as before.
+    pub fn next_in<P: Span>(
+        &mut self,
+        span: &mut P,
+        view: &DataView,
+    ) -> Result<Option<Piece>, Halt<SplitFault>>
+        requires inside { ArePartsInside (P.size span.old) view.now }
+        requires within { self.old.place ≤ stream_size view.now }
+        ensures found { (f : List ℕ) → P.bytes span.old ≡ Some f → Gives split_refusal result
+            (piece_at (stream_of f view.now) self.old.id_size self.old.known self.old.place (stream_size view.now - self.old.place)) }
+        ensures piece { IfOk result (λ found. IfSome found (IsPieceAt (stream_size view.now) self.old.id_size self.old.known self.old.place)) }
+        ensures next { IfOk result (λ found. self.new ≡ advanced self.old found) }
+        ensures err { OnErr result (self.new ≡ self.old) }
+        ensures within { self.new.place ≤ stream_size view.now }
+        ensures same { P.bytes span.new ≡ P.bytes span.old }
+        ensures size { P.size span.new ≡ P.size span.old }
+        ensures cause { HaltCause P.may_want (P.faults span.old) (P.faults span.new) result }
+    {
+        let found = piece_in(span, view, self.id_size, self.known.as_slice(), self.place)?;
+        if let Some(piece) = found {
+            self.place = piece.at + piece.len;
+        }
+        Ok(found)
+    }
+
+    /// The next whole record of the stream, where its parts are of these bytes, and None exactly at the end. It takes no
+    /// memory.
+    ///
+    /// # Errors
+    /// `UnknownId` exactly where a whole id stands at the place and no group has it. `Cut` exactly where fewer bytes than
+    /// an id has are left, or the record of a known id is not whole. The splitter is as before.
+    pub fn next(&mut self, bytes: &[u8], view: &DataView) -> Result<Option<Piece>, SplitFault>
+        requires inside { ArePartsInside (length bytes.now) view.now }
+        requires within { self.old.place ≤ stream_size view.now }
+        ensures found { GivesOf split_refusal result
+            (piece_at (stream_of bytes.now view.now) self.old.id_size self.old.known self.old.place (stream_size view.now - self.old.place)) }
+        ensures piece { IfOk result (λ found. IfSome found (IsPieceAt (stream_size view.now) self.old.id_size self.old.known self.old.place)) }
+        ensures next { IfOk result (λ found. self.new ≡ advanced self.old found) }
+        ensures err { OnErr result (self.new ≡ self.old) }
+        ensures within { self.new.place ≤ stream_size view.now }
+    {
+        match self.next_in(&mut SliceSpan::new(bytes), view) {
+            Ok(found) => Ok(found),
+            Err(Halt::Fault(fault)) => Err(fault),
+            Err(_) => unreachable!(),
+        }
+    }
+}

@@ -1,0 +1,114 @@
+ghost use Rattle.std.specs.Prelude.{◌≡◌, ◌+◌, ◌-◌, ◌^◌, ◌≤◌, ◌<◌, [], ◌∷◌, ℕ, List, Some, length, replicate, true, IfOk, IfSome, OnOk};
+ghost use Rattle.std.specs.BTreeMap.{get};
+ghost use Rattle.std.specs.Ordering.{nat_cmp};
+ghost use Rattle.mdf_num.specs.Halt.{HaltCause};
+ghost use Rattle.mdf_block.specs.Refusal.{Gives};
+ghost use Rattle.mdf_data.specs.declared.known.Known.{Known};
+ghost use Rattle.mdf_data.specs.Parts.{stream_of, stream_size, ArePartsInside};
+ghost use Rattle.mdf_data.specs.Record.{IsIdSize, piece_at, split_refusal, IsPieceAt};
+ghost use Rattle.mdf_data.specs.Table.{IsTable};
+ghost use Rattle.mdf_data.specs.Places.{with_place, places, places_alone, HaveRoom};
+
+use crate::known::Group;
+use crate::record::{group_piece_in, id_here_in};
+use crate::table::table_of;
+use crate::{DataView, Known, Piece, Places, Size, SplitFault};
+use mdf_num::{Halt, Memory, Rows, Span};
+use std::alloc::Global;
+use std::collections::BTreeMap;
+
+/// The record that begins at `at`, whose group a table finds, and None at the end of the stream.
+#[tactic(auto, unfolding(crate::specs::Record::piece_at))]
+fn piece_by<P: Span>(
+    span: &mut P,
+    view: &DataView,
+    id_size: u8,
+    table: &BTreeMap<u64, Group>,
+    at: u64,
+) -> Result<Option<Piece>, Halt<SplitFault>>
+    requires id_size { IsIdSize id_size }
+    requires inside { ArePartsInside (P.size span.old) view.now }
+    requires within { at ≤ stream_size view.now }
+    ensures found { (f : List ℕ) (known : List Known) → P.bytes span.old ≡ Some f → IsTable known (get nat_cmp table.now) →
+        Gives split_refusal result (piece_at (stream_of f view.now) id_size known at (stream_size view.now - at)) }
+    ensures piece { IfOk result (λ found. IfSome found (λ piece. (known : List Known) → IsTable known (get nat_cmp table.now) →
+        IsPieceAt (stream_size view.now) id_size known at piece)) }
+    ensures same { P.bytes span.new ≡ P.bytes span.old }
+    ensures size { P.size span.new ≡ P.size span.old }
+    ensures cause { HaltCause P.may_want (P.faults span.old) (P.faults span.new) result }
+{
+    let Some(id) = id_here_in(span, view, id_size, at)? else {
+        return Ok(None);
+    };
+    let group = table.get(&id).copied();
+    let piece = group_piece_in(span, view, id_size, at, id, group)?;
+    Ok(Some(piece))
+}
+
+/// So many lists of no places.
+fn empties(alloc: Global, count: usize) -> Result<Vec<Places>, Memory>
+    ensures { IfOk result (λ lists. lists.items ≡ replicate count []) }
+{
+    let mut lists = Vec::new(alloc);
+    for _k in 0..count {
+        lists.push(Places::empty(alloc))?;
+    }
+    Ok(lists)
+}
+
+/// Adds a place of a group.
+fn add_place(lists: &mut Vec<Places>, which: u32, place: u64) -> Result<(), Memory>
+    requires { which < length lists.old.items }
+    ensures { OnOk result (lists.new.items ≡ with_place lists.old.items which place) }
+{
+    lists[which as usize].push(place)
+}
+
+/// The places of the bodies of all records of a stream with ids of so many bytes, group by group, read through a span.
+/// An id that stands twice belongs to the first group that has it.
+///
+/// # Errors
+/// `UnknownId` exactly where a whole id stands at the place and no group has it. `Cut` exactly where fewer bytes than an
+/// id has are left, or the record of a known id is not whole. The first of them in the order of the stream; and the
+/// span's own.
+pub fn places_in<P: Span>(
+    alloc: Global,
+    span: &mut P,
+    view: &DataView,
+    id_size: u8,
+    known: &[Known],
+) -> Result<Rows<Places>, Halt<SplitFault>>
+    requires id_size { IsIdSize id_size }
+    requires few { length known.now < 2 ^ 32 }
+    requires inside { ArePartsInside (P.size span.old) view.now }
+    ensures found { (f : List ℕ) → P.bytes span.old ≡ Some f →
+        Gives split_refusal result (places (stream_of f view.now) (stream_size view.now) id_size known.now) }
+    ensures count { IfOk result (λ lists. length lists ≡ length known.now) }
+    ensures room { IfOk result (HaveRoom (stream_size view.now) known.now) }
+    ensures same { P.bytes span.new ≡ P.bytes span.old }
+    ensures size { P.size span.new ≡ P.size span.old }
+    ensures cause { HaltCause true (P.faults span.old) (P.faults span.new) result }
+{
+    let table = table_of(alloc, known)?;
+    let mut lists = empties(alloc, known.len())?;
+    let mut at = 0;
+    'records: while let Some(piece) = piece_by(span, view, id_size, &table, at)? {
+        add_place(&mut lists, piece.which, piece.at + id_size as u64)?;
+        at = piece.at + piece.len;
+    }
+    Ok(Rows::from_vec(lists))
+}
+
+/// The places of the records of a group that stands alone in a stream without ids: at equal steps, which take no memory.
+/// Records without bytes are as many as is said, and a group of values of variable length has none.
+pub fn places_alone(alloc: Global, total: u64, size: Size, empties: u64) -> Places
+    requires total { total < 2 ^ 62 }
+    requires empties { empties < 2 ^ 62 }
+    ensures places { result ≡ places_alone total empties size }
+{
+    match size {
+        Size::Fixed(0) => Places::even(alloc, empties, 0),
+        Size::Fixed(size) => Places::even(alloc, total / size, size),
+        Size::Variable => Places::empty(alloc),
+    }
+}
