@@ -1,5 +1,5 @@
 -- The halves of a book when it begins, and when a sample was put into them.
-use Rattle.std.proofs.Common.{◌≡◌, ◌+◌, ◌<◌, ◌≤◌, ◌^◌, ℕ, false, zero, suc, List, [], ◌∷◌, ◌++◌, length, take, drop, get_or, refl, sym, ◌∙◌, ap, subst, arith, length-append}
+use Rattle.std.proofs.Common.{◌≡◌, ◌+◌, ◌<◌, ◌≤◌, ◌^◌, ℕ, Bool, zero, suc, List, [], ◌∷◌, ◌++◌, length, take, drop, get_or, refl, sym, ◌∙◌, ap, subst, arith, length-append}
 use Rattle.std.proofs.lemmas.List.{drop-append-le, take-append-le}
 use Rattle.std.proofs.lemmas.List.Sums.{sum_by-cons}
 use Rattle.std.specs.Prelude.{is_some}
@@ -17,9 +17,9 @@ use Rattle.mdf_gate.specs.Images.{Opens, head_of}
 use Rattle.mdf_gate.proofs.Carrying.{carries_opened, carries_begun}
 use Rattle.book_owned.specs.Members.{DiskOf, ViewOf}
 use Rattle.book_owned.specs.Marks.{durable, AreRising}
-use Rattle.book_owned.specs.Kept.{MarkHolds, MarksHold, IsKept}
+use Rattle.book_owned.specs.Kept.{MarkHolds, MarksHold, IsKept, IsShowing}
 use Rattle.book_owned.specs.Begun.{IsNewFile, IsAdmissible}
-use Rattle.book_owned.specs.Halves.{IsBook, IsPut, IsWritten, terms_of}
+use Rattle.book_owned.specs.Halves.{IsBook, IsCounted, IsPending, IsPut, IsWritten, terms_of}
 use Rattle.book_owned.specs.declared.in_memory.InMemory.{InMemory}
 use Rattle.book_owned.specs.declared.mark.Mark.{Mark}
 use Rattle.book_owned.proofs.Costs.{history_cost-append}
@@ -36,56 +36,69 @@ cost_one_more layouts history sample =
     let one : history_cost layouts (sample ∷ []) ≡ cost_of layouts sample + 0 = sum_by-cons (cost_of layouts) sample [] in
     omega (arith, history_cost-append layouts history (sample ∷ []), one)
 
+-- What is held in memory, when a sample was put into it.
+module _ {V : Type 0} (old new : InMemory V) (sample : Sample) (put : IsPut old new sample) where
+  pub counted_put : IsCounted old → old.held + cost_of old.shapes sample ≤ old.session_limit → IsCounted new
+  counted_put counted session = subst IsCounted (sym put.rest) (record {
+    fit = subst (All (SampleFits old.shapes)) (sym put.history) (All-push (SampleFits old.shapes) old.history.items sample counted.fit put.fits);
+    held = put.held ∙ ap (λ n. n + cost_of old.shapes sample) counted.held ∙ sym (cost_one_more old.shapes old.history.items sample)
+        ∙ ap (history_cost old.shapes) (sym put.history);
+    within = omega (arith, put.held, session);
+    session = counted.session;
+    some = omega (arith, counted.some, put.limit);
+    block = omega (arith, counted.block, put.limit);
+    scratch = put.scratch ∙ counted.scratch ∙ sym put.limit;
+    groups = counted.groups;
+    fields = counted.fields;
+    disjoint = counted.disjoint;
+  })
+
+  pub pending_put : (from : ℕ) (failed : Bool) → IsPending from failed old → 1 ≤ old.marks.spare → IsPending from failed new
+  pending_put from failed pending spare =
+      let behind : drop from new.history.items ≡ drop from old.history.items ++ sample ∷ [] =
+      ap (drop from) put.history ∙ drop-append-le from old.history.items (sample ∷ []) pending.through in
+      subst (IsPending from failed) (sym put.rest) (record {
+        through = omega (arith, pending.through, ap length put.history, length-append old.history.items (sample ∷ []));
+        records = λ going. subst (λ bytes. AreRecords old.shapes bytes (drop from new.history.items)) (sym put.block)
+            (subst (AreRecords old.shapes (old.block.bytes ++ put.record_bytes)) (sym behind)
+            (are_records-append old.shapes old.block.bytes put.record_bytes (drop from old.history.items) (sample ∷ []) (pending.records going)
+            (one_record old.shapes put.record_bytes sample put.record_is)));
+        room = λ some. spare;
+      })
+
+-- a view goes on to show what it showed where samples came behind those that are durable
+pub showing_longer : {V N : Type 0} (view : ViewOf V N) (now : V) (history longer : List Sample) (sample : Sample) (marks : List Mark)
+    → longer ≡ history ++ sample ∷ [] → durable marks ≤ length history → IsShowing view now history marks → IsShowing view now longer marks
+showing_longer view now history longer sample marks grown within is =
+    let same : (n : ℕ) → n ≤ length history → take n longer ≡ take n history =
+    λ n less. ap (take n) grown ∙ take-append-le n history (sample ∷ []) less in
+    record {
+      most = is.most;
+      shown = subst (view.shows now) (sym (same (view.count now) (omega (arith, is.most, within)))) is.shown;
+      handed = λ handed before. subst (IsPrefix handed) (sym (same (durable marks) within)) (is.handed handed before);
+    }
+
 module _ {D V N : Type 0} (disk : DiskOf D) (view : ViewOf V N) where
   pub book_put : (old new : InMemory V) (file : Gated D) (sample : Sample) → IsBook disk view old file
       → IsPut old new sample → 1 ≤ old.marks.spare → old.held + cost_of old.shapes sample ≤ old.session_limit
       → IsBook disk view new file
   book_put old new file sample book put spare session =
+      let at : InMemory V = record old { history = new.history; held = new.held; block = new.block; scratch = new.scratch } in
+      let put_at : IsPut old at sample = subst (λ f. IsPut old f sample) put.rest put in
       let history = old.history.items in
       let through = durable old.marks.items in
-      let grown : new.history.items ≡ history ++ sample ∷ [] = put.history in
-      let front_same : take through new.history.items ≡ take through history =
-      ap (take through) grown ∙ take-append-le through history (sample ∷ []) book.pending.through in
-      let shown_same : take (view.count old.view) new.history.items ≡ take (view.count old.view) history =
-      ap (take (view.count old.view)) grown ∙ take-append-le (view.count old.view) history (sample ∷ []) (omega (arith, book.shown.most, book.pending.through)) in
-      let behind : drop through new.history.items ≡ drop through history ++ sample ∷ [] =
-      ap (drop through) grown ∙ drop-append-le through history (sample ∷ []) book.pending.through in
-      let kept = subst (λ h. IsKept (terms_of disk view old file) (state_of disk file.disk) h old.marks.items) (sym grown)
+      let same : take through new.history.items ≡ take through history =
+      ap (take through) put.history ∙ take-append-le through history (sample ∷ []) book.pending.through in
+      let kept = subst (λ h. IsKept (terms_of disk view old file) (state_of disk file.disk) h old.marks.items) (sym put.history)
       (kept_longer (terms_of disk view old file) (state_of disk file.disk) history old.marks.items sample book.back.kept) in
-      let put_records : file.failed ≡ false → AreRecords old.shapes new.block.bytes (drop through new.history.items) = λ going.
-      subst (λ bytes. AreRecords old.shapes bytes (drop through new.history.items)) (sym put.block)
-      (subst (AreRecords old.shapes (old.block.bytes ++ put.record_bytes)) (sym behind)
-      (are_records-append old.shapes old.block.bytes put.record_bytes (drop through history) (sample ∷ []) (book.pending.records going)
-      (one_record old.shapes put.record_bytes sample put.record_is))) in
-      let costs : new.held ≡ history_cost old.shapes new.history.items =
-      put.held ∙ ap (λ n. n + cost_of old.shapes sample) book.counted.held ∙ sym (cost_one_more old.shapes history sample) ∙ ap (history_cost old.shapes) (sym grown) in
       subst (λ f. IsBook disk view f file) (sym put.rest) (record {
-        counted = record {
-          fit = subst (All (SampleFits old.shapes)) (sym grown) (All-push (SampleFits old.shapes) history sample book.counted.fit put.fits);
-          held = costs;
-          within = omega (arith, put.held, session);
-          session = book.counted.session;
-          some = omega (arith, book.counted.some, put.limit);
-          block = omega (arith, book.counted.block, put.limit);
-          scratch = put.scratch ∙ book.counted.scratch ∙ sym put.limit;
-          groups = book.counted.groups;
-          fields = book.counted.fields;
-          disjoint = book.counted.disjoint;
-        };
-        pending = record {
-          through = omega (arith, book.pending.through, ap length grown, length-append history (sample ∷ []));
-          records = put_records;
-          room = λ some. spare;
-        };
-        shown = record {
-          most = book.shown.most;
-          shown = subst (view.shows old.view) (sym shown_same) book.shown.shown;
-          handed = λ handed is. subst (IsPrefix handed) (sym front_same) (book.shown.handed handed is);
-        };
+        counted = counted_put old at sample put_at book.counted session;
+        pending = pending_put old at sample put_at through file.failed book.pending spare;
+        shown = showing_longer view old.view history new.history.items sample old.marks.items put.history book.pending.through book.shown;
         back = record {
           kept = record { marks_hold = kept.marks_hold; start_holds = kept.start_holds; marks_rise = kept.marks_rise };
-          written = λ going. subst (IsWritten (disk.content file.disk) (disk.story file.disk) file.first file.place old.shapes) (sym front_same) (book.back.written going);
-          reach = λ going. subst (λ h. file.place ≤ 2 ^ 61 + history_cost old.shapes h) (sym front_same) (book.back.reach going);
+          written = λ going. subst (IsWritten (disk.content file.disk) (disk.story file.disk) file.first file.place old.shapes) (sym same) (book.back.written going);
+          reach = λ going. subst (λ h. file.place ≤ 2 ^ 61 + history_cost old.shapes h) (sym same) (book.back.reach going);
         };
       })
 
