@@ -5,10 +5,12 @@ use mdf_hostfile::FileDisk;
 use mdf_num::{Bytes, Memory, Rows};
 use mdf_port::{StdSink, StdSource};
 use mdf_run::{Open, run, run_unread};
-use std::env;
+use std::fs::File;
+use std::io::Error;
 use std::process::ExitCode;
-use std::rt::{Clock, Env};
+use std::rt::{Clock, Env, Files};
 use std::time::{SystemTime, UNIX_EPOCH};
+use std::{env, str};
 
 /// The words after the program's name. Words that are no text count as none.
 fn words<R: Env + AllocGlobal>(rt: &R) -> Result<Rows<Bytes>, Memory> {
@@ -34,11 +36,31 @@ fn now_ns(rt: &impl Clock) -> u64 {
     }
 }
 
+/// Says on standard error what the system said of the last call on this file or stream that failed, if one did.
+fn tell(rt: &impl Eprint, name: &str, last: Option<Error>) {
+    if let Some(error) = last {
+        // Where this fails too, there is nobody left to be told.
+        let _ = eprintln!(rt; "{name}: {error}");
+    }
+}
+
+/// The same of the file of a disk.
+fn tell_disk<R: Eprint + Files<File = File>>(rt: &R, disk: &FileDisk<'_, R>) {
+    let name = disk.name().unwrap_or(b"a file");
+    tell(
+        rt,
+        str::from_utf8(name).unwrap_or("a file"),
+        disk.last_error(),
+    );
+}
+
 fn main(rt: HostRuntime) -> ExitCode {
     let alloc = rt.alloc();
     let mut sink = StdSink::new(rt.stdout());
     let Ok(words) = words(&rt) else {
-        return ExitCode::from(run_unread(&mut sink));
+        let status = run_unread(&mut sink);
+        tell(&rt, "standard output", sink.last_error());
+        return ExitCode::from(status);
     };
     let mut source = StdSource::new(rt.stdin());
     let mut second = FileDisk::new(&rt);
@@ -54,5 +76,10 @@ fn main(rt: HostRuntime) -> ExitCode {
         FileDisk::new(&rt),
         &Open,
     );
+    tell(&rt, "standard input", source.last_error());
+    tell_disk(&rt, &finished.first);
+    tell_disk(&rt, &second);
+    tell_disk(&rt, &finished.out);
+    tell(&rt, "standard output", sink.last_error());
     ExitCode::from(finished.status)
 }
