@@ -11,7 +11,7 @@ use crate::field::{channel_of, kinds_in};
 use crate::lower::{block_of, conv_of, source_of, words_of};
 use crate::room::{ChannelLinks, ChannelOrigin, Passed};
 use crate::{ChannelRow, GroupFault};
-use mdf_block::{BlockAt, Kind, What, link_in};
+use mdf_block::{BlockAt, Kind, Walk, What, chain_in, link_in};
 use mdf_conv::{Budget, link_count};
 use mdf_num::{Halt, Rows, Span, Stop};
 use std::alloc::Global;
@@ -139,23 +139,46 @@ fn channel_of_block<P: Span>(
     Ok((row, passed.next, left.with_dropped(dropped)))
 }
 
-/// The channel at `at`, the address of the next one, and what may still come.
-#[tactic(auto, unfolding(crate::specs::Channel::channel))]
-fn channel_in<P: Span>(
-    alloc: Global,
-    span: &mut P,
-    at: u64,
-    budget: Budget,
-) -> Result<(ChannelRow, u64, Budget), Halt<GroupFault>>
-    ensures found { (f : List ℕ) → P.bytes span.old ≡ Some f → Gives group_refusal result (channel f at budget) }
-    ensures plain { IfErr result (IsPlain group_refusal) }
-    ensures same { P.bytes span.new ≡ P.bytes span.old }
-    ensures size { P.size span.new ≡ P.size span.old }
-    ensures cause { HaltCause true (P.faults span.old) (P.faults span.new) result }
-{
-    let block = block_of(span, at, Kind::Cn)?;
-    accepted_in(span, &block)?;
-    channel_of_block(alloc, span, &block, budget)
+/// The channels of a group, along their first links.
+struct Channels;
+
+impl Walk for Channels {
+    ghost use Rattle.mdf_format.specs.declared.kind.Kind.TheVariants.{Cn};
+    ghost use Rattle.mdf_block.specs.declared.what.What.TheVariants as whats;
+    ghost use Rattle.mdf_block.specs.Chain.{full};
+
+    type Item = ChannelRow;
+
+    type State = Budget;
+
+    type Fault = GroupFault;
+
+    ghost refusal = { group_refusal };
+
+    ghost step = { λ _ file. channel file };
+
+    ghost full = { λ _ file. full whats.Cn Cn file };
+
+    #[tactic(auto, unfolding(crate::specs::Channel::channel))]
+    fn step_in<P: Span>(
+        &self,
+        alloc: Global,
+        span: &mut P,
+        at: u64,
+        budget: Budget,
+    ) -> Result<(ChannelRow, u64, Budget), Halt<GroupFault>> {
+        let block = block_of(span, at, Kind::Cn)?;
+        accepted_in(span, &block)?;
+        channel_of_block(alloc, span, &block, budget)
+    }
+
+    #[tactic(auto, unfolding(mdf_block::specs::Chain::full))]
+    fn full_in<P: Span>(&self, span: &mut P, at: u64) -> Halt<GroupFault> {
+        match block_of(span, at, Kind::Cn) {
+            Ok(_) => Halt::Fault(GroupFault::TooMany { what: What::Cn, at }),
+            Err(halt) => halt,
+        }
+    }
 }
 
 /// The channels from `first` on, how many more may come, and what else.
@@ -172,20 +195,5 @@ pub(crate) fn channels_in<P: Span>(
     ensures size { P.size span.new ≡ P.size span.old }
     ensures cause { HaltCause true (P.faults span.old) (P.faults span.new) result }
 {
-    let mut rows = Rows::empty(alloc);
-    let mut at = first;
-    let mut left = budget;
-    let mut room = most;
-    while at != 0 {
-        if room == 0 {
-            block_of(span, at, Kind::Cn)?;
-            return Err(Halt::Fault(GroupFault::TooMany { what: What::Cn, at }));
-        }
-        let (row, next, rest) = channel_in(alloc, span, at, left)?;
-        rows.push(row)?;
-        at = next;
-        left = rest;
-        room -= 1;
-    }
-    Ok((rows, room, left))
+    chain_in(alloc, &Channels, span, first, most, budget)
 }

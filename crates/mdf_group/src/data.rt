@@ -12,7 +12,7 @@ use crate::lower::{block_of, words_of};
 use crate::named::unnamed_count;
 use crate::room::{DataContents, DataRoom, Room};
 use crate::{DataRow, GroupFault};
-use mdf_block::{BlockAt, Kind, What, link_in};
+use mdf_block::{BlockAt, Kind, Walk, What, chain_in, link_in};
 use mdf_conv::Budget;
 use mdf_num::{Halt, Rows, Span};
 use std::alloc::Global;
@@ -78,23 +78,46 @@ fn finished_in<P: Span>(
     Ok((row, next, DataRoom { groups, room }))
 }
 
-/// The data group at `at`, the address of the next one, and what may still come.
-#[tactic(auto, unfolding(crate::specs::Group::data_group))]
-fn data_group_in<P: Span>(
-    alloc: Global,
-    span: &mut P,
-    at: u64,
-    left: DataRoom,
-) -> Result<(DataRow, u64, DataRoom), Halt<GroupFault>>
-    ensures found { (f : List ℕ) → P.bytes span.old ≡ Some f → Gives group_refusal result (data_group f at left) }
-    ensures plain { IfErr result (IsPlain group_refusal) }
-    ensures same { P.bytes span.new ≡ P.bytes span.old }
-    ensures size { P.size span.new ≡ P.size span.old }
-    ensures cause { HaltCause true (P.faults span.old) (P.faults span.new) result }
-{
-    let block = block_of(span, at, Kind::Dg)?;
-    let (contents, left) = data_contents_in(alloc, span, &block, left)?;
-    finished_in(alloc, span, &block, contents, left)
+/// The data groups of a file, along their first links.
+struct DataGroups;
+
+impl Walk for DataGroups {
+    ghost use Rattle.mdf_format.specs.declared.kind.Kind.TheVariants.{Dg};
+    ghost use Rattle.mdf_block.specs.declared.what.What.TheVariants as whats;
+    ghost use Rattle.mdf_block.specs.Chain.{full};
+
+    type Item = DataRow;
+
+    type State = DataRoom;
+
+    type Fault = GroupFault;
+
+    ghost refusal = { group_refusal };
+
+    ghost step = { λ _ file. data_group file };
+
+    ghost full = { λ _ file. full whats.Dg Dg file };
+
+    #[tactic(auto, unfolding(crate::specs::Group::data_group))]
+    fn step_in<P: Span>(
+        &self,
+        alloc: Global,
+        span: &mut P,
+        at: u64,
+        left: DataRoom,
+    ) -> Result<(DataRow, u64, DataRoom), Halt<GroupFault>> {
+        let block = block_of(span, at, Kind::Dg)?;
+        let (contents, left) = data_contents_in(alloc, span, &block, left)?;
+        finished_in(alloc, span, &block, contents, left)
+    }
+
+    #[tactic(auto, unfolding(mdf_block::specs::Chain::full))]
+    fn full_in<P: Span>(&self, span: &mut P, at: u64) -> Halt<GroupFault> {
+        match block_of(span, at, Kind::Dg) {
+            Ok(_) => Halt::Fault(GroupFault::TooMany { what: What::Dg, at }),
+            Err(halt) => halt,
+        }
+    }
 }
 
 /// The data groups from `first` on, how many more may come, and what else.
@@ -110,26 +133,12 @@ pub(crate) fn data_groups_in<P: Span>(
     ensures size { P.size span.new ≡ P.size span.old }
     ensures cause { HaltCause true (P.faults span.old) (P.faults span.new) result }
 {
-    let mut rows = Rows::empty(alloc);
-    let mut at = first;
-    let mut left = DataRoom {
+    let start = DataRoom {
         groups: MOST_GROUPS,
         room: Room {
             channels: MOST_CHANNELS,
             budget,
         },
     };
-    let mut room = MOST_DATA_GROUPS;
-    while at != 0 {
-        if room == 0 {
-            block_of(span, at, Kind::Dg)?;
-            return Err(Halt::Fault(GroupFault::TooMany { what: What::Dg, at }));
-        }
-        let (row, next, rest) = data_group_in(alloc, span, at, left)?;
-        rows.push(row)?;
-        at = next;
-        left = rest;
-        room -= 1;
-    }
-    Ok((rows, room, left))
+    chain_in(alloc, &DataGroups, span, first, MOST_DATA_GROUPS, start)
 }

@@ -11,7 +11,7 @@ use crate::field::group_of;
 use crate::lower::{block_of, source_of, words_of};
 use crate::room::{GroupContents, GroupLinks, Room};
 use crate::{GroupFault, GroupRow};
-use mdf_block::{BlockAt, Kind, What, link_in};
+use mdf_block::{BlockAt, Kind, Walk, What, chain_in, link_in};
 use mdf_conv::{Budget, link_count};
 use mdf_num::{Halt, Rows, Span, Stop};
 use std::alloc::Global;
@@ -89,23 +89,46 @@ fn finished_in<P: Span>(
     Ok((row, next, left))
 }
 
-/// The channel group at `at`, the address of the next one, and what may still come.
-#[tactic(auto, unfolding(crate::specs::Group::group))]
-fn group_in<P: Span>(
-    alloc: Global,
-    span: &mut P,
-    at: u64,
-    room: Room,
-) -> Result<(GroupRow, u64, Room), Halt<GroupFault>>
-    ensures found { (f : List ℕ) → P.bytes span.old ≡ Some f → Gives group_refusal result (group f at room) }
-    ensures plain { IfErr result (IsPlain group_refusal) }
-    ensures same { P.bytes span.new ≡ P.bytes span.old }
-    ensures size { P.size span.new ≡ P.size span.old }
-    ensures cause { HaltCause true (P.faults span.old) (P.faults span.new) result }
-{
-    let block = block_of(span, at, Kind::Cg)?;
-    let (contents, left) = group_contents_in(alloc, span, &block, room)?;
-    Ok(finished_in(span, &block, contents, left)?)
+/// The channel groups of a data group, along their first links.
+struct Groups;
+
+impl Walk for Groups {
+    ghost use Rattle.mdf_format.specs.declared.kind.Kind.TheVariants.{Cg};
+    ghost use Rattle.mdf_block.specs.declared.what.What.TheVariants as whats;
+    ghost use Rattle.mdf_block.specs.Chain.{full};
+
+    type Item = GroupRow;
+
+    type State = Room;
+
+    type Fault = GroupFault;
+
+    ghost refusal = { group_refusal };
+
+    ghost step = { λ _ file. group file };
+
+    ghost full = { λ _ file. full whats.Cg Cg file };
+
+    #[tactic(auto, unfolding(crate::specs::Group::group))]
+    fn step_in<P: Span>(
+        &self,
+        alloc: Global,
+        span: &mut P,
+        at: u64,
+        room: Room,
+    ) -> Result<(GroupRow, u64, Room), Halt<GroupFault>> {
+        let block = block_of(span, at, Kind::Cg)?;
+        let (contents, left) = group_contents_in(alloc, span, &block, room)?;
+        Ok(finished_in(span, &block, contents, left)?)
+    }
+
+    #[tactic(auto, unfolding(mdf_block::specs::Chain::full))]
+    fn full_in<P: Span>(&self, span: &mut P, at: u64) -> Halt<GroupFault> {
+        match block_of(span, at, Kind::Cg) {
+            Ok(_) => Halt::Fault(GroupFault::TooMany { what: What::Cg, at }),
+            Err(halt) => halt,
+        }
+    }
 }
 
 /// The channel groups from `first` on, how many more may come, and what else.
@@ -122,20 +145,5 @@ pub(crate) fn groups_in<P: Span>(
     ensures size { P.size span.new ≡ P.size span.old }
     ensures cause { HaltCause true (P.faults span.old) (P.faults span.new) result }
 {
-    let mut rows = Rows::empty(alloc);
-    let mut at = first;
-    let mut left = start;
-    let mut room = most;
-    while at != 0 {
-        if room == 0 {
-            block_of(span, at, Kind::Cg)?;
-            return Err(Halt::Fault(GroupFault::TooMany { what: What::Cg, at }));
-        }
-        let (row, next, rest) = group_in(alloc, span, at, left)?;
-        rows.push(row)?;
-        at = next;
-        left = rest;
-        room -= 1;
-    }
-    Ok((rows, room, left))
+    chain_in(alloc, &Groups, span, first, most, start)
 }
