@@ -50,7 +50,7 @@ fn source_of(alloc: Global, given: Given) -> Result<MemorySource, Fail> {
 }
 
 /// Runs what is given over these disks.
-fn ended<R, A>(rt: &R, given: Given, first: A, out: MemoryDisk) -> Result<Ended<A>, Fail>
+fn ran<R, A>(rt: &R, given: Given, first: A, out: MemoryDisk) -> Result<Ended<A>, Fail>
 where
     R: AllocGlobal + Threads + Wait + Sync,
     A: Disk + Drop,
@@ -111,7 +111,7 @@ where
     requires { A.asked first ≡ None }
 {
     let alloc = rt.alloc();
-    let ended = ended(rt, given, first, MemoryDisk::new(alloc))?;
+    let ended = ran(rt, given, first, MemoryDisk::new(alloc))?;
     line(alloc, &ended)
 }
 
@@ -121,7 +121,7 @@ where
     requires { ⟦<MemoryDisk as Disk>⟧.asked out ≡ None }
 {
     let alloc = rt.alloc();
-    let ended = ended(rt, given, MemoryDisk::new(alloc), out)?;
+    let ended = ran(rt, given, MemoryDisk::new(alloc), out)?;
     record_line(alloc, &ended)
 }
 
@@ -289,8 +289,16 @@ fn an_input_over_the_limit_is_refused(rt: HostRuntime) -> Result<(), Fail> {
 // Three samples of one channel, with a flush after the second.
 const COUNTING: &str = "group 0 g\nchannel t u64 master\nbegin\n0 1\n0 2\n! 0\n0 3\nend\n";
 
+// The same with one record of 9 bytes a block, and with a session limit that has room for one sample, which costs 145.
+const SMALL_BLOCKS: &str =
+    "block 9\ngroup 0 g\nchannel t u64 master\nbegin\n0 1\n0 2\n! 0\n0 3\nend\n";
+
+const SHORT_SESSION: &str =
+    "session 200\ngroup 0 g\nchannel t u64 master\nbegin\n0 1\n0 2\n! 0\n0 3\nend\n";
+
 // A script; which calls of the source, of the disk and of the sink fail; the status and what is printed, with what is
-// left. The head and its closed gate are 233 bytes, the first block with its closed gate 48 more, the second 40.
+// left. The head and its closed gate are 233 bytes. A block adds 24 bytes and its data, up to the next multiple of 8.
+// Making the file takes the calls 0 to 7 of the disk, and each block four.
 const RECORDED: [(&str, &[u64], &[u64], &[u64], &str); 17] = [
     (
         COUNTING,
@@ -298,6 +306,13 @@ const RECORDED: [(&str, &[u64], &[u64], &[u64], &str); 17] = [
         &[],
         &[],
         "0 source 0 accepted 3\nsamples 3 durable 3\nfile 321 history 3 marks [0, 2, 3]",
+    ),
+    (
+        SMALL_BLOCKS,
+        &[],
+        &[],
+        &[],
+        "0 source 0 accepted 3\nsamples 3 durable 3\nfile 353 history 3 marks [0, 1, 2, 3]",
     ),
     (
         COUNTING,
@@ -319,6 +334,21 @@ const RECORDED: [(&str, &[u64], &[u64], &[u64], &str); 17] = [
         &[],
         &[],
         "8 script line 2\nfile 0 history 0 marks []",
+    ),
+    ("", &[], &[], &[0], "8 file 0 history 0 marks []"),
+    (
+        SHORT_SESSION,
+        &[],
+        &[],
+        &[],
+        "5 source 0 accepted 1\nsamples 1 durable 1\nsession full 145 145 200\nfile 273 history 1 marks [0, 1]",
+    ),
+    (
+        SHORT_SESSION,
+        &[],
+        &[8],
+        &[],
+        "4 source 0 accepted 1\nsamples 1 durable 0\ndevice fault\nfile 233 history 1 marks [0]",
     ),
     (
         COUNTING,
@@ -360,29 +390,8 @@ const RECORDED: [(&str, &[u64], &[u64], &[u64], &str); 17] = [
         COUNTING,
         &[],
         &[],
-        &[2],
-        "6 source 0 accepted 3file 321 history 3 marks [0, 2, 3]",
-    ),
-    (
-        COUNTING,
-        &[],
-        &[],
         &[3],
         "6 source 0 accepted 3\nfile 321 history 3 marks [0, 2, 3]",
-    ),
-    (
-        COUNTING,
-        &[],
-        &[],
-        &[4],
-        "6 source 0 accepted 3\nsamples file 321 history 3 marks [0, 2, 3]",
-    ),
-    (
-        COUNTING,
-        &[],
-        &[],
-        &[5],
-        "6 source 0 accepted 3\nsamples 3file 321 history 3 marks [0, 2, 3]",
     ),
     (
         COUNTING,
@@ -398,7 +407,6 @@ const RECORDED: [(&str, &[u64], &[u64], &[u64], &str); 17] = [
         &[7],
         "6 source 0 accepted 3\nsamples 3 durable 3file 321 history 3 marks [0, 2, 3]",
     ),
-    ("", &[], &[], &[0], "8 file 0 history 0 marks []"),
 ];
 
 fn failing_disk(alloc: Global, failing: &[u64]) -> Result<MemoryDisk, Fail>
@@ -437,7 +445,7 @@ where
 {
     let alloc = rt.alloc();
     let (first, out) = (MemoryDisk::new(alloc), MemoryDisk::new(alloc));
-    let ended = ended(rt, record(COUNTING, &[], &[]), first, out)?;
+    let ended = ran(rt, record(COUNTING, &[], &[]), first, out)?;
     Ok(Bytes::from_slice(alloc, ended.finished.out.bytes())?)
 }
 
