@@ -14,6 +14,8 @@ mod lists;
 #[cfg(test)]
 mod recordings;
 #[cfg(test)]
+mod records;
+#[cfg(test)]
 mod runs;
 #[cfg(test)]
 mod scripts;
