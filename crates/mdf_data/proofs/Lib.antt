@@ -5,3 +5,4 @@ pub mod Groups
 pub mod Spreads
 pub mod Steps
 pub mod Splits
+pub mod Pieces

@@ -1,9 +1,12 @@
-ghost use Rattle.std.specs.Prelude.{◌≡◌, ◌⊎◌, ℕ, List};
+ghost use Rattle.std.specs.Prelude.{◌≡◌, ◌≤◌, ◌⊎◌, ℕ, List, [], Ok, Err, length, map, drop};
+ghost use Rattle.mdf_block.specs.Refusal.{Refusal};
+ghost use Rattle.mdf_data.specs.declared.known.Piece.{Piece};
+ghost use Rattle.mdf_data.specs.Places.{pieces};
 ghost use Rattle.mdf_format.specs.declared.kind.Kind.{Kind};
 ghost use Rattle.mdf_format.specs.declared.kind.Kind.TheVariants.{Dt, Sd};
 ghost use Rattle.mdf_data.specs.declared.known.Known.{Known};
 ghost use Rattle.mdf_data.specs.Stream.{IsStream};
-ghost use Rattle.mdf_data.specs.Split.{Record, IsRecordSplit};
+ghost use Rattle.mdf_data.specs.Split.{Record, IsRecordSplit, record_of, IsRefusedAt};
 
 /// A link to data has one stream.
 pub fn streams_agree()
@@ -15,4 +18,17 @@ pub fn streams_agree()
 pub fn record_splits_agree()
     ensures { (stream : List ℕ) (id_size : ℕ) (known : List Known) (empties : ℕ) (xs ys : List Record) (a b : List ℕ)
         → IsRecordSplit stream id_size known empties xs a → IsRecordSplit stream id_size known empties ys b → (xs ≡ ys) × (a ≡ b) }
+{}
+
+/// The records that are found in a whole stream are its split, and nothing is left.
+pub fn records_are_the_split()
+    ensures { (stream : List ℕ) (id_size : ℕ) (known : List Known) (found : List Piece) → 1 ≤ id_size
+        → pieces stream (length stream) id_size known ≡ Ok found → IsRecordSplit stream id_size known 0 (map (record_of stream) found) [] }
+{}
+
+/// A refusal names the place where the rest of the split begins.
+pub fn a_refusal_leaves_the_rest()
+    ensures { (stream : List ℕ) (id_size : ℕ) (known : List Known) (refusal : Refusal) → 1 ≤ id_size
+        → pieces stream (length stream) id_size known ≡ Err refusal
+        → (place : ℕ) × (records : List Record) × IsRefusedAt refusal place × IsRecordSplit stream id_size known 0 records (drop place stream) }
 {}

@@ -18,7 +18,9 @@ mod view;
 
 pub use fault::{DataFault, SplitFault};
 pub use known::{Known, Piece, Size};
-pub use law::{record_splits_agree, streams_agree};
+pub use law::{
+    a_refusal_leaves_the_rest, record_splits_agree, records_are_the_split, streams_agree,
+};
 pub use link::{view_data, view_data_in};
 pub use mdf_format::Kind;
 pub use part::Part;

@@ -184,8 +184,10 @@ fn view_of(alloc: Global, lists: &[Rows<Part>]) -> Result<DataView, Memory>
     ensures { IfOk result (λ view. view ≡ joined lists.now) }
 {
     let mut view = DataView::empty(alloc);
-    for parts in lists {
-        add_all(&mut view, parts.as_slice())?;
+    let mut k = 0;
+    while k < lists.len() {
+        add_all(&mut view, lists[k].as_slice())?;
+        k += 1;
     }
     Ok(view)
 }
