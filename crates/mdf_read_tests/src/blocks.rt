@@ -1,3 +1,4 @@
+use crate::files::{Piece, file_of};
 use crate::span::span_over;
 use mdf_block::{
     BlockAt, BlockFault, Draft, Kind, Note, NoteFault, block_at, block_in, body_in, kind_at,
@@ -7,189 +8,222 @@ use mdf_num::{Bytes, Halt, Memory, SliceSpan, Span, Stop};
 use std::alloc::Global;
 use std::test::Fail;
 
-// 64 bytes of nothing, and then the header of a block and what follows it.
-fn file(
-    alloc: Global,
-    name: &[u8; 4],
-    size: u64,
-    links: u64,
-    rest: &[u8],
-) -> Result<Bytes, Memory> {
+// A file that ends behind a block at 64: its name, the size and the number of links that it says, and how many bytes
+// follow its header. All of these are 0 but one, whose place and value stand here.
+type Said = (&'static [u8; 4], u64, u64, usize, (usize, u8));
+
+// What is said, where a block is looked for, and what is told.
+const BLOCKS: &[(Said, u64, Kind, &str)] = &[
+    (
+        (b"##TX", 32, 0, 8, (0, 65)),
+        64,
+        Kind::Tx,
+        "Ok(BlockAt { at: 64, kind: Tx, links: 0, body_at: 88, body_len: 8 })",
+    ),
+    (
+        (b"##TX", 32, 0, 7, (0, 65)),
+        64,
+        Kind::Tx,
+        "Err(Bad { at: 64, want: Tx })",
+    ),
+    (
+        (b"##TX", 32, 0, 8, (0, 65)),
+        64,
+        Kind::Md,
+        "Err(Bad { at: 64, want: Md })",
+    ),
+    (
+        (b"##TX", 32, 0, 8, (0, 65)),
+        96,
+        Kind::Tx,
+        "Err(Bad { at: 96, want: Tx })",
+    ),
+    (
+        (b"##FH", 39, 2, 40, (0, 0)),
+        64,
+        Kind::Fh,
+        "Err(Bad { at: 64, want: Fh })",
+    ),
+    (
+        (b"##FH", 55, 2, 40, (0, 0)),
+        64,
+        Kind::Fh,
+        "Err(Bad { at: 64, want: Fh })",
+    ),
+    (
+        (b"##FH", 56, 2, 40, (0, 0)),
+        64,
+        Kind::Fh,
+        "Ok(BlockAt { at: 64, kind: Fh, links: 2, body_at: 104, body_len: 16 })",
+    ),
+    (
+        (b"##FH", 56, 1, 40, (0, 0)),
+        64,
+        Kind::Fh,
+        "Err(Bad { at: 64, want: Fh })",
+    ),
+    (
+        (b"##HD", 112, 7, 88, (0, 0)),
+        64,
+        Kind::Hd,
+        "Ok(BlockAt { at: 64, kind: Hd, links: 7, body_at: 144, body_len: 32 })",
+    ),
+    (
+        (b"##HD", 104, 5, 88, (0, 0)),
+        64,
+        Kind::Hd,
+        "Err(Bad { at: 64, want: Hd })",
+    ),
+    (
+        (b"##CC", 96, 4, 72, (38, 2)),
+        64,
+        Kind::Cc,
+        "Ok(BlockAt { at: 64, kind: Cc, links: 4, body_at: 120, body_len: 40 })",
+    ),
+    (
+        (b"##CC", 95, 4, 72, (38, 2)),
+        64,
+        Kind::Cc,
+        "Err(Bad { at: 64, want: Cc })",
+    ),
+    (
+        (b"##CC", 96, 4, 72, (39, 255)),
+        64,
+        Kind::Cc,
+        "Err(Bad { at: 64, want: Cc })",
+    ),
+];
+
+// What is said where data is wanted, and sums that must not wrap.
+const DATA: &[(Said, u64, Kind, &str)] = &[
+    (
+        (b"##DZ", 1, u64::MAX, 0, (0, 0)),
+        64,
+        Kind::Dt,
+        "Err(Compressed { at: 64 })",
+    ),
+    (
+        (b"##HL", 1, u64::MAX, 0, (0, 0)),
+        64,
+        Kind::Sd,
+        "Err(Compressed { at: 64 })",
+    ),
+    (
+        (b"##DZ", 1, u64::MAX, 0, (0, 0)),
+        64,
+        Kind::Dl,
+        "Err(Compressed { at: 64 })",
+    ),
+    (
+        (b"##HL", 1, u64::MAX, 0, (0, 0)),
+        64,
+        Kind::Tx,
+        "Err(Bad { at: 64, want: Tx })",
+    ),
+    (
+        (b"##DT", 24, u64::MAX, 40, (0, 0)),
+        64,
+        Kind::Dt,
+        "Err(Bad { at: 64, want: Dt })",
+    ),
+    (
+        (b"##DT", 24, 1 << 61, 40, (0, 0)),
+        64,
+        Kind::Dt,
+        "Err(Bad { at: 64, want: Dt })",
+    ),
+    (
+        (b"##DT", 24, (1 << 61) - 3, 40, (0, 0)),
+        64,
+        Kind::Dt,
+        "Err(Bad { at: 64, want: Dt })",
+    ),
+    (
+        (b"##DT", u64::MAX, 0, 40, (0, 0)),
+        64,
+        Kind::Dt,
+        "Err(Bad { at: 64, want: Dt })",
+    ),
+    (
+        (b"##DT", u64::MAX - 63, 0, 40, (0, 0)),
+        64,
+        Kind::Dt,
+        "Err(Bad { at: 64, want: Dt })",
+    ),
+    (
+        (b"##DT", 23, 0, 40, (0, 0)),
+        64,
+        Kind::Dt,
+        "Err(Bad { at: 64, want: Dt })",
+    ),
+    (
+        (b"##DT", 24, 0, 0, (0, 0)),
+        88,
+        Kind::Dt,
+        "Err(Bad { at: 88, want: Dt })",
+    ),
+    (
+        (b"##DT", 24, 0, 0, (0, 0)),
+        u64::MAX - 7,
+        Kind::Dt,
+        "Err(Bad { at: 18446744073709551608, want: Dt })",
+    ),
+    (
+        (b"##DT", 24, 0, 0, (0, 0)),
+        u64::MAX,
+        Kind::Dt,
+        "Err(Bad { at: 18446744073709551615, want: Dt })",
+    ),
+];
+
+// A file that says so: 64 bytes of nothing, the header of a block, and what follows it.
+fn said(alloc: Global, block: &Said) -> Result<Bytes, Memory> {
+    let (name, size, links, count, (place, value)) = *block;
     let mut bytes = Bytes::from_slice(alloc, &[0; 64])?;
     bytes.push_slice(name)?;
     bytes.push_slice(&[0; 4])?;
     bytes.push_slice(&size.to_le_bytes())?;
     bytes.push_slice(&links.to_le_bytes())?;
-    bytes.push_slice(rest)?;
+    for k in 0..count {
+        bytes.push_slice(&[if k == place { value } else { 0 }])?;
+    }
     Ok(bytes)
 }
 
+fn line(alloc: Global, answer: &Result<BlockAt, BlockFault>) -> Result<String, Memory> {
+    Ok(format!(in alloc; "{answer:?}")?)
+}
+
+fn told(alloc: Global, block: &Said, at: u64, want: Kind) -> Result<String, Memory> {
+    let bytes = said(alloc, block)?;
+    line(alloc, &block_at(bytes.as_slice(), at, want))
+}
+
 #[test]
-fn a_block_may_end_where_the_file_ends(rt: HostRuntime) -> Result<(), Fail> {
-    let bytes = file(rt.alloc(), b"##TX", 32, 0, b"abcdefgh")?;
-    let block = block_at(bytes.as_slice(), 64, Kind::Tx)?;
-    assert_eq!(rt;
-        block,
-        BlockAt {
-            at: 64,
-            kind: Kind::Tx,
-            links: 0,
-            body_at: 88,
-            body_len: 8
-        }
-    );
-    let short = file(rt.alloc(), b"##TX", 32, 0, b"abcdefg")?;
-    let bad = Err(BlockFault::Bad {
-        at: 64,
-        want: Kind::Tx,
-    });
-    assert_eq!(rt; block_at(short.as_slice(), 64, Kind::Tx), bad);
-    assert_eq!(rt;
-        block_at(bytes.as_slice(), 64, Kind::Md),
-        Err(BlockFault::Bad {
-            at: 64,
-            want: Kind::Md
-        })
-    );
-    assert_eq!(rt;
-        block_at(bytes.as_slice(), 96, Kind::Tx),
-        Err(BlockFault::Bad {
-            at: 96,
-            want: Kind::Tx
-        })
-    );
+fn blocks_are_told(rt: HostRuntime) -> Result<(), Fail> {
+    for (block, at, want, text) in BLOCKS {
+        assert_eq!(rt; told(rt.alloc(), block, *at, *want)?.as_str(), *text);
+    }
     Ok(())
 }
 
 #[test]
-fn a_block_holds_its_links(rt: HostRuntime) -> Result<(), Fail> {
-    let bad = Err(BlockFault::Bad {
-        at: 64,
-        want: Kind::Fh,
-    });
-    for size in [39u64, 40, 55] {
-        let bytes = file(rt.alloc(), b"##FH", size, 2, &[0; 40])?;
-        assert_eq!(rt; block_at(bytes.as_slice(), 64, Kind::Fh), bad);
-    }
-    let bytes = file(rt.alloc(), b"##FH", 56, 2, &[0; 40])?;
-    assert_eq!(rt; block_at(bytes.as_slice(), 64, Kind::Fh)?.body_at, 104);
-    let few = file(rt.alloc(), b"##FH", 56, 1, &[0; 40])?;
-    assert_eq!(rt; block_at(few.as_slice(), 64, Kind::Fh), bad);
-    Ok(())
-}
-
-#[test]
-fn no_sum_wraps(rt: HostRuntime) -> Result<(), Fail> {
-    let bad = Err(BlockFault::Bad {
-        at: 64,
-        want: Kind::Dt,
-    });
-    for links in [u64::MAX, 1 << 61, (1 << 61) - 3, (1 << 61) - 1, 1 << 63] {
-        let bytes = file(rt.alloc(), b"##DT", 24, links, &[0; 40])?;
-        assert_eq!(rt; block_at(bytes.as_slice(), 64, Kind::Dt), bad);
-    }
-    for size in [u64::MAX, u64::MAX - 63, u64::MAX - 71, 0, 23] {
-        let bytes = file(rt.alloc(), b"##DT", size, 0, &[0; 40])?;
-        assert_eq!(rt; block_at(bytes.as_slice(), 64, Kind::Dt), bad);
-    }
-    let bytes = file(rt.alloc(), b"##DT", 24, 0, b"")?;
-    for at in [u64::MAX - 7, u64::MAX, 1 << 63, 88, 80] {
-        assert_eq!(rt;
-            block_at(bytes.as_slice(), at, Kind::Dt),
-            Err(BlockFault::Bad { at, want: Kind::Dt })
-        );
-        assert_eq!(rt; kind_at(bytes.as_slice(), at), None);
+fn data_is_told(rt: HostRuntime) -> Result<(), Fail> {
+    for (block, at, want, text) in DATA {
+        assert_eq!(rt; told(rt.alloc(), block, *at, *want)?.as_str(), *text);
     }
     Ok(())
 }
 
 #[test]
 fn a_block_stands_on_a_multiple_of_8(rt: HostRuntime) -> Result<(), Fail> {
-    let mut bytes = Bytes::from_slice(rt.alloc(), &[0; 4])?;
-    let block = file(rt.alloc(), b"##DT", 24, 0, b"")?;
-    bytes.push_slice(block.as_slice())?;
-    assert_eq!(rt; kind_at(bytes.as_slice(), 68), Some(Kind::Dt));
+    let mut bytes = [0u8; 28];
+    bytes[4..8].copy_from_slice(b"##DT");
+    bytes[12] = 24;
+    assert_eq!(rt; kind_at(&bytes, 4), Some(Kind::Dt));
     assert_eq!(rt;
-        block_at(bytes.as_slice(), 68, Kind::Dt),
-        Err(BlockFault::Bad {
-            at: 68,
-            want: Kind::Dt
-        })
-    );
-    Ok(())
-}
-
-#[test]
-fn a_header_may_have_more_links_and_no_fewer(rt: HostRuntime) -> Result<(), Fail> {
-    for (links, size) in [(7u64, 112u64), (6, 104)] {
-        let bytes = file(rt.alloc(), b"##HD", size, links, &[0; 88])?;
-        let block = block_at(bytes.as_slice(), 64, Kind::Hd)?;
-        assert_eq!(rt; block.links, links);
-        assert_eq!(rt; block.body_len, 32);
-    }
-    let bytes = file(rt.alloc(), b"##HD", 104, 5, &[0; 88])?;
-    assert_eq!(rt;
-        block_at(bytes.as_slice(), 64, Kind::Hd),
-        Err(BlockFault::Bad {
-            at: 64,
-            want: Kind::Hd
-        })
-    );
-    Ok(())
-}
-
-#[test]
-fn a_conversion_holds_its_values(rt: HostRuntime) -> Result<(), Fail> {
-    let mut rest = [0u8; 72];
-    rest[38] = 2;
-    let bytes = file(rt.alloc(), b"##CC", 96, 4, &rest)?;
-    assert_eq!(rt; block_at(bytes.as_slice(), 64, Kind::Cc)?.body_len, 40);
-    let short = file(rt.alloc(), b"##CC", 95, 4, &rest)?;
-    assert_eq!(rt;
-        block_at(short.as_slice(), 64, Kind::Cc),
-        Err(BlockFault::Bad {
-            at: 64,
-            want: Kind::Cc
-        })
-    );
-    rest[39] = 255;
-    let long = file(rt.alloc(), b"##CC", 96, 4, &rest)?;
-    assert_eq!(rt;
-        block_at(long.as_slice(), 64, Kind::Cc),
-        Err(BlockFault::Bad {
-            at: 64,
-            want: Kind::Cc
-        })
-    );
-    Ok(())
-}
-
-#[test]
-fn compressed_data_is_told_apart(rt: HostRuntime) -> Result<(), Fail> {
-    for name in [b"##DZ", b"##HL"] {
-        let bytes = file(rt.alloc(), name, 1, u64::MAX, b"")?;
-        for want in [Kind::Dt, Kind::Sd, Kind::Dl] {
-            assert_eq!(rt;
-                block_at(bytes.as_slice(), 64, want),
-                Err(BlockFault::Compressed { at: 64 })
-            );
-        }
-        assert_eq!(rt;
-            block_at(bytes.as_slice(), 64, Kind::Tx),
-            Err(BlockFault::Bad {
-                at: 64,
-                want: Kind::Tx
-            })
-        );
-        assert_eq!(rt; kind_at(bytes.as_slice(), 64), None);
-    }
-    let bytes = Bytes::from_slice(rt.alloc(), b"1234##DZ")?;
-    assert_eq!(rt;
-        block_at(bytes.as_slice(), 4, Kind::Dt),
-        Err(BlockFault::Bad {
-            at: 4,
-            want: Kind::Dt
-        })
+        line(rt.alloc(), &block_at(&bytes, 4, Kind::Dt))?.as_str(),
+        "Err(Bad { at: 4, want: Dt })"
     );
     Ok(())
 }
@@ -197,82 +231,105 @@ fn compressed_data_is_told_apart(rt: HostRuntime) -> Result<(), Fail> {
 #[test]
 fn every_kind_has_its_name(rt: HostRuntime) -> Result<(), Fail> {
     let names = b"##HD##FH##DG##CG##CN##CC##SI##TX##MD##DT##DL##SD##AT##";
-    assert_eq!(rt; kind_at(names, 0), Some(Kind::Hd));
-    assert_eq!(rt; kind_at(names, 28), Some(Kind::Tx));
-    assert_eq!(rt; kind_at(names, 48), Some(Kind::At));
-    assert_eq!(rt; kind_at(names, 1), None);
-    assert_eq!(rt; kind_at(names, 52), None);
+    for (at, kind) in [
+        (0u64, Some(Kind::Hd)),
+        (28, Some(Kind::Tx)),
+        (48, Some(Kind::At)),
+        (1, None),
+        (52, None),
+        (1 << 63, None),
+    ] {
+        assert_eq!(rt; kind_at(names, at), kind);
+    }
     Ok(())
 }
 
-#[test]
-fn a_text_ends_at_its_first_zero_byte(rt: HostRuntime) -> Result<(), Fail> {
-    let bytes = file(rt.alloc(), b"##TX", 32, 0, b"ab\0cd\0\0\0")?;
-    let mut budget = 2;
-    let Note::Plain(text) = note_at(rt.alloc(), bytes.as_slice(), 64, &mut budget)? else {
-        return Err("a plain text".into());
-    };
-    assert_eq!(rt; text.as_slice(), b"ab".as_slice());
-    assert_eq!(rt; budget, 0);
-    let mut small = 1;
-    let long = note_at(rt.alloc(), bytes.as_slice(), 64, &mut small).err();
-    assert_eq!(rt; long, Some(NoteFault::TooMany { at: 64 }));
-    assert_eq!(rt; small, 1);
-    Ok(())
+// A text with a zero byte in it, and one that is longer than what is read in one go.
+const TX: Piece = (64, b"##TX", &[], b"ab\0cd\0\0\0");
+
+const MD: Piece = (64, b"##MD", &[], &[65; 66]);
+
+// A block, the address of a text, the bytes that texts may have, and what is told: the answer, and the bytes left.
+const NOTES: &[(Piece, u64, u64, &str)] = &[
+    (TX, 64, 2, "Ok(Plain(Bytes { items: [97, 98] })) 0"),
+    (TX, 64, 1, "Err(TooMany { at: 64 }) 1"),
+    (TX, 72, 1000, "Err(Bad { at: 72 }) 1000"),
+    (TX, 0, 1000, "Ok(Nothing) 1000"),
+    (
+        MD,
+        64,
+        1000,
+        "Ok(Xml(Bytes { items: [65, 65, 65, 65, 65, 65, 65, 65, 65, 65, 65, 65, 65, 65, 65, 65, 65, 65, 65, 65, 65, 65, 65, 65, 65, 65, 65, 65, 65, 65, 65, 65, 65, 65, 65, 65, 65, 65, 65, 65, 65, 65, 65, 65, 65, 65, 65, 65, 65, 65, 65, 65, 65, 65, 65, 65, 65, 65, 65, 65, 65, 65, 65, 65, 65, 65] })) 934",
+    ),
+];
+
+fn note_line(alloc: Global, answer: &Result<Note, NoteFault>, left: u64) -> Result<String, Memory> {
+    Ok(format!(in alloc; "{answer:?} {left}")?)
+}
+
+fn note_told(alloc: Global, piece: Piece, at: u64, budget: u64) -> Result<String, Memory> {
+    let file = file_of(alloc, 160, &[piece])?;
+    let mut left = budget;
+    let answer = note_at(alloc, file.as_slice(), at, &mut left);
+    note_line(alloc, &answer, left)
 }
 
 #[test]
-fn a_long_text_without_a_zero_byte_is_all_of_its_body(rt: HostRuntime) -> Result<(), Fail> {
-    let bytes = file(rt.alloc(), b"##MD", 24 + 200, 0, &[65; 200])?;
-    let mut budget = 1000;
-    let Note::Xml(text) = note_at(rt.alloc(), bytes.as_slice(), 64, &mut budget)? else {
-        return Err("a text in XML".into());
-    };
-    assert_eq!(rt; text.as_slice(), [65u8; 200].as_slice());
-    assert_eq!(rt; budget, 800);
-    let Note::Nothing = note_at(rt.alloc(), bytes.as_slice(), 0, &mut budget)? else {
-        return Err("no text".into());
-    };
-    let bad = note_at(rt.alloc(), bytes.as_slice(), 72, &mut budget).err();
-    assert_eq!(rt; bad, Some(NoteFault::Bad { at: 72 }));
-    assert_eq!(rt; budget, 800);
+fn texts_are_told(rt: HostRuntime) -> Result<(), Fail> {
+    for (piece, at, budget, text) in NOTES {
+        assert_eq!(rt;
+            note_told(rt.alloc(), *piece, *at, *budget)?.as_str(),
+            *text
+        );
+    }
     Ok(())
+}
+
+fn line_over(
+    alloc: Global,
+    answer: &Result<Note, Halt<NoteFault>>,
+    left: u64,
+    faults: u64,
+) -> Result<String, Memory> {
+    Ok(format!(in alloc; "{answer:?} {left} {faults}")?)
+}
+
+fn told_over(alloc: Global, file: &[u8], calls: u64, stop: Stop) -> Result<String, Memory> {
+    let mut span = span_over(file, calls, stop);
+    let mut left = 10;
+    let answer = note_in(alloc, &mut span, 64, &mut left);
+    line_over(alloc, &answer, left, span.faults())
 }
 
 #[test]
 fn a_span_that_stops_stops_the_reader(rt: HostRuntime) -> Result<(), Fail> {
-    let bytes = file(rt.alloc(), b"##TX", 32, 0, b"ab\0cd\0\0\0")?;
-    for (stop, faults) in [(Stop::Failed, 1u64), (Stop::Memory, 0)] {
+    let file = file_of(rt.alloc(), 96, &[TX])?;
+    for (stop, want) in [
+        (Stop::Failed, "Err(Failed) 10 1"),
+        (Stop::Memory, "Err(Memory) 10 0"),
+    ] {
         for calls in 0..6 {
-            let mut span = span_over(bytes.as_slice(), calls, stop);
-            let mut budget = 10;
-            let answer = note_in(rt.alloc(), &mut span, 64, &mut budget);
-            if let Stop::Failed = stop {
-                assert!(rt; matches!(answer, Err(Halt::Failed)));
-            } else {
-                assert!(rt; matches!(answer, Err(Halt::Memory)));
-            }
-            assert_eq!(rt; budget, 10);
-            assert_eq!(rt; span.faults(), faults);
+            assert_eq!(rt;
+                told_over(rt.alloc(), file.as_slice(), calls, stop)?.as_str(),
+                want
+            );
         }
     }
-    let mut span = span_over(bytes.as_slice(), 6, Stop::Failed);
-    let mut budget = 10;
-    let answer = note_in(rt.alloc(), &mut span, 64, &mut budget);
-    assert!(rt; matches!(answer, Ok(Note::Plain(_))));
-    assert_eq!(rt; budget, 8);
-    assert_eq!(rt; span.faults(), 0);
+    let whole = told_over(rt.alloc(), file.as_slice(), 6, Stop::Failed)?;
+    assert_eq!(rt; whole.as_str(), "Ok(Plain(Bytes { items: [97, 98] })) 8 0");
     Ok(())
 }
 
+const FH: Piece = (
+    64,
+    b"##FH",
+    &[64, 72 + (255 << 56)],
+    &[9, 0, 0, 0, 0, 0, 0, 0, 0, 0, 0, 0, 0, 0, 0, 0],
+);
+
 #[test]
 fn links_and_bodies_are_read(rt: HostRuntime) -> Result<(), Fail> {
-    let mut rest = [0u8; 32];
-    rest[0] = 64;
-    rest[8] = 72;
-    rest[15] = 255;
-    rest[16] = 9;
-    let bytes = file(rt.alloc(), b"##FH", 56, 2, &rest)?;
+    let bytes = file_of(rt.alloc(), 120, &[FH])?;
     let block = block_at(bytes.as_slice(), 64, Kind::Fh)?;
     if block.links < 2 || block.body_len < 8 {
         return Err("two links and a body".into());
