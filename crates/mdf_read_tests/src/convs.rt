@@ -1,5 +1,6 @@
+use crate::files::{Piece, file_of};
 use crate::span::span_over;
-use mdf_block::{Draft, Kind, Note, What};
+use mdf_block::Kind;
 use mdf_conv::{Budget, ConvFault, Ref, read_conv, read_conv_in, read_source, read_source_in};
 use mdf_num::{Bytes, Halt, Memory, Span, Stop};
 use std::alloc::Global;
@@ -7,7 +8,7 @@ use std::test::Fail;
 
 // The body of a conversion without numbers, and one with two.
 const PLAIN: [u8; 24] = [
-    7, 3, 0x02, 0x81, 3, 0, 0, 0, 1, 0, 0, 0, 0, 0, 0, 0x80, 9, 0, 0, 0, 0, 0, 0, 0,
+    7, 3, 0x02, 0x81, 0, 0, 0, 0, 1, 0, 0, 0, 0, 0, 0, 0x80, 9, 0, 0, 0, 0, 0, 0, 0,
 ];
 
 const LINEAR: [u8; 40] = [
@@ -15,101 +16,288 @@ const LINEAR: [u8; 40] = [
     0, 0, 0, 0, 0, 0, 0, 0xF0, 0x3F,
 ];
 
+// The body of a conversion of texts without numbers.
+const KIND_5: [u8; 24] = [
+    5, 0, 0, 0, 0, 0, 0, 0, 0, 0, 0, 0, 0, 0, 0, 0, 0, 0, 0, 0, 0, 0, 0, 0,
+];
+
+// A file: how many bytes it has, and its blocks.
+type File = (usize, &'static [Piece]);
+
+// What may be read of a file: so many bytes of texts, and so many conversions.
+const TEXT: u64 = 67_108_864;
+
+const CONVERSIONS: u64 = 1_048_576;
+
 // A conversion with a unit, an inverse and three references: a text, nothing and a conversion of two numbers.
-fn written(alloc: Global) -> Result<Bytes, Memory> {
-    let mut draft = Draft::new(alloc);
-    let outer = draft.place(Kind::Cc, 7, Bytes::from_slice(alloc, &PLAIN)?)?;
-    let inner = draft.place(Kind::Cc, 4, Bytes::from_slice(alloc, &LINEAR)?)?;
-    let tx = draft.place(Kind::Tx, 0, Bytes::from_slice(alloc, b"km/h\0\0\0\0")?)?;
-    let md = draft.place(Kind::Md, 0, Bytes::from_slice(alloc, b"<p/>")?)?;
-    draft.link(outer, 1, tx);
-    draft.link(outer, 3, inner);
-    draft.link(outer, 4, md);
-    draft.link(outer, 6, inner);
-    draft.link(inner, 0, tx);
-    draft.bytes(&[0; 64])
+const OUTER: File = (
+    328,
+    &[
+        (64, b"##CC", &[0, 264, 0, 168, 296, 0, 168], &PLAIN),
+        (168, b"##CC", &[264, 0, 0, 0], &LINEAR),
+        (264, b"##TX", &[], b"km/h\0\0\0\0"),
+        (296, b"##MD", &[], b"<p/>"),
+    ],
+);
+
+// Five conversions, each but the last referring to the next one.
+const NESTED: File = (
+    504,
+    &[
+        (64, b"##CC", &[0, 0, 0, 0, 152], &KIND_5),
+        (152, b"##CC", &[0, 0, 0, 0, 240], &KIND_5),
+        (240, b"##CC", &[0, 0, 0, 0, 328], &KIND_5),
+        (328, b"##CC", &[0, 0, 0, 0, 416], &KIND_5),
+        (416, b"##CC", &[0, 0, 0, 0, 0], &KIND_5),
+    ],
+);
+
+// The same, where the last one refers to itself.
+const ITSELF: File = (
+    504,
+    &[
+        (64, b"##CC", &[0, 0, 0, 0, 152], &KIND_5),
+        (152, b"##CC", &[0, 0, 0, 0, 240], &KIND_5),
+        (240, b"##CC", &[0, 0, 0, 0, 328], &KIND_5),
+        (328, b"##CC", &[0, 0, 0, 0, 416], &KIND_5),
+        (416, b"##CC", &[0, 0, 0, 0, 416], &KIND_5),
+    ],
+);
+
+// A conversion with a name, and a reference to a text.
+const TEXTS: File = (
+    224,
+    &[
+        (64, b"##CC", &[152, 0, 0, 0, 184], &[0; 24]),
+        (152, b"##TX", &[], b"speed\0\0\0"),
+        (184, b"##MD", &[], b"<p>fast</p>\0\0\0\0\0"),
+    ],
+);
+
+// A conversion whose unit is itself.
+const NO_UNIT: File = (152, &[(64, b"##CC", &[0, 64, 0, 0, 0], &[0; 24])]);
+
+// A conversion that refers to no block.
+const NO_TEXT: File = (152, &[(64, b"##CC", &[0, 0, 0, 0, 72], &[0; 24])]);
+
+// A conversion that refers to one that is cut short.
+const CUT: File = (
+    240,
+    &[
+        (64, b"##CC", &[0, 0, 0, 0, 152], &[0; 24]),
+        (152, b"##CC", &[0, 0, 0, 0, 0], &[0; 25]),
+    ],
+);
+
+// A file, the address of a conversion, how many bytes of texts and how many conversions may come, and what is answered
+// with what may still come.
+const CONVS: &[(File, u64, u64, u64, &str)] = &[
+    (
+        OUTER,
+        64,
+        TEXT,
+        CONVERSIONS,
+        "Ok(Conversion { kind: 7, precision: 3, flags: 33026, low: 9223372036854775809, high: 9, numbers: Rows { items: [] }, refs: Rows { items: [Words(Xml(Bytes { items: [60, 112, 47, 62] })), Nothing, Conv(Boxed { inner: Conversion { kind: 1, precision: 255, flags: 0, low: 0, high: 0, numbers: Rows { items: [5, 4607182418800017408] }, refs: Rows { items: [] }, name: Plain(Bytes { items: [107, 109, 47, 104] }), unit: Nothing, comment: Nothing } })] }, name: Nothing, unit: Plain(Bytes { items: [107, 109, 47, 104] }), comment: Nothing }) Budget { text: 67108852, conversions: 1048574, dropped: 1 }",
+    ),
+    (
+        NESTED,
+        152,
+        TEXT,
+        CONVERSIONS,
+        "Ok(Conversion { kind: 5, precision: 0, flags: 0, low: 0, high: 0, numbers: Rows { items: [] }, refs: Rows { items: [Conv(Boxed { inner: Conversion { kind: 5, precision: 0, flags: 0, low: 0, high: 0, numbers: Rows { items: [] }, refs: Rows { items: [Conv(Boxed { inner: Conversion { kind: 5, precision: 0, flags: 0, low: 0, high: 0, numbers: Rows { items: [] }, refs: Rows { items: [Conv(Boxed { inner: Conversion { kind: 5, precision: 0, flags: 0, low: 0, high: 0, numbers: Rows { items: [] }, refs: Rows { items: [Nothing] }, name: Nothing, unit: Nothing, comment: Nothing } })] }, name: Nothing, unit: Nothing, comment: Nothing } })] }, name: Nothing, unit: Nothing, comment: Nothing } })] }, name: Nothing, unit: Nothing, comment: Nothing }) Budget { text: 67108864, conversions: 1048572, dropped: 0 }",
+    ),
+    (
+        NESTED,
+        64,
+        TEXT,
+        CONVERSIONS,
+        "Err(Deep { at: 416 }) Budget { text: 67108864, conversions: 1048576, dropped: 0 }",
+    ),
+    (
+        NESTED,
+        64,
+        TEXT,
+        4,
+        "Err(Deep { at: 416 }) Budget { text: 67108864, conversions: 4, dropped: 0 }",
+    ),
+    (
+        NESTED,
+        64,
+        TEXT,
+        3,
+        "Err(TooMany { what: Cc, at: 328 }) Budget { text: 67108864, conversions: 3, dropped: 0 }",
+    ),
+    (
+        ITSELF,
+        416,
+        TEXT,
+        9,
+        "Err(Deep { at: 416 }) Budget { text: 67108864, conversions: 9, dropped: 0 }",
+    ),
+    (
+        TEXTS,
+        64,
+        16,
+        1,
+        "Ok(Conversion { kind: 0, precision: 0, flags: 0, low: 0, high: 0, numbers: Rows { items: [] }, refs: Rows { items: [Words(Xml(Bytes { items: [60, 112, 62, 102, 97, 115, 116, 60, 47, 112, 62] }))] }, name: Plain(Bytes { items: [115, 112, 101, 101, 100] }), unit: Nothing, comment: Nothing }) Budget { text: 0, conversions: 0, dropped: 0 }",
+    ),
+    (
+        TEXTS,
+        64,
+        15,
+        1,
+        "Err(TooMany { what: Text, at: 184 }) Budget { text: 15, conversions: 1, dropped: 0 }",
+    ),
+    (
+        TEXTS,
+        64,
+        4,
+        1,
+        "Err(TooMany { what: Text, at: 152 }) Budget { text: 4, conversions: 1, dropped: 0 }",
+    ),
+    (
+        NO_UNIT,
+        64,
+        TEXT,
+        CONVERSIONS,
+        "Err(Bad { at: 64, want: Tx }) Budget { text: 67108864, conversions: 1048576, dropped: 0 }",
+    ),
+    (
+        NO_TEXT,
+        64,
+        TEXT,
+        CONVERSIONS,
+        "Err(Bad { at: 72, want: Tx }) Budget { text: 67108864, conversions: 1048576, dropped: 0 }",
+    ),
+    (
+        CUT,
+        64,
+        TEXT,
+        CONVERSIONS,
+        "Err(Bad { at: 152, want: Cc }) Budget { text: 67108864, conversions: 1048576, dropped: 0 }",
+    ),
+    (
+        CUT,
+        152,
+        TEXT,
+        CONVERSIONS,
+        "Err(Bad { at: 152, want: Cc }) Budget { text: 67108864, conversions: 1048576, dropped: 0 }",
+    ),
+    (
+        TEXTS,
+        152,
+        TEXT,
+        CONVERSIONS,
+        "Err(Bad { at: 152, want: Cc }) Budget { text: 67108864, conversions: 1048576, dropped: 0 }",
+    ),
+];
+
+fn conv_told(
+    alloc: Global,
+    file: File,
+    at: u64,
+    text: u64,
+    conversions: u64,
+) -> Result<String, Fail> {
+    let bytes = file_of(alloc, file.0, file.1)?;
+    let mut budget = Budget {
+        text,
+        conversions,
+        dropped: 0,
+    };
+    let answer = read_conv(alloc, bytes.as_slice(), at, &mut budget);
+    Ok(format!(in alloc; "{answer:?} {budget:?}")?)
 }
 
 #[test]
-fn a_conversion_reads_back_equal(rt: HostRuntime) -> Result<(), Fail> {
-    let bytes = written(rt.alloc())?;
-    let mut budget = Budget::of_file();
-    let outer = read_conv(rt.alloc(), bytes.as_slice(), 64, &mut budget)?;
-    assert_eq!(rt;
-        budget,
-        Budget {
-            text: 67_108_852,
-            conversions: 1_048_574,
-            dropped: 1
-        }
-    );
-    assert_eq!(rt; (outer.kind, outer.precision, outer.flags), (7, 3, 0x8102));
-    assert_eq!(rt; (outer.low, outer.high), ((1 << 63) + 1, 9));
-    assert!(rt; outer.numbers.is_empty() && matches!(outer.name, Note::Nothing));
-    assert!(rt; matches!(outer.comment, Note::Nothing));
-    let Note::Plain(unit) = &outer.unit else {
-        return Err("a unit".into());
-    };
-    assert_eq!(rt; unit.as_slice(), b"km/h".as_slice());
-    assert_eq!(rt; outer.refs.len(), 3);
-    assert!(rt; matches!(outer.refs.get(1), Some(Ref::Nothing)));
-    let Some(Ref::Words(Note::Xml(words))) = outer.refs.get(0) else {
-        return Err("words".into());
-    };
-    assert_eq!(rt; words.as_slice(), b"<p/>".as_slice());
-    let Some(Ref::Conv(inner)) = outer.refs.get(2) else {
-        return Err("a conversion".into());
-    };
-    let inner = inner.get();
-    assert_eq!(rt; (inner.kind, inner.refs.len()), (1, 0));
-    assert_eq!(rt; inner.numbers.as_slice(), [5, 0x3FF0 << 48].as_slice());
-    assert!(rt; matches!(inner.name, Note::Plain(_)));
+fn conversions_are_told(rt: HostRuntime) -> Result<(), Fail> {
+    for (file, at, text, conversions, want) in CONVS {
+        let told = conv_told(rt.alloc(), *file, *at, *text, *conversions)?;
+        assert_eq!(rt; told.as_str(), *want);
+    }
     Ok(())
 }
 
-// Five conversions, each but the last referring to the next one, and the last one to itself where `loops` says so.
-fn nested(alloc: Global, loops: bool) -> Result<Bytes, Memory> {
-    let mut draft = Draft::new(alloc);
-    let one = draft.place(Kind::Cc, 5, Bytes::from_slice(alloc, &PLAIN)?)?;
-    let two = draft.place(Kind::Cc, 5, Bytes::from_slice(alloc, &PLAIN)?)?;
-    let three = draft.place(Kind::Cc, 5, Bytes::from_slice(alloc, &PLAIN)?)?;
-    let four = draft.place(Kind::Cc, 5, Bytes::from_slice(alloc, &PLAIN)?)?;
-    let five = draft.place(Kind::Cc, 5, Bytes::from_slice(alloc, &PLAIN)?)?;
-    draft.link(one, 4, two);
-    draft.link(two, 4, three);
-    draft.link(three, 4, four);
-    draft.link(four, 4, five);
-    if loops {
-        draft.link(five, 4, five);
-    }
-    draft.bytes(&[0; 64])
+// A source with a name and a path.
+const SOURCE: File = (
+    152,
+    &[
+        (64, b"##SI", &[120, 120, 0], &[2, 3, 1, 0, 0, 0, 0, 0]),
+        (120, b"##TX", &[], b"engine\0\0"),
+    ],
+);
+
+// The same, whose comment is itself.
+const NO_COMMENT: File = (
+    152,
+    &[
+        (64, b"##SI", &[120, 120, 64], &[2, 3, 1, 0, 0, 0, 0, 0]),
+        (120, b"##TX", &[], b"engine\0\0"),
+    ],
+);
+
+// The same of a source.
+const SOURCES: &[(File, u64, u64, u64, &str)] = &[
+    (
+        SOURCE,
+        64,
+        TEXT,
+        CONVERSIONS,
+        "Ok(SourceInfo { kind: 2, bus: 3, flags: 1, name: Plain(Bytes { items: [101, 110, 103, 105, 110, 101] }), path: Plain(Bytes { items: [101, 110, 103, 105, 110, 101] }), comment: Nothing }) Budget { text: 67108852, conversions: 1048576, dropped: 0 }",
+    ),
+    (
+        SOURCE,
+        64,
+        11,
+        0,
+        "Err(TooMany { what: Text, at: 120 }) Budget { text: 11, conversions: 0, dropped: 0 }",
+    ),
+    (
+        SOURCE,
+        64,
+        5,
+        0,
+        "Err(TooMany { what: Text, at: 120 }) Budget { text: 5, conversions: 0, dropped: 0 }",
+    ),
+    (
+        NO_COMMENT,
+        64,
+        12,
+        0,
+        "Err(Bad { at: 64, want: Tx }) Budget { text: 12, conversions: 0, dropped: 0 }",
+    ),
+    (
+        SOURCE,
+        120,
+        TEXT,
+        CONVERSIONS,
+        "Err(Bad { at: 120, want: Si }) Budget { text: 67108864, conversions: 1048576, dropped: 0 }",
+    ),
+];
+
+fn source_told(
+    alloc: Global,
+    file: File,
+    at: u64,
+    text: u64,
+    conversions: u64,
+) -> Result<String, Fail> {
+    let bytes = file_of(alloc, file.0, file.1)?;
+    let mut budget = Budget {
+        text,
+        conversions,
+        dropped: 0,
+    };
+    let answer = read_source(alloc, bytes.as_slice(), at, &mut budget);
+    Ok(format!(in alloc; "{answer:?} {budget:?}")?)
 }
 
 #[test]
-fn four_conversions_may_be_open(rt: HostRuntime) -> Result<(), Fail> {
-    let mut budget = Budget::of_file();
-    let five = nested(rt.alloc(), false)?;
-    assert!(rt; read_conv(rt.alloc(), five.as_slice(), 152, &mut budget).is_ok());
-    assert_eq!(rt; budget.conversions, 1_048_572);
-    let deep = read_conv(rt.alloc(), five.as_slice(), 64, &mut budget).err();
-    assert_eq!(rt; deep, Some(ConvFault::Deep { at: 416 }));
-    budget.conversions = 4;
-    let deep = read_conv(rt.alloc(), five.as_slice(), 64, &mut budget).err();
-    assert_eq!(rt; deep, Some(ConvFault::Deep { at: 416 }));
-    budget.conversions = 3;
-    let many = read_conv(rt.alloc(), five.as_slice(), 64, &mut budget).err();
-    assert_eq!(rt;
-        many,
-        Some(ConvFault::TooMany {
-            what: What::Cc,
-            at: 328
-        })
-    );
-    assert_eq!(rt; budget.conversions, 3);
-    let itself = nested(rt.alloc(), true)?;
-    budget.conversions = 9;
-    let deep = read_conv(rt.alloc(), itself.as_slice(), 416, &mut budget).err();
-    assert_eq!(rt; deep, Some(ConvFault::Deep { at: 416 }));
+fn sources_are_told(rt: HostRuntime) -> Result<(), Fail> {
+    for (file, at, text, conversions, want) in SOURCES {
+        let told = source_told(rt.alloc(), *file, *at, *text, *conversions)?;
+        assert_eq!(rt; told.as_str(), *want);
+    }
     Ok(())
 }
 
@@ -168,62 +356,9 @@ fn a_million_empty_references_are_read(rt: HostRuntime) -> Result<(), Fail> {
     Ok(())
 }
 
-// A source with a name and a path, whose comment is a conversion where `wrong` says so.
-fn sourced(alloc: Global, wrong: bool) -> Result<Bytes, Memory> {
-    let mut draft = Draft::new(alloc);
-    let si = draft.place(
-        Kind::Si,
-        3,
-        Bytes::from_slice(alloc, &[2, 3, 1, 0, 0, 0, 0, 0])?,
-    )?;
-    let tx = draft.place(Kind::Tx, 0, Bytes::from_slice(alloc, b"engine\0\0")?)?;
-    let cc = draft.place(Kind::Cc, 4, Bytes::from_slice(alloc, &PLAIN)?)?;
-    draft.link(si, 0, tx);
-    draft.link(si, 1, tx);
-    if wrong {
-        draft.link(si, 2, cc);
-    }
-    draft.bytes(&[0; 64])
-}
-
-#[test]
-fn a_source_reads_back_equal(rt: HostRuntime) -> Result<(), Fail> {
-    let mut budget = Budget::of_file();
-    let bytes = sourced(rt.alloc(), false)?;
-    let source = read_source(rt.alloc(), bytes.as_slice(), 64, &mut budget)?;
-    assert_eq!(rt; (source.kind, source.bus, source.flags), (2, 3, 1));
-    let Note::Plain(path) = &source.path else {
-        return Err("a path".into());
-    };
-    assert_eq!(rt; path.as_slice(), b"engine".as_slice());
-    assert!(rt; matches!(source.name, Note::Plain(_)) && matches!(source.comment, Note::Nothing));
-    assert_eq!(rt; budget.text, 67_108_852);
-    budget.text = 11;
-    let fault = read_source(rt.alloc(), bytes.as_slice(), 64, &mut budget).err();
-    assert_eq!(rt;
-        fault,
-        Some(ConvFault::TooMany {
-            what: What::Text,
-            at: 120
-        })
-    );
-    budget.text = 12;
-    let bytes = sourced(rt.alloc(), true)?;
-    let fault = read_source(rt.alloc(), bytes.as_slice(), 64, &mut budget).err();
-    assert_eq!(rt;
-        fault,
-        Some(ConvFault::Bad {
-            at: 152,
-            want: Kind::Tx
-        })
-    );
-    assert_eq!(rt; budget.text, 12);
-    Ok(())
-}
-
 #[test]
 fn a_span_that_fails_stops_the_readers(rt: HostRuntime) -> Result<(), Fail> {
-    let bytes = written(rt.alloc())?;
+    let bytes = file_of(rt.alloc(), OUTER.0, OUTER.1)?;
     let mut budget = Budget::of_file();
     for calls in 0..30 {
         let mut span = span_over(bytes.as_slice(), calls, Stop::Failed);
@@ -237,7 +372,7 @@ fn a_span_that_fails_stops_the_readers(rt: HostRuntime) -> Result<(), Fail> {
 
 #[test]
 fn a_span_that_fails_stops_the_reader_of_a_source(rt: HostRuntime) -> Result<(), Fail> {
-    let bytes = sourced(rt.alloc(), false)?;
+    let bytes = file_of(rt.alloc(), SOURCE.0, SOURCE.1)?;
     let mut budget = Budget::of_file();
     for calls in 0..16 {
         let mut span = span_over(bytes.as_slice(), calls, Stop::Failed);
@@ -250,7 +385,7 @@ fn a_span_that_fails_stops_the_reader_of_a_source(rt: HostRuntime) -> Result<(),
 
 #[test]
 fn a_span_that_wants_memory_stops_the_readers(rt: HostRuntime) -> Result<(), Fail> {
-    let bytes = sourced(rt.alloc(), false)?;
+    let bytes = file_of(rt.alloc(), SOURCE.0, SOURCE.1)?;
     let mut budget = Budget::of_file();
     for calls in 0..16 {
         let mut span = span_over(bytes.as_slice(), calls, Stop::Memory);

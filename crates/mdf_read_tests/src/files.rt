@@ -14,8 +14,8 @@ fn put(file: &mut [u8], at: usize, part: &[u8]) {
     }
 }
 
-// Copies a number of 8 bytes to a place of the file, if it fits there.
-fn put_number(file: &mut [u8], at: usize, number: u64) {
+/// Copies a number of 8 bytes to a place of the file, if it fits there.
+pub(crate) fn put_number(file: &mut [u8], at: usize, number: u64) {
     put(file, at, &number.to_le_bytes());
 }
 

@@ -1,360 +1,290 @@
-ghost use Rattle.std.specs.Prelude.{◌≡◌, ◌+◌, ◌*◌, ◌≤◌, length};
-
+use crate::files::{Piece, file_of, put_number};
 use crate::span::span_over;
-use mdf_block::{Draft, Kind, Note, What};
-use mdf_conv::{Budget, Ref};
-use mdf_group::{GroupFault, read_groups, read_groups_in};
-use mdf_num::{Bytes, Halt, Memory, Span, Stop};
+use mdf_conv::Budget;
+use mdf_group::{read_groups, read_groups_in};
+use mdf_num::{Halt, Span, Stop};
 use std::alloc::Global;
 use std::test::Fail;
 
-// The body of a channel of this kind and this data type.
-fn channel(kind: u8, data_type: u8) -> [u8; 72] {
-    let mut body = [0; 72];
-    body[0] = kind;
-    body[1] = 1;
-    body[2] = data_type;
-    body[3] = 3;
-    body[4..8].copy_from_slice(&0x0102_0304u32.to_le_bytes());
-    body[8..12].copy_from_slice(&0x1112_1314u32.to_le_bytes());
-    body[12..16].copy_from_slice(&0x8000_0102u32.to_le_bytes());
-    body[16..20].copy_from_slice(&0x2122_2324u32.to_le_bytes());
-    body[20] = 7;
-    body[24] = 1;
-    body[32] = 2;
-    body[40] = 3;
-    body[48] = 4;
-    body[56] = 5;
-    body[71] = 0x80;
-    body
-}
+// A file: how many bytes it has, and its blocks.
+type File = (usize, &'static [Piece]);
 
-// The body of a channel group with these flags.
-fn group(flags: u8) -> [u8; 32] {
-    let mut body = [0; 32];
-    body[0] = 9;
-    body[8] = 8;
-    body[15] = 1;
-    body[16] = flags;
-    body[18] = 46;
-    body[24..28].copy_from_slice(&0x3132_3334u32.to_le_bytes());
-    body[28] = 6;
-    body
-}
+// The bodies of a channel group, of a group of values, and of two channels.
+const GROUP: [u8; 32] = [
+    9, 0, 0, 0, 0, 0, 0, 0, 8, 0, 0, 0, 0, 0, 0, 1, 0, 0, 46, 0, 0, 0, 0, 0, 52, 51, 50, 49, 6, 0,
+    0, 0,
+];
+
+const VALUES: [u8; 32] = [
+    10, 0, 0, 0, 0, 0, 0, 0, 0, 0, 0, 0, 0, 0, 0, 0, 3, 0, 0, 0, 0, 0, 0, 0, 0, 0, 0, 0, 0, 0, 0, 0,
+];
+
+const CHANNEL: [u8; 72] = [
+    2, 1, 4, 3, 4, 3, 2, 1, 20, 19, 18, 17, 2, 1, 0, 128, 36, 35, 34, 33, 7, 0, 0, 0, 1, 0, 0, 0,
+    0, 0, 0, 0, 2, 0, 0, 0, 0, 0, 0, 0, 3, 0, 0, 0, 0, 0, 0, 0, 4, 0, 0, 0, 0, 0, 0, 0, 5, 0, 0, 0,
+    0, 0, 0, 0, 0, 0, 0, 0, 0, 0, 0, 128,
+];
+
+const LAST: [u8; 72] = [
+    1, 0, 14, 0, 0, 0, 0, 0, 0, 0, 0, 0, 0, 0, 0, 0, 0, 0, 0, 0, 0, 0, 0, 0, 0, 0, 0, 0, 0, 0, 0,
+    0, 0, 0, 0, 0, 0, 0, 0, 0, 0, 0, 0, 0, 0, 0, 0, 0, 0, 0, 0, 0, 0, 0, 0, 0, 0, 0, 0, 0, 0, 0, 0,
+    0, 0, 0, 0, 0, 0, 0, 0, 0,
+];
 
 // A data group with two channel groups, the first with two channels of one source. The first channel has a conversion
-// that refers to a text and to a conversion, a composition and two links more; the second has its values in the second
+// that refers to a text and to a conversion, a composition and a tenth link; the second has its values in the second
 // group.
-fn written(alloc: Global) -> Result<Bytes, Memory> {
-    let mut draft = Draft::new(alloc);
-    let dg = draft.place(
-        Kind::Dg,
+const TWO_GROUPS: File = (
+    936,
+    &[
+        (64, b"##DG", &[0, 128, 0, 0], &[2, 0, 0, 0, 0, 0, 0, 0]),
+        (128, b"##CG", &[232, 336, 0, 0, 904, 0], &GROUP),
+        (232, b"##CG", &[0, 0, 0, 0, 0, 0], &VALUES),
+        (
+            336,
+            b"##CN",
+            &[512, 128, 0, 672, 728, 0, 0, 0, 0, 904],
+            &CHANNEL,
+        ),
+        (512, b"##CN", &[0, 0, 0, 672, 0, 232, 0, 0], &LAST),
+        (672, b"##SI", &[0, 0, 0], &[2, 3, 1, 0, 0, 0, 0, 0]),
+        (728, b"##CC", &[0, 0, 0, 0, 904, 824], &[0; 24]),
+        (824, b"##CC", &[0, 0, 0, 0], &[0; 24]),
+        (904, b"##TX", &[], b"km/h"),
+    ],
+);
+
+// A data group, a channel group and a channel, a conversion and a text, which goes on nowhere.
+const STRAIGHT: File = (
+    512,
+    &[
+        (64, b"##DG", &[0, 128, 7, 0], &[0; 8]),
+        (128, b"##CG", &[0, 232, 0, 0, 0, 0], &[0; 32]),
+        (232, b"##CN", &[0, 0, 0, 0, 0, 0, 0, 0], &[0; 72]),
+        (392, b"##CC", &[0, 0, 0, 0, 0], &[0; 24]),
+        (480, b"##TX", &[], b"km/h/s/s"),
+    ],
+);
+
+// Where its numbers of 8 bytes stand: links, the flags of the group, and the front of the channel's body, whose first byte is
+// the kind and whose third is the data type.
+const NEXT_DATA: usize = 88;
+
+const NEXT_GROUP: usize = 152;
+
+const FIRST_CHANNEL: usize = 160;
+
+const GROUP_FLAGS: usize = 216;
+
+const NEXT_CHANNEL: usize = 256;
+
+const SOURCE: usize = 280;
+
+const CONVERSION: usize = 288;
+
+const VALUES_AT: usize = 296;
+
+const UNIT: usize = 304;
+
+const FRONT: usize = 320;
+
+const REFERENCE: usize = 448;
+
+// What may be read of a file: so many bytes of texts, and so many conversions.
+const TEXT: u64 = 67_108_864;
+
+const CONVERSIONS: u64 = 1_048_576;
+
+// A file, the numbers of 8 bytes that are set in it, how many bytes of texts and how many conversions may come, and what is
+// answered with what may still come.
+const TOLD: &[(File, &[(usize, u64)], u64, u64, &str)] = &[
+    (
+        TWO_GROUPS,
+        &[],
+        TEXT,
+        CONVERSIONS,
+        "Ok(Rows { items: [DataRow { at: 64, id_size: 2, comment: Nothing, content: 0, groups: Rows { items: [GroupRow { at: 128, id: 9, cycles: 72057594037927944, flags: 0, separator: 46, data_bytes: 825373492, inval_bytes: 6, name: Nothing, source: None, comment: Nothing, channels: Rows { items: [ChannelRow { at: 336, kind: 2, sync: 1, data_type: 4, bit: 3, byte: 16909060, bits: 286397204, flags: 2147483906, inval: 555885348, precision: 7, ranges: [1, 2, 3, 4, 5, 9223372036854775808], name: Nothing, source: Some(SourceInfo { kind: 2, bus: 3, flags: 1, name: Nothing, path: Nothing, comment: Nothing }), conv: Some(Conversion { kind: 0, precision: 0, flags: 0, low: 0, high: 0, numbers: Rows { items: [] }, refs: Rows { items: [Words(Plain(Bytes { items: [107, 109, 47, 104] })), Conv(Boxed { inner: Conversion { kind: 0, precision: 0, flags: 0, low: 0, high: 0, numbers: Rows { items: [] }, refs: Rows { items: [] }, name: Nothing, unit: Nothing, comment: Nothing } })] }, name: Nothing, unit: Nothing, comment: Nothing }), unit: Nothing, comment: Nothing, values: 0, extra: 1 }, ChannelRow { at: 512, kind: 1, sync: 0, data_type: 14, bit: 0, byte: 0, bits: 0, flags: 0, inval: 0, precision: 0, ranges: [0, 0, 0, 0, 0, 0], name: Nothing, source: Some(SourceInfo { kind: 2, bus: 3, flags: 1, name: Nothing, path: Nothing, comment: Nothing }), conv: None, unit: Nothing, comment: Nothing, values: 232, extra: 0 }] } }, GroupRow { at: 232, id: 10, cycles: 0, flags: 3, separator: 0, data_bytes: 0, inval_bytes: 0, name: Nothing, source: None, comment: Nothing, channels: Rows { items: [] } }] } }] }) Budget { text: 67108860, conversions: 1048574, dropped: 3 }",
+    ),
+    (
+        STRAIGHT,
+        &[],
+        TEXT,
+        CONVERSIONS,
+        "Ok(Rows { items: [DataRow { at: 64, id_size: 0, comment: Nothing, content: 7, groups: Rows { items: [GroupRow { at: 128, id: 0, cycles: 0, flags: 0, separator: 0, data_bytes: 0, inval_bytes: 0, name: Nothing, source: None, comment: Nothing, channels: Rows { items: [ChannelRow { at: 232, kind: 0, sync: 0, data_type: 0, bit: 0, byte: 0, bits: 0, flags: 0, inval: 0, precision: 0, ranges: [0, 0, 0, 0, 0, 0], name: Nothing, source: None, conv: None, unit: Nothing, comment: Nothing, values: 0, extra: 0 }] } }] } }] }) Budget { text: 67108864, conversions: 1048576, dropped: 0 }",
+    ),
+    (
+        STRAIGHT,
+        &[(UNIT, 392)],
+        TEXT,
+        CONVERSIONS,
+        "Err(Bad { at: 392, want: Tx }) Budget { text: 67108864, conversions: 1048576, dropped: 0 }",
+    ),
+    (
+        STRAIGHT,
+        &[(NEXT_DATA, 128)],
+        TEXT,
+        CONVERSIONS,
+        "Err(Bad { at: 128, want: Dg }) Budget { text: 67108864, conversions: 1048576, dropped: 0 }",
+    ),
+    (
+        STRAIGHT,
+        &[(NEXT_GROUP, 232)],
+        TEXT,
+        CONVERSIONS,
+        "Err(Bad { at: 232, want: Cg }) Budget { text: 67108864, conversions: 1048576, dropped: 0 }",
+    ),
+    (
+        STRAIGHT,
+        &[(FIRST_CHANNEL, 128)],
+        TEXT,
+        CONVERSIONS,
+        "Err(Bad { at: 128, want: Cn }) Budget { text: 67108864, conversions: 1048576, dropped: 0 }",
+    ),
+    (
+        STRAIGHT,
+        &[(SOURCE, 392)],
+        TEXT,
+        CONVERSIONS,
+        "Err(Bad { at: 392, want: Si }) Budget { text: 67108864, conversions: 1048576, dropped: 0 }",
+    ),
+    (
+        STRAIGHT,
+        &[(CONVERSION, 480)],
+        TEXT,
+        CONVERSIONS,
+        "Err(Bad { at: 480, want: Cc }) Budget { text: 67108864, conversions: 1048576, dropped: 0 }",
+    ),
+    (
+        STRAIGHT,
+        &[(CONVERSION, 392), (REFERENCE, 392)],
+        TEXT,
         4,
-        Bytes::from_slice(alloc, &[2, 0, 0, 0, 0, 0, 0, 0])?,
-    )?;
-    let cg = draft.place(Kind::Cg, 6, Bytes::from_slice(alloc, &group(0))?)?;
-    let other = draft.place(Kind::Cg, 6, Bytes::from_slice(alloc, &group(3))?)?;
-    let cn = draft.place(Kind::Cn, 10, Bytes::from_slice(alloc, &channel(2, 4))?)?;
-    let last = draft.place(Kind::Cn, 8, Bytes::from_slice(alloc, &channel(1, 14))?)?;
-    let si = draft.place(
-        Kind::Si,
-        3,
-        Bytes::from_slice(alloc, &[2, 3, 1, 0, 0, 0, 0, 0])?,
-    )?;
-    let cc = draft.place(Kind::Cc, 6, Bytes::from_slice(alloc, &[0; 24])?)?;
-    let inner = draft.place(Kind::Cc, 4, Bytes::from_slice(alloc, &[0; 24])?)?;
-    let tx = draft.place(Kind::Tx, 0, Bytes::from_slice(alloc, b"km/h")?)?;
-    draft.link(dg, 1, cg);
-    draft.link(cg, 0, other);
-    draft.link(cg, 1, cn);
-    draft.link(cg, 4, tx);
-    draft.link(cn, 0, last);
-    draft.link(cn, 1, cg);
-    draft.link(cn, 3, si);
-    draft.link(cn, 4, cc);
-    draft.link(cn, 9, tx);
-    draft.link(last, 3, si);
-    draft.link(last, 5, other);
-    draft.link(cc, 4, tx);
-    draft.link(cc, 5, inner);
-    draft.bytes(&[0; 64])
-}
+        "Err(Deep { at: 392 }) Budget { text: 67108864, conversions: 4, dropped: 0 }",
+    ),
+    (
+        STRAIGHT,
+        &[(CONVERSION, 392)],
+        TEXT,
+        0,
+        "Err(TooMany { what: Cc, at: 392 }) Budget { text: 67108864, conversions: 0, dropped: 0 }",
+    ),
+    (
+        STRAIGHT,
+        &[(UNIT, 480)],
+        7,
+        CONVERSIONS,
+        "Err(TooMany { what: Text, at: 480 }) Budget { text: 7, conversions: 1048576, dropped: 0 }",
+    ),
+    (
+        STRAIGHT,
+        &[(FRONT, 4 | 15 << 16)],
+        TEXT,
+        CONVERSIONS,
+        "Err(ChannelKind { at: 232, kind: 4 }) Budget { text: 67108864, conversions: 1048576, dropped: 0 }",
+    ),
+    (
+        STRAIGHT,
+        &[(FRONT, 5 | 15 << 16)],
+        TEXT,
+        CONVERSIONS,
+        "Err(ChannelKind { at: 232, kind: 5 }) Budget { text: 67108864, conversions: 1048576, dropped: 0 }",
+    ),
+    (
+        STRAIGHT,
+        &[(FRONT, 7 | 15 << 16)],
+        TEXT,
+        CONVERSIONS,
+        "Err(ChannelKind { at: 232, kind: 7 }) Budget { text: 67108864, conversions: 1048576, dropped: 0 }",
+    ),
+    (
+        STRAIGHT,
+        &[(FRONT, 6 | 15 << 16), (UNIT, 392)],
+        TEXT,
+        CONVERSIONS,
+        "Err(ChannelType { at: 232, value: 15 }) Budget { text: 67108864, conversions: 1048576, dropped: 0 }",
+    ),
+    (
+        STRAIGHT,
+        &[(NEXT_CHANNEL, 232), (UNIT, 480)],
+        807,
+        CONVERSIONS,
+        "Err(TooMany { what: Text, at: 480 }) Budget { text: 807, conversions: 1048576, dropped: 0 }",
+    ),
+    (
+        STRAIGHT,
+        &[(FRONT, 1), (VALUES_AT, 128), (GROUP_FLAGS, 1)],
+        TEXT,
+        CONVERSIONS,
+        "Ok(Rows { items: [DataRow { at: 64, id_size: 0, comment: Nothing, content: 7, groups: Rows { items: [GroupRow { at: 128, id: 0, cycles: 0, flags: 1, separator: 0, data_bytes: 0, inval_bytes: 0, name: Nothing, source: None, comment: Nothing, channels: Rows { items: [ChannelRow { at: 232, kind: 1, sync: 0, data_type: 0, bit: 0, byte: 0, bits: 0, flags: 0, inval: 0, precision: 0, ranges: [0, 0, 0, 0, 0, 0], name: Nothing, source: None, conv: None, unit: Nothing, comment: Nothing, values: 128, extra: 0 }] } }] } }] }) Budget { text: 67108864, conversions: 1048576, dropped: 1 }",
+    ),
+];
 
-#[test]
-fn two_groups_read_back_equal(rt: HostRuntime) -> Result<(), Fail> {
-    let bytes = written(rt.alloc())?;
-    let mut budget = Budget::of_file();
-    let rows = read_groups(rt.alloc(), bytes.as_slice(), 64, &mut budget)?;
-    assert_eq!(rt;
-        budget,
-        Budget {
-            text: 67_108_860,
-            conversions: 1_048_574,
-            dropped: 3
-        }
-    );
-    let Some(data) = rows.get(0) else {
-        return Err("a data group".into());
-    };
-    assert_eq!(rt;
-        (rows.len(), data.at, data.id_size, data.content),
-        (1, 64, 2, 0)
-    );
-    let (Some(first), Some(second)) = (data.groups.get(0), data.groups.get(1)) else {
-        return Err("two groups".into());
-    };
-    assert_eq!(rt;
-        (first.at, first.id, first.cycles, first.flags),
-        (128, 9, 8 + (1 << 56), 0)
-    );
-    assert_eq!(rt;
-        (first.separator, first.data_bytes, first.inval_bytes),
-        (46, 0x3132_3334, 6)
-    );
-    assert_eq!(rt;
-        (second.at, second.flags, second.channels.len()),
-        (232, 3, 0)
-    );
-    let (Some(speed), Some(gear)) = (first.channels.get(0), first.channels.get(1)) else {
-        return Err("two channels".into());
-    };
-    assert_eq!(rt;
-        (speed.at, speed.kind, speed.sync, speed.data_type),
-        (336, 2, 1, 4)
-    );
-    assert_eq!(rt;
-        (speed.bit, speed.byte, speed.bits),
-        (3, 0x0102_0304, 0x1112_1314)
-    );
-    assert_eq!(rt;
-        (speed.flags, speed.inval, speed.precision),
-        (0x8000_0102, 0x2122_2324, 7)
-    );
-    assert_eq!(rt; speed.ranges, [1, 2, 3, 4, 5, 1 << 63]);
-    assert_eq!(rt; (speed.values, speed.extra), (0, 1));
-    assert!(rt; matches!(speed.unit, Note::Nothing) && matches!(speed.name, Note::Nothing));
-    assert_eq!(rt;
-        (gear.at, gear.data_type, gear.values, gear.extra),
-        (512, 14, 232, 0)
-    );
-    assert!(rt; gear.source.is_some() && gear.conv.is_none());
-    let Some(conv) = &speed.conv else {
-        return Err("a conversion".into());
-    };
-    assert!(rt; matches!(conv.refs.get(0), Some(Ref::Words(Note::Plain(_)))));
-    assert!(rt; matches!(conv.refs.get(1), Some(Ref::Conv(_))));
-    Ok(())
-}
+// The same of loops: of data groups, of channel groups and of channels.
+const LOOPS: &[(File, &[(usize, u64)], u64, u64, &str)] = &[
+    (
+        STRAIGHT,
+        &[(NEXT_DATA, 64)],
+        TEXT,
+        CONVERSIONS,
+        "Err(TooMany { what: Dg, at: 64 }) Budget { text: 67108864, conversions: 1048576, dropped: 0 }",
+    ),
+    (
+        STRAIGHT,
+        &[(NEXT_GROUP, 128)],
+        TEXT,
+        CONVERSIONS,
+        "Err(TooMany { what: Cg, at: 128 }) Budget { text: 67108864, conversions: 1048576, dropped: 0 }",
+    ),
+    (
+        STRAIGHT,
+        &[(NEXT_CHANNEL, 232)],
+        TEXT,
+        CONVERSIONS,
+        "Err(TooMany { what: Cn, at: 232 }) Budget { text: 67108864, conversions: 1048576, dropped: 0 }",
+    ),
+];
 
-// Writes a block into a file.
-fn put(file: &mut [u8], at: usize, name: &[u8; 4], links: &[u64], body: &[u8])
-    requires { at + 24 + 8 * length links.now + length body.now ≤ length file.old }
-    ensures { length file.new ≡ length file.old }
-{
-    let size = 24 + 8 * links.len() + body.len();
-    file[at..at + 4].copy_from_slice(name);
-    file[at + 8..at + 16].copy_from_slice(&(size as u64).to_le_bytes());
-    file[at + 16..at + 24].copy_from_slice(&(links.len() as u64).to_le_bytes());
-    for (k, link) in links.iter().enumerate() {
-        let start = at + 24 + 8 * k;
-        file[start..start + 8].copy_from_slice(&link.to_le_bytes());
+fn told(
+    alloc: Global,
+    file: File,
+    numbers: &[(usize, u64)],
+    text: u64,
+    conversions: u64,
+) -> Result<String, Fail> {
+    let mut bytes = file_of(alloc, file.0, file.1)?;
+    for (at, number) in numbers {
+        put_number(bytes.as_mut_slice(), *at, *number);
     }
-    file[at + size - body.len()..at + size].copy_from_slice(body);
-}
-
-// Where a small file goes on behind its data group, its channel group and its channel; the flags of the group; where the
-// values and the unit of the channel are, and its kind and its data type.
-#[derive(Clone, Copy)]
-struct Turn {
-    data: u64,
-    group: u64,
-    channel: u64,
-    flags: u8,
-    values: u64,
-    unit: u64,
-    kind: u8,
-    data_type: u8,
-}
-
-// A data group at 64, a channel group at 128, a channel at 232, a conversion at 392 and a text of 8 bytes at 480.
-fn turned(turn: &Turn) -> [u8; 512] {
-    let mut file = [0; 512];
-    put(&mut file, 64, b"##DG", &[turn.data, 128, 7, 0], &[0; 8]);
-    put(
-        &mut file,
-        128,
-        b"##CG",
-        &[turn.group, 232, 0, 0, 0, 0],
-        &group(turn.flags),
-    );
-    let links = [turn.channel, 0, 0, 0, 0, turn.values, turn.unit, 0];
-    put(
-        &mut file,
-        232,
-        b"##CN",
-        &links,
-        &channel(turn.kind, turn.data_type),
-    );
-    put(&mut file, 392, b"##CC", &[0, 0, 0, 0], &[0; 24]);
-    put(&mut file, 480, b"##TX", &[], b"km/h/s/s");
-    file
-}
-
-// A file that goes on nowhere.
-const STRAIGHT: Turn = Turn {
-    data: 0,
-    group: 0,
-    channel: 0,
-    flags: 0,
-    values: 0,
-    unit: 0,
-    kind: 6,
-    data_type: 0,
-};
-
-#[test]
-fn the_first_fault_is_answered(rt: HostRuntime) -> Result<(), Fail> {
-    let mut budget = Budget::of_file();
-    let straight = turned(&STRAIGHT);
-    let rows = read_groups(rt.alloc(), &straight, 64, &mut budget)?;
-    assert!(rt; matches!(rows.get(0), Some(row) if row.content == 7));
-    let unit = turned(&Turn {
-        unit: 392,
-        ..STRAIGHT
-    });
-    let fault = read_groups(rt.alloc(), &unit, 64, &mut budget).err();
-    assert_eq!(rt;
-        fault,
-        Some(GroupFault::Bad {
-            at: 392,
-            want: Kind::Tx
-        })
-    );
-    let next = turned(&Turn {
-        group: 232,
-        ..STRAIGHT
-    });
-    let fault = read_groups(rt.alloc(), &next, 64, &mut budget).err();
-    assert_eq!(rt;
-        fault,
-        Some(GroupFault::Bad {
-            at: 232,
-            want: Kind::Cg
-        })
-    );
-    assert_eq!(rt; budget, Budget::of_file());
-    Ok(())
+    let mut budget = Budget {
+        text,
+        conversions,
+        dropped: 0,
+    };
+    let answer = read_groups(alloc, bytes.as_slice(), 64, &mut budget);
+    Ok(format!(in alloc; "{answer:?} {budget:?}")?)
 }
 
 #[test]
-fn other_kinds_are_refused(rt: HostRuntime) -> Result<(), Fail> {
-    let mut budget = Budget::of_file();
-    for kind in [4u8, 5, 7] {
-        let file = turned(&Turn {
-            kind,
-            data_type: 15,
-            ..STRAIGHT
-        });
-        let fault = read_groups(rt.alloc(), &file, 64, &mut budget).err();
-        assert_eq!(rt; fault, Some(GroupFault::ChannelKind { at: 232, kind }));
+fn files_are_told(rt: HostRuntime) -> Result<(), Fail> {
+    for (file, numbers, text, conversions, want) in TOLD {
+        let told = told(rt.alloc(), *file, *numbers, *text, *conversions)?;
+        assert_eq!(rt; told.as_str(), *want);
     }
-    let file = turned(&Turn {
-        data_type: 15,
-        unit: 392,
-        ..STRAIGHT
-    });
-    let fault = read_groups(rt.alloc(), &file, 64, &mut budget).err();
-    assert_eq!(rt; fault, Some(GroupFault::ChannelType { at: 232, value: 15 }));
     Ok(())
 }
 
 #[test]
 fn loops_are_too_many(rt: HostRuntime) -> Result<(), Fail> {
-    let mut budget = Budget::of_file();
-    let data = turned(&Turn {
-        data: 64,
-        ..STRAIGHT
-    });
-    let fault = read_groups(rt.alloc(), &data, 64, &mut budget).err();
-    assert_eq!(rt;
-        fault,
-        Some(GroupFault::TooMany {
-            what: What::Dg,
-            at: 64
-        })
-    );
-    let group = turned(&Turn {
-        group: 128,
-        ..STRAIGHT
-    });
-    let fault = read_groups(rt.alloc(), &group, 64, &mut budget).err();
-    assert_eq!(rt;
-        fault,
-        Some(GroupFault::TooMany {
-            what: What::Cg,
-            at: 128
-        })
-    );
-    Ok(())
-}
-
-#[test]
-fn a_loop_of_channels_is_too_many(rt: HostRuntime) -> Result<(), Fail> {
-    let mut budget = Budget::of_file();
-    let file = turned(&Turn {
-        channel: 232,
-        ..STRAIGHT
-    });
-    let fault = read_groups(rt.alloc(), &file, 64, &mut budget).err();
-    assert_eq!(rt;
-        fault,
-        Some(GroupFault::TooMany {
-            what: What::Cn,
-            at: 232
-        })
-    );
-    assert_eq!(rt; budget, Budget::of_file());
-    Ok(())
-}
-
-#[test]
-fn a_loop_of_channels_ends_with_its_texts(rt: HostRuntime) -> Result<(), Fail> {
-    let mut budget = Budget::of_file();
-    budget.text = 807;
-    let file = turned(&Turn {
-        channel: 232,
-        unit: 480,
-        ..STRAIGHT
-    });
-    let fault = read_groups(rt.alloc(), &file, 64, &mut budget).err();
-    assert_eq!(rt;
-        fault,
-        Some(GroupFault::TooMany {
-            what: What::Text,
-            at: 480
-        })
-    );
-    assert_eq!(rt; budget.text, 807);
-    Ok(())
-}
-
-#[test]
-fn a_channel_of_a_group_of_values_names_none(rt: HostRuntime) -> Result<(), Fail> {
-    let mut budget = Budget::of_file();
-    let file = turned(&Turn {
-        flags: 1,
-        values: 128,
-        kind: 1,
-        ..STRAIGHT
-    });
-    assert!(rt; read_groups(rt.alloc(), &file, 64, &mut budget).is_ok());
-    assert_eq!(rt; budget.dropped, 1);
+    for (file, numbers, text, conversions, want) in LOOPS {
+        let told = told(rt.alloc(), *file, *numbers, *text, *conversions)?;
+        assert_eq!(rt; told.as_str(), *want);
+    }
     Ok(())
 }
 
 #[test]
 fn a_span_that_fails_stops_the_reader(rt: HostRuntime) -> Result<(), Fail> {
-    let bytes = written(rt.alloc())?;
+    let bytes = file_of(rt.alloc(), TWO_GROUPS.0, TWO_GROUPS.1)?;
     let mut budget = Budget::of_file();
     for calls in 0..60 {
         let mut span = span_over(bytes.as_slice(), calls, Stop::Failed);
