@@ -1,8 +1,11 @@
-use crate::files::{Piece, file_of};
+ghost use Rattle.std.specs.Prelude.{◌≡◌, ◌≤◌, length, IfOk};
+ghost use Rattle.mdf_data.specs.Parts.{stream_size, ArePartsInside};
+
+use crate::files::{Piece, file_of, put_number};
 use crate::span::span_over;
 use mdf_block::Kind;
-use mdf_data::{DataView, Known, Size, places_in, view_data, view_data_in};
-use mdf_num::{Memory, SliceSpan, Stop};
+use mdf_data::{DataView, Known, Size, Splitter, places_alone, places_in, view_data, view_data_in};
+use mdf_num::{Memory, Rows, SliceSpan, Span, Stop};
 use std::alloc::Global;
 use std::test::Fail;
 
@@ -236,5 +239,395 @@ fn a_span_that_stops_stops_the_reader(rt: HostRuntime) -> Result<(), Fail> {
         stopped(rt.alloc(), 100, Stop::Failed)?.as_str(),
         "Ok(DataView { items: [Stretch { part: Part { at: 128, len: 4 }, end: 4 }], end: 4 })"
     );
+    Ok(())
+}
+
+// A place in a DLBLOCK, and a number there that no file can keep: how many links it has, or how many bytes.
+const NUMBERS: &[(usize, u64)] = &[
+    (80, u64::MAX),
+    (80, 1 << 63),
+    (80, (1 << 61) + 1),
+    (80, 1 << 61),
+    (80, (1 << 61) - 1),
+    (72, u64::MAX),
+    (72, 0),
+];
+
+fn changed_told(alloc: Global, place: usize, number: u64) -> Result<String, Memory> {
+    let mut file = file_of(
+        alloc,
+        160,
+        &[(64, b"##DL", &[0, 104], b""), (104, b"##DT", &[], b"abcd")],
+    )?;
+    put_number(file.as_mut_slice(), place, number);
+    let answer = view_data(alloc, file.as_slice(), 64, Kind::Dt);
+    Ok(format!(in alloc; "{answer:?}")?)
+}
+
+#[test]
+fn a_list_with_a_huge_number_is_bad(rt: HostRuntime) -> Result<(), Fail> {
+    for (place, number) in NUMBERS {
+        assert_eq!(rt;
+            changed_told(rt.alloc(), *place, *number)?.as_str(),
+            "Err(Bad { at: 64, want: Dl })"
+        );
+    }
+    Ok(())
+}
+
+// Three parts of 13, 0 and 5 bytes.
+const PARTS: &[Piece] = &[
+    (64, b"##DL", &[0, 120, 160, 184], b""),
+    (120, b"##DT", &[], b"\x01aaaaaaaa\x01bcd"),
+    (160, b"##DT", &[], b""),
+    (184, b"##DT", &[], b"efghi"),
+];
+
+// A place of their stream, how many bytes are read there, and these.
+const READS: &[(u64, usize, &str)] = &[
+    (
+        0,
+        18,
+        "[1, 97, 97, 97, 97, 97, 97, 97, 97, 1, 98, 99, 100, 101, 102, 103, 104, 105]",
+    ),
+    (9, 9, "[1, 98, 99, 100, 101, 102, 103, 104, 105]"),
+    (10, 3, "[98, 99, 100]"),
+    (12, 2, "[100, 101]"),
+    (13, 1, "[101]"),
+    (17, 1, "[105]"),
+    (13, 0, "[]"),
+    (18, 0, "[]"),
+    (17, 2, "not there"),
+];
+
+fn bytes_told(
+    alloc: Global,
+    bytes: &[u8],
+    view: &DataView,
+    at: u64,
+    len: usize,
+) -> Result<String, Memory>
+    requires inside { ArePartsInside (length bytes.now) view.now }
+{
+    if at > 100 || len > 100 || at + len as u64 > view.len() {
+        return Ok(format!(in alloc; "not there")?);
+    }
+    let mut buf = vec![in alloc; 0u8; len]?;
+    view.read(bytes, at, buf.as_mut_slice());
+    Ok(format!(in alloc; "{buf:?}")?)
+}
+
+fn read_told(alloc: Global, at: u64, len: usize) -> Result<String, Memory> {
+    let file = file_of(alloc, 216, PARTS)?;
+    let Ok(view) = view_data(alloc, file.as_slice(), 64, Kind::Dt) else {
+        return Err(Memory);
+    };
+    bytes_told(alloc, file.as_slice(), &view, at, len)
+}
+
+#[test]
+fn bytes_are_read_across_parts(rt: HostRuntime) -> Result<(), Fail> {
+    for (at, len, told) in READS {
+        assert_eq!(rt; read_told(rt.alloc(), *at, *len)?.as_str(), *told);
+    }
+    Ok(())
+}
+
+// Two parts that are added, the second before the first in the file, and the number in the 4 bytes from a place on.
+fn added_told(alloc: Global, at: u64) -> Result<String, Memory> {
+    let mut view = DataView::empty(alloc);
+    view.add(4, 3)?;
+    view.add(0, 2)?;
+    if at > 1 {
+        return Err(Memory);
+    }
+    let bytes = [4, 5, 9, 9, 1, 2, 3, 9];
+    let number = view.u32_in(&mut SliceSpan::new(&bytes), at);
+    Ok(format!(in alloc; "{number:?} {view:?}")?)
+}
+
+#[test]
+fn parts_that_are_added_are_read(rt: HostRuntime) -> Result<(), Fail> {
+    assert_eq!(rt;
+        added_told(rt.alloc(), 0)?.as_str(),
+        "Ok(67305985) DataView { items: [Stretch { part: Part { at: 4, len: 3 }, end: 3 }, Stretch { part: Part { at: 0, len: 2 }, end: 5 }], end: 5 }"
+    );
+    assert_eq!(rt;
+        added_told(rt.alloc(), 1)?.as_str(),
+        "Ok(84148994) DataView { items: [Stretch { part: Part { at: 4, len: 3 }, end: 3 }, Stretch { part: Part { at: 0, len: 2 }, end: 5 }], end: 5 }"
+    );
+    Ok(())
+}
+
+// How many bytes an id has, the groups, the bodies of two blocks of data, and what is told of the splitter's first three
+// answers.
+const SPLITS: &[(u8, &[Known], &'static [u8], &'static [u8], &str)] = &[
+    (1, &[], b"", b"", "Ok(None) Ok(None) Ok(None)"),
+    (
+        1,
+        &[EIGHT],
+        b"\x01aaaaaaaa\x01bcd",
+        b"efghi",
+        "Ok(Some(Piece { which: 0, at: 0, len: 9 })) Ok(Some(Piece { which: 0, at: 9, len: 9 })) Ok(None)",
+    ),
+    (
+        2,
+        &[Known {
+            id: 0x0201,
+            size: Size::Fixed(7),
+        }],
+        b"\x01\x02aaaaaaa\x01\x02bc",
+        b"defgh",
+        "Ok(Some(Piece { which: 0, at: 0, len: 9 })) Ok(Some(Piece { which: 0, at: 9, len: 9 })) Ok(None)",
+    ),
+    (
+        4,
+        &[Known {
+            id: 0x0102_0304,
+            size: Size::Fixed(5),
+        }],
+        b"\x04\x03\x02\x01aaaaa\x04\x03\x02\x01",
+        b"bcdef",
+        "Ok(Some(Piece { which: 0, at: 0, len: 9 })) Ok(Some(Piece { which: 0, at: 9, len: 9 })) Ok(None)",
+    ),
+    (
+        8,
+        &[Known {
+            id: u64::MAX,
+            size: Size::Fixed(1),
+        }],
+        b"\xff\xff\xff\xff\xff\xff\xff\xffa\xff\xff\xff\xff",
+        b"\xff\xff\xff\xffb",
+        "Ok(Some(Piece { which: 0, at: 0, len: 9 })) Ok(Some(Piece { which: 0, at: 9, len: 9 })) Ok(None)",
+    ),
+    (
+        1,
+        &[
+            TWO,
+            Known {
+                id: 2,
+                size: Size::Fixed(8),
+            },
+        ],
+        b"\x02ab\x02c",
+        b"d",
+        "Ok(Some(Piece { which: 0, at: 0, len: 3 })) Ok(Some(Piece { which: 0, at: 3, len: 3 })) Ok(None)",
+    ),
+    (
+        1,
+        &[EIGHT, VALUES],
+        b"\x03\x02\0\0\0xy\x03\x01",
+        b"\0\0\0z",
+        "Ok(Some(Piece { which: 1, at: 0, len: 7 })) Ok(Some(Piece { which: 1, at: 7, len: 6 })) Ok(None)",
+    ),
+    (
+        1,
+        &[VALUES],
+        b"\x03\0\0\0\x01x",
+        b"",
+        "Err(Cut { at: 0 }) Err(Cut { at: 0 }) Err(Cut { at: 0 })",
+    ),
+    (
+        1,
+        &[VALUES],
+        b"\x03\0\0",
+        b"\0",
+        "Err(Cut { at: 0 }) Err(Cut { at: 0 }) Err(Cut { at: 0 })",
+    ),
+    (
+        1,
+        &[EIGHT, TWO],
+        b"\x02aa",
+        b"\x07",
+        "Ok(Some(Piece { which: 1, at: 0, len: 3 })) Err(UnknownId { id: 7, at: 3 }) Err(UnknownId { id: 7, at: 3 })",
+    ),
+    (
+        1,
+        &[EIGHT],
+        b"\x01aaaaaaaa\x01bc",
+        b"defgh",
+        "Ok(Some(Piece { which: 0, at: 0, len: 9 })) Err(Cut { at: 9 }) Err(Cut { at: 9 })",
+    ),
+    (
+        8,
+        &[],
+        b"\x01\0\0\0",
+        b"\0\0\0",
+        "Err(Cut { at: 0 }) Err(Cut { at: 0 }) Err(Cut { at: 0 })",
+    ),
+    (
+        4,
+        &[],
+        b"\x01\0",
+        b"\0\0",
+        "Err(UnknownId { id: 1, at: 0 }) Err(UnknownId { id: 1, at: 0 }) Err(UnknownId { id: 1, at: 0 })",
+    ),
+    (
+        1,
+        &[Known {
+            id: 1,
+            size: Size::Fixed(0),
+        }],
+        b"\x01",
+        b"\x01",
+        "Ok(Some(Piece { which: 0, at: 0, len: 1 })) Ok(Some(Piece { which: 0, at: 1, len: 1 })) Ok(None)",
+    ),
+    (
+        1,
+        &[Known {
+            id: 1,
+            size: Size::Fixed(u64::MAX),
+        }],
+        b"\x01",
+        b"a",
+        "Err(Cut { at: 0 }) Err(Cut { at: 0 }) Err(Cut { at: 0 })",
+    ),
+];
+
+fn splitter_of(alloc: Global, id_size: u8, known: &[Known]) -> Result<Splitter, Memory>
+    ensures { IfOk result (λ splitter. splitter.place ≡ 0) }
+{
+    if known.len() > 1000 || !matches!(id_size, 1 | 2 | 4 | 8) {
+        return Err(Memory);
+    }
+    Ok(Splitter::new(id_size, Rows::from_vec(known.to_vec(alloc)?)))
+}
+
+fn answers_told(
+    alloc: Global,
+    bytes: &[u8],
+    view: &DataView,
+    splitter: &mut Splitter,
+) -> Result<String, Memory>
+    requires inside { ArePartsInside (length bytes.now) view.now }
+    requires within { splitter.old.place ≤ stream_size view.now }
+{
+    let first = splitter.next(bytes, view);
+    let second = splitter.next(bytes, view);
+    let third = splitter.next(bytes, view);
+    Ok(format!(in alloc; "{first:?} {second:?} {third:?}")?)
+}
+
+fn split_told(
+    alloc: Global,
+    id_size: u8,
+    known: &[Known],
+    first: &'static [u8],
+    second: &'static [u8],
+) -> Result<String, Memory> {
+    let mut splitter = splitter_of(alloc, id_size, known)?;
+    let file = file_of(
+        alloc,
+        256,
+        &[
+            (64, b"##DL", &[0, 112, 176], b""),
+            (112, b"##DT", &[], first),
+            (176, b"##DT", &[], second),
+        ],
+    )?;
+    let Ok(view) = view_data(alloc, file.as_slice(), 64, Kind::Dt) else {
+        return Err(Memory);
+    };
+    answers_told(alloc, file.as_slice(), &view, &mut splitter)
+}
+
+#[test]
+fn the_splitter_is_told(rt: HostRuntime) -> Result<(), Fail> {
+    for (id_size, known, first, second, told) in SPLITS {
+        assert_eq!(rt;
+            split_told(rt.alloc(), *id_size, known, first, second)?.as_str(),
+            *told
+        );
+    }
+    Ok(())
+}
+
+// The places of two records of 3 and 9 bytes, of which the ids alone are read, over a span that stops.
+fn places_stopped(alloc: Global, calls: u64, stop: Stop) -> Result<String, Memory> {
+    let mut span = span_over(b"\x02aa\x01bbbbbbbb", calls, stop);
+    let len = span.len();
+    let mut view = DataView::empty(alloc);
+    if len > 1000 {
+        return Err(Memory);
+    }
+    view.add(0, len)?;
+    let answer = places_in(alloc, &mut span, &view, 1, &[EIGHT, TWO]);
+    Ok(format!(in alloc; "{answer:?}")?)
+}
+
+#[test]
+fn a_span_that_stops_stops_the_places(rt: HostRuntime) -> Result<(), Fail> {
+    for (calls, stop, told) in &[
+        (0, Stop::Failed, "Err(Failed)"),
+        (1, Stop::Failed, "Err(Failed)"),
+        (0, Stop::Memory, "Err(Memory)"),
+        (1, Stop::Memory, "Err(Memory)"),
+        (
+            2,
+            Stop::Failed,
+            "Ok(Rows { items: [Places { even: 0, step: 0, listed: Rows { items: [4] } }, Places { even: 0, step: 0, listed: Rows { items: [1] } }] })",
+        ),
+    ] {
+        assert_eq!(rt; places_stopped(rt.alloc(), *calls, *stop)?.as_str(), *told);
+    }
+    Ok(())
+}
+
+// How many bytes a stream without ids has, the size of its records, how many empty ones it has, and what is told of
+// their places with one more, 77, at the end: these, their number, the first two and the one past the end.
+const ALONE: &[(u64, Size, u64, &str)] = &[
+    (
+        20,
+        Size::Fixed(9),
+        0,
+        "Places { even: 2, step: 9, listed: Rows { items: [77] } } 3 Some(0) Some(9) None",
+    ),
+    (
+        8,
+        Size::Fixed(9),
+        0,
+        "Places { even: 0, step: 9, listed: Rows { items: [77] } } 1 Some(77) None None",
+    ),
+    (
+        9,
+        Size::Fixed(9),
+        5,
+        "Places { even: 1, step: 9, listed: Rows { items: [77] } } 2 Some(0) Some(77) None",
+    ),
+    (
+        5,
+        Size::Fixed(0),
+        7,
+        "Places { even: 7, step: 0, listed: Rows { items: [77] } } 8 Some(0) Some(0) None",
+    ),
+    (
+        5,
+        Size::Variable,
+        7,
+        "Places { even: 0, step: 0, listed: Rows { items: [77] } } 1 Some(77) None None",
+    ),
+];
+
+fn alone_told(alloc: Global, total: u64, size: Size, empties: u64) -> Result<String, Memory> {
+    if total > 1000 || empties > 1000 {
+        return Err(Memory);
+    }
+    let mut places = places_alone(alloc, total, size, empties);
+    places.push(77)?;
+    let count = places.len();
+    let first = places.get(0);
+    let second = places.get(1);
+    let past = places.get(count);
+    Ok(format!(in alloc; "{places:?} {count} {first:?} {second:?} {past:?}")?)
+}
+
+#[test]
+fn places_without_ids_are_told(rt: HostRuntime) -> Result<(), Fail> {
+    for (total, size, empties, told) in ALONE {
+        assert_eq!(rt;
+            alone_told(rt.alloc(), *total, *size, *empties)?.as_str(),
+            *told
+        );
+    }
     Ok(())
 }
