@@ -1,8 +1,10 @@
 pub mod Joins
 pub mod Links
 pub mod Streams
+pub mod Truths
 pub mod Groups
 pub mod Spreads
 pub mod Steps
 pub mod Splits
 pub mod Pieces
+pub mod Alones

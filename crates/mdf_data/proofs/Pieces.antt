@@ -29,11 +29,11 @@ some_injective : {A : Type 0} (x y : A) → ◌≡◌ {A = Option A} (Some x) (S
 some_injective x y same = cc
 
 -- bytes that are there are so many
-length-bytes : (n at : ℕ) (stream : List ℕ) → at + n ≤ length stream → length (bytes_at n stream at) ≡ n
+pub length-bytes : (n at : ℕ) (stream : List ℕ) → at + n ≤ length stream → length (bytes_at n stream at) ≡ n
 length-bytes n at stream within = length-take-le n (drop at stream) (omega (arith, length-drop at stream, within))
 
 -- the bytes from a place on, parted
-parted : (n at : ℕ) (stream : List ℕ) → drop at stream ≡ bytes_at n stream at ++ drop (at + n) stream
+pub parted : (n at : ℕ) (stream : List ℕ) → drop at stream ≡ bytes_at n stream at ++ drop (at + n) stream
 parted n at stream = sym (take-append-drop n (drop at stream)) ∙ ap (λ (xs : List ℕ). bytes_at n stream at ++ xs) (drop-drop n at stream)
 
 -- what begins at a place is the bytes there

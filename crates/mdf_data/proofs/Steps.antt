@@ -7,7 +7,7 @@ pub length-steps : (count step from : ℕ) → length (steps count step from) �
 length-steps zero step from = refl
 length-steps (suc count) step from = ap suc (length-steps count step (from + step))
 
-step_more : (from step i : ℕ) → from + step + i * step ≡ from + suc i * step
+pub step_more : (from step i : ℕ) → from + step + i * step ≡ from + suc i * step
 step_more from step i = grind arith
 
 pub steps_at : (count step from i : ℕ) (rest : List ℕ) → i < count → slice_get (steps count step from ++ rest) i ≡ Some (from + i * step)

@@ -7,7 +7,7 @@ use Rattle.mdf_data.specs.declared.known.Size.TheVariants as sizes
 use Rattle.mdf_data.specs.declared.known.Known.{Known}
 use Rattle.mdf_data.specs.declared.known.Piece.{Piece}
 use Rattle.mdf_block.specs.Refusal.{Refusal, UnknownId, Cut}
-use Rattle.mdf_data.specs.Record.{group_of}
+use Rattle.mdf_data.specs.Record.{group_of, least_size}
 
 -- a record: the number of its group, and its bytes
 pub record Record : Type 0 where
@@ -72,6 +72,10 @@ IsRecordSplit stream (suc id_size) known empties records rest = IsSplitBy (IsRec
 -- the record of a piece
 abbrev pub record_of : List ℕ → Piece → Record
 record_of stream piece = record { which = piece.which; bytes = bytes_at piece.len stream piece.at }
+
+-- the record without an id at a place, of a size
+abbrev pub alone_at : List ℕ → Size → ℕ → Record
+alone_at stream size place = record { which = 0; bytes = bytes_at (least_size size) stream place }
 
 -- the place that a refusal names
 abbrev pub IsRefusedAt : Refusal → ℕ → Type 0

@@ -1,12 +1,12 @@
-ghost use Rattle.std.specs.Prelude.{◌≡◌, ◌≤◌, ◌⊎◌, ℕ, List, [], Ok, Err, length, map, drop};
+ghost use Rattle.std.specs.Prelude.{◌≡◌, ◌≤◌, ◌⊎◌, ◌∷◌, ℕ, List, [], Ok, Err, length, map, drop};
 ghost use Rattle.mdf_block.specs.Refusal.{Refusal};
 ghost use Rattle.mdf_data.specs.declared.known.Piece.{Piece};
-ghost use Rattle.mdf_data.specs.Places.{pieces};
+ghost use Rattle.mdf_data.specs.Places.{pieces, places_alone};
 ghost use Rattle.mdf_format.specs.declared.kind.Kind.{Kind};
 ghost use Rattle.mdf_format.specs.declared.kind.Kind.TheVariants.{Dt, Sd};
 ghost use Rattle.mdf_data.specs.declared.known.Known.{Known};
 ghost use Rattle.mdf_data.specs.Stream.{IsStream};
-ghost use Rattle.mdf_data.specs.Split.{Record, IsRecordSplit, record_of, IsRefusedAt};
+ghost use Rattle.mdf_data.specs.Split.{Record, IsRecordSplit, record_of, alone_at, IsRefusedAt};
 
 /// A link to data has one stream.
 pub fn streams_agree()
@@ -31,4 +31,11 @@ pub fn a_refusal_leaves_the_rest()
     ensures { (stream : List ℕ) (id_size : ℕ) (known : List Known) (refusal : Refusal) → 1 ≤ id_size
         → pieces stream (length stream) id_size known ≡ Err refusal
         → (place : ℕ) × (records : List Record) × IsRefusedAt refusal place × IsRecordSplit stream id_size known 0 records (drop place stream) }
+{}
+
+/// The records of a group that stands alone in a stream without ids, at the places that are told, are the split.
+pub fn places_alone_are_the_split()
+    ensures { (stream : List ℕ) (group : Known) (known : List Known) (empties : ℕ)
+        → (rest : List ℕ) × IsRecordSplit stream 0 (group ∷ known) empties
+        (map (alone_at stream group.size) (places_alone (length stream) empties group.size)) rest }
 {}

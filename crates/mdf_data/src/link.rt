@@ -1,10 +1,11 @@
-ghost use Rattle.std.specs.Prelude.{◌≡◌, ◌-◌, ◌≤◌, ◌++◌, ◌∷◌, [], ℕ, List, Some, length, true, IfOk, OnOk};
+ghost use Rattle.std.specs.Prelude.{◌≡◌, ◌-◌, ◌≤◌, ◌⊎◌, ◌++◌, ◌∷◌, [], ℕ, List, Some, length, true, IfOk, IfErr, IfSome, OnOk};
 ghost use Rattle.std.specs.List.{AllByRecursion};
-ghost use Rattle.mdf_format.specs.declared.kind.Kind.TheVariants.{Dl};
+ghost use Rattle.mdf_format.specs.declared.kind.Kind.TheVariants.{Dl, Dt, Sd};
 ghost use Rattle.mdf_num.specs.Halt.{HaltCause};
 ghost use Rattle.mdf_block.specs.Refusal.{Gives, GivesOf};
 ghost use Rattle.mdf_block.specs.Block.{block, IsInside, IsFilled};
 ghost use Rattle.mdf_block.specs.Each.{each};
+ghost use Rattle.mdf_block.specs.Truth.{IsTrueOf};
 ghost use Rattle.mdf_data.specs.Parts.{IsPartInside, ArePartsInside, stream_of};
 ghost use Rattle.mdf_data.specs.Link.{data_refusal, data_block, named_block, data_list, data_lists, data_parts, part_of, joined};
 ghost use Rattle.mdf_data.specs.Stream.{IsStream};
@@ -236,6 +237,7 @@ pub fn view_data_in<P: Span>(
 pub fn view_data(alloc: Global, bytes: &[u8], at: u64, want: Kind) -> Result<DataView, DataFault>
     ensures exact { GivesOf data_refusal result (data_parts bytes.now want at) }
     ensures stream { IfOk result (λ view. IsStream bytes.now at want (stream_of bytes.now view)) }
+    ensures refused { (want ≡ Dt) ⊎ (want ≡ Sd) → IfErr result (λ fault. IfSome (data_refusal fault) (IsTrueOf bytes.now)) }
     ensures inside { IfOk result (ArePartsInside (length bytes.now)) }
 {
     match view_data_in(alloc, &mut SliceSpan::new(bytes), at, want) {
