@@ -1,5 +1,5 @@
 -- Records without ids at equal steps are the split of their stream.
-use Rattle.std.proofs.Common.{◌≡◌, ◌+◌, ◌-◌, ◌*◌, ◌/◌, ◌<◌, ◌≤◌, ℕ, zero, suc, List, [], ◌∷◌, ◌++◌, length, drop, map, replicate, refl, sym, ◌∙◌, ap, subst, arith, append_assoc, length-append}
+use Rattle.std.proofs.Common.{◌≡◌, ◌+◌, ◌-◌, ◌*◌, ◌/◌, ◌<◌, ◌≤◌, ℕ, zero, suc, List, ◌∷◌, ◌++◌, length, drop, map, replicate, refl, sym, ◌∙◌, ap, subst, arith, append_assoc, length-append}
 use Rattle.std.proofs.lemmas.List.{length-drop}
 use Rattle.std.proofs.Math.Nat.{div-mul-le_self, lt-div-mul-add, suc-ne-zero, zero-lt-suc}
 use Rattle.std.proofs.lemmas.Bool.{cond-false, ne_eqb}
@@ -10,7 +10,7 @@ use Rattle.mdf_data.specs.declared.known.Size.{Size}
 use Rattle.mdf_data.specs.declared.known.Size.TheVariants as sizes
 use Rattle.mdf_data.specs.declared.known.Known.{Known}
 use Rattle.mdf_data.specs.Places.{steps, places_alone}
-use Rattle.mdf_data.specs.Split.{Record, IsAlone, IsSplitBy, IsAllRest, empty_record, IsSplitAlone, IsRecordSplit, alone_at}
+use Rattle.mdf_data.specs.Split.{Record, IsAlone, IsSplitBy, empty_record, IsSplitAlone, IsRecordSplit, alone_at}
 use Rattle.mdf_data.proofs.Steps.{step_more}
 use Rattle.mdf_data.proofs.Pieces.{length-bytes, parted}
 

@@ -1,12 +1,12 @@
 -- The records that are found one by one are the split of the stream, and a refusal leaves the rest.
-use Rattle.std.proofs.Common.{◌≡◌, ◌≢◌, ◌+◌, ◌-◌, ◌<◌, ◌≤◌, ℕ, zero, suc, Bool, List, [], ◌∷◌, ◌++◌, length, take, drop, map, Option, Some, None, Ok, Err, refl, sym, ◌∙◌, ap, subst, inl, inr, ◌⊎◌, arith, append_assoc, append-nil, length-append}
+use Rattle.std.proofs.Common.{◌≡◌, ◌+◌, ◌-◌, ◌<◌, ◌≤◌, ℕ, zero, suc, List, [], ◌∷◌, ◌++◌, length, take, drop, map, Option, Some, None, Ok, Err, refl, sym, ◌∙◌, ap, subst, inl, inr, arith, append_assoc, length-append}
 use Rattle.std.proofs.lemmas.Bool.{eqb-true, ltb-true, ltb-false}
 use Rattle.std.proofs.lemmas.List.{length-take-le, length-drop, take-append-drop, take_at, drop_at, drop_all}
 use Rattle.std.proofs.Math.Seq.{drop-drop}
 use Rattle.std.specs.Prelude.{nat_eq, nat_lt, if◌then◌else◌}
 use Rattle.std.specs.List.{flat_map, AllByRecursion}
 use Rattle.mdf_format.specs.Number.{le_number, bytes_at}
-use Rattle.mdf_block.specs.Refusal.{Refusal, UnknownId, Cut, Read, ◌>>=◌}
+use Rattle.mdf_block.specs.Refusal.{Refusal, UnknownId, Cut, Read}
 use Rattle.mdf_block.proofs.Refusals.{bind_ok, bind_err}
 use Rattle.mdf_block.proofs.Wholes.{chosen}
 use Rattle.mdf_data.specs.declared.known.Size.{Size}
@@ -16,7 +16,7 @@ use Rattle.mdf_data.specs.declared.known.Piece.{Piece}
 use Rattle.mdf_data.specs.declared.known.Group.{Group}
 use Rattle.mdf_data.specs.Record.{group_of, body_size, id_at, whole_piece, group_piece, piece_with, piece_at}
 use Rattle.mdf_data.specs.Places.{pieces_after, pieces_from, pieces}
-use Rattle.mdf_data.specs.Split.{Record, IsValue, IsBody, IsRecord, IsSplitBy, record_of, IsRefusedAt, IsRecordSplit}
+use Rattle.mdf_data.specs.Split.{Record, IsValue, IsBody, IsRecord, record_of, IsRefusedAt, IsRecordSplit}
 use Rattle.mdf_data.proofs.Joins.{bytes_at-add}
 
 ok_injective : {A : Type 0} (x y : A) → ◌≡◌ {A = Read A} (Ok x) (Ok y) → x ≡ y

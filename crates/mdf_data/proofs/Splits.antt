@@ -1,23 +1,14 @@
 -- The records that are found are a split of the stream, and a stream has one split.
-use Rattle.std.proofs.Common.{◌≡◌, ◌≢◌, ◌+◌, ◌-◌, ◌<◌, ◌≤◌, ℕ, zero, suc, Bool, true, false, List, [], ◌∷◌, ◌++◌, length, take, drop, map, replicate, Option, Some, None, Ok, Err, refl, sym, ◌∙◌, ap, subst, inl, inr, arith, append_assoc, append-nil, length-append}
-use Rattle.std.proofs.lemmas.Bool.{eqb-true, eqb-false}
-use Rattle.std.proofs.lemmas.Bool.Decides.{leb_tells}
-use Rattle.std.proofs.lemmas.List.{length-take, length-take-le, length-drop, take-append-drop, take_at, drop_at, drop_all}
-use Rattle.std.proofs.Math.Seq.{drop-drop}
-use Rattle.std.specs.Prelude.{nat_eq, nat_lt}
-use Rattle.std.specs.List.{flat_map, AllByRecursion}
-use Rattle.mdf_format.specs.Number.{le_number, bytes_at}
-use Rattle.mdf_block.specs.Refusal.{Refusal, UnknownId, Cut, Read, ◌>>=◌}
-use Rattle.mdf_block.proofs.Refusals.{bind_ok, bind_err}
-use Rattle.mdf_block.proofs.Wholes.{chosen}
+use Rattle.std.proofs.Common.{◌≡◌, ℕ, zero, suc, List, [], ◌∷◌, ◌++◌, length, take, drop, replicate, Option, Some, refl, sym, ◌∙◌, ap, subst, append_assoc}
+use Rattle.std.proofs.lemmas.List.{take_at, drop_at}
+use Rattle.std.specs.List.{flat_map}
+use Rattle.mdf_format.specs.Number.{le_number}
 use Rattle.mdf_data.specs.declared.known.Size.{Size}
 use Rattle.mdf_data.specs.declared.known.Size.TheVariants as sizes
 use Rattle.mdf_data.specs.declared.known.Known.{Known}
-use Rattle.mdf_data.specs.declared.known.Piece.{Piece}
 use Rattle.mdf_data.specs.declared.known.Group.{Group}
-use Rattle.mdf_data.specs.Record.{group_of, body_size, id_at, whole_piece, group_piece, piece_with, piece_at}
-use Rattle.mdf_data.specs.Places.{pieces_after, pieces_from, pieces}
-use Rattle.mdf_data.specs.Split.{Record, IsValue, IsBody, IsRecord, IsAlone, IsSplitBy, IsAllRest, empty_record, IsSplitAlone, IsRecordSplit, record_of, IsRefusedAt}
+use Rattle.mdf_data.specs.Record.{group_of}
+use Rattle.mdf_data.specs.Split.{Record, IsBody, IsRecord, IsAlone, IsSplitBy, IsAllRest, empty_record, IsSplitAlone, IsRecordSplit}
 
 -- two lists that begin another one and are as long are one, and so are their rests
 front_same : (xs ys a b : List ℕ) → xs ++ a ≡ ys ++ b → length xs ≡ length ys → xs ≡ ys

@@ -1,5 +1,5 @@
 -- Places at equal steps.
-use Rattle.std.proofs.Common.{◌≡◌, ◌+◌, ◌-◌, ◌*◌, ◌<◌, ◌≤◌, ℕ, zero, suc, List, [], ◌∷◌, ◌++◌, length, Some, refl, sym, ◌∙◌, ap, arith, add-one}
+use Rattle.std.proofs.Common.{◌≡◌, ◌+◌, ◌-◌, ◌*◌, ◌<◌, ◌≤◌, ℕ, zero, suc, List, ◌++◌, length, Some, refl, ◌∙◌, ap, arith}
 use Rattle.std.specs.List.{slice_get}
 use Rattle.mdf_data.specs.Places.{steps}
 

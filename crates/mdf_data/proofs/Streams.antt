@@ -1,17 +1,17 @@
 -- What is read along a data link is its stream, and a link has one stream.
-use Rattle.std.proofs.Common.{◌≡◌, ◌≢◌, ◌+◌, ◌-◌, ℕ, zero, suc, List, [], ◌∷◌, ◌++◌, get_or, Ok, Err, refl, sym, ◌∙◌, ap, subst, inl, inr, ◌⊎◌, arith, append-nil, ◌<◌, lit<}
+use Rattle.std.proofs.Common.{◌≡◌, ◌≢◌, ◌+◌, ◌-◌, ℕ, zero, suc, List, [], ◌∷◌, ◌++◌, get_or, Ok, refl, sym, ◌∙◌, ap, subst, inl, inr, ◌⊎◌, arith, append-nil, ◌<◌, lit<}
 use Rattle.std.proofs.lemmas.Bool.{eqb-true, eqb-false}
 use Rattle.std.proofs.lemmas.List.Concat.{flat_map-append}
 use Rattle.std.specs.Prelude.{nat_eq, if◌then◌else◌}
 use Rattle.std.specs.List.{flat_map, AllByRecursion}
 use Rattle.mdf_format.specs.Number.{bytes_at}
-use Rattle.mdf_format.specs.Block.{name_of, link_at, links_at, body_at, IsBlock, IsChain}
+use Rattle.mdf_format.specs.Block.{name_of, link_at, body_at, IsBlock, IsChain}
 use Rattle.mdf_format.specs.declared.kind.Kind.{Kind}
 use Rattle.mdf_format.specs.declared.kind.Kind.TheVariants.{Dt, Sd, Dl}
 use Rattle.mdf_block.specs.declared.what.What.TheVariants as whats
 use Rattle.mdf_block.specs.declared.place.BlockAt.{BlockAt}
 use Rattle.mdf_block.specs.Refusal.{Read, ◌>>=◌}
-use Rattle.mdf_block.specs.Block.{block, is_named, the_block}
+use Rattle.mdf_block.specs.Block.{block, is_named}
 use Rattle.mdf_block.specs.Chain.{chain, full}
 use Rattle.mdf_block.specs.Each.{each}
 use Rattle.mdf_block.proofs.Refusals.{bind_ok}

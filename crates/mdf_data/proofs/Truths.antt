@@ -12,7 +12,6 @@ use Rattle.mdf_block.specs.Chain.{full}
 use Rattle.mdf_block.specs.Truth.{LacksBlock, IsCounted, IsTrueOf}
 use Rattle.mdf_block.proofs.Wholes.{block_found}
 use Rattle.mdf_block.proofs.Truths.{Refusing, refusing_none, refusing_one, refusing_then, refusing_if, refusing_chain, refusing_each, block_true, full_true}
-use Rattle.mdf_data.specs.declared.part.Part.{Part}
 use Rattle.mdf_data.specs.Link.{most_blocks, one_less, data_block, named_block, data_list, data_lists, data_parts}
 
 -- all that it refuses is true of the file

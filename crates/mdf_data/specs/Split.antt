@@ -1,5 +1,5 @@
 -- The split of a stream into its records, in the standard's words and in no order of reading.
-use Rattle.std.specs.Prelude.{ℕ, zero, suc, ◌≡◌, ◌<◌, List, [], ◌∷◌, ◌++◌, length, map, replicate, Some}
+use Rattle.std.specs.Prelude.{ℕ, zero, suc, ◌≡◌, List, [], ◌∷◌, ◌++◌, length, replicate, Some}
 use Rattle.std.specs.List.{flat_map, AllByRecursion}
 use Rattle.mdf_format.specs.Number.{le_number, bytes_at}
 use Rattle.mdf_data.specs.declared.known.Size.{Size}

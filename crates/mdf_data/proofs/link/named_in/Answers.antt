@@ -1,7 +1,6 @@
 use Rattle.std.proofs.Common.{[], ◌∷◌, sym, ◌∙◌, arith}
 use Rattle.std.proofs.lemmas.Result.{err_from_is_err_and}
 use Rattle.mdf_block.proofs.Eachs.{is_done, goes_on, ends}
-use Rattle.mdf_data.specs.Parts.{IsPartInside}
 use Rattle.mdf_data.specs.Link.{named_block, data_refusal}
 use Rattle.mdf_data.proofs.Links.{named_halts, named_found, all_more}
 use Rattle.mdf_data.proofs.link.named_in.Goals as goal

@@ -1,4 +1,4 @@
-use Rattle.std.proofs.Common.{◌≡◌, ℕ, List, [], replicate}
+use Rattle.std.proofs.Common.{◌≡◌, [], replicate}
 use Rattle.mdf_data.proofs.spread.empties.Given as goal
 
 abbrev pub invariant-loop-k : goal.invariant-loop-k

@@ -1,4 +1,4 @@
-use Rattle.std.proofs.Common.{leb, ltb, leb-true, arith, rules}
+use Rattle.std.proofs.Common.{leb, leb-true, arith, rules}
 use Rattle.std.proofs.lemmas.List.Sorted.{IsPartitionPoint-from_clause, IsPartitionedBy-leb}
 use Rattle.mdf_data.specs.declared.stretch.Stretch.{Stretch}
 use Rattle.std.proofs.lemmas.Bool.{leb-false}
