@@ -113,7 +113,7 @@ pub record Follows {A S : Type 0} (f : List ℕ) (kind : Kind) (place : A → �
       → (place x ≡ at) × IsBlock f at kind × (next ≡ link_at f at 0)
 
 -- the rest behind an item
-abbrev rest_of : {A S : Type 0} → Step A S → (ℕ → Read (List A × ℕ × S)) → ℕ → A × ℕ × S → Read (List A × ℕ × S)
+abbrev pub rest_of : {A S : Type 0} → Step A S → (ℕ → Read (List A × ℕ × S)) → ℕ → A × ℕ × S → Read (List A × ℕ × S)
 rest_of step full_at room found = chain step full_at room found.1 found.2 >>= λ rest. Ok (found.0 ∷ rest.0, rest.1, rest.2)
 
 -- what is found along the links is the chain

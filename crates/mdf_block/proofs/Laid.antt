@@ -105,3 +105,8 @@ item_small items end n x laid below is =
       ap room_of same,
       get_or-le-sum_by room_of (map placed_of items) n (placed_of x) (omega (arith, below, length-map items placed_of)),
     )
+
+-- there is room for a block that is placed with its links, where no part of it is longer than any memory
+pub linked_small : (end : ℕ) (b : Placed) → end ≤ 2 ^ 61 → length b.links < 2 ^ 31 → length b.body ≤ 2 ^ 60
+    → end + room_of b < 2 ^ 62
+linked_small end b below few short = omega (arith, below, few, short)

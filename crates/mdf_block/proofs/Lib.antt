@@ -10,4 +10,7 @@ pub mod Everys
 pub mod Laying
 pub mod Standing
 pub mod Laid
+pub mod Prefixes
+pub mod Uniques
+pub mod Reached
 pub mod Truths

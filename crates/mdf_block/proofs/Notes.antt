@@ -112,7 +112,7 @@ text_refused f at kind left refusal refused =
     ]
 
 -- the three ways of `note`
-abbrev in_form : (List ℕ → Note) → List ℕ × ℕ → Read (Note × ℕ)
+abbrev pub in_form : (List ℕ → Note) → List ℕ × ℕ → Read (Note × ℕ)
 in_form form found = Ok (form found.0, found.1)
 
 abbrev as_xml : List ℕ × ℕ → Read (Note × ℕ)
@@ -172,7 +172,7 @@ other_kind f at kind other named differ is = differ (sym named ∙ is.named)
 letters_differ : (m t : ℕ) → m ≡ 77 → t ≡ 84 → m ≡ t → ⊥
 letters_differ m t is_m is_t same = omega (arith, is_m, is_t, same)
 
-md_is_not_tx : name_of kinds.Md ≡ name_of kinds.Tx → ⊥
+pub md_is_not_tx : name_of kinds.Md ≡ name_of kinds.Tx → ⊥
 md_is_not_tx same = letters_differ 77 84 refl refl (ap (λ (bytes : List ℕ). get_or bytes 2 0) same)
 
 not_named : (f : List ℕ) (at : ℕ) (kind : Kind) → is_named f at kind ≡ false → IsBlock f at kind → ⊥

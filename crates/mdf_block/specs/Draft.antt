@@ -14,6 +14,10 @@ pub record Placed : Type 0 where
   pub links : List Link
   pub body : List ℕ
 
+-- a block as it is placed, with its links
+abbrev pub linked : Kind → List Link → List ℕ → Placed
+linked kind links body = record { kind = kind; links = links; body = body }
+
 -- a block as it is placed, with all links 0
 abbrev pub unlinked : Kind → ℕ → List ℕ → Placed
 unlinked kind count body = record { kind = kind; links = replicate count links.Nothing; body = body }

@@ -1,5 +1,5 @@
 ghost use Rattle.std.specs.Prelude.{◌≡◌, ◌+◌, ◌^◌, ◌<◌, ◌≤◌, [], ◌∷◌, ◌++◌, length, IfOk, OnOk, OnErr};
-ghost use Rattle.mdf_block.specs.Draft.{Placed, unlinked, end_of, address_of, written, HasLink, with_link, AllStand};
+ghost use Rattle.mdf_block.specs.Draft.{Placed, unlinked, linked, end_of, address_of, written, HasLink, with_link, AllStand};
 
 use crate::Link;
 use crate::item::Item;
@@ -8,6 +8,15 @@ use mdf_format::Kind;
 use mdf_num::{Bytes, Memory};
 use std::alloc::Global;
 use std::marker::Model;
+
+/// `place_linked` answers want of memory from so many blocks on, and for a block with so many links.
+const MOST: usize = 1 << 31;
+
+/// The longest body, in bytes, that `place_linked` takes.
+const BODY: usize = 1 << 60;
+
+/// `place_linked` answers want of memory where the file would go on past this address.
+const END: u64 = 1 << 61;
 
 /// A file to be written: blocks behind the 64 bytes of the identification, each at the next multiple of 8. Contracts
 /// see it as the list of its blocks.
@@ -38,6 +47,39 @@ impl Draft {
             items: Vec::new(alloc),
             end: 64,
         }
+    }
+
+    /// How many blocks there are.
+    pub fn len(&self) -> u64
+        ensures { result ≡ length self.now }
+    {
+        self.items.len() as u64
+    }
+
+    /// Places a block with these links, which may name blocks that are not there yet. It wants memory where the file
+    /// or the block is longer than any memory: 2^31 blocks or links, a body above 2^60 bytes, or a file above 2^61.
+    /// After an error the draft is as before.
+    pub fn place_linked(&mut self, kind: Kind, links: Vec<Link>, body: Bytes) -> Result<(), Memory>
+        ensures ok { OnOk result (self.new ≡ self.old ++ linked kind links.items body ∷ []) }
+        ensures err { OnErr result (self.new ≡ self.old) }
+    {
+        if self.items.len() >= MOST
+            || links.len() >= MOST
+            || body.as_slice().len() > BODY
+            || self.end > END
+        {
+            return Err(Memory);
+        }
+        let item = Item {
+            kind,
+            at: self.end,
+            links,
+            body,
+        };
+        let room = room_of(&item);
+        self.items.push(item)?;
+        self.end += room;
+        Ok(())
     }
 
     /// Places a block with all its links 0, and answers its number. After an error the draft is as before.

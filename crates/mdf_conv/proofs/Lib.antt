@@ -4,3 +4,5 @@ mod Levels
 pub mod Founds
 pub mod Costs
 pub mod Truths
+pub mod Uniques
+pub mod Reached

@@ -24,3 +24,4 @@ pub use mdf_block::What;
 pub use read::{read_conv, read_conv_in, read_source, read_source_in};
 pub use row::{Conversion, Ref, SourceInfo};
 pub use source::source_in;
+pub use texts::Texts;

@@ -1,11 +1,14 @@
 use mdf_block::Note;
 
-/// The texts of a conversion.
+/// The texts of a conversion (CCBLOCK).
 #[derive(Debug, Drop)]
-pub(crate) struct Texts {
-    pub(crate) name: Note,
-    pub(crate) unit: Note,
-    pub(crate) comment: Note,
+pub struct Texts {
+    /// The name.
+    pub name: Note,
+    /// The unit.
+    pub unit: Note,
+    /// The comment.
+    pub comment: Note,
 }
 
 /// The texts of a source.

@@ -1,8 +1,10 @@
 mod Lifts
 mod Rows
 mod Extras
-mod Onces
+pub mod Onces
 mod Stands
 mod Recordables
 mod Costs
 mod Truths
+pub mod Uniques
+pub mod Reached

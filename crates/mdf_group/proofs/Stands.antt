@@ -92,12 +92,12 @@ conv_link_found f at left found is =
     ]
 
 -- what the links of a channel lead to
-record AreChannelLinks (f : List ℕ) (at : ℕ) (links : ChannelLinks) : Type 0 where
-  name : IsNote f (link_at f at 2) links.name
-  source : IsSourceLink f (link_at f at 3) links.source
-  conv : IsConvLink f (link_at f at 4) links.conv
-  unit : IsNote f (link_at f at 6) links.unit
-  comment : IsNote f (link_at f at 7) links.comment
+pub record AreChannelLinks (f : List ℕ) (at : ℕ) (links : ChannelLinks) : Type 0 where
+  pub name : IsNote f (link_at f at 2) links.name
+  pub source : IsSourceLink f (link_at f at 3) links.source
+  pub conv : IsConvLink f (link_at f at 4) links.conv
+  pub unit : IsNote f (link_at f at 6) links.unit
+  pub comment : IsNote f (link_at f at 7) links.comment
 
 -- the first of them
 record AreOrigins (f : List ℕ) (at : ℕ) (origin : ChannelOrigin) : Type 0 where
@@ -144,10 +144,10 @@ channel_links_found f at left found is =
     subst (λ (y : ChannelLinks × Budget). AreChannelLinks f at y.0) (ok_injective _ _ comment.2) whole
 
 -- and those of a channel group
-record AreGroupLinks (f : List ℕ) (at : ℕ) (links : GroupLinks) : Type 0 where
-  name : IsNote f (link_at f at 2) links.name
-  source : IsSourceLink f (link_at f at 3) links.source
-  comment : IsNote f (link_at f at 5) links.comment
+pub record AreGroupLinks (f : List ℕ) (at : ℕ) (links : GroupLinks) : Type 0 where
+  pub name : IsNote f (link_at f at 2) links.name
+  pub source : IsSourceLink f (link_at f at 3) links.source
+  pub comment : IsNote f (link_at f at 5) links.comment
 
 group_links_found : (f : List ℕ) (at : ℕ) (left : Budget) (found : GroupLinks × Budget) → group_links f at left ≡ Ok found
     → AreGroupLinks f at found.0

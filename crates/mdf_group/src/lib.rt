@@ -16,4 +16,5 @@ mod row;
 pub use fault::GroupFault;
 pub use mdf_block::What;
 pub use read::{read_groups, read_groups_in};
+pub use room::{ChannelLinks, GroupLinks};
 pub use row::{ChannelRow, DataRow, GroupRow};

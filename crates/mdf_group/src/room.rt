@@ -57,22 +57,30 @@ pub(crate) struct ChannelOrigin {
     pub(crate) conv: Option<Conversion>,
 }
 
-/// What the links of a channel lead to.
+/// What the links of a channel (CNBLOCK) lead to: its name, its source, its conversion, its unit and its comment.
 #[derive(Debug, Drop)]
-pub(crate) struct ChannelLinks {
-    pub(crate) name: Note,
-    pub(crate) source: Option<SourceInfo>,
-    pub(crate) conv: Option<Conversion>,
-    pub(crate) unit: Note,
-    pub(crate) comment: Note,
+pub struct ChannelLinks {
+    /// The name.
+    pub name: Note,
+    /// Where it comes from, if it says so.
+    pub source: Option<SourceInfo>,
+    /// How raw values become physical ones, if it says so.
+    pub conv: Option<Conversion>,
+    /// The unit.
+    pub unit: Note,
+    /// The comment.
+    pub comment: Note,
 }
 
-/// What the links of a channel group lead to, the channels left out.
+/// What the links of a channel group (CGBLOCK) lead to, the channels left out.
 #[derive(Debug, Drop)]
-pub(crate) struct GroupLinks {
-    pub(crate) name: Note,
-    pub(crate) source: Option<SourceInfo>,
-    pub(crate) comment: Note,
+pub struct GroupLinks {
+    /// The name of the acquisition.
+    pub name: Note,
+    /// Where it comes from, if it says so.
+    pub source: Option<SourceInfo>,
+    /// The comment.
+    pub comment: Note,
 }
 
 /// What a channel group holds.
