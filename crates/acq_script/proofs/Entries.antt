@@ -10,15 +10,15 @@ use Rattle.acq_script.specs.Stage.{entries_of, sample_with}
 use Rattle.acq_script.specs.declared.plan.Outline.{Outline}
 use Rattle.acq_script.specs.Plan.{word_row, words, plan_of, TaskFits}
 use Rattle.acq_script.specs.declared.script.Task.TheVariants as task
-use Rattle.mdf_layout.specs.Field.{EntryFits}
+use Rattle.mdf_layout.specs.Written.{IsEntryOf}
 use Rattle.acq_script.proofs.Numerals.{number_below}
-use Rattle.acq_script.proofs.Plans.{length-word_rows, row_at}
+use Rattle.acq_script.proofs.Plans.{length-word_rows, row_at, long_words}
 
 abbrev pub entry_with : ℕ → Entry
 entry_with n = record { value = Unsigned n; valid = true }
 
-at_row : (byte : ℕ) (entry : Entry) → EntryFits (word_row 0) entry → EntryFits (word_row byte) entry
-at_row byte entry fits = record { valid = fits.valid; number = fits.number }
+at_row : (byte : ℕ) (entry : Entry) → IsEntryOf (word_row 0) entry → IsEntryOf (word_row byte) entry
+at_row byte entry fits = record { value = fits.value; valid = fits.valid }
 
 -- the values so far in front of those to come
 abbrev pub behind : List Entry → Option (List Entry) → Option (List Entry)
@@ -60,13 +60,13 @@ all_entries front n (word ∷ words) e more = absurd (false≢true more)
 -- so many values, each below 2 ^ 64
 pub record AreValues (n : ℕ) (entries : List Entry) : Type 0 where
   pub count : length entries ≡ n
-  pub each : (k : ℕ) (d : Entry) → k < length entries → EntryFits (word_row 0) (get_or entries k d)
+  pub each : (k : ℕ) (d : Entry) → k < length entries → IsEntryOf (word_row 0) (get_or entries k d)
 
 none_yet : AreValues 0 []
 none_yet = record { count = refl; each = λ k d below. absurd (omega arith) }
 
-first_or_later : (n v : ℕ) (entries : List Entry) → v < 2 ^ 64 → AreValues n entries → (k : ℕ) (d : Entry) → k < suc (length entries) → EntryFits (word_row 0) (get_or (entry_with v ∷ entries) k d)
-first_or_later n v entries small are zero d below = record { valid = refl; number = small }
+first_or_later : (n v : ℕ) (entries : List Entry) → v < 2 ^ 64 → AreValues n entries → (k : ℕ) (d : Entry) → k < suc (length entries) → IsEntryOf (word_row 0) (get_or (entry_with v ∷ entries) k d)
+first_or_later n v entries small are zero d below = record { value = small; valid = λ none. refl }
 first_or_later n v entries small are (suc k) d below = are.each k d (omega arith)
 
 joined : (o : Option ℕ) (r : Option (List Entry)) (n : ℕ) (entries : List Entry) → ((v : ℕ) → o ≡ Some v → v < 2 ^ 64) → ((more : List Entry) → r ≡ Some more → AreValues n more) → option_and_then (λ v. option_map (λ more. entry_with v ∷ more) r) o ≡ Some entries → AreValues (suc n) entries
@@ -95,10 +95,10 @@ sample_fits outline entries few room are = (
     known = refl;
     entries = record {
       count = are.count ∙ sym (length-word_rows outline.channels);
-      each = λ k row entry below. subst (λ r. EntryFits r (get_or entries k entry))
+      each = λ k row entry below. subst (λ r. IsEntryOf r (get_or entries k entry))
           (sym (row_at outline.channels k row (omega (arith, below, are.count, length-word_rows outline.channels))))
           (at_row (8 * k) _ (are.each k entry (omega (arith, below, are.count, length-word_rows outline.channels))));
     };
   },
-  omega (arith, room),
+  omega (arith, room, long_words outline.channels entries),
 )

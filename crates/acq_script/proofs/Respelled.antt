@@ -5,9 +5,11 @@ use Rattle.std.specs.Option.{ok_or, option_and_then, option_map, option_map_or}
 use Rattle.std.proofs.lemmas.Bool.{lt-ltb, le-leb}
 use Rattle.std.proofs.lemmas.List.Elements.{All-nil, All-cons, All-head, All-tail}
 use Rattle.std.proofs.lemmas.List.Sums.{sum_by-cons}
-use Rattle.mdf_layout.specs.Field.{EntryFits, IsNumberOf}
+use Rattle.mdf_layout.specs.Written.{ValueFits, IsEntryOf}
+use Rattle.mdf_layout.specs.Record.{long_size}
 use Rattle.mdf_layout.specs.Layout.{Layout, record_size}
 use Rattle.mdf_layout.specs.Record.{SampleFits}
+use Rattle.mdf_layout.specs.declared.field.FieldKind.TheVariants.{Unsigned}
 use Rattle.mdf_layout.specs.declared.sample.Value.{Value}
 use Rattle.mdf_layout.specs.declared.sample.Value.TheVariants as value
 use Rattle.mdf_layout.specs.declared.sample.Entry.{Entry}
@@ -114,7 +116,7 @@ record IsRead (entry : Entry) : Type 0 where
   says : number_of (value_word entry.value) ≡ Some number
   is : entry ≡ entry_with number
 
-value_read : (v : Value) (valid : Bool) → valid ≡ true → IsNumberOf 64 v → IsRead (record { value = v; valid = valid })
+value_read : (v : Value) (valid : Bool) → valid ≡ true → ValueFits Unsigned 64 v → IsRead (record { value = v; valid = valid })
 value_read (value.Unsigned n) valid ok small = record {
   number = n;
   bytes = digit_bytes (decimal n) (decimal_digits n small);
@@ -125,32 +127,32 @@ value_read (value.Signed n) valid ok small = absurd small
 value_read (value.Bytes b) valid ok small = absurd small
 value_read (value.Index n) valid ok small = absurd small
 
-entry_read : (entry : Entry) → EntryFits (word_row 0) entry → IsRead entry
-entry_read entry fits = value_read entry.value entry.valid fits.valid fits.number
+entry_read : (entry : Entry) → IsEntryOf (word_row 0) entry → IsRead entry
+entry_read entry fits = value_read entry.value entry.valid (fits.valid refl) fits.value
 
 abbrev pub word_of : Entry → List ℕ
 word_of entry = value_word entry.value
 
-values_are : (entries : List Entry) → All (EntryFits (word_row 0)) entries → AreWords (map word_of entries)
+values_are : (entries : List Entry) → All (IsEntryOf (word_row 0)) entries → AreWords (map word_of entries)
 values_are [] fit = All-nil (All IsByte)
 values_are (entry ∷ entries) fit =
-    All-cons (All IsByte) (word_of entry) (map word_of entries) (entry_read entry (All-head (EntryFits (word_row 0)) entry entries fit)).bytes
-    (values_are entries (All-tail (EntryFits (word_row 0)) entry entries fit))
+    All-cons (All IsByte) (word_of entry) (map word_of entries) (entry_read entry (All-head (IsEntryOf (word_row 0)) entry entries fit)).bytes
+    (values_are entries (All-tail (IsEntryOf (word_row 0)) entry entries fit))
 
-entries_back : (entries : List Entry) → All (EntryFits (word_row 0)) entries → entries_of (length entries) (map word_of entries) ≡ Some entries
+entries_back : (entries : List Entry) → All (IsEntryOf (word_row 0)) entries → entries_of (length entries) (map word_of entries) ≡ Some entries
 unfolding entries_of
 entries_back [] fit = refl
 entries_back (entry ∷ entries) fit =
-    let read : IsRead entry = entry_read entry (All-head (EntryFits (word_row 0)) entry entries fit) in
+    let read : IsRead entry = entry_read entry (All-head (IsEntryOf (word_row 0)) entry entries fit) in
     ap (λ o. option_and_then (λ v. option_map (λ es. entry_with v ∷ es) (entries_of (length entries) (map word_of entries))) o) read.says
-    ∙ ap (option_map (λ es. entry_with read.number ∷ es)) (entries_back entries (All-tail (EntryFits (word_row 0)) entry entries fit))
+    ∙ ap (option_map (λ es. entry_with read.number ∷ es)) (entries_back entries (All-tail (IsEntryOf (word_row 0)) entry entries fit))
     ∙ ap (λ e. Some (e ∷ entries)) (sym read.is)
 
 -- a sample that fits is one of the group
 record IsOfGroup (n : ℕ) (sample : Sample) : Type 0 where
   group : sample.group ≡ 0
   count : length sample.values ≡ n
-  fit : All (EntryFits (word_row 0)) sample.values
+  fit : All (IsEntryOf (word_row 0)) sample.values
 
 only_layout : (one layout : Layout) (group : ℕ) → slice_get (one ∷ []) group ≡ Some layout → (group ≡ 0) × (layout ≡ one)
 only_layout one layout zero e = (refl, cc)
@@ -163,16 +165,17 @@ of_group n sample fits =
       group = both.0;
       count = count;
       fit = λ k d below.
-          let at : EntryFits (get_or fits.layout.rows k (word_row 0)) (get_or sample.values k d) = fits.entries.each k (word_row 0) d (omega (arith, below, fits.entries.count)) in
+          let at : IsEntryOf (get_or fits.layout.rows k (word_row 0)) (get_or sample.values k d) = fits.entries.each k (word_row 0) d (omega (arith, below, fits.entries.count)) in
           let row : get_or fits.layout.rows k (word_row 0) ≡ word_row (8 * k) = ap (λ l. get_or l.rows k (word_row 0)) both.1 ∙ row_at n k (word_row 0) (omega (arith, below, count)) in
-          let there : EntryFits (word_row (8 * k)) (get_or sample.values k d) = subst (λ r. EntryFits r (get_or sample.values k d)) row at in
-          record { valid = there.valid; number = there.number };
+          let there : IsEntryOf (word_row (8 * k)) (get_or sample.values k d) = subst (λ r. IsEntryOf r (get_or sample.values k d)) row at in
+          record { valid = λ none. there.valid none; value = there.value };
     }
 
 -- the record of a sample of the group is no longer than a block
-record_fits : (n block group : ℕ) → group ≡ 0 → option_map_or (λ layout. 1 + record_size layout) (slice_get (words n ∷ []) group) 0 ≤ block → 1 + 8 * n ≤ block
-record_fits n block zero is size = omega (arith, size)
-record_fits n block (suc group) is size = absurd (omega (arith, is))
+record_fits : (n block group : ℕ) (entries : List Entry) → group ≡ 0
+    → option_map_or (λ layout. 1 + record_size layout + long_size layout.rows entries) (slice_get (words n ∷ []) group) 0 ≤ block → 1 + 8 * n ≤ block
+record_fits n block zero entries is size = omega (arith, size)
+record_fits n block (suc group) entries is size = absurd (omega (arith, is))
 
 -- the lines of what the source does
 record IsTaken (outline : Outline) (does : Task) : Type 0 where
@@ -208,7 +211,7 @@ flush_taken outline =
 task_taken : (outline : Outline) (does : Task) → TaskFits (plan_of outline) does → IsTaken outline does
 task_taken outline (task.Sample sample) fits =
     let of : IsOfGroup outline.channels sample = of_group outline.channels sample fits.0 in
-    sample_taken outline sample of (record_fits outline.channels outline.block sample.group of.group fits.1)
+    sample_taken outline sample of (record_fits outline.channels outline.block sample.group sample.values of.group fits.1)
 task_taken outline task.Flush fits = flush_taken outline
 
 tasks_read : (outline : Outline) (done tasks : List Task) (line : ℕ) (lines : List (List (List ℕ))) (told : Outline × List Task) → All (TaskFits (plan_of outline)) tasks → ((line : ℕ) → reads (Running outline) (done ++ tasks) line lines ≡ Ok told) → reads (Running outline) done line (map task_words tasks ++ lines) ≡ Ok told

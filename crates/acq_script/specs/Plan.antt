@@ -1,7 +1,8 @@
 -- The plan of a script.
 use Rattle.std.specs.Prelude.{ℕ, zero, suc, ◌≡◌, ◌*◌, ◌≤◌, false, List, [], ◌∷◌, ◌++◌, length, All, Option, None, unwrap_or}
-use Rattle.mdf_layout.specs.Field.{IsWordRow}
-use Rattle.mdf_layout.specs.Layout.{Layout, IsInside, AreDisjoint}
+use Rattle.mdf_layout.specs.Layout.{Layout}
+use Rattle.mdf_layout.specs.Values.{IsRowPlaced}
+use Rattle.mdf_layout.specs.Written.{AreApart}
 use Rattle.mdf_layout.specs.Record.{SampleFits, encoded_size}
 use Rattle.mdf_layout.specs.declared.field.FieldKind.TheVariants.{Unsigned}
 use Rattle.mdf_layout.specs.declared.field.FieldRow.{FieldRow}
@@ -37,13 +38,22 @@ plan_of outline = record {
   live = false;
 }
 
+-- a channel of 64-bit unsigned little-endian numbers without an invalidation bit
+pub record IsWordRow (row : FieldRow) : Type 0 where
+  pub kind : row.kind ≡ Unsigned
+  pub big : row.big ≡ false
+  pub bit : row.bit ≡ 0
+  pub bits : row.bits ≡ 64
+  pub inval : row.inval ≡ None
+  pub valid : row.all_invalid ≡ false
+
 -- a layout of 1 to 256 channels of 64-bit unsigned numbers that lie apart inside the record
 pub record IsWords (layout : Layout) : Type 0 where
   pub some : 1 ≤ length layout.rows
   pub few : length layout.rows ≤ 256
   pub words : All IsWordRow layout.rows
-  pub inside : All (IsInside layout.data_bytes) layout.rows
-  pub disjoint : AreDisjoint layout.rows
+  pub inside : All (IsRowPlaced layout.data_bytes layout.inval_bytes) layout.rows
+  pub disjoint : AreApart layout.rows
 
 -- what every plan is so far: one group, of source 0, and limits that a recording can keep
 pub record IsPlan (plan : Plan) : Type 0 where

@@ -62,7 +62,6 @@ fn word_rows(alloc: Global, channels: u32) -> Result<Rows<FieldRow>, Memory>
 }
 
 /// The plan of one group of so many channels, under these limits.
-#[tactic(auto, using(crate::proofs::Plans::all_words))]
 pub(crate) fn plan_of(alloc: Global, outline: Outline) -> Result<Plan, Memory>
     requires { outline.channels ≤ 256 }
     ensures { IfOk result (λ plan. plan ≡ plan_of outline) }

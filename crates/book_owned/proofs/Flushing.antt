@@ -1,6 +1,7 @@
 -- What an append and a flush did before they answered.
 use Rattle.std.proofs.Common.{◌≡◌, ◌+◌, ◌<◌, ◌≤◌, ℕ, false, List, [], ◌∷◌, ◌++◌, length, take, drop, sym, ◌∙◌, ap, subst, inl, inr, ⊎_elim, arith}
-use Rattle.mdf_layout.specs.Record.{AreRecords, encoded_size}
+use Rattle.mdf_layout.specs.Record.{encoded_size}
+use Rattle.mdf_layout.specs.Behind.{AreEncodingsBehind}
 use Rattle.mdf_layout.specs.declared.sample.Sample.{Sample}
 use Rattle.mdf_gate.specs.Gated.{Gated}
 use Rattle.book_owned.specs.Members.{DiskOf, ViewOf}
@@ -83,7 +84,7 @@ module _ {D V N : Type 0} (disk : DiskOf D) (view : ViewOf V N) (front : InMemor
         )
 
   module _ (reserved : InMemory V) (sample : Sample) (size : ℕ) (rest : reserved ≡ record front { history = reserved.history; marks = reserved.marks })
-      (records : AreRecords front.shapes front.block.bytes (drop (durable front.marks.items) front.history.items)) (size_is : size ≡ encoded_size reserved.shapes sample) where
+      (records : AreEncodingsBehind front.shapes (take (durable front.marks.items) front.history.items) front.block.bytes (drop (durable front.marks.items) front.history.items)) (size_is : size ≡ encoded_size reserved.shapes sample) where
     sized : size ≡ encoded_size front.shapes sample
     sized = size_is ∙ ap (λ f. encoded_size f.shapes sample) rest
 

@@ -1,5 +1,5 @@
 mod Costs
-mod Encoded
+pub mod Encoded
 mod Flushing
 mod Keeping
 mod Lasts

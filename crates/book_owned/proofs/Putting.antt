@@ -9,9 +9,11 @@ use mathlib.Core.List.{IsPrefix}
 use Rattle.mdf_disk.specs.State.{state_of}
 use Rattle.mdf_disk.specs.Crash.{HoldsSince}
 use Rattle.mdf_layout.specs.Layout.{Layout}
-use Rattle.mdf_layout.specs.Record.{AreRecords, SampleFits, cost_of, history_cost, history_size}
+use Rattle.mdf_layout.specs.Behind.{AreEncodingsBehind}
+use Rattle.mdf_layout.specs.Record.{SampleFits, cost_of, history_cost, history_size}
 use Rattle.mdf_layout.specs.declared.sample.Sample.{Sample}
-use Rattle.mdf_layout.proofs.Records.{are_records-append, are_records-length, one_record, no_records}
+use Rattle.mdf_layout.proofs.Behind.{pending_more, no_encodings}
+use Rattle.mdf_layout.proofs.Sizes.{encodings-length}
 use Rattle.mdf_gate.specs.Gated.{Gated}
 use Rattle.mdf_gate.specs.Images.{Opens, head_of}
 use Rattle.mdf_gate.proofs.Carrying.{carries_opened, carries_begun}
@@ -51,18 +53,21 @@ module _ {V : Type 0} (old new : InMemory V) (sample : Sample) (put : IsPut old 
     groups = counted.groups;
     fields = counted.fields;
     disjoint = counted.disjoint;
+    stored = counted.stored;
   })
 
   pub pending_put : (from : ℕ) (failed : Bool) → IsPending from failed old → 1 ≤ old.marks.spare → IsPending from failed new
   pending_put from failed pending spare =
       let behind : drop from new.history.items ≡ drop from old.history.items ++ sample ∷ [] =
       ap (drop from) put.history ∙ drop-append-le from old.history.items (sample ∷ []) pending.through in
+      let same : take from new.history.items ≡ take from old.history.items =
+      ap (take from) put.history ∙ take-append-le from old.history.items (sample ∷ []) pending.through in
       subst (IsPending from failed) (sym put.rest) (record {
         through = omega (arith, pending.through, ap length put.history, length-append old.history.items (sample ∷ []));
-        records = λ going. subst (λ bytes. AreRecords old.shapes bytes (drop from new.history.items)) (sym put.block)
-            (subst (AreRecords old.shapes (old.block.bytes ++ put.record_bytes)) (sym behind)
-            (are_records-append old.shapes old.block.bytes put.record_bytes (drop from old.history.items) (sample ∷ []) (pending.records going)
-            (one_record old.shapes put.record_bytes sample put.record_is)));
+        records = λ going. subst (λ bytes. AreEncodingsBehind old.shapes (take from new.history.items) bytes (drop from new.history.items)) (sym put.block)
+            (subst (λ before. AreEncodingsBehind old.shapes before (old.block.bytes ++ put.record_bytes) (drop from new.history.items)) (sym same)
+            (subst (AreEncodingsBehind old.shapes (take from old.history.items) (old.block.bytes ++ put.record_bytes)) (sym behind)
+            (pending_more old.shapes old.history.items from old.block.bytes put.record_bytes sample (pending.records going) put.record_is)));
         room = λ some. spare;
       })
 
@@ -119,7 +124,7 @@ module _ {D V N : Type 0} (disk : DiskOf D) (view : ViewOf V N) where
         past = omega arith;
         within = omega arith;
         carries = λ f left. let h = leaves f left in
-            carries_opened front.shapes head front.history.items [] [] f h.0 h.1 (no_records front.shapes) (front.history.items, refl);
+            carries_opened front.shapes head front.history.items [] [] f h.0 h.1 (no_encodings front.shapes []) (front.history.items, refl);
       } in
       record {
         counted = record {
@@ -133,10 +138,11 @@ module _ {D V N : Type 0} (disk : DiskOf D) (view : ViewOf V N) where
           groups = admissible.groups;
           fields = admissible.fields;
           disjoint = admissible.disjoint;
+          stored = admissible.stored;
         };
         pending = record {
           through = omega (arith, durable_is);
-          records = λ going. rw (bytes_are, dropped (durable front.marks.items) front.history.items history_is) (no_records front.shapes);
+          records = λ going. rw (bytes_are, dropped (durable front.marks.items) front.history.items history_is) (no_encodings front.shapes (take (durable front.marks.items) front.history.items));
           room = λ some. absurd (some bytes_are);
         };
         shown = record {
@@ -153,7 +159,7 @@ module _ {D V N : Type 0} (disk : DiskOf D) (view : ViewOf V N) where
           written = λ going. record {
             blocks = [];
             rests = created.rests;
-            records = subst (AreRecords front.shapes (concat [])) (sym (taken (durable front.marks.items))) (no_records front.shapes);
+            records = subst (AreEncodingsBehind front.shapes [] (concat [])) (sym (taken (durable front.marks.items))) (no_encodings front.shapes []);
           };
           reach = λ going. omega (arith, created.short);
         };
@@ -174,7 +180,7 @@ module _ {D V N : Type 0} (disk : DiskOf D) (view : ViewOf V N) where
 
 -- how many bytes are pending, when the room for a sample and its marks was found
 pub pending_size : {V : Type 0} (from : ℕ) (front reserved : InMemory V) → reserved ≡ record front { history = reserved.history; marks = reserved.marks }
-    → AreRecords front.shapes front.block.bytes (drop from front.history.items)
+    → AreEncodingsBehind front.shapes (take from front.history.items) front.block.bytes (drop from front.history.items)
     → length reserved.block.bytes ≡ history_size front.shapes (drop from front.history.items)
 pending_size from front reserved rest records =
-    ap (λ f. length f.block.bytes) rest ∙ are_records-length front.shapes front.block.bytes (drop from front.history.items) records
+    ap (λ f. length f.block.bytes) rest ∙ encodings-length front.shapes (take from front.history.items) front.block.bytes (drop from front.history.items) records

@@ -11,9 +11,12 @@ use Rattle.mdf_disk.specs.Crash.{Adds, HoldsSince}
 use Rattle.mdf_disk.specs.State.{state_of}
 use Rattle.mdf_disk.proofs.Crash.{adds_more}
 use Rattle.mdf_layout.specs.Layout.{Layout}
-use Rattle.mdf_layout.specs.Record.{AreRecords, history_cost}
+use Rattle.mdf_layout.specs.Record.{history_cost}
+use Rattle.mdf_layout.specs.Behind.{AreEncodingsBehind}
 use Rattle.mdf_layout.specs.declared.sample.Sample.{Sample}
-use Rattle.mdf_layout.proofs.Records.{are_records-append, are_records-length, no_records, no_bytes}
+use Rattle.mdf_layout.proofs.Behind.{all_written, no_encodings}
+use Rattle.mdf_layout.proofs.Sizes.{encodings-length}
+use Rattle.mdf_layout.proofs.Once.{no_bytes_behind}
 use Rattle.mdf_gate.specs.Gated.{Gated, Buffered, RestsOn}
 use Rattle.mdf_gate.specs.Images.{Opens, OpensEither}
 use Rattle.mdf_gate.specs.Carried.{Carries}
@@ -36,24 +39,24 @@ cost_parts layouts history through =
     ap (history_cost layouts) (sym (take-append-drop through history)) ∙ history_cost-append layouts (take through history) (drop through history)
 
 -- the pending records and the block around them are shorter than what their samples cost
-pub block_small : (layouts : List Layout) (samples : List Sample) (bytes : List ℕ) → AreRecords layouts bytes samples → bytes ≢ []
+pub block_small : (layouts : List Layout) (before samples : List Sample) (bytes : List ℕ) → AreEncodingsBehind layouts before bytes samples → bytes ≢ []
     → length bytes + 96 ≤ history_cost layouts samples
-block_small layouts [] bytes records some = absurd (some (none bytes records)) where
+block_small layouts before [] bytes records some = absurd (some (none bytes records)) where
   no_length : (bs : List ℕ) → length bs ≡ 0 → bs ≡ []
   no_length [] is = refl
   no_length (b ∷ bs) is = absurd (omega (arith, is))
 
-  none : (bs : List ℕ) → AreRecords layouts bs [] → bs ≡ []
-  none bs r = no_length bs (are_records-length layouts bs [] r)
-block_small layouts (sample ∷ samples) bytes records some =
-    omega (arith, are_records-length layouts bytes (sample ∷ samples) records, history_cost-least layouts (sample ∷ samples))
+  none : (bs : List ℕ) → AreEncodingsBehind layouts before bs [] → bs ≡ []
+  none bs r = no_length bs (encodings-length layouts before bs [] r)
+block_small layouts before (sample ∷ samples) bytes records some =
+    omega (arith, encodings-length layouts before bytes (sample ∷ samples) records, history_cost-least layouts (sample ∷ samples))
 
 -- with nothing pending all samples are durable
 pub all_durable : {V : Type 0} (from : ℕ) (failed : Bool) (front : InMemory V) → IsPending from failed front → failed ≡ false → front.block.bytes ≡ []
     → from ≡ length front.history.items
 all_durable from failed front pending going none =
-    let rest = no_bytes front.shapes (drop from front.history.items)
-    (subst (λ bytes. AreRecords front.shapes bytes (drop from front.history.items)) none (pending.records going)) in
+    let rest = no_bytes_behind front.shapes (take from front.history.items) (drop from front.history.items)
+    (subst (λ bytes. AreEncodingsBehind front.shapes (take from front.history.items) bytes (drop from front.history.items)) none (pending.records going)) in
     omega (arith, ap length rest, length-drop from front.history.items, pending.through)
 
 -- what is so where the story was told is so where it is told now
@@ -104,6 +107,7 @@ module _ {D V N : Type 0} (disk : DiskOf D) (view : ViewOf V N) (front : InMemor
       groups = book.counted.groups;
       fields = book.counted.fields;
       disjoint = book.counted.disjoint;
+            stored = book.counted.stored;
     };
     pending = record {
       through = book.pending.through;
@@ -143,14 +147,13 @@ module _ {D V N : Type 0} (disk : DiskOf D) (view : ViewOf V N) (front : InMemor
     book_marked book going some marks_are emptied limit same adds later strictly told at through_is rests leaves place =
         let written = book.back.written going in
         let rest = rests written.blocks written.rests in
-        let whole : AreRecords layouts (concat (written.blocks ++ front.block.bytes ∷ [])) history =
-        subst (λ bytes. AreRecords layouts bytes history) (sym (concat_one_more layouts terms.head written.blocks front.block.bytes))
-        (subst (AreRecords layouts (concat written.blocks ++ front.block.bytes)) (take-append-drop through history)
-        (are_records-append layouts (concat written.blocks) front.block.bytes (take through history) (drop through history) written.records (book.pending.records going))) in
+        let whole : AreEncodingsBehind layouts [] (concat (written.blocks ++ front.block.bytes ∷ [])) history =
+        subst (λ bytes. AreEncodingsBehind layouts [] bytes history) (sym (concat_one_more layouts terms.head written.blocks front.block.bytes))
+        (all_written layouts history through (concat written.blocks) front.block.bytes written.records (book.pending.records going)) in
         let holds : HoldsSince (disk.story file'.disk) (disk.moment file'.disk) (Carries layouts terms.head history (length history)) =
         λ f left. let h = leaves (written.blocks ++ front.block.bytes ∷ []) rest f left in
         carries_opened layouts terms.head history history (written.blocks ++ front.block.bytes ∷ []) f h.0 h.1 whole (prefix_self history) in
-        let small = block_small layouts (drop through history) front.block.bytes (book.pending.records going) some in
+        let small = block_small layouts (take through history) (drop through history) front.block.bytes (book.pending.records going) some in
         let more : through < length history =
         below (drop through history) (omega (arith, small)) (length-drop through history) in
         let kept0 = kept_later terms (state_of disk file.disk) (state_of disk file'.disk) history front.marks.items adds later told book.back.kept in
@@ -171,10 +174,11 @@ module _ {D V N : Type 0} (disk : DiskOf D) (view : ViewOf V N) (front : InMemor
             groups = book.counted.groups;
             fields = book.counted.fields;
             disjoint = book.counted.disjoint;
+            stored = book.counted.stored;
           };
           pending = record {
             through = omega (arith, durable_is);
-            records = λ g. rw (emptied, none) (no_records layouts);
+            records = λ g. rw (emptied, none) (no_encodings layouts (take (durable marks) history));
             room = λ bytes. absurd (bytes emptied);
           };
           shown = record {
@@ -185,7 +189,7 @@ module _ {D V N : Type 0} (disk : DiskOf D) (view : ViewOf V N) (front : InMemor
           back = record {
             kept = subst (λ t. IsKept t (state_of disk file'.disk) history marks) (sym same)
                 (subst (IsKept terms (state_of disk file'.disk) history) (sym marks_are) kept1);
-            written = λ g. record { blocks = written.blocks ++ front.block.bytes ∷ []; rests = rest; records = subst (AreRecords layouts _) (sym all) whole };
+            written = λ g. record { blocks = written.blocks ++ front.block.bytes ∷ []; rests = rest; records = subst (AreEncodingsBehind layouts [] _) (sym all) whole };
             reach = λ g. subst (λ h. file'.place ≤ 2 ^ 61 + history_cost layouts h) (sym all)
                 (omega (arith, place, book.back.reach going, small, cost_parts layouts history through));
           };

@@ -3,13 +3,16 @@ use Rattle.std.specs.Prelude.{ℕ, ◌≡◌, ◌≢◌, ◌+◌, ◌^◌, ◌�
 use Rattle.std.specs.List.{concat}
 use Rattle.mdf_disk.specs.Story.{Story}
 use Rattle.mdf_disk.specs.State.{state_of}
-use Rattle.mdf_layout.specs.Layout.{Layout, AreDisjoint}
-use Rattle.mdf_layout.specs.Record.{AreRecords, IsRecord, SampleFits, cost_of, history_cost}
+use Rattle.mdf_layout.specs.Layout.{Layout}
+use Rattle.mdf_layout.specs.Written.{AreApart}
+use Rattle.mdf_layout.specs.Record.{SampleFits, cost_of, history_cost}
+use Rattle.mdf_layout.specs.Behind.{IsEncodingBehind, AreEncodingsBehind}
 use Rattle.mdf_layout.specs.declared.sample.Sample.{Sample}
 use Rattle.mdf_gate.specs.Gated.{Gated, RestsOn}
 use Rattle.mdf_gate.specs.Images.{head_of}
 use Rattle.book_owned.specs.Members.{DiskOf, ViewOf}
 use Rattle.book_owned.specs.Marks.{durable}
+use Rattle.book_owned.specs.Stored.{IsStored}
 use Rattle.book_owned.specs.Account.{Account, Terms}
 use Rattle.book_owned.specs.Kept.{IsKept, IsShowing}
 use Rattle.book_owned.specs.declared.in_memory.InMemory.{InMemory}
@@ -50,20 +53,21 @@ pub record IsCounted {V : Type 0} (front : InMemory V) : Type 0 where
   pub scratch : length front.scratch.items ≡ front.block.limit
   pub groups : length front.shapes ≤ 64
   pub fields : sum_by (λ layout. length layout.rows) front.shapes ≤ 1024
-  pub disjoint : All (λ layout. AreDisjoint layout.rows) front.shapes
+  pub disjoint : All (λ layout. AreApart layout.rows) front.shapes
+  pub stored : All (λ layout. All IsStored layout.rows) front.shapes
 
 -- While no call failed, the buffer holds the records of the samples from there on; and there is room for the mark of a
 -- full one.
 pub record IsPending {V : Type 0} (from : ℕ) (failed : Bool) (front : InMemory V) : Type 0 where
   pub through : from ≤ length front.history.items
-  pub records : failed ≡ false → AreRecords front.shapes front.block.bytes (drop from front.history.items)
+  pub records : failed ≡ false → AreEncodingsBehind front.shapes (take from front.history.items) front.block.bytes (drop from front.history.items)
   pub room : front.block.bytes ≢ [] → 1 ≤ front.marks.spare
 
 -- the file at rest holds the records of the durable samples
 pub record IsWritten (content : Option (List ℕ)) (story : Option Story) (first place : ℕ) (layouts : List Layout) (samples : List Sample) : Type 0 where
   pub blocks : List (List ℕ)
   pub rests : RestsOn content story first blocks place
-  pub records : AreRecords layouts (concat blocks) samples
+  pub records : AreEncodingsBehind layouts [] (concat blocks) samples
 
 -- What the file keeps whatever happens, and where it stands while no call failed.
 pub record IsBack {D V : Type 0} (disk : DiskOf D) (front : InMemory V) (file : Gated D) (terms : Terms) : Type 0 where
@@ -82,7 +86,7 @@ pub record IsBook {D V N : Type 0} (disk : DiskOf D) (view : ViewOf V N) (front 
 pub record IsPut {V : Type 0} (old new : InMemory V) (sample : Sample) : Type 0 where
   pub fits : SampleFits old.shapes sample
   pub record_bytes : List ℕ
-  pub record_is : IsRecord old.shapes record_bytes sample
+  pub record_is : IsEncodingBehind old.shapes old.history.items record_bytes sample
   pub block : new.block.bytes ≡ old.block.bytes ++ record_bytes
   pub limit : new.block.limit ≡ old.block.limit
   pub history : new.history.items ≡ old.history.items ++ sample ∷ []

@@ -7,7 +7,7 @@ use Rattle.mdf_disk.specs.State.{DiskState}
 use Rattle.mdf_layout.specs.Layout.{Layout}
 use Rattle.mdf_layout.specs.declared.sample.Sample.{Sample}
 use Rattle.mdf_gate.specs.Images.{IsNotMdf}
-use Rattle.mdf_gate.specs.Carried.{Carries, IsCarried}
+use Rattle.mdf_gate.specs.Carried.{Carries, IsCarried, IsEncoded}
 use Rattle.book_owned.specs.Members.{ViewOf}
 use Rattle.book_owned.specs.Marks.{AreRising, durable}
 use Rattle.book_owned.specs.Account.{Terms}
@@ -42,6 +42,7 @@ pub record IsShowing {V N : Type 0} (view : ViewOf V N) (now : V) (history : Lis
   pub shown : view.shows now (take (view.count now) history)
   pub handed : (handed : List Sample) → view.hands now handed → IsPrefix handed (take (durable marks) history)
 
--- the data of the file's opened blocks are the records of the durable samples
+-- the data of the file's opened blocks are the records of the durable samples, with the bits of no channel 0
 abbrev pub HoldsDurable : Terms → List Sample → List Mark → List ℕ → Type 0
-HoldsDurable terms history marks file = IsCarried terms.layouts file (take (durable marks) history)
+HoldsDurable terms history marks file =
+    IsCarried terms.layouts file (take (durable marks) history) × IsEncoded terms.layouts file (take (durable marks) history)

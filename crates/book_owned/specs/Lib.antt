@@ -1,4 +1,5 @@
 pub mod Members
+pub mod Stored
 pub mod Marks
 pub mod Account
 pub mod Kept

@@ -2,7 +2,6 @@ ghost use Rattle.std.specs.Prelude.{◌≡◌, ◌+◌, ◌≤◌, ◌<◌, ◌^
 ghost use Rattle.mdf_format.specs.Cause.{Rose};
 ghost use Rattle.mdf_disk.specs.Crash.{HoldsSince};
 ghost use Rattle.mdf_disk.specs.State.{state_of};
-ghost use Rattle.mdf_layout.specs.Layout.{AreDisjoint};
 ghost use Rattle.mdf_layout.specs.Record.{SampleFits, encoded_size, cost_of, history_cost, history_size};
 ghost use Rattle.mdf_gate.specs.Gated.{RestsOn};
 ghost use Rattle.mdf_gate.specs.Images.{head_of, IsBegun};

@@ -1,7 +1,9 @@
 ghost use Rattle.std.specs.Prelude.{◌≡◌, ◌+◌, ◌≤◌, ◌<◌, ◌⊎◌, ℕ, List, [], ◌∷◌, ◌++◌, length, take, drop, All, OnOk};
 ghost use Rattle.mdf_layout.specs.declared.sample.Sample.{Sample};
-ghost use Rattle.mdf_layout.specs.Layout.{AreDisjoint};
-ghost use Rattle.mdf_layout.specs.Record.{SampleFits, IsRecord, encoded_size, cost_of, history_size};
+ghost use Rattle.mdf_layout.specs.Written.{AreApart};
+ghost use Rattle.mdf_layout.specs.Record.{SampleFits, encoded_size, cost_of, history_size};
+ghost use Rattle.mdf_layout.specs.Behind.{IsEncodingBehind};
+ghost use Rattle.book_owned.specs.Stored.{IsStored};
 ghost use Rattle.book_owned.specs.Marks.{last_mark, durable};
 ghost use Rattle.book_owned.specs.Kept.{IsShowing};
 ghost use Rattle.book_owned.specs.Answers.{ShowsAll};
@@ -31,10 +33,11 @@ pub(crate) fn reserve<V>(front: &mut InMemory<V>) -> Result<(), Memory>
 fn encode(shapes: &Shapes, sample: &Sample, out: &mut [u8]) -> usize
     requires fits { SampleFits shapes.now sample.now }
     requires groups { length shapes.now ≤ 64 }
-    requires disjoint { All (λ layout. AreDisjoint layout.rows) shapes.now }
+    requires disjoint { All (λ layout. AreApart layout.rows) shapes.now }
+    requires stored { All (λ layout. All IsStored layout.rows) shapes.now }
     requires room { encoded_size shapes.now sample.now ≤ length out.old }
     ensures size { result ≡ encoded_size shapes.now sample.now }
-    ensures record { IsRecord shapes.now (take result out.new) sample.now }
+    ensures record { (before : List Sample) → IsEncodingBehind shapes.now before (take result out.new) sample.now }
     ensures length { length out.new ≡ length out.old }
 {
     let Some(shape) = shapes.get(sample.group as u64) else {

@@ -7,13 +7,13 @@ use Rattle.std.specs.List.{concat}
 use Rattle.mdf_disk.specs.Story.{Story}
 use mathlib.Core.List.{IsPrefix}
 use Rattle.mdf_layout.specs.Layout.{Layout}
-use Rattle.mdf_layout.specs.Record.{AreRecords}
+use Rattle.mdf_layout.specs.Behind.{AreEncodingsBehind}
 use Rattle.mdf_layout.specs.declared.sample.Sample.{Sample}
-use Rattle.mdf_layout.proofs.Records.{are_records-append, no_records}
-use Rattle.mdf_layout.proofs.WordsRead.{records_read}
+use Rattle.mdf_layout.proofs.Behind.{all_written, no_encodings}
+use Rattle.mdf_layout.proofs.Bridge.{encodings_read}
 use Rattle.mdf_gate.specs.Recording.{IsOpened}
 use Rattle.mdf_gate.specs.Images.{IsNotMdf, IsBegun, OpensEither}
-use Rattle.mdf_gate.specs.Carried.{Carries, IsCarried}
+use Rattle.mdf_gate.specs.Carried.{Carries, IsCarried, IsEncoded}
 use Rattle.mdf_gate.specs.Gated.{RestsOn}
 use Rattle.mdf_gate.proofs.Resting.{rests_opens}
 
@@ -58,11 +58,11 @@ module _ (layouts : List Layout) (head : List ℕ) where
 
   -- a file with these opened blocks carries their samples
   pub carries_opened : (history samples : List Sample) (blocks : List (List ℕ)) (file : List ℕ) → IsPrefix head file → IsOpened file blocks
-      → AreRecords layouts (concat blocks) samples → IsPrefix samples history → Carries layouts head history (length samples) file
+      → AreEncodingsBehind layouts [] (concat blocks) samples → IsPrefix samples history → Carries layouts head history (length samples) file
   carries_opened history samples blocks file begins opened records beginning = record {
     begins = begins;
     samples = samples;
-    carried = record { blocks = blocks; opened = opened; records = records_read layouts (concat blocks) samples records };
+    carried = record { blocks = blocks; opened = opened; records = encodings_read layouts (concat blocks) samples records };
     beginning = beginning;
     enough = omega arith;
   }
@@ -73,14 +73,13 @@ module _ (layouts : List Layout) (head : List ℕ) where
 
   -- while a block with the records of the last samples is appended
   pub carries_either : (history : List Sample) (through : ℕ) (blocks : List (List ℕ)) (body : List ℕ) → through ≤ length history
-      → AreRecords layouts (concat blocks) (take through history) → AreRecords layouts body (drop through history)
+      → AreEncodingsBehind layouts [] (concat blocks) (take through history) → AreEncodingsBehind layouts (take through history) body (drop through history)
       → (file : List ℕ) → OpensEither head blocks body file → Carries layouts head history through file
   carries_either history through blocks body within before behind file (begins, opened) =
       let long : length (take through history) ≡ through = length-take-le through history within in
-      let all : AreRecords layouts (concat (blocks ++ body ∷ [])) history =
-      subst (λ bytes. AreRecords layouts bytes history) (sym (concat_one_more blocks body))
-      (subst (AreRecords layouts (concat blocks ++ body)) (take-append-drop through history)
-      (are_records-append layouts (concat blocks) body (take through history) (drop through history) before behind)) in
+      let all : AreEncodingsBehind layouts [] (concat (blocks ++ body ∷ [])) history =
+      subst (λ bytes. AreEncodingsBehind layouts [] bytes history) (sym (concat_one_more blocks body))
+      (all_written layouts history through (concat blocks) body before behind) in
       ⊎_elim
       (λ without. subst (λ n. Carries layouts head history n file) long
       (carries_opened history (take through history) blocks file begins without before (prefix_take through history)))
@@ -91,11 +90,15 @@ module _ (layouts : List Layout) (head : List ℕ) where
   -- a file that was just begun carries no sample
   pub carries_begun : (history : List Sample) (file : List ℕ) → IsBegun head file → IsNotMdf file ⊎ Carries layouts head history 0 file
   carries_begun history file begun =
-      ⊎_elim inl (λ h. inr (carries_opened history [] [] file h.0 h.1 (no_records layouts) (history, refl))) begun
+      ⊎_elim inl (λ h. inr (carries_opened history [] [] file h.0 h.1 (no_encodings layouts []) (history, refl))) begun
 
--- the content of a file at rest carries the samples of its blocks
+-- the content of a file at rest carries the samples of its blocks, as they are written
 pub rests_carry : (layouts : List Layout) (content : Option (List ℕ)) (story : Option Story) (first place : ℕ) (blocks : List (List ℕ)) (samples : List Sample)
-    → RestsOn content story first blocks place → AreRecords layouts (concat blocks) samples → IfSome content (λ file. IsCarried layouts file samples)
+    → RestsOn content story first blocks place → AreEncodingsBehind layouts [] (concat blocks) samples
+    → IfSome content (λ file. IsCarried layouts file samples × IsEncoded layouts file samples)
 rests_carry layouts None story first place blocks samples rests records = tt
 rests_carry layouts (Some file) story first place blocks samples rests records =
-    record { blocks = blocks; opened = (rests_opens first blocks place file rests.rests).1; records = records_read layouts (concat blocks) samples records }
+    let opened = (rests_opens first blocks place file rests.rests).1 in (
+      record { blocks = blocks; opened = opened; records = encodings_read layouts (concat blocks) samples records },
+      record { blocks = blocks; opened = opened; records = records },
+    )

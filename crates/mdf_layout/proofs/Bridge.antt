@@ -13,8 +13,8 @@ use Rattle.mdf_vlsd.specs.Value.{value_bytes, value_at}
 use Rattle.mdf_layout.specs.History.{group_samples}
 use Rattle.mdf_layout.specs.Layout.{Layout, record_size}
 use Rattle.mdf_layout.specs.Rule.{spot_in, is_variable}
-use Rattle.mdf_layout.specs.Values.{Finder, value_in, is_valid, entry_of, finders_behind, first_finder, sample_by}
-use Rattle.mdf_layout.specs.Behind.{variables, first_id, value_records, value_size, bytes_in, offsets_from, offsets_behind, always, IsRecordBehind, IsEncodingBehind, AreEncodingsBehind}
+use Rattle.mdf_layout.specs.Values.{Finder, bytes_in, value_in, is_valid, entry_of, finders_behind, first_finder, sample_by}
+use Rattle.mdf_layout.specs.Behind.{variables, first_id, value_records, value_size, offsets_from, offsets_behind, always, IsRecordBehind, IsEncodingBehind, AreEncodingsBehind}
 use Rattle.mdf_layout.specs.Read.{Piece, piece_body, piece_bytes, IsPiece, stream_of, streams_from, values_of, record_of, samples_from, AreRead}
 use Rattle.mdf_layout.specs.declared.field.FieldKind.{FieldKind}
 use Rattle.mdf_layout.specs.declared.field.FieldKind.TheVariants.{Unsigned, Signed, Fixed, Variable, Virtual}
@@ -146,7 +146,7 @@ head_of (z ∷ zs) zero x ys is = let same : z ≡ x = cc in let rest : zs ≡ y
 head_of (z ∷ zs) (suc k) x ys is = head_of zs k x ys is
 
 -- the value of a channel of variable length
-value_of_entry : (kind : FieldKind) (row : FieldRow) (bytes inval v : List ℕ) (index : ℕ) (entry : Entry) → row.kind ≡ kind → is_variable row ≡ true
+pub value_of_entry : (kind : FieldKind) (row : FieldRow) (bytes inval v : List ℕ) (index : ℕ) (entry : Entry) → row.kind ≡ kind → is_variable row ≡ true
     → entry_of row bytes inval (always v) index ≡ Some entry → bytes_in entry.value ≡ v
 value_of_entry Unsigned row bytes inval v index entry is value given = let wrong : false ≡ true = rw is at value in cc
 value_of_entry Signed row bytes inval v index entry is value given = let wrong : false ≡ true = rw is at value in cc

@@ -10,11 +10,9 @@ use Rattle.mdf_vlsd.specs.Value.{value_bytes}
 use Rattle.mdf_layout.specs.History.{group_samples}
 use Rattle.mdf_layout.specs.Layout.{Layout, record_size}
 use Rattle.mdf_layout.specs.Rule.{spot_in, is_variable}
-use Rattle.mdf_layout.specs.Values.{Finder, sample_by}
+use Rattle.mdf_layout.specs.Values.{Finder, bytes_in, sample_by}
 use Rattle.mdf_layout.specs.Written.{IsFree, IsFreePosition}
 use Rattle.mdf_layout.specs.declared.field.FieldRow.{FieldRow}
-use Rattle.mdf_layout.specs.declared.sample.Value.{Value}
-use Rattle.mdf_layout.specs.declared.sample.Value.TheVariants as value
 use Rattle.mdf_layout.specs.declared.sample.Entry.{Entry}
 use Rattle.mdf_layout.specs.declared.sample.Sample.{Sample}
 
@@ -32,12 +30,6 @@ value_records id [] = []
 value_records id (v ∷ vs) = id ∷ (value_bytes v ++ value_records (id + 1) vs)
 
 -- how much a sample's value of channel k adds to the channel's offsets
-abbrev pub bytes_in : Value → List ℕ
-bytes_in (value.Unsigned n) = []
-bytes_in (value.Signed n) = []
-bytes_in (value.Bytes b) = b
-bytes_in (value.Index n) = []
-
 abbrev pub value_size : ℕ → Sample → ℕ
 value_size k sample = option_map_or (λ entry. 4 + length (bytes_in entry.value)) (slice_get sample.values k) 0
 

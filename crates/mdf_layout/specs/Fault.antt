@@ -1,8 +1,7 @@
 -- Why a layout is refused, and why a record has no sample.
 use Rattle.std.specs.Prelude.{ℕ, ◌≡◌, List, None}
 use Rattle.mdf_format.specs.Field.{field_number}
-use Rattle.mdf_layout.specs.Layout.{IsFirstOutside}
-use Rattle.mdf_layout.specs.Rule.{spot_in}
+use Rattle.mdf_layout.specs.Rule.{spot_in, IsFirstBad}
 use Rattle.mdf_layout.specs.Values.{Finder, IsFirstMissing}
 use Rattle.mdf_layout.specs.declared.reading.Lack.{Lack}
 use Rattle.mdf_layout.specs.declared.reading.Lack.TheVariants as lacks
@@ -13,9 +12,10 @@ use Rattle.mdf_layout.specs.declared.field.FieldRow.{FieldRow}
 use Rattle.mdf_layout.specs.declared.shape.ShapeFault.{ShapeFault}
 use Rattle.mdf_layout.specs.declared.shape.ShapeFault.TheVariants.{Bad, Memory}
 
-abbrev pub ShapeCause : List FieldRow → ℕ → ShapeFault → Type 0
-ShapeCause rows data_bytes (Bad channel) = IsFirstOutside rows data_bytes channel
-ShapeCause rows data_bytes Memory = Unit {0}
+-- the least channel that breaks a rule
+abbrev pub ShapeCause : ℕ → ℕ → List FieldRow → ShapeFault → Type 0
+ShapeCause data_bytes inval_bytes rows (Bad channel) = IsFirstBad data_bytes inval_bytes rows channel
+ShapeCause data_bytes inval_bytes rows Memory = Unit {0}
 
 -- the offset of the channel meets no value
 pub record IsMissing (row : FieldRow) (bytes : List ℕ) (find : Finder) (offset : ℕ) : Type 0 where

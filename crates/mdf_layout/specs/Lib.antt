@@ -1,5 +1,4 @@
 pub mod Stock
-pub mod Field
 pub mod Rule
 pub mod Row
 pub mod Values

@@ -26,6 +26,13 @@ value_in Fixed spot bytes find index = Some (value.Bytes (bytes_at (spot.bits / 
 value_in Variable spot bytes find index = option_map value.Bytes (find (field_number spot bytes))
 value_in Virtual spot bytes find index = Some (value.Index index)
 
+-- the bytes of a value of fixed or of variable length
+abbrev pub bytes_in : Value → List ℕ
+bytes_in (value.Unsigned n) = []
+bytes_in (value.Signed n) = []
+bytes_in (value.Bytes b) = b
+bytes_in (value.Index n) = []
+
 -- whether it is valid: not where all its values are invalid, nor where its invalidation bit is 1
 abbrev pub is_valid : FieldRow → List ℕ → Bool
 is_valid row inval = not row.all_invalid && option_map_or (λ p. not (nat_eq (bit_of inval p) 1)) row.inval true

@@ -1,5 +1,5 @@
 // Whether channels lie apart, and whether they can have entries.
-ghost use Rattle.std.specs.Prelude.{◌≡◌, ◌+◌, ◌-◌, ◌/◌, ◌↔◌, max, min, length, All, IsTrue};
+ghost use Rattle.std.specs.Prelude.{◌≡◌, ◌+◌, ◌-◌, ◌/◌, ◌^◌, ◌<◌, ◌↔◌, max, min, length, All, IsTrue};
 ghost use Rattle.mdf_format.specs.Row.{SharesBit};
 ghost use Rattle.mdf_bits.specs.Field.{IsSignedOf};
 ghost use Rattle.mdf_layout.specs.Rule.{bits_in, spot_in};
@@ -13,7 +13,6 @@ ghost use Rattle.mdf_layout.specs.Written.{
   AreEntriesOf,
 };
 
-use crate::number::has_bits;
 use crate::rule::{bits_of, shares_bit};
 use crate::{Entry, FieldKind, FieldRow, Value};
 
@@ -117,6 +116,13 @@ pub fn are_apart(rows: &[FieldRow]) -> bool
         }
     }
     true
+}
+
+/// Whether so many bits hold the number.
+fn has_bits(number: u64, bits: u32) -> bool
+    ensures { IsTrue result ↔ (number < 2 ^ bits) }
+{
+    bits >= 64 || number < 1 << bits
 }
 
 /// How many bits there are below the sign.

@@ -2,14 +2,12 @@
 //!
 //! A record of a channel group (CGBLOCK) holds the values of its channels (CNBLOCK) in its data bytes, and a bit for
 //! each channel that can be invalid in its invalidation bytes. The rules of layouts, and how a record is written and
-//! read, are here for channels of all kinds. The layouts of a recording, `Shape`, so far have channels of 64-bit
-//! unsigned little-endian numbers alone (`cn_data_type` 0), without invalidation bits.
+//! read, are here for channels of all kinds, over rows and for a `Shape`, which is a layout that keeps the rules.
 #![tactic(auto)]
 
 mod field;
 mod fitting;
 mod law;
-mod number;
 mod reading;
 mod reserved;
 mod row;

@@ -1,18 +1,22 @@
-ghost use Rattle.std.specs.Prelude.{◌≡◌, ℕ, ◌^◌, ◌<◌, ◌≤◌, ◌↔◌, length, map, All, IsTrue, IfOk, IfErr, OnOk};
+ghost use Rattle.std.specs.Prelude.{◌≡◌, ℕ, ◌^◌, ◌<◌, ◌≤◌, ◌↔◌, List, length, map, take, drop, false, All, IsTrue, IfOk, IfErr, OnOk, Some};
 ghost use Rattle.mdf_format.specs.Field.{bit_of};
-ghost use Rattle.mdf_layout.specs.Field.{IsWordRow, EntriesFit, entry_in};
-ghost use Rattle.mdf_layout.specs.Layout.{IsInside, AreDisjoint, IsUnused, record_size};
-ghost use Rattle.mdf_layout.specs.Fault.{ShapeCause};
+ghost use Rattle.mdf_vlsd.specs.Value.{value_at};
+ghost use Rattle.mdf_layout.specs.Values.{Finder, sample_by, sample_of};
+ghost use Rattle.mdf_layout.specs.Written.{AreApart, AreEntriesOf, OffsetsFit, AreFound, HoldValues, IsFree, IsFreePosition};
+ghost use Rattle.mdf_layout.specs.Layout.{IsRuled, record_size};
+ghost use Rattle.mdf_layout.specs.Fault.{ShapeCause, DecodeCause};
 
-use crate::number::{are_disjoint, clear, first_outside, fit, put_all};
-use crate::{Entries, FieldRow, Sample};
+use crate::{
+    DecodeFault, Entries, FieldRow, Sample, are_apart, decode, encode, entries_fit, first_bad,
+};
 use mdf_num::{Memory, Rows};
+use mdf_vlsd::Streams;
 use std::alloc::Global;
 use std::marker::Model;
 use thiserror::Error;
 
 /// The layout of the records of a channel group: its channels, and how many data bytes (`cg_data_bytes`) and invalidation
-/// bytes (`cg_inval_bytes`) a record has. Each channel lies inside the data bytes.
+/// bytes (`cg_inval_bytes`) a record has. No channel breaks a rule of `first_bad`, and there are fewer than 2^31.
 #[derive(Debug, Drop)]
 pub struct Shape {
     rows: Rows<FieldRow>,
@@ -21,22 +25,20 @@ pub struct Shape {
 }
 
 impl Model for Shape {
-    ghost use Rattle.std.specs.Prelude.{All};
-    ghost use Rattle.mdf_layout.specs.Field.{IsWordRow};
-    ghost use Rattle.mdf_layout.specs.Layout.{Layout, IsInside};
+    ghost use Rattle.mdf_layout.specs.Layout.{Layout, IsRuled};
 
     ghost Value = { Layout };
 
     ghost view = { λ shape. record { rows = shape.rows; data_bytes = shape.data_bytes; inval_bytes = shape.inval_bytes } };
 
-    ghost invariant = { λ shape. All IsWordRow shape.rows × All (IsInside shape.data_bytes) shape.rows };
+    ghost invariant = { λ shape. IsRuled (record { rows = shape.rows; data_bytes = shape.data_bytes; inval_bytes = shape.inval_bytes }) };
 }
 
 /// Why rows are no layout.
 #[derive(Clone, Copy, Debug, PartialEq, Eq, Error)]
 pub enum ShapeFault {
-    /// The field of this channel does not lie in the data bytes; no earlier one breaks a rule.
-    #[error("channel {channel} does not lie in the record")]
+    /// This channel breaks a rule; no earlier one does.
+    #[error("channel {channel} has no place in the record")]
     Bad { channel: u32 },
     #[error("want of memory")]
     Memory,
@@ -53,23 +55,28 @@ impl From<Memory> for ShapeFault {
     }
 }
 
+/// A layout has fewer channels than this, so that the length of its samples is a number of 64 bits.
+const MOST_CHANNELS: u64 = 1 << 31;
+
 /// The layout of these channels in records of so many data bytes and invalidation bytes.
 ///
 /// # Errors
-/// `Bad` exactly where a channel does not lie in the data bytes, with the least such channel; `Memory`.
+/// `Bad` exactly where a channel breaks a rule of `first_bad`, with the least such channel; `Memory`, which 2^31 channels
+/// and more always want.
 pub fn shape_of(
     alloc: Global,
     rows: &Rows<FieldRow>,
     data_bytes: u32,
     inval_bytes: u32,
 ) -> Result<Shape, ShapeFault>
-    requires words { All IsWordRow rows.now }
-    requires few { length rows.now < 2 ^ 32 }
     ensures ok { IfOk result (λ shape. shape ≡ record { rows = rows.now; data_bytes = data_bytes; inval_bytes = inval_bytes }) }
-    ensures inside { OnOk result (All (IsInside data_bytes) rows.now) }
-    ensures fault { IfErr result (ShapeCause rows.now data_bytes) }
+    ensures ruled { IfOk result IsRuled }
+    ensures fault { IfErr result (ShapeCause data_bytes inval_bytes rows.now) }
 {
-    if let Some(channel) = first_outside(rows.as_slice(), data_bytes) {
+    if rows.len() >= MOST_CHANNELS {
+        return Err(ShapeFault::Memory);
+    }
+    if let Some(channel) = first_bad(rows.as_slice(), data_bytes, inval_bytes) {
         return Err(ShapeFault::Bad { channel });
     }
     let rows = Rows::from_vec(copy_rows(alloc, rows.as_slice())?);
@@ -91,8 +98,7 @@ impl Shape {
     /// The channels, in order.
     pub fn fields(&self) -> &Rows<FieldRow>
         ensures rows { result.now ≡ self.now.rows }
-        ensures words { All IsWordRow self.now.rows }
-        ensures inside { All (IsInside self.now.data_bytes) self.now.rows }
+        ensures ruled { IsRuled self.now }
     {
         &self.rows
     }
@@ -119,33 +125,74 @@ impl Shape {
         self.data_bytes as u64 + self.inval_bytes as u64
     }
 
-    /// Whether no two channels share a bit. No two share an invalidation position, since none has one.
+    /// Whether no bit of a record belongs to two channels: their fields share none, and their invalidation bits have
+    /// different positions.
     pub fn disjoint(&self) -> bool
-        ensures { IsTrue result ↔ AreDisjoint self.now.rows }
+        ensures { IsTrue result ↔ AreApart self.now.rows }
     {
-        are_disjoint(self.rows.as_slice())
+        are_apart(self.rows.as_slice())
     }
 
-    /// Whether the sample has one value for each channel, which the channel can have. The group's number is not looked at.
+    /// Whether the sample has one entry for each channel, of its kind and range, and invalid only where the channel has an
+    /// invalidation bit. The group's number is not looked at.
     pub fn fits(&self, sample: &Sample) -> bool
-        ensures { IsTrue result ↔ EntriesFit self.now.rows sample.now.values }
+        ensures { IsTrue result ↔ AreEntriesOf self.now.rows sample.now.values }
     {
-        fit(self.rows.as_slice(), sample.values.as_slice())
+        entries_fit(self.rows.as_slice(), sample.values.as_slice())
     }
 
-    /// Writes a record of these values, without its id. Bits of no channel are 0. There are no channels of variable
-    /// length yet, so no offset is looked at. It takes no memory.
-    pub fn encode(&self, values: &Entries, _offsets: &[u64], out: &mut [u8])
-        requires disjoint { AreDisjoint self.now.rows }
-        requires fits { EntriesFit self.now.rows values.now }
+    /// Writes a record of these values, without its id, with the offset of each value of variable length in the field of
+    /// its channel. Bits of no channel are 0. `decode` gives the values back where each offset meets its value and each
+    /// index is that of the record. It takes no memory.
+    pub fn encode(&self, values: &Entries, offsets: &[u64], out: &mut [u8])
+        requires apart { AreApart self.now.rows }
+        requires valid { All (λ row. row.all_invalid ≡ false) self.now.rows }
+        requires fits { AreEntriesOf self.now.rows values.now }
+        requires offsets { OffsetsFit self.now.rows offsets.now }
         requires size { length out.old ≡ record_size self.now }
-        ensures words { All IsWordRow self.now.rows }
-        ensures inside { All (IsInside self.now.data_bytes) self.now.rows }
-        ensures values { map (entry_in out.new) self.now.rows ≡ values.now }
-        ensures unused { (p : ℕ) → IsUnused self.now.rows p → bit_of out.new p ≡ 0 }
+        ensures sample { (finders : List Finder) (index : ℕ) → AreFound self.now.rows values.now offsets.now finders index
+            → sample_by self.now.rows (take self.now.data_bytes out.new) (drop self.now.data_bytes out.new) finders index ≡ Some values.now }
+        ensures values { HoldValues self.now.rows values.now offsets.now (length self.now.rows) (take self.now.data_bytes out.new) }
+        ensures unused { (p : ℕ) → IsFree self.now.rows p → bit_of (take self.now.data_bytes out.new) p ≡ 0 }
+        ensures unused_positions { (p : ℕ) → IsFreePosition self.now.rows p → bit_of (drop self.now.data_bytes out.new) p ≡ 0 }
         ensures size { length out.new ≡ record_size self.now }
     {
-        clear(out);
-        put_all(self.rows.as_slice(), values.as_slice(), out);
+        let (content, inval) = out.split_at_mut(self.data_bytes as usize);
+        encode(
+            self.rows.as_slice(),
+            values.as_slice(),
+            offsets,
+            content,
+            inval,
+        );
+    }
+
+    /// The sample of a record, from its bytes without its id, the streams of the channels of variable length in order, and
+    /// the index of the record. A channel without a stream has no value.
+    ///
+    /// # Errors
+    /// `Offset` exactly where the offset of a channel meets no value in its stream, with the least such channel; `Memory`.
+    pub fn decode(
+        &self,
+        alloc: Global,
+        bytes: &[u8],
+        streams: &Streams,
+        index: u64,
+    ) -> Result<Entries, DecodeFault>
+        requires size { length bytes.now ≡ record_size self.now }
+        ensures sample { IfOk result (λ entries. sample_of self.now.rows (take self.now.data_bytes bytes.now) (drop self.now.data_bytes bytes.now)
+            streams.now index ≡ Some entries) }
+        ensures fault { IfErr result (DecodeCause self.now.rows (take self.now.data_bytes bytes.now) (drop self.now.data_bytes bytes.now)
+            (map value_at streams.now) index) }
+    {
+        let (content, inval) = bytes.split_at(self.data_bytes as usize);
+        decode(
+            alloc,
+            self.rows.as_slice(),
+            content,
+            inval,
+            streams.as_slice(),
+            index,
+        )
     }
 }

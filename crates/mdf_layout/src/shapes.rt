@@ -1,8 +1,10 @@
-ghost use Rattle.std.specs.Prelude.{◌≡◌, ◌^◌, ◌<◌, [], ◌∷◌, ◌++◌, length, slice_get, OnOk, OnErr};
+ghost use Rattle.std.specs.Prelude.{◌≡◌, ◌+◌, ◌^◌, ◌<◌, [], ◌∷◌, ◌++◌, length, slice_get, OnOk, OnErr};
 ghost use Rattle.std.specs.Option.{option_copied};
-ghost use Rattle.mdf_layout.specs.Record.{SampleFits, encoded_size, cost_of};
+ghost use Rattle.mdf_layout.specs.Record.{SampleFits, value_record_size, long_size, encoded_size, cost_of};
+ghost use Rattle.mdf_layout.specs.Written.{AreEntriesOf};
 
-use crate::{Sample, Shape};
+use crate::rule::{is_variable, row_at};
+use crate::{Entry, FieldRow, Sample, Shape, Value};
 use mdf_num::{Memory, Rows};
 use std::alloc::Global;
 use std::marker::Model;
@@ -27,6 +29,33 @@ const SAMPLE_COST: u64 = 96;
 
 /// What each channel of a sample costs beside its record, in bytes.
 const CHANNEL_COST: u64 = 40;
+
+/// How many bytes the record of a channel's value has: none where its values are not of variable length.
+fn value_record_size(row: FieldRow, entry: &Entry) -> u64
+    ensures { result ≡ value_record_size row entry.now }
+{
+    if !is_variable(row) {
+        return 0;
+    }
+    match &entry.value {
+        Value::Bytes(bytes) => 5 + bytes.as_slice().len() as u64,
+        _ => 5,
+    }
+}
+
+/// How many bytes the records of the values of variable length have in all.
+fn long_size(rows: &[FieldRow], entries: &[Entry]) -> u64
+    requires fits { AreEntriesOf rows.now entries.now }
+    requires few { length rows.now < 2 ^ 31 }
+    ensures size { result ≡ long_size rows.now entries.now }
+    ensures small { result < 2 ^ 63 + 2 ^ 33 }
+{
+    let mut size = 0;
+    for channel in 0..rows.len() {
+        size += value_record_size(row_at(rows, channel), &entries[channel]);
+    }
+    size
+}
 
 impl Shapes {
     /// The empty list. It takes no memory.
@@ -59,13 +88,16 @@ impl Shapes {
         self.items.push(shape)
     }
 
-    /// How many bytes the record of a sample has, with its id.
+    /// How many bytes the records of a sample have: that of its group with its id, and those of its values of variable
+    /// length.
     pub fn encoded_size(&self, sample: &Sample) -> u64
         requires { SampleFits self.now sample.now }
         ensures { result ≡ encoded_size self.now sample.now }
     {
         match self.get(sample.group as u64) {
-            Some(shape) => 1 + shape.record_size(),
+            Some(shape) => 1
+                + shape.record_size()
+                + long_size(shape.fields().as_slice(), sample.values.as_slice()),
             None => 0,
         }
     }

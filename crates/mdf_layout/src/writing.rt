@@ -19,11 +19,20 @@ ghost use Rattle.mdf_layout.specs.Written.{
 };
 ghost use Rattle.mdf_layout.specs.declared.field.FieldKind.TheVariants as kinds;
 
-use crate::number::clear;
 use crate::reading::streams_with;
 use crate::rule::{number_field, row_at};
 use crate::{Entry, FieldKind, FieldRow, Value};
 use mdf_bits::{mark_invalid, pattern_of, put};
+
+/// Makes all bytes 0.
+fn clear(out: &mut [u8])
+    ensures zero { (p : ℕ) → bit_of out.new p ≡ 0 }
+    ensures size { length out.new ≡ length out.old }
+{
+    for i in 0..out.len() {
+        out[i] = 0;
+    }
+}
 
 /// Writes bytes into a record from `start` on.
 fn put_bytes(content: &mut [u8], start: usize, bytes: &[u8])

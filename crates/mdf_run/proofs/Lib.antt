@@ -3,3 +3,4 @@ mod Marking
 mod Pieces
 mod Recording
 mod Told
+mod Begins

@@ -22,7 +22,7 @@ use Rattle.mdf_gate.proofs.Begun.{begun_holds}
 use Rattle.book_owned.specs.Account.{Account, Terms}
 use Rattle.book_owned.specs.Begun.{HasBegun}
 use Rattle.book_owned.specs.Kept.{HoldsDurable, IsKept}
-use Rattle.mdf_gate.specs.Carried.{IsCarried}
+use Rattle.mdf_gate.specs.Carried.{IsCarried, IsEncoded}
 use Rattle.book_owned.specs.Marks.{durable}
 use Rattle.book_owned.specs.declared.mark.Mark.{Mark}
 use Rattle.book_owned.specs.declared.view.NoView.{NoView}
@@ -140,7 +140,7 @@ module _ {D N : Type 0} (tells : DiskOf D) (shows : ViewOf NoView N)
   saved : IsAllDurable flushed → IsSaved script.plan left
   saved all = record {
     all_durable = all.1;
-    holds = subst (λ samples. IfSome (tells.content flushed.disk) (λ disk. IsCarried script.plan.shapes disk samples))
+    holds = subst (λ samples. IfSome (tells.content flushed.disk) (λ disk. IsCarried script.plan.shapes disk samples × IsEncoded script.plan.shapes disk samples))
         (ap (λ n. take n flushed.history) all.1 ∙ take_all (length flushed.history) flushed.history (omega arith))
         (subst (λ (t : Terms). IfSome (tells.content flushed.disk) (HoldsDurable t flushed.history flushed.marks)) terms_are (closes.holds all.0));
   }

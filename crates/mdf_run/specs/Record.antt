@@ -7,7 +7,7 @@ use Rattle.mdf_disk.specs.State.{DiskState, state_of}
 use Rattle.book_owned.specs.Members.{DiskOf}
 use Rattle.mdf_layout.specs.Record.{cost_of, history_cost}
 use Rattle.mdf_layout.specs.declared.sample.Sample.{Sample}
-use Rattle.mdf_gate.specs.Carried.{IsCarried}
+use Rattle.mdf_gate.specs.Carried.{IsCarried, IsEncoded}
 use Rattle.book_owned.specs.Marks.{durable, AreRising}
 use Rattle.book_owned.specs.Kept.{MarksHold, StartHolds}
 use Rattle.book_owned.specs.declared.mark.Mark.{Mark}
@@ -54,10 +54,11 @@ pub record Outcome : Type 0 where
 abbrev pub outcome : {C : Type 0} → DiskOf C → C → List Sample → List Mark → Outcome
 outcome tells out history marks = record { disk = state_of tells out; history = history; marks = marks }
 
--- All that was accepted is durable, and the file, where its disk tells it, carries just that.
+-- All that was accepted is durable, and the file, where its disk tells it, carries just that, with the bits of no channel
+-- 0.
 pub record IsSaved (plan : Plan) (left : Outcome) : Type 0 where
   pub all_durable : durable left.marks ≡ length left.history
-  pub holds : IfSome left.disk.content (λ file. IsCarried plan.shapes file left.history)
+  pub holds : IfSome left.disk.content (λ file. IsCarried plan.shapes file left.history × IsEncoded plan.shapes file left.history)
 
 -- The whole script was recorded and saved, each flush has its mark, and the samples cost no more than the session limit.
 pub record IsComplete (plan : Plan) (tasks : List Task) (left : Outcome) : Type 0 where

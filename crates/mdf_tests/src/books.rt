@@ -1,6 +1,7 @@
 ghost use Rattle.std.specs.Prelude.{◌≡◌, ◌≤◌, true, None, [], ◌∷◌, All, IfOk, length};
-ghost use Rattle.mdf_layout.specs.Field.{IsWordRow};
-ghost use Rattle.mdf_layout.specs.Layout.{Layout, AreDisjoint};
+ghost use Rattle.mdf_layout.specs.Layout.{Layout};
+ghost use Rattle.mdf_layout.specs.Written.{AreApart};
+ghost use Rattle.book_owned.specs.Stored.{IsStored};
 ghost use Rattle.mdf_gate.specs.Gated.{IsRecordingHead};
 ghost use Rattle.book_owned.specs.Begun.{IsNewFile};
 
@@ -75,7 +76,7 @@ fn created<D: Disk + Drop, R: Abort>(
 
 /// A channel of 64-bit unsigned numbers.
 fn one_row(alloc: Global) -> Result<Rows<FieldRow>, Memory>
-    ensures words { IfOk result (λ rows. All IsWordRow rows) }
+    ensures stored { IfOk result (λ rows. All IsStored rows) }
     ensures few { IfOk result (λ rows. length rows ≤ 1024) }
 {
     let mut rows = Rows::empty(alloc);
@@ -85,10 +86,10 @@ fn one_row(alloc: Global) -> Result<Rows<FieldRow>, Memory>
 
 /// The layout of these channels, which share no bit, in records of 8 bytes.
 fn group_of<R: AllocGlobal + Abort>(rt: &R, rows: &Rows<FieldRow>) -> Result<Shape, ShapeFault>
-    requires words { All IsWordRow rows.now }
+    requires stored { All IsStored rows.now }
     requires few { length rows.now ≤ 1024 }
     ensures is { IfOk result (λ shape. shape ≡ record { rows = rows.now; data_bytes = 8; inval_bytes = 0 }) }
-    ensures disjoint { IfOk result (λ shape. AreDisjoint shape.rows) }
+    ensures disjoint { IfOk result (λ shape. AreApart shape.rows) }
 {
     let shape = shape_of(rt.alloc(), rows, 8, 0)?;
     assert!(rt; shape.disjoint());
@@ -99,7 +100,8 @@ fn group_of<R: AllocGlobal + Abort>(rt: &R, rows: &Rows<FieldRow>) -> Result<Sha
 fn shapes_of<R: AllocGlobal + Abort>(rt: &R) -> Result<(Shape, Shapes), Fail>
     ensures list { IfOk result (λ shapes. shapes.1 ≡ shapes.0 ∷ []) }
     ensures few { IfOk result (λ shapes. length shapes.0.rows ≤ 1024) }
-    ensures disjoint { IfOk result (λ shapes. AreDisjoint shapes.0.rows) }
+    ensures disjoint { IfOk result (λ shapes. AreApart shapes.0.rows) }
+    ensures stored { IfOk result (λ shapes. All IsStored shapes.0.rows) }
 {
     let rows = one_row(rt.alloc())?;
     let shape = group_of(rt, &rows)?;
@@ -130,7 +132,7 @@ fn begun<R: AllocGlobal + Abort>(
     session: u64,
 ) -> Result<Book<MemoryDisk, NoView>, Fail>
     requires created { IsNewFile ⟦<MemoryDisk as Disk>⟧ file }
-    requires one { (shape : Layout) × (shapes ≡ shape ∷ []) × (length shape.rows ≤ 1024) × AreDisjoint shape.rows }
+    requires one { (shape : Layout) × (shapes ≡ shape ∷ []) × (length shape.rows ≤ 1024) × AreApart shape.rows × All IsStored shape.rows }
     ensures { IfOk result (λ book. book.terms.layouts ≡ shapes) }
 {
     assert!(rt; 1 <= block);

@@ -1,5 +1,7 @@
-ghost use Rattle.std.specs.Prelude.{◌<◌, ◌^◌, All, length, IfOk};
-ghost use Rattle.mdf_layout.specs.Field.{IsWordRow};
+ghost use Rattle.std.specs.Prelude.{◌≡◌, All, IfOk, length};
+ghost use Rattle.mdf_layout.specs.Layout.{record_size};
+ghost use Rattle.mdf_layout.specs.Written.{AreApart, AreEntriesOf};
+ghost use Rattle.book_owned.specs.Stored.{IsStored};
 
 use mdf_layout::{
     Entries, Entry, FieldKind, FieldRow, Sample, Samples, Shape, ShapeFault, Value, shape_of,
@@ -10,7 +12,7 @@ use std::test::Fail;
 
 /// A channel of 64-bit unsigned numbers.
 pub fn word_row(byte: u32) -> FieldRow
-    ensures { IsWordRow result }
+    ensures { IsStored result }
 {
     FieldRow {
         kind: FieldKind::Unsigned,
@@ -25,8 +27,7 @@ pub fn word_row(byte: u32) -> FieldRow
 
 /// Two such channels.
 fn two_rows(alloc: Global, first: u32, second: u32) -> Result<Rows<FieldRow>, Memory>
-    ensures words { IfOk result (λ rows. All IsWordRow rows) }
-    ensures few { IfOk result (λ rows. length rows < 2 ^ 32) }
+    ensures { IfOk result (λ rows. All IsStored rows) }
 {
     let mut rows = Rows::empty(alloc);
     rows.push(word_row(first))?;
@@ -58,8 +59,20 @@ fn two_fields(
     first: u32,
     second: u32,
     data_bytes: u32,
-) -> Result<Shape, ShapeFault> {
+) -> Result<Shape, ShapeFault>
+    ensures { IfOk result (λ shape. All IsStored shape.rows) }
+{
     shape_of(alloc, &two_rows(alloc, first, second)?, data_bytes, 0)
+}
+
+/// Writes a record of these values.
+fn encode(shape: &Shape, values: &Entries, out: &mut [u8])
+    requires stored { All IsStored shape.now.rows }
+    requires apart { AreApart shape.now.rows }
+    requires fits { AreEntriesOf shape.now.rows values.now }
+    requires size { length out.old ≡ record_size shape.now }
+{
+    shape.encode(values, &[], out);
 }
 
 #[test]
@@ -71,7 +84,7 @@ fn a_record_of_two_fields(rt: HostRuntime) -> Result<(), Fail> {
     assert!(rt; shape.disjoint());
     assert!(rt; shape.fits(&two));
     let mut out = [0xFF; 16];
-    shape.encode(&two.values, &[], &mut out);
+    encode(&shape, &two.values, &mut out);
     assert_eq!(rt; out, *b"\x01\x02\x03\x04\x05\x06\x07\x08\x09\0\0\0\0\0\0\0");
     assert!(rt; !shape.fits(&sample(alloc, &[1])?));
     Ok(())

@@ -8,7 +8,7 @@ use Rattle.book_owned.proofs.back.hand_over.Goals as goal
 pub append-requires-clause-short : goal.append-requires-clause-short
 append-requires-clause-short g c =
     let book = c.requires.book in
-    let small = block_small _ _ _ (book.pending.records c.requires.going) c.requires.some in
+    let small = block_small _ _ _ _ (book.pending.records c.requires.going) c.requires.some in
     let parts = cost_parts c.args.front.now.shapes c.args.front.now.history.items (durable c.args.front.now.marks.items) in
     omega (arith, book.back.reach c.requires.going, small, parts, book.counted.held, book.counted.within, book.counted.session)
 

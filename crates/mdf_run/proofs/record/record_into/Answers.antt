@@ -1,8 +1,12 @@
 use Rattle.std.proofs.Common.{sym, subst, ap}
 use Rattle.std.specs.List.{All}
 use Rattle.acq_script.specs.Plan.{TaskFits}
+use Rattle.mdf_run.proofs.Begins.{admissible}
 use Rattle.mdf_run.proofs.Recording.{has_run, first_has, only_one}
 use Rattle.mdf_run.proofs.record.record_into.Goals as goal
+
+pub begin-requires-clause-admissible : goal.begin-requires-clause-admissible
+begin-requires-clause-admissible g c = admissible c.args.script.plan c.requires.plan
 
 pub drive-driven-requires-clause-fits : goal.drive-driven-requires-clause-fits
 drive-driven-requires-clause-fits g c κs within =

@@ -1,5 +1,5 @@
 use Rattle.std.proofs.Common.{◌≡◌, ◌<◌, ℕ, get_or}
-use Rattle.mdf_layout.proofs.number.clear.Given as goal
+use Rattle.mdf_layout.proofs.writing.clear.Given as goal
 
 -- the bytes so far are 0
 abbrev pub invariant-loop-i : goal.invariant-loop-i

@@ -1,7 +1,7 @@
 use Rattle.std.proofs.Common.{◌≤◌, ◌^◌, lit<, arith}
 use Rattle.std.proofs.Math.Nat.{pow-le-pow_right}
 use Rattle.std.proofs.lemmas.Bool.{le-leb}
-use Rattle.mdf_layout.proofs.number.has_bits.Goals as goal
+use Rattle.mdf_layout.proofs.fitting.has_bits.Goals as goal
 
 pub returns-then-bits-ge64 : goal.returns-then-bits-ge64
 returns-then-bits-ge64 c = (

@@ -1,0 +1,19 @@
+use Rattle.std.proofs.Common.{◌≡◌, ◌∙◌, ◌++◌, ap, sym, subst, take, drop, arith}
+use Rattle.std.proofs.lemmas.List.{take_at, drop_at}
+use Rattle.mdf_format.specs.Field.{bit_of}
+use Rattle.mdf_layout.specs.Written.{IsFree, IsFreePosition}
+use Rattle.mdf_layout.proofs.shape.Shape.encode.Goals as goal
+
+pub returns-clause-unused : goal.returns-clause-unused
+returns-clause-unused c = λ p free.
+    let rows_are = c.as_slice.ensures ∙ ap (λ l. l.rows) c.self.view_is in
+    let front = take_at c.encode.new.content c.encode.new.inval c.args.self.now.data_bytes
+    (omega (arith, c.encode.ensures.size, c.split_at_mut-content.ensures.front_len, ap (λ l. l.data_bytes) c.self.view_is)) in
+    ap (λ bytes. bit_of bytes p) front ∙ c.encode.ensures.unused p (subst (λ rows. IsFree rows p) (sym rows_are) free)
+
+pub returns-clause-unused_positions : goal.returns-clause-unused_positions
+returns-clause-unused_positions c = λ p free.
+    let rows_are = c.as_slice.ensures ∙ ap (λ l. l.rows) c.self.view_is in
+    let back = drop_at c.encode.new.content c.encode.new.inval c.args.self.now.data_bytes
+    (omega (arith, c.encode.ensures.size, c.split_at_mut-content.ensures.front_len, ap (λ l. l.data_bytes) c.self.view_is)) in
+    ap (λ bytes. bit_of bytes p) back ∙ c.encode.ensures.unused_positions p (subst (λ rows. IsFreePosition rows p) (sym rows_are) free)
