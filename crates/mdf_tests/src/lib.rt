@@ -1,4 +1,4 @@
-//! Tests of what records, up to the program's commands: calls that succeed, worked examples, and faults. What is proved needs none.
+//! Tests of what records, below the program's commands: calls that succeed, worked examples, and faults. What is proved needs none.
 #![tactic(auto)]
 
 #[cfg(test)]
@@ -12,11 +12,7 @@ mod layouts;
 #[cfg(test)]
 mod lists;
 #[cfg(test)]
-mod recordings;
-#[cfg(test)]
 mod records;
-#[cfg(test)]
-mod runs;
 #[cfg(test)]
 mod scripts;
 #[cfg(test)]

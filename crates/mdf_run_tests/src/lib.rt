@@ -1,0 +1,7 @@
+//! Tests of the program's commands: whole runs over disks and streams in memory, with the text that each prints.
+#![tactic(auto)]
+
+#[cfg(test)]
+mod recordings;
+#[cfg(test)]
+mod runs;
