@@ -3,7 +3,7 @@ mod Rows
 mod Extras
 pub mod Onces
 mod Stands
-mod Recordables
+pub mod Recordables
 mod Costs
 mod Truths
 pub mod Uniques

@@ -2,26 +2,23 @@
 use Rattle.std.proofs.Common.{◌≡◌, ◌+◌, ◌-◌, ◌≤◌, ℕ, false, List, [], ◌∷◌, length, Option, Some, None, Ok, refl, sym, ◌∙◌, ap, arith}
 use Rattle.std.proofs.lemmas.Bool.{eq-eqb, lt-leb, cond-true, cond-false}
 use Rattle.std.proofs.lemmas.List.Sums.{sum_by-cons}
-use Rattle.std.specs.Prelude.{nat_eq, nat_lt, sum_by}
+use Rattle.std.specs.Prelude.{nat_eq, nat_lt, sum_by, slice_index}
 use Rattle.std.specs.List.{AllByRecursion}
 use Rattle.mdf_format.specs.Block.{link_at, links_at, body_at, IsBlock}
 use Rattle.mdf_format.specs.declared.kind.Kind.TheVariants.{Dg, Cg, Cn}
 use Rattle.mdf_block.specs.declared.what.What.TheVariants as whats
 use Rattle.mdf_block.specs.Refusal.{Read, ◌>>=◌}
-use Rattle.mdf_block.specs.Block.{block, the_block}
 use Rattle.mdf_block.specs.Text.{note_size}
-use Rattle.mdf_block.specs.Chain.{chain, full}
+use Rattle.mdf_block.specs.Chain.{full}
 use Rattle.mdf_block.proofs.Wholes.{block_some}
 use Rattle.mdf_block.proofs.Reached.{chain_all_reached}
 use Rattle.mdf_conv.specs.declared.limits.Budget.{Budget}
 use Rattle.mdf_conv.specs.declared.row.SourceInfo.{SourceInfo}
 use Rattle.mdf_conv.specs.declared.row.Conversion.{Conversion}
 use Rattle.mdf_conv.specs.Left.{with_dropped, link_count}
-use Rattle.mdf_conv.specs.Conv.{words}
 use Rattle.mdf_conv.specs.Link.{source_of_link, conv_of_link}
 use Rattle.mdf_conv.proofs.Reached.{less_text, words_reached}
 use Rattle.mdf_group.specs.declared.room.ChannelLinks.{ChannelLinks}
-use Rattle.mdf_group.specs.declared.room.GroupLinks.{GroupLinks}
 use Rattle.mdf_group.specs.declared.room.Room.{Room}
 use Rattle.mdf_group.specs.declared.room.DataRoom.{DataRoom}
 use Rattle.mdf_group.specs.declared.row.ChannelRow.{ChannelRow}
@@ -29,9 +26,9 @@ use Rattle.mdf_group.specs.declared.row.GroupRow.{GroupRow}
 use Rattle.mdf_group.specs.declared.row.DataRow.{DataRow}
 use Rattle.mdf_group.specs.Link.{channel_origin, channel_links, group_links, links_named}
 use Rattle.mdf_group.specs.Channel.{is_refused_kind, accepted, channel_of_block, channel, channels_from}
-use Rattle.mdf_group.specs.Group.{group_contents, group, groups_from, unnamed_count, data_contents, data_group, data_groups_from, groups}
+use Rattle.mdf_group.specs.Group.{group_contents, group, groups_from, unnamed_count, data_contents, data_group, groups}
 use Rattle.mdf_group.specs.Standing.{IsSourceLink, IsConvLink, IsChannel, AreChannels, IsGroup, AreGroups, IsDataGroup, AreDataGroups}
-use Rattle.mdf_group.proofs.Stands.{AreChannelLinks, AreGroupLinks}
+use Rattle.mdf_group.proofs.Stands.{AreChannelLinks}
 
 -- rows that name no source and no conversion, and how many bytes of texts they have
 pub record IsPlainChannel (row : ChannelRow) : Type 0 where
@@ -119,7 +116,8 @@ channel_reached f after row left here is plain short =
     let extra = links_named f row.at 8 (links_at f row.at - 8) in
     let rest = with_dropped (link_count (link_at f row.at 1) + extra) (behind_links links left) in
     let first = block_some f row.at Cn refl here in
-    let second = accepted_reached row.at _ _ (sym (ap (λ (r : ChannelRow). is_refused_kind r.kind) is.fields) ∙ is.kind)
+    let body = body_at f row.at in
+    let second = accepted_reached row.at (slice_index body 0) (slice_index body 2) (sym (ap (λ (r : ChannelRow). is_refused_kind r.kind) is.fields) ∙ is.kind)
     (omega (arith, ap (λ (r : ChannelRow). r.data_type) is.fields, is.data_type)) in
     let third = channel_links_reached f row.at left links are no_source no_conv (omega (arith, name, unit, comment, short)) in (
       rest,
@@ -205,9 +203,9 @@ groups_from_reached f channels after most at left rows none_cn none_cg are plain
     (all.0, all.1, (omega (arith, places), omega (arith, text)))
 
 -- a data group
-record HasRoom (groups channels after : ℕ) (left : DataRoom) : Type 0 where
-  groups : groups ≤ left.groups
-  channels : channels ≤ left.room.channels
+record HasRoom (few several after : ℕ) (left : DataRoom) : Type 0 where
+  groups : few ≤ left.groups
+  channels : several ≤ left.room.channels
   text : after ≤ left.room.budget.text
 
 data_group_reached : (f : List ℕ) (groups channels after : ℕ) (row : DataRow) (left : DataRoom) → (IsBlock f 0 Cn → ⊥) → (IsBlock f 0 Cg → ⊥)

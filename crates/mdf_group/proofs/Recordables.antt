@@ -7,7 +7,7 @@ use Rattle.mdf_group.specs.declared.row.ChannelRow.{ChannelRow}
 use Rattle.mdf_group.specs.declared.row.GroupRow.{GroupRow}
 use Rattle.mdf_group.specs.Recordable.{numbers_of, ArePlaced, AreRecordable}
 
-abbrev master : ChannelRow
+abbrev pub master : ChannelRow
 master = record {
   at = 0;
   kind = 2;
@@ -29,7 +29,7 @@ master = record {
   extra = 0;
 }
 
-abbrev one_group : GroupRow
+abbrev pub one_group : GroupRow
 one_group = record {
   at = 0;
   id = 1;

@@ -1,5 +1,5 @@
 -- The groups that stand in a file are the only ones that do.
-use Rattle.std.proofs.Common.{◌≡◌, ◌-◌, ℕ, List, Option, Some, None, map, refl, sym, ◌∙◌, ap, subst}
+use Rattle.std.proofs.Common.{◌≡◌, ◌-◌, ℕ, List, Option, Some, None, refl, sym, ◌∙◌, ap, subst}
 use Rattle.mdf_format.specs.Block.{link_at, links_at, body_at, IsBlock}
 use Rattle.mdf_format.specs.declared.kind.Kind.{Kind}
 use Rattle.mdf_format.specs.declared.kind.Kind.TheVariants.{Dg, Cg, Cn}
