@@ -59,10 +59,15 @@ data_lists file want at = chain (data_list file want) (full whats.Block Dl file)
 abbrev pub joined : List (List Part) → List Part
 joined lists = flat_map (λ (parts : List Part). parts) lists
 
+-- what a chain of DLBLOCKs lists, as one list
+abbrev pub listed_parts : List ℕ → Kind → ℕ → Read (List Part)
+listed_parts file want at = data_lists file want at >>= λ lists. Ok (joined lists.0)
+
+-- the one block of data
+abbrev pub one_part : List ℕ → Kind → ℕ → Read (List Part)
+one_part file want at = block file at want >>= λ b. Ok (part_of b ∷ [])
+
 -- the parts that a data link leads to: none for 0, those of a chain where `##DL` stands, else the one block
 unfoldable pub data_parts : List ℕ → Kind → ℕ → Read (List Part)
 data_parts file want at =
-    if nat_eq at 0 then Ok []
-    else (if is_named file at Dl
-    then (data_lists file want at >>= λ lists. Ok (joined lists.0))
-    else (block file at want >>= λ b. Ok (part_of b ∷ [])))
+    if nat_eq at 0 then Ok [] else (if is_named file at Dl then listed_parts file want at else one_part file want at)

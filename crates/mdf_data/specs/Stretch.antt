@@ -1,5 +1,5 @@
 -- Parts with their places in the stream.
-use Rattle.std.specs.Prelude.{ℕ, ◌≡◌, ◌+◌, ◌<◌, ◌^◌, List, [], ◌∷◌, map}
+use Rattle.std.specs.Prelude.{ℕ, ◌≡◌, ◌+◌, ◌-◌, ◌<◌, ◌^◌, min, List, [], ◌∷◌, map}
 use Rattle.mdf_data.specs.declared.part.Part.{Part}
 use Rattle.mdf_data.specs.declared.stretch.Stretch.{Stretch}
 
@@ -12,3 +12,11 @@ unfoldable pub AreJoined : ℕ → List Stretch → ℕ → Type 0
 AreJoined at [] end = end ≡ at
 AreJoined at (stretch ∷ stretches) end =
     (stretch.end ≡ at + stretch.part.len) × (stretch.part.at + stretch.part.len < 2 ^ 64) × AreJoined stretch.end stretches end
+
+-- of a range that begins in a part, what lies in that part: how many bytes, and these
+abbrev pub front_len : Stretch → ℕ → ℕ → ℕ
+front_len stretch at len = min (stretch.end - at) len
+
+abbrev pub front_part : Stretch → ℕ → ℕ → Part
+front_part stretch at len =
+    record { at = stretch.part.at + (stretch.part.len - (stretch.end - at)); len = front_len stretch at len }

@@ -19,8 +19,8 @@ mod view;
 pub use fault::{DataFault, SplitFault};
 pub use known::{Known, Piece, Size};
 pub use law::{
-    a_refusal_leaves_the_rest, places_alone_are_the_split, record_splits_agree,
-    records_are_the_split, streams_agree,
+    a_range_has_its_bytes, a_refusal_leaves_the_rest, places_alone_are_the_split,
+    record_splits_agree, records_are_the_split, streams_agree,
 };
 pub use link::{view_data, view_data_in};
 pub use mdf_format::Kind;

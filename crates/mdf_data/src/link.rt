@@ -1,13 +1,13 @@
-ghost use Rattle.std.specs.Prelude.{◌≡◌, ◌-◌, ◌≤◌, ◌⊎◌, ◌++◌, ◌∷◌, [], ℕ, List, Some, length, true, IfOk, IfErr, IfSome, OnOk};
+ghost use Rattle.std.specs.Prelude.{◌≡◌, ◌-◌, ◌≤◌, ◌++◌, ◌∷◌, [], ℕ, List, Some, length, true, IfOk, IfErr, IfSome, OnOk};
 ghost use Rattle.std.specs.List.{AllByRecursion};
-ghost use Rattle.mdf_format.specs.declared.kind.Kind.TheVariants.{Dl, Dt, Sd};
+ghost use Rattle.mdf_format.specs.declared.kind.Kind.TheVariants.{Dl};
 ghost use Rattle.mdf_num.specs.Halt.{HaltCause};
-ghost use Rattle.mdf_block.specs.Refusal.{Gives, GivesOf};
+ghost use Rattle.mdf_block.specs.Refusal.{Gives, GivesOf, IsPlain};
 ghost use Rattle.mdf_block.specs.Block.{block, IsInside, IsFilled};
 ghost use Rattle.mdf_block.specs.Each.{each};
-ghost use Rattle.mdf_block.specs.Truth.{IsTrueOf};
 ghost use Rattle.mdf_data.specs.Parts.{IsPartInside, ArePartsInside, stream_of};
-ghost use Rattle.mdf_data.specs.Link.{data_refusal, data_block, named_block, data_list, data_lists, data_parts, part_of, joined};
+ghost use Rattle.mdf_data.specs.Link.{data_refusal, data_block, named_block, data_list, data_lists, listed_parts, one_part, data_parts, part_of, joined};
+ghost use Rattle.mdf_data.specs.Truth.{IsTrueOfLink, IfFault};
 ghost use Rattle.mdf_data.specs.Stream.{IsStream};
 
 use crate::{DataFault, DataView, Part};
@@ -24,6 +24,7 @@ const LONGEST: u64 = 1 << 62;
 /// A block, with the faults of this crate.
 fn block_of<P: Span>(span: &mut P, at: u64, want: Kind) -> Result<BlockAt, Halt<DataFault>>
     ensures found { (f : List ℕ) → P.bytes span.old ≡ Some f → Gives data_refusal result (block f at want) }
+    ensures plain { IfErr result (IsPlain data_refusal) }
     ensures inside { IfOk result (IsInside (P.size span.old)) }
     ensures filled { IfOk result (IsFilled want) }
     ensures same { P.bytes span.new ≡ P.bytes span.old }
@@ -63,6 +64,7 @@ fn data_block_in<P: Span>(
     left: u64,
 ) -> Result<(Part, u64), Halt<DataFault>>
     ensures found { (f : List ℕ) → P.bytes span.old ≡ Some f → Gives data_refusal result (data_block f want at left) }
+    ensures plain { IfErr result (IsPlain data_refusal) }
     ensures inside { IfOk result (λ found. IsPartInside (P.size span.old) found.0) }
     ensures same { P.bytes span.new ≡ P.bytes span.old }
     ensures size { P.size span.new ≡ P.size span.old }
@@ -86,6 +88,7 @@ fn named_in<P: Span>(
     requires inside { IsInside (P.size span.old) block.now }
     ensures found { (f : List ℕ) → P.bytes span.old ≡ Some f →
         Gives data_refusal result (each (named_block f want block.now.at) 1 (block.now.links - 1) most) }
+    ensures plain { IfErr result (IsPlain data_refusal) }
     ensures inside { IfOk result (λ found. ArePartsInside (P.size span.old) found.0) }
     ensures same { P.bytes span.new ≡ P.bytes span.old }
     ensures size { P.size span.new ≡ P.size span.old }
@@ -115,6 +118,7 @@ fn list_in<P: Span>(
     left: u64,
 ) -> Result<(Rows<Part>, u64, u64), Halt<DataFault>>
     ensures found { (f : List ℕ) → P.bytes span.old ≡ Some f → Gives data_refusal result (data_list f want at left) }
+    ensures plain { IfErr result (IsPlain data_refusal) }
     ensures inside { IfOk result (λ found. ArePartsInside (P.size span.old) found.0) }
     ensures same { P.bytes span.new ≡ P.bytes span.old }
     ensures size { P.size span.new ≡ P.size span.old }
@@ -137,6 +141,7 @@ fn lists_in<P: Span>(
     first: u64,
 ) -> Result<(Rows<Rows<Part>>, u64, u64), Halt<DataFault>>
     ensures found { (f : List ℕ) → P.bytes span.old ≡ Some f → Gives data_refusal result (data_lists f want first) }
+    ensures plain { IfErr result (IsPlain data_refusal) }
     ensures inside { IfOk result (λ found. AllByRecursion (ArePartsInside (P.size span.old)) found.0) }
     ensures same { P.bytes span.new ≡ P.bytes span.old }
     ensures size { P.size span.new ≡ P.size span.old }
@@ -193,12 +198,51 @@ fn view_of(alloc: Global, lists: &[Rows<Part>]) -> Result<DataView, Memory>
     Ok(view)
 }
 
+/// The blocks of data that the DLBLOCKs from `at` on list, as one view.
+fn listed_in<P: Span>(
+    alloc: Global,
+    span: &mut P,
+    at: u64,
+    want: Kind,
+) -> Result<DataView, Halt<DataFault>>
+    ensures found { (f : List ℕ) → P.bytes span.old ≡ Some f → Gives data_refusal result (listed_parts f want at) }
+    ensures plain { IfErr result (IsPlain data_refusal) }
+    ensures inside { IfOk result (ArePartsInside (P.size span.old)) }
+    ensures same { P.bytes span.new ≡ P.bytes span.old }
+    ensures size { P.size span.new ≡ P.size span.old }
+    ensures cause { HaltCause true (P.faults span.old) (P.faults span.new) result }
+{
+    let (lists, _, _) = lists_in(alloc, span, want, at)?;
+    let view = view_of(alloc, lists.as_slice())?;
+    Ok(view)
+}
+
+/// The one block of data at `at`, as a view.
+fn one_in<P: Span>(
+    alloc: Global,
+    span: &mut P,
+    at: u64,
+    want: Kind,
+) -> Result<DataView, Halt<DataFault>>
+    ensures found { (f : List ℕ) → P.bytes span.old ≡ Some f → Gives data_refusal result (one_part f want at) }
+    ensures plain { IfErr result (IsPlain data_refusal) }
+    ensures inside { IfOk result (ArePartsInside (P.size span.old)) }
+    ensures same { P.bytes span.new ≡ P.bytes span.old }
+    ensures size { P.size span.new ≡ P.size span.old }
+    ensures cause { HaltCause true (P.faults span.old) (P.faults span.new) result }
+{
+    let block = block_of(span, at, want)?;
+    let mut view = DataView::empty(alloc);
+    add_one(&mut view, part_of(&block))?;
+    Ok(view)
+}
+
 /// What a data link at `at` leads to, read through a span: nothing for 0, the body of the block of the kind that is
 /// wanted, or the bodies of the blocks that a chain of DLBLOCKs lists. Offsets, counts and flags of a DLBLOCK are passed
 /// over.
 ///
 /// # Errors
-/// As `view_data`, and the span's own.
+/// As `view_data`, and the span's own. The span is as before in what it tells.
 #[tactic(auto, unfolding(crate::specs::Link::data_parts))]
 pub fn view_data_in<P: Span>(
     alloc: Global,
@@ -207,6 +251,8 @@ pub fn view_data_in<P: Span>(
     want: Kind,
 ) -> Result<DataView, Halt<DataFault>>
     ensures found { (f : List ℕ) → P.bytes span.old ≡ Some f → Gives data_refusal result (data_parts f want at) }
+    ensures refused { (f : List ℕ) → P.bytes span.old ≡ Some f → IfErr result (IfFault (IsTrueOfLink f want)) }
+    ensures plain { IfErr result (IsPlain data_refusal) }
     ensures inside { IfOk result (ArePartsInside (P.size span.old)) }
     ensures same { P.bytes span.new ≡ P.bytes span.old }
     ensures size { P.size span.new ≡ P.size span.old }
@@ -216,14 +262,9 @@ pub fn view_data_in<P: Span>(
         return Ok(DataView::empty(alloc));
     }
     if is_named_in(span, at, Kind::Dl)? {
-        let (lists, _, _) = lists_in(alloc, span, want, at)?;
-        let view = view_of(alloc, lists.as_slice())?;
-        return Ok(view);
+        return listed_in(alloc, span, at, want);
     }
-    let block = block_of(span, at, want)?;
-    let mut view = DataView::empty(alloc);
-    add_one(&mut view, part_of(&block))?;
-    Ok(view)
+    one_in(alloc, span, at, want)
 }
 
 /// What a data link at `at` leads to: nothing for 0, the body of the block of the kind that is wanted, or the bodies of
@@ -232,12 +273,12 @@ pub fn view_data_in<P: Span>(
 /// # Errors
 /// The first fault in the order of the links, each DLBLOCK before the blocks that it lists, and these before the next
 /// DLBLOCK: `Bad` exactly where no block of the kind stands whole (a DLBLOCK where one is named or comes next, 0 among
-/// what it lists), `Compressed` exactly where a DZBLOCK or an HLBLOCK is named, `TooMany` at the block past 1,048,576;
-/// and `Memory`.
+/// what it lists), `Compressed` exactly where a DZBLOCK or an HLBLOCK is named in place of a DT, an SD or a DL,
+/// `TooMany` at the block past 1,048,576; and `Memory`.
 pub fn view_data(alloc: Global, bytes: &[u8], at: u64, want: Kind) -> Result<DataView, DataFault>
     ensures exact { GivesOf data_refusal result (data_parts bytes.now want at) }
     ensures stream { IfOk result (λ view. IsStream bytes.now at want (stream_of bytes.now view)) }
-    ensures refused { (want ≡ Dt) ⊎ (want ≡ Sd) → IfErr result (λ fault. IfSome (data_refusal fault) (IsTrueOf bytes.now)) }
+    ensures refused { IfErr result (λ fault. IfSome (data_refusal fault) (IsTrueOfLink bytes.now want)) }
     ensures inside { IfOk result (ArePartsInside (length bytes.now)) }
 {
     match view_data_in(alloc, &mut SliceSpan::new(bytes), at, want) {

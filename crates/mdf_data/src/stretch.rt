@@ -1,10 +1,11 @@
-ghost use Rattle.std.specs.Prelude.{◌≡◌, ◌+◌, ◌-◌, ◌^◌, ◌≤◌, ◌<◌, ◌++◌, ℕ, List, Some, length, drop, slice_index_or, IfOk, OnOk};
+ghost use Rattle.std.specs.Prelude.{◌≡◌, ◌+◌, ◌-◌, ◌^◌, ◌≤◌, ◌<◌, ◌++◌, ◌∷◌, ℕ, List, Some, length, drop, slice_index_or, IfOk, OnOk};
 ghost use Rattle.std.specs.List.Sorted.{IsNonDecreasingBy};
 ghost use Rattle.mdf_format.specs.Number.{bytes_at};
 ghost use Rattle.mdf_num.specs.Halt.{StopCause};
 ghost use Rattle.mdf_data.specs.declared.stretch.Stretch.{Stretch};
 ghost use Rattle.mdf_data.specs.Parts.{stream_of, ArePartsInside};
-ghost use Rattle.mdf_data.specs.Stretch.{parts_of, AreJoined};
+ghost use Rattle.mdf_data.specs.Stretch.{parts_of, AreJoined, front_len, front_part};
+ghost use Rattle.mdf_data.specs.Range.{parts_between};
 
 use crate::Part;
 use mdf_num::{Span, Stop};
@@ -38,9 +39,30 @@ pub(crate) fn stretch_of(items: &[Stretch], end: u64, at: u64) -> Stretch
     ensures inside { (size : ℕ) → ArePartsInside size (parts_of items.now) → result.part.at + result.part.len ≤ size }
     ensures bytes { (f : List ℕ) (n : ℕ) → ArePartsInside (length f) (parts_of items.now) → at + n ≤ result.end →
         bytes_at n (stream_of f (parts_of items.now)) at ≡ bytes_at n f (result.part.at + (result.part.len - (result.end - at))) }
+    ensures range { (len : ℕ) → 0 < len → parts_between (parts_of items.now) at len
+        ≡ front_part result at len ∷ parts_between (parts_of items.now) (at + front_len result at len) (len - front_len result at len) }
 {
     let k = stretch_at(items, at);
     items[k]
+}
+
+/// The first part of the range of `len` bytes from a place of the stream on.
+pub(crate) fn front_of(items: &[Stretch], end: u64, at: u64, len: u64) -> Part
+    requires joined { AreJoined 0 items.now end }
+    requires some { 0 < len }
+    requires within { at + len ≤ end }
+    ensures some { 0 < result.len }
+    ensures most { result.len ≤ len }
+    ensures fits { result.at + result.len < 2 ^ 64 }
+    ensures range { parts_between (parts_of items.now) at len
+        ≡ result ∷ parts_between (parts_of items.now) (at + result.len) (len - result.len) }
+{
+    let stretch = stretch_of(items, end, at);
+    let left = stretch.end - at;
+    Part {
+        at: stretch.part.at + (stretch.part.len - left),
+        len: left.min(len),
+    }
 }
 
 /// Fills the front of the buffer with the bytes of the stream from `at` on, as many as one part has, and answers how

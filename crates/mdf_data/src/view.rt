@@ -1,10 +1,11 @@
-ghost use Rattle.std.specs.Prelude.{◌≡◌, ◌+◌, ◌-◌, ◌^◌, ◌≤◌, ◌<◌, ◌↔◌, ◌++◌, ◌∷◌, [], ℕ, List, Some, length, IsTrue, IfOk, OnOk, OnErr};
+ghost use Rattle.std.specs.Prelude.{◌≡◌, ◌+◌, ◌-◌, ◌^◌, ◌≤◌, ◌<◌, ◌↔◌, ◌++◌, ◌∷◌, [], ℕ, List, Some, length, take, IsTrue, IfOk, OnOk, OnErr};
 ghost use Rattle.mdf_format.specs.Number.{le_number, bytes_at};
 ghost use Rattle.mdf_num.specs.Halt.{StopCause};
 ghost use Rattle.mdf_data.specs.Parts.{stream_of, stream_size, ArePartsInside};
+ghost use Rattle.mdf_data.specs.Range.{parts_between};
 
 use crate::Part;
-use crate::stretch::{Stretch, fill_in};
+use crate::stretch::{Stretch, fill_in, front_of};
 use mdf_block::u32_field;
 use mdf_num::{Memory, SliceSpan, Span, Stop};
 use std::alloc::Global;
@@ -71,6 +72,57 @@ impl DataView {
             end,
         })?;
         self.end = end;
+        Ok(())
+    }
+
+    /// Adds the parts of a range of a stream, one by one.
+    ///
+    /// # Errors
+    /// Want of memory. The parts that were there are still the first.
+    fn add_range(&mut self, view: &DataView, at: u64, len: u64) -> Result<(), Memory>
+        requires within { at + len ≤ stream_size view.now }
+        requires room { stream_size self.old + len < 2 ^ 62 }
+        ensures ok { OnOk result (self.new ≡ self.old ++ parts_between view.now at len) }
+        ensures err { OnErr result (take (length self.old) self.new ≡ self.old) }
+    {
+        let mut place = at;
+        let mut left = len;
+        while left > 0 {
+            let part = front_of(view.items.as_slice(), view.end, place, left);
+            self.add(part.at, part.len)?;
+            place += part.len;
+            left -= part.len;
+        }
+        Ok(())
+    }
+
+    /// Takes away all but the first parts, of which the last ends at `end`.
+    fn truncate(&mut self, count: usize, end: u64)
+        requires ends { stream_size (take count self.old) ≡ end }
+        ensures { self.new ≡ take count self.old }
+    {
+        self.items.truncate(count);
+        self.end = end;
+    }
+
+    /// Adds the `len` bytes of another stream from `at` on at the end of this one: of each of its parts what lies in that
+    /// range. Nothing is copied.
+    ///
+    /// # Errors
+    /// Want of memory. The stream is as before.
+    pub fn add_part(&mut self, view: &DataView, at: u64, len: u64) -> Result<(), Memory>
+        requires within { at + len ≤ stream_size view.now }
+        requires room { stream_size self.old + len < 2 ^ 62 }
+        ensures ok { OnOk result (self.new ≡ self.old ++ parts_between view.now at len) }
+        ensures err { OnErr result (self.new ≡ self.old) }
+        ensures inside { (size : ℕ) → ArePartsInside size self.old → ArePartsInside size view.now → OnOk result (ArePartsInside size self.new) }
+    {
+        let count = self.items.len();
+        let end = self.end;
+        if let Err(memory) = self.add_range(view, at, len) {
+            self.truncate(count, end);
+            return Err(memory);
+        }
         Ok(())
     }
 

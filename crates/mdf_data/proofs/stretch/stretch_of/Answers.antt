@@ -1,5 +1,6 @@
 use Rattle.std.proofs.Common.{arith}
 use Rattle.mdf_data.proofs.Joins.{none, joined_order, part_begins, part_fits, part_inside, bytes_there, below_end}
+use Rattle.mdf_data.proofs.Ranges.{range_first}
 use Rattle.mdf_data.proofs.stretch.stretch_of.Goals as goal
 
 pub stretch_at-k-requires : goal.stretch_at-k-requires
@@ -45,3 +46,11 @@ returns-clause-bytes c = λ f n inside within.
     below_end c.args.at c.args.items.now c.args.end k.result c.requires.joined c.requires.within k.ensures.bound k.ensures.before in
     bytes_there f n c.args.at none c.args.items.now c.args.end k.result c.requires.joined below
     (λ j less. k.ensures.before j none less) (k.ensures.behind none below) inside within
+
+pub returns-clause-range : goal.returns-clause-range
+returns-clause-range c = λ len some.
+    let k = c.stretch_at-k in
+    let below =
+    below_end c.args.at c.args.items.now c.args.end k.result c.requires.joined c.requires.within k.ensures.bound k.ensures.before in
+    range_first c.args.at len none c.args.items.now c.args.end k.result c.requires.joined below
+    (λ j less. k.ensures.before j none less) (k.ensures.behind none below) some
