@@ -1,7 +1,7 @@
 ghost use Rattle.std.specs.Prelude.{◌≡◌, ◌≤◌, length, IfOk};
 ghost use Rattle.mdf_data.specs.Parts.{stream_size, ArePartsInside};
 
-use crate::files::{Piece, file_of, put_number};
+use crate::files::{Piece, file_of, put_number, set_link};
 use crate::span::span_over;
 use mdf_block::Kind;
 use mdf_data::{DataView, Known, Size, Splitter, places_alone, places_in, view_data, view_data_in};
@@ -356,6 +356,102 @@ fn parts_that_are_added_are_read(rt: HostRuntime) -> Result<(), Fail> {
         added_told(rt.alloc(), 1)?.as_str(),
         "Ok(84148994) DataView { items: [Stretch { part: Part { at: 4, len: 3 }, end: 3 }, Stretch { part: Part { at: 0, len: 2 }, end: 5 }], end: 5 }"
     );
+    Ok(())
+}
+
+// A range of a stream of three parts of 13, 0 and 5 bytes, and what is told of a part of 2 bytes with that range behind it.
+const RANGES: &[(u64, u64, &str)] = &[
+    (
+        0,
+        18,
+        "DataView { items: [Stretch { part: Part { at: 1, len: 2 }, end: 2 }, Stretch { part: Part { at: 144, len: 13 }, end: 15 }, Stretch { part: Part { at: 208, len: 5 }, end: 20 }], end: 20 }",
+    ),
+    (
+        12,
+        3,
+        "DataView { items: [Stretch { part: Part { at: 1, len: 2 }, end: 2 }, Stretch { part: Part { at: 156, len: 1 }, end: 3 }, Stretch { part: Part { at: 208, len: 2 }, end: 5 }], end: 5 }",
+    ),
+    (
+        9,
+        4,
+        "DataView { items: [Stretch { part: Part { at: 1, len: 2 }, end: 2 }, Stretch { part: Part { at: 153, len: 4 }, end: 6 }], end: 6 }",
+    ),
+    (
+        13,
+        1,
+        "DataView { items: [Stretch { part: Part { at: 1, len: 2 }, end: 2 }, Stretch { part: Part { at: 208, len: 1 }, end: 3 }], end: 3 }",
+    ),
+    (
+        18,
+        0,
+        "DataView { items: [Stretch { part: Part { at: 1, len: 2 }, end: 2 }], end: 2 }",
+    ),
+];
+
+fn three_parts(alloc: Global) -> Result<DataView, Memory>
+    ensures { IfOk result (λ view. stream_size view ≡ 18) }
+{
+    let mut view = DataView::empty(alloc);
+    view.add(144, 13)?;
+    view.add(184, 0)?;
+    view.add(208, 5)?;
+    Ok(view)
+}
+
+fn range_told(alloc: Global, at: u64, len: u64) -> Result<String, Memory> {
+    if at > 18 || len > 18 - at {
+        return Err(Memory);
+    }
+    let view = three_parts(alloc)?;
+    let mut range = DataView::empty(alloc);
+    range.add(1, 2)?;
+    range.add_part(&view, at, len)?;
+    Ok(format!(in alloc; "{range:?}")?)
+}
+
+#[test]
+fn ranges_are_told(rt: HostRuntime) -> Result<(), Fail> {
+    for (at, len, told) in RANGES {
+        assert_eq!(rt; range_told(rt.alloc(), *at, *len)?.as_str(), *told);
+    }
+    Ok(())
+}
+
+// A block of one byte at 64, and at 96 a DLBLOCK that names it so many times.
+fn crowded_file(alloc: Global, count: usize) -> Result<Vec<u8>, Memory> {
+    if count > 1 << 20 {
+        return Err(Memory);
+    }
+    let mut file = file_of(
+        alloc,
+        128 + 8 * count,
+        &[(64, b"##DT", &[], b"x"), (96, b"##DL", &[], b"")],
+    )?;
+    put_number(file.as_mut_slice(), 104, 32 + 8 * count as u64);
+    put_number(file.as_mut_slice(), 112, 1 + count as u64);
+    for k in 0..count {
+        set_link(file.as_mut_slice(), 96, 1 + k, 64);
+    }
+    Ok(file)
+}
+
+fn crowd_told(alloc: Global, count: usize) -> Result<String, Memory> {
+    let file = crowded_file(alloc, count)?;
+    let size = match view_data(alloc, file.as_slice(), 96, Kind::Dt) {
+        Ok(view) => Ok(view.len()),
+        Err(fault) => Err(fault),
+    };
+    Ok(format!(in alloc; "{size:?}")?)
+}
+
+#[test]
+fn a_million_parts_of_one_byte_are_a_stream(rt: HostRuntime) -> Result<(), Fail> {
+    for (count, told) in &[
+        (1_048_575, "Ok(1048575)"),
+        (1_048_576, "Err(TooMany { at: 64 })"),
+    ] {
+        assert_eq!(rt; crowd_told(rt.alloc(), *count)?.as_str(), *told);
+    }
     Ok(())
 }
 
