@@ -1,0 +1,14 @@
+ghost use Rattle.std.specs.Prelude.{List, ◌∷◌, ◌++◌};
+ghost use Rattle.book_core.specs.Machine.{IsOrdered, begun, after_all};
+ghost use Rattle.book_core.specs.Law.{GoesOn, IsHeld};
+ghost use Rattle.book_core.specs.declared.event.Event.{Event};
+ghost use Rattle.book_core.specs.declared.event.Event.TheVariants.{FlushFailed};
+
+/// A law: whatever happens to a book from its beginning on, only durable samples are shown and only accepted ones are
+/// durable; its history only grows, and neither of the two numbers falls; and once the disk failed the history and the
+/// durable samples stay.
+pub fn machine_law()
+    ensures ordered { (events : List Event) → IsOrdered (after_all begun events) }
+    ensures grows { (events more : List Event) → GoesOn (after_all begun events) (after_all begun (events ++ more)) }
+    ensures stays { (events more : List Event) → IsHeld (after_all begun events) (after_all begun (events ++ FlushFailed ∷ more)) }
+{}
