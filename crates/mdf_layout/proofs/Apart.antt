@@ -1,5 +1,5 @@
 -- Fields that share a bit, and channels that lie apart.
-use Rattle.std.proofs.Common.{◌≡◌, ◌≤◌, ◌<◌, ◌+◌, ◌*◌, ◌/◌, ◌%◌, ◌↔◌, ℕ, Bool, true, false, not, arith}
+use Rattle.std.proofs.Common.{◌≡◌, ◌≤◌, ◌<◌, ◌+◌, ◌*◌, ◌/◌, ◌↔◌, ℕ, Bool, true, not, arith}
 use Rattle.std.specs.Prelude.{max, min}
 use Rattle.std.proofs.lemmas.Bool.{not-true, both_ways}
 use Rattle.mdf_format.specs.Field.{Spot, HasBit, covered_size, covered_end}

@@ -1,9 +1,9 @@
 -- What is written behind a history is read as those samples.
-use Rattle.std.proofs.Common.{◌≡◌, ◌≢◌, ◌≤◌, ◌<◌, ◌+◌, ◌-◌, ◌^◌, ◌⊎◌, ℕ, zero, suc, Bool, true, false, List, [], ◌∷◌, ◌++◌, length, get_or, take, drop, map, refl, sym, ◌∙◌, ap, subst, arith, inl, inr, Option, Some, None, length-append, length-drop}
-use Rattle.std.specs.Prelude.{slice_get, All, nat_le, nat_eq, ◌==◌, if◌then◌else◌, filter, sum_by}
+use Rattle.std.proofs.Common.{◌≡◌, ◌≢◌, ◌≤◌, ◌<◌, ◌+◌, ◌-◌, ◌^◌, ◌⊎◌, ℕ, zero, suc, Bool, true, false, List, [], ◌∷◌, ◌++◌, length, get_or, drop, map, refl, sym, ◌∙◌, ap, subst, arith, inl, inr, Some, length-append}
+use Rattle.std.specs.Prelude.{slice_get, All, nat_le, nat_eq, ◌==◌, if◌then◌else◌, sum_by}
 use Rattle.std.specs.List.{flat_map}
 use Rattle.std.specs.Option.{option_map, option_map_or, option_and_then}
-use Rattle.std.proofs.lemmas.Bool.{le-leb, lt-leb, leb-false, ne_eqb, eq-eqb, cond-true, cond-false, cases_eq, cases_order}
+use Rattle.std.proofs.lemmas.Bool.{le-leb, lt-leb, ne_eqb, eq-eqb, cond-true, cond-false, cases_eq, cases_order}
 use Rattle.std.proofs.lemmas.List.{append_assoc, append-nil, drop_at, take_at}
 use Rattle.std.proofs.lemmas.List.Concat.{flat_map-append}
 use Rattle.std.proofs.lemmas.List.Elements.{filter-append, All-append}
@@ -13,8 +13,8 @@ use Rattle.mdf_vlsd.specs.Value.{value_bytes, value_at}
 use Rattle.mdf_layout.specs.History.{group_samples}
 use Rattle.mdf_layout.specs.Layout.{Layout, record_size}
 use Rattle.mdf_layout.specs.Rule.{spot_in, is_variable}
-use Rattle.mdf_layout.specs.Values.{Finder, bytes_in, value_in, is_valid, entry_of, finders_behind, first_finder, sample_by}
-use Rattle.mdf_layout.specs.Behind.{variables, first_id, value_records, value_size, offsets_from, offsets_behind, always, IsRecordBehind, IsEncodingBehind, AreEncodingsBehind}
+use Rattle.mdf_layout.specs.Values.{bytes_in, value_in, is_valid, entry_of, finders_behind, first_finder, sample_by}
+use Rattle.mdf_layout.specs.Behind.{variables, first_id, value_records, value_size, offsets_from, offsets_behind, always, IsRecordBehind, AreEncodingsBehind}
 use Rattle.mdf_layout.specs.Read.{Piece, piece_body, piece_bytes, IsPiece, stream_of, streams_from, values_of, record_of, samples_from, AreRead}
 use Rattle.mdf_layout.specs.declared.field.FieldKind.{FieldKind}
 use Rattle.mdf_layout.specs.declared.field.FieldKind.TheVariants.{Unsigned, Signed, Fixed, Variable, Virtual}
@@ -24,7 +24,8 @@ use Rattle.mdf_layout.specs.declared.sample.Entry.{Entry}
 use Rattle.mdf_layout.specs.declared.sample.Sample.{Sample}
 use Rattle.mdf_layout.proofs.Once.{ids_rise}
 use Rattle.mdf_layout.proofs.Samples.{parts}
-use Rattle.mdf_layout.proofs.Found.{AreFoundIn, joined, added, joined-lengths, found_behind, offset_in, sample_alike}
+use Rattle.mdf_layout.specs.Next.{added}
+use Rattle.mdf_layout.proofs.Found.{AreFoundIn, joined, joined-lengths, found_behind, offset_in, sample_alike}
 
 -- the records of values as pieces
 abbrev value_pieces : ℕ → List (List ℕ) → List Piece
@@ -116,7 +117,7 @@ append_step true k rows xs ys rest =
     ap (λ n. n ∷ offsets_from (k + 1) rows (xs ++ ys)) (sum_by-append (value_size k) xs ys) ∙ ap (λ ns. (sum_by (value_size k) xs + sum_by (value_size k) ys) ∷ ns) rest
 append_step false k rows xs ys rest = rest
 
-offsets-append : (k : ℕ) (rows : List FieldRow) (xs ys : List Sample) → offsets_from k rows (xs ++ ys) ≡ added (offsets_from k rows xs) (offsets_from k rows ys)
+pub offsets-append : (k : ℕ) (rows : List FieldRow) (xs ys : List Sample) → offsets_from k rows (xs ++ ys) ≡ added (offsets_from k rows xs) (offsets_from k rows ys)
 unfolding offsets_from offsets_with
 offsets-append k [] xs ys = refl
 offsets-append k (row ∷ rows) xs ys = append_step (is_variable row) k rows xs ys (offsets-append (k + 1) rows xs ys)
@@ -139,7 +140,7 @@ added_none (x ∷ xs) id [] = refl
 added_none (x ∷ xs) id (row ∷ rows) = let same : x + 0 ≡ x = omega arith in ap (λ n. n ∷ added xs (map length (streams_from [] (id + 1) rows))) same ∙ ap (λ ns. x ∷ ns) (added_none xs (id + 1) rows)
 
 -- the first of what is left of a list
-head_of : {A : Type 0} (xs : List A) (k : ℕ) (x : A) (ys : List A) → drop k xs ≡ x ∷ ys → (slice_get xs k ≡ Some x) × (drop (suc k) xs ≡ ys)
+pub head_of : {A : Type 0} (xs : List A) (k : ℕ) (x : A) (ys : List A) → drop k xs ≡ x ∷ ys → (slice_get xs k ≡ Some x) × (drop (suc k) xs ≡ ys)
 head_of [] zero x ys is = cc
 head_of [] (suc k) x ys is = cc
 head_of (z ∷ zs) zero x ys is = let same : z ≡ x = cc in let rest : zs ≡ ys = cc in (ap Some same, rest)

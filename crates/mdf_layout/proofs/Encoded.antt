@@ -1,15 +1,15 @@
 -- A sample as it is written behind a history.
-use Rattle.std.proofs.Common.{◌≡◌, ◌≢◌, ◌<◌, ◌≤◌, ◌+◌, ◌^◌, ℕ, zero, suc, Bool, true, false, List, [], ◌∷◌, ◌++◌, length, get_or, take, drop, map, refl, sym, ◌∙◌, ap, subst, arith, length-append, length-take, length-drop, Option, Some, None}
+use Rattle.std.proofs.Common.{◌≡◌, ◌≢◌, ◌<◌, ◌+◌, ◌^◌, ℕ, zero, suc, Bool, true, false, List, [], ◌∷◌, ◌++◌, length, get_or, take, drop, map, refl, sym, ◌∙◌, ap, arith, length-drop, Some}
 use Rattle.std.specs.Prelude.{All, filter, slice_get, if◌then◌else◌}
 use Rattle.std.proofs.lemmas.List.{take-append-drop, length-take-le}
 use Rattle.mdf_format.specs.Field.{bit_of, field_number}
 use Rattle.mdf_layout.specs.History.{group_samples}
 use Rattle.mdf_layout.specs.Layout.{Layout, record_size}
 use Rattle.mdf_layout.specs.Rule.{spot_in, is_variable, is_variable_kind}
-use Rattle.mdf_layout.specs.Values.{Finder, bytes_in, first_finder, finder_at, sample_by, streams_before}
+use Rattle.mdf_layout.specs.Values.{Finder, bytes_in, finder_at, sample_by, streams_before}
 use Rattle.mdf_layout.specs.Written.{ValueFits, AreEntriesOf, IsEntryOf, IsFree, IsFreePosition, IsFound, AreFound, HoldsValue, HoldValues, offset_of}
 use Rattle.mdf_layout.specs.Record.{long_values}
-use Rattle.mdf_layout.specs.Behind.{variables, value_records, first_id, offsets_behind, always, IsRecordBehind, IsEncodingBehind}
+use Rattle.mdf_layout.specs.Behind.{variables, value_records, first_id, offsets_behind, always, IsEncodingBehind}
 use Rattle.mdf_layout.specs.declared.field.FieldKind.{FieldKind}
 use Rattle.mdf_layout.specs.declared.field.FieldKind.TheVariants.{Unsigned, Signed, Fixed, Variable, Virtual}
 use Rattle.mdf_layout.specs.declared.field.FieldRow.{FieldRow}

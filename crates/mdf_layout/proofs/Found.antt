@@ -1,23 +1,20 @@
 -- Values of variable length are found in the streams of all records.
-use Rattle.std.proofs.Common.{◌≡◌, ◌≤◌, ◌<◌, ◌+◌, ◌^◌, ℕ, zero, suc, Bool, true, false, List, [], ◌∷◌, ◌++◌, length, take, drop, map, refl, sym, ◌∙◌, ap, subst, arith, Option, Some, None, length-append}
-use Rattle.std.specs.Prelude.{slice_get, All, nat_le, nat_eq, ◌&&◌, if◌then◌else◌, filter, sum_by}
-use Rattle.std.specs.List.{flat_map}
-use Rattle.std.specs.Option.{option_map, option_map_or, option_and_then}
+use Rattle.std.proofs.Common.{◌≡◌, ◌<◌, ◌+◌, ◌^◌, ℕ, suc, Bool, true, false, List, [], ◌∷◌, ◌++◌, length, take, drop, map, refl, sym, ◌∙◌, ap, arith, Option, Some, length-append}
+use Rattle.std.specs.Prelude.{All, nat_le, ◌&&◌, if◌then◌else◌}
+use Rattle.std.specs.Option.{option_map, option_and_then}
 use Rattle.std.specs.Int.{to_le_bytes, w32}
-use Rattle.std.proofs.lemmas.Bool.{le-leb, lt-leb, and_from, ne_eqb, eq-eqb, cond-true, cond-false}
-use Rattle.std.proofs.lemmas.List.{append_assoc, append-nil, drop-append-le, drop_at, take_at}
-use Rattle.std.proofs.lemmas.List.Concat.{flat_map-append}
+use Rattle.std.proofs.lemmas.Bool.{le-leb, and_from, cond-true}
+use Rattle.std.proofs.lemmas.List.{append_assoc, drop_at, take_at}
 use Rattle.mdf_format.specs.Number.{le_number, bytes_at}
 use Rattle.mdf_format.specs.Field.{field_number}
 use Rattle.mdf_vlsd.specs.Value.{value_bytes, value_at, size_there}
 use Rattle.mdf_layout.specs.Rule.{spot_in, is_variable}
-use Rattle.mdf_layout.specs.Values.{Finder, value_in, is_valid, entry_of, finders_behind, first_finder, sample_by}
+use Rattle.mdf_layout.specs.Values.{Finder, value_in, is_valid, entry_of, first_finder, sample_by}
 use Rattle.mdf_layout.specs.Behind.{variables, always}
-use Rattle.mdf_layout.specs.Read.{Piece, stream_of, streams_from}
+use Rattle.mdf_layout.specs.Next.{added}
 use Rattle.mdf_layout.specs.declared.field.FieldKind.{FieldKind}
 use Rattle.mdf_layout.specs.declared.field.FieldKind.TheVariants.{Unsigned, Signed, Fixed, Variable, Virtual}
 use Rattle.mdf_layout.specs.declared.field.FieldRow.{FieldRow}
-use Rattle.mdf_layout.specs.declared.sample.Value.{Value}
 use Rattle.mdf_layout.specs.declared.sample.Value.TheVariants as value
 use Rattle.mdf_layout.specs.declared.sample.Entry.{Entry}
 
@@ -52,12 +49,6 @@ abbrev pub joined : List (List ℕ) → List (List ℕ) → List (List ℕ)
 joined [] ys = []
 joined (x ∷ xs) [] = x ∷ xs
 joined (x ∷ xs) (y ∷ ys) = (x ++ y) ∷ joined xs ys
-
--- numbers added channel by channel
-abbrev pub added : List ℕ → List ℕ → List ℕ
-added [] ys = []
-added (x ∷ xs) [] = x ∷ xs
-added (x ∷ xs) (y ∷ ys) = (x + y) ∷ added xs ys
 
 pub joined-lengths : (xs ys : List (List ℕ)) → map length (joined xs ys) ≡ added (map length xs) (map length ys)
 joined-lengths [] ys = refl

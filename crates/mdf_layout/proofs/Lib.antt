@@ -13,3 +13,5 @@ pub mod Found
 pub mod Bridge
 pub mod Pieces
 pub mod Behind
+mod Longs
+pub mod Nexts

@@ -1,7 +1,7 @@
 -- Bytes are the records of one list of samples.
 use Rattle.std.proofs.Common.{◌≡◌, ◌≤◌, ◌<◌, ◌+◌, ◌^◌, ℕ, zero, suc, List, [], ◌∷◌, ◌++◌, length, get_or, take, drop, map, refl, sym, ◌∙◌, ap, subst, arith, inl, inr, length-append}
 use Rattle.std.proofs.Math.Seq.{take-append_seam}
-use Rattle.std.proofs.lemmas.List.{append_assoc, append-nil, append_cancel_left, take-take}
+use Rattle.std.proofs.lemmas.List.{append_assoc, append_cancel_left, take-take}
 use Rattle.std.proofs.lemmas.List.Sums.{sum_by_more, sum_by-take-le}
 use Rattle.std.proofs.lemmas.Bool.{cases_order}
 use Rattle.std.proofs.lemmas.Option.{slice_get_within, get_or_from_slice_get, same_Some}
@@ -11,9 +11,8 @@ use Rattle.mdf_format.specs.Number.{le_number}
 use Rattle.mdf_vlsd.specs.Value.{value_bytes}
 use Rattle.mdf_layout.specs.History.{group_samples}
 use Rattle.mdf_layout.specs.Layout.{Layout}
-use Rattle.mdf_layout.specs.Values.{Finder, sample_by}
-use Rattle.mdf_layout.specs.Behind.{variables, first_id, value_records, always, IsRecordBehind, IsEncodingBehind, AreEncodingsBehind}
-use Rattle.mdf_layout.specs.declared.sample.Entry.{Entry}
+use Rattle.mdf_layout.specs.Values.{sample_by}
+use Rattle.mdf_layout.specs.Behind.{variables, first_id, value_records, always, IsRecordBehind, AreEncodingsBehind}
 use Rattle.mdf_layout.specs.declared.sample.Sample.{Sample}
 
 -- two parts of one length at the front of the same bytes, and what is behind them

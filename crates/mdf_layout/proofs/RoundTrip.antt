@@ -1,10 +1,10 @@
 -- What is written is read back.
-use Rattle.std.proofs.Common.{◌≡◌, ◌≢◌, ◌≤◌, ◌<◌, ◌+◌, ℕ, zero, suc, Bool, true, false, List, [], ◌∷◌, ◌++◌, length, get_or, take, refl, sym, ◌∙◌, ap, subst, arith, Option, Some, None}
+use Rattle.std.proofs.Common.{◌≡◌, ◌≤◌, ◌<◌, ◌+◌, ℕ, zero, suc, Bool, true, false, List, length, get_or, take, refl, sym, ◌∙◌, ap, subst, arith, Option, Some, None}
 use Rattle.std.specs.Prelude.{if◌then◌else◌, slice_get, nat_eq, not, ◌&&◌, All}
 use Rattle.std.specs.Option.{option_map, option_map_or}
 use Rattle.std.proofs.lemmas.List.{get_or_default, take_more, take_all}
 use Rattle.std.proofs.lemmas.Option.{slice_get-get_or, slice_get_within, get_or_from_slice_get}
-use Rattle.mdf_format.specs.Field.{Spot, bit_of, field_number}
+use Rattle.mdf_format.specs.Field.{Spot, bit_of}
 use Rattle.mdf_layout.specs.Rule.{spot_in}
 use Rattle.mdf_layout.specs.Values.{Finder, value_in, is_valid, entry_of, finder_at, sample_by, streams_before}
 use Rattle.mdf_layout.specs.Written.{ValueFits, AreEntriesOf, HoldsValue, HoldsMark, HoldValues, HoldMarks, IsFound, AreFound, offset_of, AreApart}

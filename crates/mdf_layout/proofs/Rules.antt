@@ -1,9 +1,9 @@
 -- The test of the rules says what the rules say.
-use Rattle.std.proofs.Common.{◌≡◌, ◌≢◌, ◌≤◌, ◌<◌, ◌+◌, ◌-◌, ◌*◌, ◌/◌, ◌%◌, ◌⊎◌, ◌↔◌, ℕ, zero, suc, Bool, true, false, ◌&&◌, ◌||◌, not, List, length, get_or, refl, sym, ◌∙◌, ap, subst, arith, inl, inr, Option, Some, None}
+use Rattle.std.proofs.Common.{◌≡◌, ◌≢◌, ◌<◌, ◌+◌, ◌-◌, ◌*◌, ◌/◌, ◌%◌, ◌⊎◌, ℕ, zero, suc, Bool, true, false, ◌&&◌, ◌||◌, not, List, length, get_or, refl, sym, ◌∙◌, ap, subst, arith, inl, inr, Option, Some, None}
 use Rattle.std.specs.Prelude.{nat_eq, nat_le, nat_lt, slice_get, All}
 use Rattle.std.specs.Option.{option_map_or}
-use Rattle.std.proofs.lemmas.Bool.{and_parts, and_from, or_cases, or_left, or_right, or_from, or_parts, not-true, not-false, not_from_false, not_from_true, leb-true, ltb-true, eqb-true, le-leb, lt-ltb, eq-eqb, ne_eqb, eqb-false, cases_Bool, both_ways, cases_eq, false_from_ne_true}
-use Rattle.std.proofs.lemmas.Option.{slice_get_within, slice_get_past}
+use Rattle.std.proofs.lemmas.Bool.{and_parts, and_from, or_cases, or_left, or_right, or_from, or_parts, not-true, not-false, not_from_false, leb-true, ltb-true, eqb-true, le-leb, lt-ltb, eq-eqb, ne_eqb, eqb-false, both_ways, cases_eq, false_from_ne_true}
+use Rattle.std.proofs.lemmas.Option.{slice_get_within}
 use Rattle.mdf_format.specs.Field.{Spot, HasBit, covered_size, covered_end, place_of}
 use Rattle.mdf_format.specs.Row.{IsNumberPlaced, AreBytesPlaced, SharesBit}
 use Rattle.mdf_bits.specs.Field.{bit_within}

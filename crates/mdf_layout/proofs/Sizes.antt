@@ -1,6 +1,6 @@
 -- How long records of values of variable length are.
-use Rattle.std.proofs.Common.{◌≡◌, ◌<◌, ◌≤◌, ◌+◌, ◌*◌, ℕ, zero, suc, Bool, true, false, List, [], ◌∷◌, ◌++◌, length, get_or, take, drop, map, refl, sym, ◌∙◌, ap, subst, arith, length-append, Option, Some, None}
-use Rattle.std.specs.Prelude.{sum_by, filter, slice_get, if◌then◌else◌}
+use Rattle.std.proofs.Common.{◌≡◌, ◌<◌, ◌≤◌, ◌+◌, ◌*◌, ℕ, suc, Bool, true, false, List, [], ◌∷◌, ◌++◌, length, get_or, drop, map, refl, sym, ◌∙◌, ap, arith, length-append, Some}
+use Rattle.std.specs.Prelude.{sum_by, if◌then◌else◌}
 use Rattle.std.specs.Option.{option_map_or}
 use Rattle.std.proofs.lemmas.List.{drop_more}
 use Rattle.std.proofs.lemmas.List.Sums.{sum_by-cons}
@@ -8,9 +8,9 @@ use Rattle.mdf_vlsd.specs.Value.{value_bytes}
 use Rattle.mdf_layout.specs.Layout.{Layout, record_size}
 use Rattle.mdf_layout.specs.Rule.{is_variable, is_variable_kind}
 use Rattle.mdf_layout.specs.Written.{ValueFits, AreEntriesOf}
-use Rattle.mdf_layout.specs.Values.{Finder, bytes_in, entry_of, first_finder, finders_behind, sample_by}
+use Rattle.mdf_layout.specs.Values.{bytes_in, entry_of, first_finder, finders_behind, sample_by}
 use Rattle.mdf_layout.specs.Record.{long_values, long_size, value_record_size, encoded_size, history_size}
-use Rattle.mdf_layout.specs.Behind.{variables, value_records, first_id, always, IsRecordBehind, IsEncodingBehind, AreEncodingsBehind}
+use Rattle.mdf_layout.specs.Behind.{variables, value_records, first_id, always, IsRecordBehind, AreEncodingsBehind}
 use Rattle.mdf_layout.specs.declared.field.FieldKind.{FieldKind}
 use Rattle.mdf_layout.specs.declared.field.FieldKind.TheVariants.{Unsigned, Signed, Fixed, Variable, Virtual}
 use Rattle.mdf_layout.specs.declared.field.FieldRow.{FieldRow}

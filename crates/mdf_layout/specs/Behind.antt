@@ -3,17 +3,16 @@
 -- bytes. The ids of the groups are their numbers and 1; behind them come the ids of the channels of variable length, in
 -- the order of groups and channels. A value's offset is the sum of 4 and the length over the earlier values of its
 -- channel.
-use Rattle.std.specs.Prelude.{ℕ, ◌≡◌, ◌+◌, ◌<◌, ◌^◌, if◌then◌else◌, List, [], ◌∷◌, ◌++◌, length, map, filter, take, sum_by, slice_get, All, Option, Some}
+use Rattle.std.specs.Prelude.{ℕ, ◌≡◌, ◌+◌, ◌<◌, ◌^◌, if◌then◌else◌, List, [], ◌∷◌, ◌++◌, length, map, filter, take, sum_by, slice_get, All, Some}
 use Rattle.std.specs.Option.{option_map_or}
 use Rattle.mdf_format.specs.Field.{bit_of, field_number}
 use Rattle.mdf_vlsd.specs.Value.{value_bytes}
 use Rattle.mdf_layout.specs.History.{group_samples}
-use Rattle.mdf_layout.specs.Layout.{Layout, record_size}
+use Rattle.mdf_layout.specs.Layout.{Layout}
 use Rattle.mdf_layout.specs.Rule.{spot_in, is_variable}
 use Rattle.mdf_layout.specs.Values.{Finder, bytes_in, sample_by}
 use Rattle.mdf_layout.specs.Written.{IsFree, IsFreePosition}
 use Rattle.mdf_layout.specs.declared.field.FieldRow.{FieldRow}
-use Rattle.mdf_layout.specs.declared.sample.Entry.{Entry}
 use Rattle.mdf_layout.specs.declared.sample.Sample.{Sample}
 
 -- the channels of variable length

@@ -9,3 +9,5 @@ pub mod Record
 pub mod History
 pub mod Behind
 pub mod Read
+pub mod Stored
+pub mod Next

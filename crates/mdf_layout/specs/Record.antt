@@ -22,6 +22,10 @@ long_values (row ∷ rows) [] = []
 long_values (row ∷ rows) (entry ∷ entries) =
     if is_variable row then bytes_in entry.value ∷ long_values rows entries else long_values rows entries
 
+-- the value of a channel, where it is of variable length
+abbrev pub long_value : FieldRow → Entry → List (List ℕ)
+long_value row entry = if is_variable row then bytes_in entry.value ∷ [] else []
+
 -- how long the record of a channel's value is, where it is of variable length: its id in a byte, its length in 4, and its
 -- bytes; and those of all
 abbrev pub value_record_size : FieldRow → Entry → ℕ

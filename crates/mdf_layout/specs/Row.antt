@@ -1,5 +1,5 @@
 -- What the numbers of a channel's row (CNBLOCK) say of its field.
-use Rattle.std.specs.Prelude.{ℕ, ◌/◌, ◌%◌, nat_eq, if◌then◌else◌, Some, None}
+use Rattle.std.specs.Prelude.{◌/◌, ◌%◌, nat_eq, if◌then◌else◌, Some, None}
 use Rattle.mdf_format.specs.Row as forms
 use Rattle.mdf_format.specs.Row.{RowNumbers, Form, form_of, is_big}
 use Rattle.mdf_layout.specs.declared.field.FieldKind.{FieldKind}

@@ -1,5 +1,5 @@
 -- Values written into a record.
-use Rattle.std.specs.Prelude.{ℕ, ◌≡◌, ◌+◌, ◌-◌, ◌*◌, ◌/◌, ◌%◌, ◌^◌, ◌<◌, ◌⊎◌, Bool, true, false, if◌then◌else◌, List, length, All, AllPairs, Option, Some, None, is_some}
+use Rattle.std.specs.Prelude.{ℕ, ◌≡◌, ◌/◌, ◌%◌, ◌^◌, ◌<◌, Bool, true, if◌then◌else◌, List, length, All, AllPairs, Some, None}
 use Rattle.std.specs.List.{slice_index_or}
 use Rattle.mdf_format.specs.Field.{Spot, HasBit, bit_of, field_number}
 use Rattle.mdf_bits.specs.Field.{IsSignedOf}

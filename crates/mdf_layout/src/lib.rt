@@ -8,6 +8,8 @@
 mod field;
 mod fitting;
 mod law;
+mod long;
+mod next;
 mod reading;
 mod reserved;
 mod row;
@@ -20,6 +22,7 @@ mod writing;
 pub use field::{FieldKind, FieldRow};
 pub use fitting::{are_apart, entries_fit};
 pub use law::records_are_of_one_list;
+pub use next::NextValues;
 pub use reading::{DecodeFault, decode};
 pub use reserved::Reserved;
 pub use row::{ChannelNumbers, field_row, rules_are_tested};

@@ -1,4 +1,4 @@
-ghost use Rattle.std.specs.Prelude.{◌≡◌, ◌+◌, ◌^◌, ◌<◌, [], ◌∷◌, ◌++◌, length, slice_get, OnOk, OnErr};
+ghost use Rattle.std.specs.Prelude.{◌≡◌, ◌+◌, ◌^◌, ◌<◌, [], ◌∷◌, ◌++◌, length, slice_get, Some, OnOk, OnErr};
 ghost use Rattle.std.specs.Option.{option_copied};
 ghost use Rattle.mdf_layout.specs.Record.{SampleFits, value_record_size, long_size, encoded_size, cost_of};
 ghost use Rattle.mdf_layout.specs.Written.{AreEntriesOf};
@@ -78,6 +78,14 @@ impl Shapes {
         ensures { option_copied result ≡ slice_get self.now i }
     {
         self.items.get(i)
+    }
+
+    /// The layout of group `i`.
+    pub(crate) fn at(&self, i: u64) -> &Shape
+        requires { i < length self.now }
+        ensures { slice_get self.now i ≡ Some result.now }
+    {
+        &self.items.as_slice()[i as usize]
     }
 
     /// Adds the layout of the next group. After an error the list is as before, and the layout is dropped.

@@ -35,7 +35,7 @@ fn clear(out: &mut [u8])
 }
 
 /// Writes bytes into a record from `start` on.
-fn put_bytes(content: &mut [u8], start: usize, bytes: &[u8])
+pub(crate) fn put_bytes(content: &mut [u8], start: usize, bytes: &[u8])
     requires { start + length bytes.now ≤ length content.old }
     ensures there { bytes_at (length bytes.now) content.new start ≡ bytes.now }
     ensures before { take start content.new ≡ take start content.old }

@@ -1,4 +1,4 @@
-use Rattle.std.proofs.Common.{◌+◌, ◌<◌, length, get_or, refl, sym, subst}
+use Rattle.std.proofs.Common.{◌+◌, ◌<◌, get_or, refl, sym, subst}
 use Rattle.std.proofs.lemmas.List.{take_rest}
 use Rattle.std.specs.List.{All}
 use Rattle.mdf_layout.specs.Written.{IsApart}

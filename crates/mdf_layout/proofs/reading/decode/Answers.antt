@@ -1,8 +1,8 @@
-use Rattle.std.proofs.Common.{◌≡◌, ◌∙◌, sym, ap, refl, subst, map, arith, Some}
+use Rattle.std.proofs.Common.{◌∙◌, sym, ap, refl, subst, map, arith, Some}
 use Rattle.mdf_vlsd.specs.Value.{value_at}
 use Rattle.mdf_layout.specs.Fault.{LackCause, DecodeCause}
 use Rattle.mdf_layout.specs.Rule.{is_variable}
-use Rattle.mdf_layout.specs.Values.{Finder, entry_of, finder_at, sample_by}
+use Rattle.mdf_layout.specs.Values.{entry_of, finder_at, sample_by}
 use Rattle.mdf_layout.proofs.Samples.{sample_more, streams_more, few_more, missing_at}
 use Rattle.mdf_layout.proofs.reading.decode.Goals as goal
 

@@ -1,4 +1,4 @@
-use Rattle.std.proofs.Common.{◌≡◌, ◌<◌, ◌≤◌, ◌∙◌, ap, sym, arith, length, drop}
+use Rattle.std.proofs.Common.{◌<◌, ◌∙◌, ap, sym, arith, length, drop}
 use Rattle.std.proofs.lemmas.List.{drop_all}
 use Rattle.std.proofs.lemmas.Option.{get_or_from_slice_get}
 use Rattle.mdf_layout.specs.Record.{long_size}

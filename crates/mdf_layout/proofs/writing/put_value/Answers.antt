@@ -1,4 +1,4 @@
-use Rattle.std.proofs.Common.{◌≡◌, ◌∙◌, ap, subst, length}
+use Rattle.std.proofs.Common.{◌∙◌, ap, subst, length}
 use Rattle.mdf_layout.specs.Rule.{spot_in, IsPlacedAs}
 use Rattle.mdf_layout.proofs.Stays.{other_bytes, bytes_fit}
 use Rattle.mdf_layout.proofs.writing.put_value.Goals as goal
