@@ -54,12 +54,7 @@ pub fn sample(alloc: Global, numbers: &[u64]) -> Result<Sample, Memory> {
 }
 
 /// The layout of two channels from these bytes on.
-fn two_fields(
-    alloc: Global,
-    first: u32,
-    second: u32,
-    data_bytes: u32,
-) -> Result<Shape, ShapeFault>
+fn two_fields(alloc: Global, first: u32, second: u32, data_bytes: u32) -> Result<Shape, ShapeFault>
     ensures { IfOk result (λ shape. All IsStored shape.rows) }
 {
     shape_of(alloc, &two_rows(alloc, first, second)?, data_bytes, 0)

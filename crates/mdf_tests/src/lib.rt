@@ -12,6 +12,8 @@ mod layouts;
 #[cfg(test)]
 mod lists;
 #[cfg(test)]
+mod machines;
+#[cfg(test)]
 mod records;
 #[cfg(test)]
 mod scripts;
