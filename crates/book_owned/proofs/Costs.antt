@@ -1,7 +1,9 @@
 -- What samples cost.
 use Rattle.std.proofs.Common.{◌≡◌, ◌+◌, ◌*◌, ◌≤◌, ℕ, zero, suc, List, [], ◌∷◌, ◌++◌, length, slice_get, sum_by, Some, None, ap, arith}
 use Rattle.std.proofs.lemmas.List.Sums.{sum_by-cons, sum_by-append}
+use Rattle.std.proofs.lemmas.List.{take_all}
 use Rattle.mdf_layout.specs.Layout.{Layout}
+use Rattle.mdf_layout.specs.Behind.{variables, first_id}
 use Rattle.mdf_layout.specs.Record.{SampleFits, encoded_size, cost_of, history_cost, history_size}
 use Rattle.mdf_layout.specs.declared.sample.Sample.{Sample}
 
@@ -35,3 +37,9 @@ history_cost-least layouts (sample ∷ history) =
 
 pub history_cost-append : (layouts : List Layout) (xs ys : List Sample) → history_cost layouts (xs ++ ys) ≡ history_cost layouts xs + history_cost layouts ys
 history_cost-append layouts xs ys = sum_by-append (cost_of layouts) xs ys
+
+-- the ids of values fit into a byte
+pub ids_small : (layouts : List Layout) → length layouts ≤ 64 → sum_by (λ layout. length (variables layout.rows)) layouts ≤ 128
+    → first_id layouts (length layouts) ≤ 255
+ids_small layouts groups few =
+    omega (arith, groups, few, ap (sum_by (λ (layout : Layout). length (variables layout.rows))) (take_all (length layouts) layouts (omega arith)))

@@ -1,5 +1,4 @@
 mod Costs
-pub mod Encoded
 mod Flushing
 mod Keeping
 mod Lasts

@@ -10,6 +10,7 @@ use Rattle.mdf_disk.specs.State.{state_of}
 use Rattle.mdf_disk.specs.Crash.{HoldsSince}
 use Rattle.mdf_layout.specs.Layout.{Layout}
 use Rattle.mdf_layout.specs.Behind.{AreEncodingsBehind}
+use Rattle.mdf_layout.specs.Next.{AreNext}
 use Rattle.mdf_layout.specs.Record.{SampleFits, cost_of, history_cost, history_size}
 use Rattle.mdf_layout.specs.declared.sample.Sample.{Sample}
 use Rattle.mdf_layout.proofs.Behind.{pending_more, no_encodings}
@@ -54,6 +55,8 @@ module _ {V : Type 0} (old new : InMemory V) (sample : Sample) (put : IsPut old 
     fields = counted.fields;
     disjoint = counted.disjoint;
     stored = counted.stored;
+    variable = counted.variable;
+    next = put.next;
   })
 
   pub pending_put : (from : ℕ) (failed : Bool) → IsPending from failed old → 1 ≤ old.marks.spare → IsPending from failed new
@@ -88,7 +91,7 @@ module _ {D V N : Type 0} (disk : DiskOf D) (view : ViewOf V N) where
       → IsPut old new sample → 1 ≤ old.marks.spare → old.held + cost_of old.shapes sample ≤ old.session_limit
       → IsBook disk view new file
   book_put old new file sample book put spare session =
-      let at : InMemory V = record old { history = new.history; held = new.held; block = new.block; scratch = new.scratch } in
+      let at : InMemory V = record old { history = new.history; held = new.held; block = new.block; scratch = new.scratch; next = new.next } in
       let put_at : IsPut old at sample = subst (λ f. IsPut old f sample) put.rest put in
       let history = old.history.items in
       let through = durable old.marks.items in
@@ -113,8 +116,8 @@ module _ {D V N : Type 0} (disk : DiskOf D) (view : ViewOf V N) where
       → front.block.bytes ≡ [] → length front.scratch.items ≡ front.block.limit
       → view.shows front.view [] → view.count front.view ≡ 0 → ((handed : List Sample) → view.hands front.view handed → handed ≡ [])
       → HoldsSince (disk.story file.disk) (disk.moment file.disk) (Opens (head_of (disk.story file.disk) file.first) [])
-      → IsBook disk view front file
-  book_begun front file created admissible history_is marks_are held_is bytes_are scratch_is shown counted handed leaves =
+      → AreNext front.shapes [] front.next → IsBook disk view front file
+  book_begun front file created admissible history_is marks_are held_is bytes_are scratch_is shown counted handed leaves next =
       let head = head_of (disk.story file.disk) file.first in
       let first : Mark = record { moment = disk.moment file.disk; through = 0 } in
       let durable_is : durable front.marks.items ≡ 0 = ap durable marks_are in
@@ -137,6 +140,8 @@ module _ {D V N : Type 0} (disk : DiskOf D) (view : ViewOf V N) where
           scratch = scratch_is;
           groups = admissible.groups;
           fields = admissible.fields;
+          variable = admissible.variable;
+          next = subst (λ h. AreNext front.shapes h front.next) (sym history_is) next;
           disjoint = admissible.disjoint;
           stored = admissible.stored;
         };

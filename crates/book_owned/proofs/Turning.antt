@@ -107,7 +107,9 @@ module _ {D V N : Type 0} (disk : DiskOf D) (view : ViewOf V N) (front : InMemor
       groups = book.counted.groups;
       fields = book.counted.fields;
       disjoint = book.counted.disjoint;
-            stored = book.counted.stored;
+      stored = book.counted.stored;
+      variable = book.counted.variable;
+      next = book.counted.next;
     };
     pending = record {
       through = book.pending.through;
@@ -175,6 +177,8 @@ module _ {D V N : Type 0} (disk : DiskOf D) (view : ViewOf V N) (front : InMemor
             fields = book.counted.fields;
             disjoint = book.counted.disjoint;
             stored = book.counted.stored;
+            variable = book.counted.variable;
+            next = book.counted.next;
           };
           pending = record {
             through = omega (arith, durable_is);

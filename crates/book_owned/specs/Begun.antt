@@ -3,11 +3,12 @@ use Rattle.std.specs.Prelude.{ℕ, ◌≡◌, ◌≤◌, ◌<◌, ◌^◌, false
 use Rattle.mdf_disk.specs.Crash.{HoldsSince}
 use Rattle.mdf_layout.specs.Layout.{Layout}
 use Rattle.mdf_layout.specs.Written.{AreApart}
+use Rattle.mdf_layout.specs.Behind.{variables}
+use Rattle.mdf_layout.specs.Stored.{IsStored}
 use Rattle.mdf_gate.specs.Gated.{Gated, RestsOn}
 use Rattle.mdf_gate.specs.Images.{head_of, IsBegun}
 use Rattle.book_owned.specs.Members.{DiskOf, ViewOf}
 use Rattle.book_owned.specs.Account.{Account}
-use Rattle.book_owned.specs.Stored.{IsStored}
 
 -- A file that was just created: its head is shorter than 2^61 bytes and nothing stands behind it. Each crash since it was
 -- begun leaves no MDF file, or the head with no opened block.
@@ -17,11 +18,12 @@ pub record IsNewFile {D : Type 0} (disk : DiskOf D) (file : Gated D) : Type 0 wh
   pub short : file.place < 2 ^ 61
   pub begun : HoldsSince (disk.story file.disk) file.start (IsBegun (head_of (disk.story file.disk) file.first))
 
--- at most 64 groups with at most 1,024 channels in all, no two of a group sharing a bit, each with values that can be
--- recorded and are not of variable length, and limits within bounds
+-- at most 64 groups with at most 1,024 channels in all, 128 of them of variable length, no two of a group sharing a bit,
+-- each one that a recording stores, and limits within bounds
 pub record IsAdmissible (layouts : List Layout) (block_limit session_limit : ℕ) : Type 0 where
   pub groups : length layouts ≤ 64
   pub fields : sum_by (λ layout. length layout.rows) layouts ≤ 1024
+  pub variable : sum_by (λ layout. length (variables layout.rows)) layouts ≤ 128
   pub disjoint : All (λ layout. AreApart layout.rows) layouts
   pub stored : All (λ layout. All IsStored layout.rows) layouts
   pub some : 1 ≤ block_limit

@@ -6,13 +6,14 @@ use Rattle.mdf_disk.specs.State.{state_of}
 use Rattle.mdf_layout.specs.Layout.{Layout}
 use Rattle.mdf_layout.specs.Written.{AreApart}
 use Rattle.mdf_layout.specs.Record.{SampleFits, cost_of, history_cost}
-use Rattle.mdf_layout.specs.Behind.{IsEncodingBehind, AreEncodingsBehind}
+use Rattle.mdf_layout.specs.Behind.{variables, IsEncodingBehind, AreEncodingsBehind}
+use Rattle.mdf_layout.specs.Stored.{IsStored}
+use Rattle.mdf_layout.specs.Next.{AreNext}
 use Rattle.mdf_layout.specs.declared.sample.Sample.{Sample}
 use Rattle.mdf_gate.specs.Gated.{Gated, RestsOn}
 use Rattle.mdf_gate.specs.Images.{head_of}
 use Rattle.book_owned.specs.Members.{DiskOf, ViewOf}
 use Rattle.book_owned.specs.Marks.{durable}
-use Rattle.book_owned.specs.Stored.{IsStored}
 use Rattle.book_owned.specs.Account.{Account, Terms}
 use Rattle.book_owned.specs.Kept.{IsKept, IsShowing}
 use Rattle.book_owned.specs.declared.in_memory.InMemory.{InMemory}
@@ -42,7 +43,8 @@ account_of disk view front file = record {
   view = front.view;
 }
 
--- The layouts and limits are admissible, each sample is one of theirs, and what the history costs is counted.
+-- The layouts and limits are admissible, each sample is one of theirs, what the history costs is counted, and where the
+-- next values of variable length go is known.
 pub record IsCounted {V : Type 0} (front : InMemory V) : Type 0 where
   pub fit : All (SampleFits front.shapes) front.history.items
   pub held : front.held ≡ history_cost front.shapes front.history.items
@@ -53,8 +55,10 @@ pub record IsCounted {V : Type 0} (front : InMemory V) : Type 0 where
   pub scratch : length front.scratch.items ≡ front.block.limit
   pub groups : length front.shapes ≤ 64
   pub fields : sum_by (λ layout. length layout.rows) front.shapes ≤ 1024
+  pub variable : sum_by (λ layout. length (variables layout.rows)) front.shapes ≤ 128
   pub disjoint : All (λ layout. AreApart layout.rows) front.shapes
   pub stored : All (λ layout. All IsStored layout.rows) front.shapes
+  pub next : AreNext front.shapes front.history.items front.next
 
 -- While no call failed, the buffer holds the records of the samples from there on; and there is room for the mark of a
 -- full one.
@@ -92,4 +96,5 @@ pub record IsPut {V : Type 0} (old new : InMemory V) (sample : Sample) : Type 0 
   pub history : new.history.items ≡ old.history.items ++ sample ∷ []
   pub held : new.held ≡ old.held + cost_of old.shapes sample
   pub scratch : length new.scratch.items ≡ length old.scratch.items
-  pub rest : new ≡ record old { history = new.history; held = new.held; block = new.block; scratch = new.scratch }
+  pub next : AreNext old.shapes new.history.items new.next
+  pub rest : new ≡ record old { history = new.history; held = new.held; block = new.block; scratch = new.scratch; next = new.next }

@@ -1,5 +1,4 @@
 pub mod Members
-pub mod Stored
 pub mod Marks
 pub mod Account
 pub mod Kept

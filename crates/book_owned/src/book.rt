@@ -3,6 +3,8 @@ ghost use Rattle.mdf_format.specs.Cause.{Rose};
 ghost use Rattle.mdf_disk.specs.Crash.{HoldsSince};
 ghost use Rattle.mdf_disk.specs.State.{state_of};
 ghost use Rattle.mdf_layout.specs.Record.{SampleFits, encoded_size, cost_of, history_cost, history_size};
+ghost use Rattle.mdf_layout.specs.Behind.{first_id};
+ghost use Rattle.mdf_layout.specs.Next.{AreNext};
 ghost use Rattle.mdf_gate.specs.Gated.{RestsOn};
 ghost use Rattle.mdf_gate.specs.Images.{head_of, IsBegun};
 
@@ -12,7 +14,7 @@ use crate::in_memory::InMemory;
 use crate::{Append, Flush, Mark, Marks, Shown};
 use mdf_disk::Disk;
 use mdf_gate::{Block, GatedFile};
-use mdf_layout::{Reserved, Sample, Samples, Shapes};
+use mdf_layout::{NextValues, Reserved, Sample, Samples, Shapes};
 use mdf_num::Memory;
 use std::alloc::Global;
 use std::marker::Model;
@@ -36,18 +38,26 @@ impl<D: Disk, V: Shown> Model for Book<D, V> {
     ghost invariant = { λ b. IsBook D.Disk V.Shown b.front b.file };
 }
 
-/// The buffers of a book: that of a block, one for a record, and the list of marks with room for one.
-fn buffers(alloc: Global, block_limit: u32) -> Result<(Block, Vec<u8>, Marks), Memory>
-    requires { 1 ≤ block_limit }
+/// The buffers of a book: that of a block, one for the records of a sample, the list of marks with room for one, and
+/// where the first values of variable length go.
+fn buffers(
+    alloc: Global,
+    shapes: &Shapes,
+    block_limit: u32,
+) -> Result<(Block, Vec<u8>, Marks, NextValues), Memory>
+    requires some { 1 ≤ block_limit }
+    requires ids { first_id shapes.now (length shapes.now) ≤ 255 }
     ensures block { IfOk result (λ parts. (parts.0.bytes ≡ []) × (parts.0.limit ≡ block_limit)) }
     ensures scratch { IfOk result (λ parts. length parts.1.items ≡ block_limit) }
     ensures marks { IfOk result (λ parts. (parts.2.items ≡ []) × (1 ≤ parts.2.spare)) }
+    ensures next { IfOk result (λ parts. AreNext shapes.now [] parts.3) }
 {
     let block = Block::with_limit(alloc, block_limit)?;
     let scratch = Vec::from_elem(alloc, 0, block_limit as usize)?;
     let mut marks = Marks::empty(alloc);
     marks.reserve(1)?;
-    Ok((block, scratch, marks))
+    let next = NextValues::first(alloc, shapes)?;
+    Ok((block, scratch, marks, next))
 }
 
 impl<D: Disk, V: Shown> Book<D, V> {
@@ -78,7 +88,7 @@ impl<D: Disk, V: Shown> Book<D, V> {
         ensures shown { IfOk result (λ book. IsShowing V.Shown book.view book.history book.marks) }
         ensures handed_back { IfErr result (λ parts. (parts.1 ≡ file) × (parts.2 ≡ view)) }
     {
-        let Ok((block, scratch, mut marks)) = buffers(alloc, block_limit) else {
+        let Ok((block, scratch, mut marks, next)) = buffers(alloc, &shapes, block_limit) else {
             return Err((Memory, file, view));
         };
         marks.put(Mark {
@@ -92,6 +102,7 @@ impl<D: Disk, V: Shown> Book<D, V> {
                 marks,
                 held: 0,
                 block,
+                next,
                 scratch,
                 session_limit,
                 view,
@@ -178,6 +189,7 @@ impl<D: Disk, V: Shown> Book<D, V> {
             marks,
             held: _,
             block: _,
+            next: _,
             scratch: _,
             session_limit: _,
             view,

@@ -1,9 +1,6 @@
 ghost use Rattle.std.specs.Prelude.{◌≡◌, ◌+◌, ◌≤◌, ◌<◌, ◌⊎◌, ℕ, List, [], ◌∷◌, ◌++◌, length, take, drop, All, OnOk};
 ghost use Rattle.mdf_layout.specs.declared.sample.Sample.{Sample};
-ghost use Rattle.mdf_layout.specs.Written.{AreApart};
 ghost use Rattle.mdf_layout.specs.Record.{SampleFits, encoded_size, cost_of, history_size};
-ghost use Rattle.mdf_layout.specs.Behind.{IsEncodingBehind};
-ghost use Rattle.book_owned.specs.Stored.{IsStored};
 ghost use Rattle.book_owned.specs.Marks.{last_mark, durable};
 ghost use Rattle.book_owned.specs.Kept.{IsShowing};
 ghost use Rattle.book_owned.specs.Answers.{ShowsAll};
@@ -11,7 +8,7 @@ ghost use Rattle.book_owned.specs.Halves.{IsCounted, IsPut};
 
 use crate::in_memory::InMemory;
 use crate::{Mark, Marks, Shown};
-use mdf_layout::{Sample, Shapes};
+use mdf_layout::Sample;
 use mdf_num::Memory;
 use std::sync::Wait;
 use std::thread::Threads;
@@ -29,27 +26,7 @@ pub(crate) fn reserve<V>(front: &mut InMemory<V>) -> Result<(), Memory>
     front.marks.reserve(2)
 }
 
-/// Writes the record of a sample, and answers its length.
-fn encode(shapes: &Shapes, sample: &Sample, out: &mut [u8]) -> usize
-    requires fits { SampleFits shapes.now sample.now }
-    requires groups { length shapes.now ≤ 64 }
-    requires disjoint { All (λ layout. AreApart layout.rows) shapes.now }
-    requires stored { All (λ layout. All IsStored layout.rows) shapes.now }
-    requires room { encoded_size shapes.now sample.now ≤ length out.old }
-    ensures size { result ≡ encoded_size shapes.now sample.now }
-    ensures record { (before : List Sample) → IsEncodingBehind shapes.now before (take result out.new) sample.now }
-    ensures length { length out.new ≡ length out.old }
-{
-    let Some(shape) = shapes.get(sample.group as u64) else {
-        return 0;
-    };
-    let size = 1 + shape.record_size() as usize;
-    out[0] = sample.group as u8 + 1;
-    shape.encode(&sample.values, &[], &mut out[1..size]);
-    size
-}
-
-/// Puts a sample behind the history, and its record behind the pending ones. It takes no memory.
+/// Puts a sample behind the history, and its records behind the pending ones. It takes no memory.
 pub(crate) fn accept<V>(front: &mut InMemory<V>, sample: Sample)
     requires counted { IsCounted front.old }
     requires fits { SampleFits front.old.shapes sample }
@@ -58,8 +35,11 @@ pub(crate) fn accept<V>(front: &mut InMemory<V>, sample: Sample)
     requires session { front.old.held + cost_of front.old.shapes sample ≤ front.old.session_limit }
     ensures put { IsPut front.old front.new sample }
 {
-    let size = encode(&front.shapes, &sample, &mut front.scratch);
+    let size = front
+        .next
+        .encode(&front.shapes, &sample, &mut front.scratch);
     front.block.push(&front.scratch[..size]);
+    front.next.pass(&front.shapes, &sample);
     front.held += front.shapes.cost_of(&sample);
     front.history.put(sample);
 }

@@ -1,6 +1,6 @@
 use crate::Marks;
 use mdf_gate::Block;
-use mdf_layout::{Samples, Shapes};
+use mdf_layout::{NextValues, Samples, Shapes};
 
 /// What a book holds in memory.
 pub struct InMemory<V> {
@@ -13,7 +13,9 @@ pub struct InMemory<V> {
     pub(crate) held: u64,
     /// The records of the samples behind the last mark.
     pub(crate) block: Block,
-    /// Where a record is made: as many bytes as a block holds at most.
+    /// Where the next values of variable length go.
+    pub(crate) next: NextValues,
+    /// Where the records of a sample are made: as many bytes as a block holds at most.
     pub(crate) scratch: Vec<u8>,
     /// What a history may cost at most, in bytes.
     pub(crate) session_limit: u64,

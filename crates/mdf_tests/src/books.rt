@@ -1,7 +1,7 @@
 ghost use Rattle.std.specs.Prelude.{◌≡◌, ◌≤◌, true, None, [], ◌∷◌, All, IfOk, length};
 ghost use Rattle.mdf_layout.specs.Layout.{Layout};
 ghost use Rattle.mdf_layout.specs.Written.{AreApart};
-ghost use Rattle.book_owned.specs.Stored.{IsStored};
+ghost use Rattle.mdf_layout.specs.Stored.{IsStored};
 ghost use Rattle.mdf_gate.specs.Gated.{IsRecordingHead};
 ghost use Rattle.book_owned.specs.Begun.{IsNewFile};
 
@@ -77,7 +77,7 @@ fn created<D: Disk + Drop, R: Abort>(
 /// A channel of 64-bit unsigned numbers.
 fn one_row(alloc: Global) -> Result<Rows<FieldRow>, Memory>
     ensures stored { IfOk result (λ rows. All IsStored rows) }
-    ensures few { IfOk result (λ rows. length rows ≤ 1024) }
+    ensures few { IfOk result (λ rows. length rows ≤ 128) }
 {
     let mut rows = Rows::empty(alloc);
     rows.push(word_row(0))?;
@@ -87,7 +87,7 @@ fn one_row(alloc: Global) -> Result<Rows<FieldRow>, Memory>
 /// The layout of these channels, which share no bit, in records of 8 bytes.
 fn group_of<R: AllocGlobal + Abort>(rt: &R, rows: &Rows<FieldRow>) -> Result<Shape, ShapeFault>
     requires stored { All IsStored rows.now }
-    requires few { length rows.now ≤ 1024 }
+    requires few { length rows.now ≤ 128 }
     ensures is { IfOk result (λ shape. shape ≡ record { rows = rows.now; data_bytes = 8; inval_bytes = 0 }) }
     ensures disjoint { IfOk result (λ shape. AreApart shape.rows) }
 {
@@ -99,7 +99,7 @@ fn group_of<R: AllocGlobal + Abort>(rt: &R, rows: &Rows<FieldRow>) -> Result<Sha
 /// The layout of one channel, and the list of just this layout.
 fn shapes_of<R: AllocGlobal + Abort>(rt: &R) -> Result<(Shape, Shapes), Fail>
     ensures list { IfOk result (λ shapes. shapes.1 ≡ shapes.0 ∷ []) }
-    ensures few { IfOk result (λ shapes. length shapes.0.rows ≤ 1024) }
+    ensures few { IfOk result (λ shapes. length shapes.0.rows ≤ 128) }
     ensures disjoint { IfOk result (λ shapes. AreApart shapes.0.rows) }
     ensures stored { IfOk result (λ shapes. All IsStored shapes.0.rows) }
 {
@@ -132,7 +132,7 @@ fn begun<R: AllocGlobal + Abort>(
     session: u64,
 ) -> Result<Book<MemoryDisk, NoView>, Fail>
     requires created { IsNewFile ⟦<MemoryDisk as Disk>⟧ file }
-    requires one { (shape : Layout) × (shapes ≡ shape ∷ []) × (length shape.rows ≤ 1024) × AreApart shape.rows × All IsStored shape.rows }
+    requires one { (shape : Layout) × (shapes ≡ shape ∷ []) × (length shape.rows ≤ 128) × AreApart shape.rows × All IsStored shape.rows }
     ensures { IfOk result (λ book. book.terms.layouts ≡ shapes) }
 {
     assert!(rt; 1 <= block);
@@ -166,7 +166,7 @@ where
     let sample = sample(rt.alloc(), &[number])?;
     assert!(rt; sample.group == 0);
     assert!(rt; shape.fits(&sample));
-    assert!(rt; shape.record_size() < book.block_limit());
+    assert!(rt; book.size_of(&sample) <= book.block_limit());
     let answer = book.append(rt, sample);
     Ok(format!(in rt.alloc(); "{answer:?}")?)
 }

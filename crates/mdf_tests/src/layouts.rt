@@ -1,7 +1,7 @@
 ghost use Rattle.std.specs.Prelude.{◌≡◌, All, IfOk, length};
 ghost use Rattle.mdf_layout.specs.Layout.{record_size};
 ghost use Rattle.mdf_layout.specs.Written.{AreApart, AreEntriesOf};
-ghost use Rattle.book_owned.specs.Stored.{IsStored};
+ghost use Rattle.mdf_layout.specs.Stored.{IsStored};
 
 use mdf_layout::{
     Entries, Entry, FieldKind, FieldRow, Sample, Samples, Shape, ShapeFault, Value, shape_of,

@@ -2,8 +2,12 @@ use Rattle.std.proofs.Common.{◌∷◌, [], ◌++◌, ◌∙◌, ap, sym, subst
 use Rattle.mdf_disk.specs.Crash.{HoldsSince}
 use Rattle.mdf_gate.specs.Images.{head_of, Opens}
 use Rattle.book_owned.specs.Begun.{IsAdmissible}
+use Rattle.book_owned.proofs.Costs.{ids_small}
 use Rattle.book_owned.proofs.Putting.{book_begun}
 use Rattle.book_owned.proofs.book.Book.begin.Goals as goal
+
+pub buffers-requires-clause-ids : goal.buffers-requires-clause-ids
+buffers-requires-clause-ids g c = ids_small c.args.shapes c.requires.admissible.groups c.requires.admissible.variable
 
 pub invariant_of-result : goal.invariant_of-result
 invariant_of-result g c =
@@ -16,7 +20,7 @@ invariant_of-result g c =
     (c.put.ensures.items ∙ ap (λ ms. ms ++ record { moment = c.moment.result; through = 0 } ∷ []) c.in-Ok.ensures.marks.0
     ∙ ap (λ t. record { moment = t; through = 0 } ∷ []) c.moment.ensures.moment)
     refl c.in-Ok.ensures.block.0 (c.in-Ok.ensures.scratch ∙ sym c.in-Ok.ensures.block.1)
-    c.requires.nothing_shown.0 c.requires.nothing_shown.1 c.requires.nothing_handed at_first
+    c.requires.nothing_shown.0 c.requires.nothing_shown.1 c.requires.nothing_handed at_first c.in-Ok.ensures.next
 
 pub returns-clause-kept : goal.returns-clause-kept
 returns-clause-kept g c = (invariant_of-result g c).back.kept
