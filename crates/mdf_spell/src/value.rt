@@ -20,11 +20,10 @@ pub(crate) fn next_if(more: bool, n: u32) -> Link
 pub(crate) fn value_link(values: &[Link], row: &ChannelRow) -> Link
     ensures { result ≡ value_link values.now row.now }
 {
-    if row.kind == 1 && !values.is_empty() {
-        values[0]
-    } else {
-        Link::Nothing
+    if row.kind != 1 || values.is_empty() {
+        return Link::Nothing;
     }
+    values[0]
 }
 
 /// The links to values that are left behind a channel.
