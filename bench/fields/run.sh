@@ -13,6 +13,7 @@ top="$(cd "$here/../.." && pwd)"
 runs="${1:-15}"
 work="$(mktemp -d)"
 trap 'rm -rf "$work"' EXIT
+. "$here/../cost.sh"
 
 mkdir -p "$work/crates/bench_fields/src"
 cp -r "$top/crates/mdf_format" "$top/crates/mdf_bits" "$work/crates/"
@@ -24,25 +25,10 @@ if ! (cd "$work/crates/bench_fields" && rt run) > "$work/log" 2>&1; then
 fi
 "${CC:-cc}" -O2 -o "$work/twin" "$here/twin.c"
 
-# the best time of a program, in microseconds
-best() {
-    local least=0 start end
-    for _ in $(seq "$runs"); do
-        start="$(date +%s%N)"
-        "$1" > /dev/null
-        end="$(date +%s%N)"
-        local time=$(((end - start) / 1000))
-        if ((least == 0 || time < least)); then
-            least="$time"
-        fi
-    done
-    echo "$least"
-}
-
 ours="$work/crates/bench_fields/out/bench_fields"
 if [ "$("$ours")" != "$("$work/twin")" ]; then
     echo "the two programs read different numbers" >&2
     exit 1
 fi
-awk -v ours="$(best "$ours")" -v twin="$(best "$work/twin")" \
+awk -v ours="$(best /dev/null "$ours")" -v twin="$(best /dev/null "$work/twin")" \
     'BEGIN { printf "mdf_bits %.0f ms, C %.0f ms, ratio %.2f\n", ours / 1000, twin / 1000, ours / twin }'

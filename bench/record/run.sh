@@ -1,11 +1,13 @@
 #!/usr/bin/env bash
-# Times `record` of a script of one channel and a million samples, and a straight write of the same blocks with the same two
-# data syncs a block. Prints the best time of each in milliseconds, and their ratio.
+# Counts the instructions, or without valgrind the best time in microseconds, of `record` of a script of 100,000 samples of two
+# channels, and of a twin in straight C that reads the script whole, keeps each sample and writes the same file with the same
+# calls. Prints both numbers and their ratio, which is to be at most 1.5.
 #
 # usage: bench/record/run.sh [RUNS]
 #
 # It is run by hand and is no part of the gate. It needs the built program (./mdf4rec), python3 and a C compiler, and works in
-# a folder of its own under out/, so that both write to the same disk.
+# a folder of its own under out/, so that both write to the same disk. Both have to print the same lines and make the same
+# file; the twin takes the start time from the recording that is made first.
 set -euo pipefail
 
 here="$(cd "$(dirname "$0")" && pwd)"
@@ -14,35 +16,27 @@ runs="${1:-5}"
 mkdir -p "$top/out"
 work="$(mktemp -d "$top/out/bench.XXXXXX")"
 trap 'rm -rf "$work"' EXIT
+. "$here/../cost.sh"
 
-python3 - "$work/script.txt" <<'PY'
-import sys
-with open(sys.argv[1], "w") as f:
-    f.write("group 0 g\nchannel t u64 master\nbegin\n")
-    f.writelines("0 %d\n" % n for n in range(1, 1000001))
-    f.write("end\n")
-PY
-"${CC:-cc}" -O2 -o "$work/straight" "$here/straight.c"
-"$top/mdf4rec" record "$work/first.mf4" < "$work/script.txt"
+before() { rm -f "$work/made.mf4"; }
 
-best() {
-    local least=0 start end
-    for _ in $(seq "$runs"); do
-        rm -f "$work/made.mf4"
-        start="$(date +%s%N)"
-        "$@" > /dev/null
-        end="$(date +%s%N)"
-        local time=$(((end - start) / 1000))
-        if ((least == 0 || time < least)); then
-            least="$time"
-        fi
-    done
-    echo "$least"
+"${CC:-cc}" -O2 -o "$work/twin" "$here/twin.c"
+"$top/mdf4rec" opened "$top/examples/two_blocks.mf4" > "$work/said" # builds the program where it is stale
+recorder="$top/crates/mdf_cli/out/mdf_cli"
+
+# records the script of this name with both programs
+compare() {
+    local script="$work/$1.txt" ours twin
+    python3 "$here/$1.py" > "$script"
+    "$recorder" record "$work/$1.mf4" < "$script" > "$work/ours"
+    "$work/twin" "$work/$1.mf4" "$work/twin.mf4" < "$script" > "$work/twins"
+    cmp "$work/ours" "$work/twins"
+    cmp "$work/$1.mf4" "$work/twin.mf4"
+    rm "$work/twin.mf4"
+    ours="$(cost "$script" "$recorder" record "$work/made.mf4")"
+    twin="$(cost "$script" "$work/twin" "$work/$1.mf4" "$work/made.mf4")"
+    awk -v name="$1" -v ours="$ours" -v twin="$twin" \
+        'BEGIN { printf "%s: record %d, C %d, ratio %.2f\n", name, ours, twin, ours / twin }'
 }
-record() { "$top/mdf4rec" record "$work/made.mf4" < "$work/script.txt"; }
-straight() { "$work/straight" "$work/first.mf4" "$work/made.mf4"; }
-ours="$(best record)"
-plain="$(best straight)"
-awk -v o="$ours" -v p="$plain" 'BEGIN { printf "record %.1f ms, straight write %.1f ms, ratio %.2f\n", o / 1000, p / 1000, o / p }'
-"$work/straight" "$work/first.mf4" "$work/again.mf4"
-cmp "$work/first.mf4" "$work/again.mf4"
+
+compare words

@@ -13,6 +13,7 @@ top="$(cd "$here/../.." && pwd)"
 runs="${1:-5}"
 work="$(mktemp -d)"
 trap 'rm -rf "$work"' EXIT
+. "$here/../cost.sh"
 
 program="$work/crates/bench_split"
 mkdir -p "$program/src" "$program/proofs/sum_of"
@@ -29,30 +30,10 @@ if ! (cd "$program" && rt run) > "$work/log" 2>&1; then
 fi
 "${CC:-cc}" -O2 -o "$work/twin" "$here/twin.c"
 
-# the instructions of a program, or its best time in microseconds
-cost() {
-    if command -v valgrind > "$work/which"; then
-        valgrind --tool=callgrind --callgrind-out-file="$work/counts" "$1" 2> "$work/said" > "$work/sum"
-        grep -m1 -E '^(summary|totals):' "$work/counts" | awk '{ print $2 }'
-        return
-    fi
-    local least=0 start end
-    for _ in $(seq "$runs"); do
-        start="$(date +%s%N)"
-        "$1" > "$work/sum"
-        end="$(date +%s%N)"
-        local time=$(((end - start) / 1000))
-        if ((least == 0 || time < least)); then
-            least="$time"
-        fi
-    done
-    echo "$least"
-}
-
 ours="$program/out/bench_split"
 if [ "$("$ours")" != "$("$work/twin")" ]; then
     echo "the two programs split differently" >&2
     exit 1
 fi
-awk -v ours="$(cost "$ours")" -v twin="$(cost "$work/twin")" \
+awk -v ours="$(cost /dev/null "$ours")" -v twin="$(cost /dev/null "$work/twin")" \
     'BEGIN { printf "mdf_data %d, C %d, ratio %.2f\n", ours, twin, ours / twin }'

@@ -1,0 +1,38 @@
+# What a program costs. The benches read this file; `work` is their own folder, `runs` how often they time a program, and a
+# bench whose program needs something done before each run says so in a `before` of its own.
+
+before() { :; }
+
+# The best time of a program with this file as its standard input, in microseconds.
+#
+# usage: best INPUT PROGRAM WORD...
+best() {
+    local input="$1" least=0 start end time
+    shift
+    for _ in $(seq "$runs"); do
+        before
+        start="$(date +%s%N)"
+        "$@" < "$input" > "$work/said"
+        end="$(date +%s%N)"
+        time=$(((end - start) / 1000))
+        if ((least == 0 || time < least)); then
+            least="$time"
+        fi
+    done
+    echo "$least"
+}
+
+# How many instructions a program executes with this file as its standard input, or without valgrind its best time.
+#
+# usage: cost INPUT PROGRAM WORD...
+cost() {
+    if ! command -v valgrind > "$work/which"; then
+        best "$@"
+        return
+    fi
+    local input="$1"
+    shift
+    before
+    valgrind --tool=callgrind --callgrind-out-file="$work/counts" "$@" < "$input" > "$work/said" 2> "$work/told"
+    grep -m1 -E '^(summary|totals):' "$work/counts" | awk '{ print $2 }'
+}
