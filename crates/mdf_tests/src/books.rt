@@ -84,34 +84,43 @@ fn one_row(alloc: Global) -> Result<Rows<FieldRow>, Memory>
     Ok(rows)
 }
 
-/// The layout of these channels, which share no bit, in records of 8 bytes.
-fn group_of<R: AllocGlobal + Abort>(rt: &R, rows: &Rows<FieldRow>) -> Result<Shape, ShapeFault>
+/// The layout of these channels, which share no bit, in records of so many bytes.
+fn group_of<R: AllocGlobal + Abort>(
+    rt: &R,
+    rows: &Rows<FieldRow>,
+    data_bytes: u32,
+) -> Result<Shape, ShapeFault>
     requires stored { All IsStored rows.now }
     requires few { length rows.now ≤ 128 }
-    ensures is { IfOk result (λ shape. shape ≡ record { rows = rows.now; data_bytes = 8; inval_bytes = 0 }) }
+    ensures is { IfOk result (λ shape. shape ≡ record { rows = rows.now; data_bytes = data_bytes; inval_bytes = 0 }) }
     ensures disjoint { IfOk result (λ shape. AreApart shape.rows) }
 {
-    let shape = shape_of(rt.alloc(), rows, 8, 0)?;
+    let shape = shape_of(rt.alloc(), rows, data_bytes, 0)?;
     assert!(rt; shape.disjoint());
     Ok(shape)
 }
 
-/// The layout of one channel, and the list of just this layout.
-fn shapes_of<R: AllocGlobal + Abort>(rt: &R) -> Result<(Shape, Shapes), Fail>
+/// The layout of these channels, which share no bit, and the list of just this layout.
+pub fn shapes_of<R: AllocGlobal + Abort>(
+    rt: &R,
+    rows: &Rows<FieldRow>,
+    data_bytes: u32,
+) -> Result<(Shape, Shapes), Fail>
+    requires stored { All IsStored rows.now }
+    requires few { length rows.now ≤ 128 }
     ensures list { IfOk result (λ shapes. shapes.1 ≡ shapes.0 ∷ []) }
     ensures few { IfOk result (λ shapes. length shapes.0.rows ≤ 128) }
     ensures disjoint { IfOk result (λ shapes. AreApart shapes.0.rows) }
     ensures stored { IfOk result (λ shapes. All IsStored shapes.0.rows) }
 {
-    let rows = one_row(rt.alloc())?;
-    let shape = group_of(rt, &rows)?;
+    let shape = group_of(rt, rows, data_bytes)?;
     let mut shapes = Shapes::empty(rt.alloc());
-    shapes.push(group_of(rt, &rows)?)?;
+    shapes.push(group_of(rt, rows, data_bytes)?)?;
     Ok((shape, shapes))
 }
 
 /// A recording on a disk that fails at these calls.
-fn file_failing_at<R: AllocGlobal + Abort>(
+pub fn file_failing_at<R: AllocGlobal + Abort>(
     rt: &R,
     failing: &[u64],
 ) -> Result<GatedFile<MemoryDisk>, Fail>
@@ -124,7 +133,7 @@ fn file_failing_at<R: AllocGlobal + Abort>(
 }
 
 /// A book over a new file, with these limits in bytes.
-fn begun<R: AllocGlobal + Abort>(
+pub fn begun<R: AllocGlobal + Abort>(
     rt: &R,
     file: GatedFile<MemoryDisk>,
     shapes: Shapes,
@@ -214,7 +223,8 @@ fn record<R>(rt: &R, recording: &Recording) -> Result<Ended, Fail>
 where
     R: AllocGlobal + Abort + Threads + Wait + Sync,
 {
-    let (shape, shapes) = shapes_of(rt)?;
+    let rows = one_row(rt.alloc())?;
+    let (shape, shapes) = shapes_of(rt, &rows, 8)?;
     let file = file_failing_at(rt, recording.failing)?;
     let mut book = begun(rt, file, shapes, recording.block, recording.session)?;
     let answers = feed(rt, &shape, &mut book, recording.tasks);
@@ -229,7 +239,8 @@ where
     })
 }
 
-const SESSION: u64 = 268_435_456;
+/// What a session costs at most.
+pub const SESSION: u64 = 268_435_456;
 
 // The numbers 1 and 2, a flush, the number 3, and a flush. A record has 9 bytes, so the first block has 24 and 18 bytes
 // at 232, the second 24 and 9 at 280, and the last place is 320.

@@ -21,3 +21,5 @@ mod scripts;
 mod seals;
 #[cfg(test)]
 mod streams;
+#[cfg(test)]
+mod values;
