@@ -7,8 +7,8 @@ pub(crate) type Piece = (usize, &'static [u8; 4], &'static [u64], &'static [u8])
 /// A block may have so many links, and so many bytes of body.
 const MOST: usize = 1 << 20;
 
-// Copies the bytes to a place of the file, if they fit there.
-fn put(file: &mut [u8], at: usize, part: &[u8]) {
+/// Copies the bytes to a place of the file, if they fit there.
+pub(crate) fn put(file: &mut [u8], at: usize, part: &[u8]) {
     if at <= file.len() && part.len() <= file.len() - at {
         file[at..at + part.len()].copy_from_slice(part);
     }
