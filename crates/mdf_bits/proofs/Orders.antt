@@ -118,6 +118,10 @@ bytes_more big bytes word i byte within so_far is j before =
           ∙ sym (get_or-lowest_first big bytes j (omega arith)) ∙ so_far j (omega arith)
     ]
 
+-- past the bytes there is no bit
+pub bit_of_past : (bytes : List ℕ) (k : ℕ) → 8 * length bytes ≤ k → bit_of bytes k ≡ 0
+bit_of_past bytes k past = ap (λ (b : ℕ). bit_at b (k % 8)) (get_or_past bytes (k / 8) 0 (omega arith)) ∙ bit_at-zero (k % 8)
+
 -- bytes that are those of a number have its bits
 pub bit_of-bytes : (bytes : List ℕ) (word : ℕ) → word < 2 ^ (8 * length bytes)
     → ((j : ℕ) → j < length bytes → get_or bytes j 0 ≡ byte_of word j) → (k : ℕ) → bit_of bytes k ≡ bit_at word k
@@ -132,7 +136,5 @@ bit_of-bytes bytes word fits same k = elim (cases_lt k (8 * length bytes)) [
       let masked : bit_at (byte_of word j) i ≡ bit_at (word / 2 ^ (8 * j)) i =
       ap (λ (n : ℕ). bit_at n i) (sym (and_mask (word / 2 ^ (8 * j)) 8)) ∙ bit_at_and (word / 2 ^ (8 * j)) (2 ^ 8 - 1) i ∙ omega arith in
       ap (λ (b : ℕ). bit_at b i) (same j (omega arith)) ∙ masked ∙ ap (λ (n : ℕ). n % 2) (shr-shr word (8 * j) i) ∙ ap (bit_at word) place
-  | inr past ↦
-      ap (λ (b : ℕ). bit_at b (k % 8)) (get_or_past bytes (k / 8) 0 (omega arith))
-      ∙ bit_at-zero (k % 8) ∙ sym (bit_at_above word (8 * length bytes) k fits past)
+  | inr past ↦ bit_of_past bytes k past ∙ sym (bit_at_above word (8 * length bytes) k fits past)
 ]

@@ -3,7 +3,7 @@ ghost use Rattle.mdf_format.specs.Field.{HasBit, bit_of, covered_end, covered_si
 ghost use Rattle.mdf_bits.specs.Field.{spot_of, IsSignedOf};
 
 use crate::Field;
-use crate::word::{bits_from, put_word, with_bits, word_of};
+use crate::word::{bits_from, put_word, replaced, word_of};
 
 /// How many bytes the field touches, at most 9.
 fn size(field: Field) -> usize
@@ -43,7 +43,7 @@ pub fn put(bytes: &mut [u8], field: Field, value: u64)
 {
     let start = field.byte as usize;
     let covered = &mut bytes[start..start + size(field)];
-    let word = with_bits(word_of(covered, field.big), field.bit, field.bits, value);
+    let word = replaced(covered, field.big, field.bit, field.bits, value);
     put_word(covered, field.big, word);
 }
 

@@ -62,3 +62,22 @@ pub(crate) fn with_bits(word: u128, bit: u8, bits: u8, value: u64) -> u128
     let mask = ((1u128 << bits) - 1) << bit;
     (word & !mask) | ((value as u128) << bit)
 }
+
+/// The number that the bytes are, with the `bits` bits from `bit` on replaced by those of `value`. Where these are all the
+/// bits, no byte is read.
+pub(crate) fn replaced(bytes: &[u8], big: bool, bit: u8, bits: u8, value: u64) -> u128
+    requires in_byte { bit ≤ 7 }
+    requires in_word { bits ≤ 64 }
+    requires few { length bytes.now ≤ 16 }
+    requires within { bit + bits ≤ 8 * length bytes.now }
+    requires fits { value < 2 ^ bits }
+    ensures inside { (k : ℕ) → k < bits → bit_at result (bit + k) ≡ bit_at value k }
+    ensures below { (k : ℕ) → k < bit → bit_at result k ≡ bit_of (lowest_first big bytes.now) k }
+    ensures above { (k : ℕ) → bit + bits ≤ k → bit_at result k ≡ bit_of (lowest_first big bytes.now) k }
+    ensures fits { result < 2 ^ (8 * length bytes.now) }
+{
+    if bits as usize == 8 * bytes.len() {
+        return value as u128;
+    }
+    with_bits(word_of(bytes, big), bit, bits, value)
+}
