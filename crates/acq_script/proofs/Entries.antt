@@ -1,26 +1,22 @@
 -- The values of a sample.
-use Rattle.std.proofs.Common.{◌≡◌, ◌∙◌, sym, ap, subst, ℕ, zero, suc, ◌+◌, ◌*◌, ◌^◌, ◌<◌, ◌≤◌, true, false, Option, Some, None, List, [], ◌∷◌, ◌++◌, length, get_or, refl, arith, append_assoc, append-nil}
+use Rattle.std.proofs.Common.{◌≡◌, ◌∙◌, sym, ap, subst, ℕ, zero, suc, ◌+◌, ◌-◌, ◌/◌, ◌^◌, ◌<◌, ◌≤◌, Bool, true, false, cond, Option, Some, None, List, [], ◌∷◌, ◌++◌, length, get_or, refl, arith, append_assoc, append-nil, drop-cons}
+use Rattle.std.specs.Prelude.{nat_lt, nat_le, ◌==◌, ◌&&◌, is_some, pos, neg_ℤ, IfSome, take, drop}
 use Rattle.std.specs.Option.{option_map, option_and_then}
-use Rattle.mdf_layout.specs.declared.sample.Value.TheVariants.{Unsigned}
+use Rattle.std.proofs.lemmas.Bool.{ltb-true, leb-true, eqb-true, and_parts, false≢true}
+use Rattle.std.proofs.lemmas.Int.{ints}
+use Rattle.std.proofs.lemmas.Nat.{pow_pos}
+use Rattle.mdf_layout.specs.declared.field.FieldKind.{FieldKind}
+use Rattle.mdf_layout.specs.declared.field.FieldKind.TheVariants as kinds
+use Rattle.mdf_layout.specs.declared.field.FieldRow.{FieldRow}
+use Rattle.mdf_layout.specs.declared.sample.Value.{Value}
+use Rattle.mdf_layout.specs.declared.sample.Value.TheVariants.{Unsigned, Signed, Bytes}
 use Rattle.mdf_layout.specs.declared.sample.Entry.{Entry}
-use Rattle.std.proofs.lemmas.Bool.{false≢true}
+use Rattle.mdf_layout.specs.Written.{ValueFits, IsEntryOf, AreEntriesOf}
 use Rattle.acq_script.specs.Text.{is_end}
 use Rattle.acq_script.specs.Number.{number_of}
-use Rattle.acq_script.specs.Stage.{entries_of, sample_with}
-use Rattle.acq_script.specs.declared.plan.Outline.{Outline}
-use Rattle.acq_script.specs.Plan.{word_row, words, plan_of, TaskFits}
-use Rattle.acq_script.specs.declared.script.Task.TheVariants as task
-use Rattle.mdf_layout.specs.Written.{IsEntryOf}
-use Rattle.acq_script.proofs.Numerals.{number_below}
-use Rattle.acq_script.proofs.Plans.{length-word_rows, row_at, long_words}
+use Rattle.acq_script.specs.Value.{begins_with, is_marked, held_in, unsigned_value, negative_in, positive_in, signed_value, bytes_of, sized, fixed_value, value_as, value_of, entry_with, entry_of, entries_of, short, long_value}
 
-abbrev pub entry_with : ℕ → Entry
-entry_with n = record { value = Unsigned n; valid = true }
-
-at_row : (byte : ℕ) (entry : Entry) → IsEntryOf (word_row 0) entry → IsEntryOf (word_row byte) entry
-at_row byte entry fits = record { value = fits.value; valid = fits.valid }
-
--- the values so far in front of those to come
+-- the entries so far in front of those to come
 abbrev pub behind : List Entry → Option (List Entry) → Option (List Entry)
 behind front entries = option_map (λ more. front ++ more) entries
 
@@ -28,77 +24,159 @@ behind_more : (front : List Entry) (entry : Entry) (entries : Option (List Entry
 behind_more front entry None = refl
 behind_more front entry (Some more) = ap Some (sym (append_assoc front (entry ∷ []) more))
 
-pub one_entry : (front : List Entry) (n m v : ℕ) (all : List (List ℕ)) (word : List ℕ) (words : List (List ℕ)) → n ≡ suc m → all ≡ word ∷ words → number_of word ≡ Some v → behind front (entries_of n all) ≡ behind (front ++ entry_with v ∷ []) (entries_of m words)
+-- a row, for what is read past the end
+abbrev pub some_row : FieldRow
+some_row = record { kind = kinds.Unsigned; big = false; byte = 0; bit = 0; bits = 0; inval = None; all_invalid = false }
+
+pub row_next : (rows : List FieldRow) (i : ℕ) (d : FieldRow) → i < length rows → drop i rows ≡ get_or rows i d ∷ drop (i + 1) rows
+row_next rows i d below =
+    let one : i + 1 ≡ suc i = omega arith in
+    rw one (drop-cons rows i d below)
+
+pub none_left : (rows : List FieldRow) (i : ℕ) → length rows ≤ i → drop i rows ≡ []
+none_left [] zero past = refl
+none_left [] (suc i) past = refl
+none_left (row ∷ rows) zero past = absurd (omega (arith, past))
+none_left (row ∷ rows) (suc i) past = none_left rows i (omega (arith, past))
+
+pub one_entry : (front : List Entry) (left : List FieldRow) (row : FieldRow) (rows : List FieldRow) (entry : Entry) (all : List (List ℕ)) (word : List ℕ) (words : List (List ℕ)) → left ≡ row ∷ rows → all ≡ word ∷ words → entry_of row word ≡ Some entry → behind front (entries_of left all) ≡ behind (front ++ entry ∷ []) (entries_of rows words)
 unfolding entries_of
-one_entry front n m v all word words e is number =
+one_entry front left row rows entry all word words e is found =
     ap (λ k. behind front (entries_of k all)) e
-    ∙ ap (λ ws. behind front (entries_of (suc m) ws)) is
-    ∙ ap (λ o. behind front (option_and_then (λ x. option_map (λ entries. entry_with x ∷ entries) (entries_of m words)) o)) number
-    ∙ behind_more front (entry_with v) (entries_of m words)
+    ∙ ap (λ ws. behind front (entries_of (row ∷ rows) ws)) is
+    ∙ ap (λ o. behind front (option_and_then (λ x. option_map (λ entries. x ∷ entries) (entries_of rows words)) o)) found
+    ∙ behind_more front entry (entries_of rows words)
 
-pub no_number : (front : List Entry) (n m : ℕ) (all : List (List ℕ)) (word : List ℕ) (words : List (List ℕ)) → n ≡ suc m → all ≡ word ∷ words → number_of word ≡ None → behind front (entries_of n all) ≡ None
+pub no_entry : (front : List Entry) (left : List FieldRow) (row : FieldRow) (rows : List FieldRow) (all : List (List ℕ)) (word : List ℕ) (words : List (List ℕ)) → left ≡ row ∷ rows → all ≡ word ∷ words → entry_of row word ≡ None → behind front (entries_of left all) ≡ None
 unfolding entries_of
-no_number front n m all word words e is number =
+no_entry front left row rows all word words e is found =
     ap (λ k. behind front (entries_of k all)) e
-    ∙ ap (λ ws. behind front (entries_of (suc m) ws)) is
-    ∙ ap (λ o. behind front (option_and_then (λ x. option_map (λ entries. entry_with x ∷ entries) (entries_of m words)) o)) number
+    ∙ ap (λ ws. behind front (entries_of (row ∷ rows) ws)) is
+    ∙ ap (λ o. behind front (option_and_then (λ x. option_map (λ entries. x ∷ entries) (entries_of rows words)) o)) found
 
-pub too_few : (front : List Entry) (n m : ℕ) (all : List (List ℕ)) → n ≡ suc m → all ≡ [] → behind front (entries_of n all) ≡ None
+pub too_few : (front : List Entry) (left : List FieldRow) (row : FieldRow) (rows : List FieldRow) (all : List (List ℕ)) → left ≡ row ∷ rows → all ≡ [] → behind front (entries_of left all) ≡ None
 unfolding entries_of
-too_few front n m all e is = ap (λ k. behind front (entries_of k all)) e ∙ ap (λ ws. behind front (entries_of (suc m) ws)) is
+too_few front left row rows all e is = ap (λ k. behind front (entries_of k all)) e ∙ ap (λ ws. behind front (entries_of (row ∷ rows) ws)) is
 
-pub too_many : (front : List Entry) (n : ℕ) (all : List (List ℕ)) → n ≡ 0 → is_end all ≡ false → behind front (entries_of n all) ≡ None
+pub too_many : (front : List Entry) (left : List FieldRow) (all : List (List ℕ)) → left ≡ [] → is_end all ≡ false → behind front (entries_of left all) ≡ None
 unfolding entries_of
-too_many front n [] e more = absurd (false≢true (sym more))
-too_many front n (word ∷ words) e more = ap (λ k. behind front (entries_of k (word ∷ words))) e
+too_many front left [] e more = absurd (false≢true (sym more))
+too_many front left (word ∷ words) e more = ap (λ k. behind front (entries_of k (word ∷ words))) e
 
-pub all_entries : (front : List Entry) (n : ℕ) (all : List (List ℕ)) → n ≡ 0 → is_end all ≡ true → behind front (entries_of n all) ≡ Some front
+pub all_entries : (front : List Entry) (left : List FieldRow) (all : List (List ℕ)) → left ≡ [] → is_end all ≡ true → behind front (entries_of left all) ≡ Some front
 unfolding entries_of
-all_entries front n [] e more = ap (λ k. behind front (entries_of k [])) e ∙ ap Some (append-nil front)
-all_entries front n (word ∷ words) e more = absurd (false≢true more)
+all_entries front left [] e more = ap (λ k. behind front (entries_of k [])) e ∙ ap Some (append-nil front)
+all_entries front left (word ∷ words) e more = absurd (false≢true more)
 
--- so many values, each below 2 ^ 64
-pub record AreValues (n : ℕ) (entries : List Entry) : Type 0 where
-  pub count : length entries ≡ n
-  pub each : (k : ℕ) (d : Entry) → k < length entries → IsEntryOf (word_row 0) (get_or entries k d)
+-- a test and then what holds of an option
+pub kept : {A : Type 0} (b : Bool) (o : Option A) (x : A) → cond b o None ≡ Some x → (b ≡ true) × (o ≡ Some x)
+kept true o x e = (refl, e)
+kept false o x e = absurd (cc)
 
-none_yet : AreValues 0 []
-none_yet = record { count = refl; each = λ k d below. absurd (omega arith) }
+-- a value fits the kind and the bits that it is read for
+held_fits : (bits n : ℕ) (v : Value) → held_in bits n ≡ Some v → ValueFits kinds.Unsigned bits v
+held_fits bits n v e =
+    let both : (nat_lt n (2 ^ bits) ≡ true) × (Some (Unsigned n) ≡ Some v) = kept (nat_lt n (2 ^ bits)) (Some (Unsigned n)) v e in
+    let is : Unsigned n ≡ v = cc in
+    subst (ValueFits kinds.Unsigned bits) is (ltb-true _ _ both.0)
 
-first_or_later : (n v : ℕ) (entries : List Entry) → v < 2 ^ 64 → AreValues n entries → (k : ℕ) (d : Entry) → k < suc (length entries) → IsEntryOf (word_row 0) (get_or (entry_with v ∷ entries) k d)
-first_or_later n v entries small are zero d below = record { value = small; valid = λ none. refl }
-first_or_later n v entries small are (suc k) d below = are.each k d (omega arith)
+positive_fits : (bits n : ℕ) (v : Value) → positive_in bits n ≡ Some v → ValueFits kinds.Signed bits v
+positive_fits bits n v e =
+    let both : (nat_lt n (2 ^ (bits - 1)) ≡ true) × (Some (Signed (pos n)) ≡ Some v) = kept (nat_lt n (2 ^ (bits - 1))) (Some (Signed (pos n))) v e in
+    let is : Signed (pos n) ≡ v = cc in
+    let less : n < 2 ^ (bits - 1) = ltb-true _ _ both.0 in
+    subst (ValueFits kinds.Signed bits) is (record { low = omega (arith, ints); high = omega (arith, ints, less) })
 
-joined : (o : Option ℕ) (r : Option (List Entry)) (n : ℕ) (entries : List Entry) → ((v : ℕ) → o ≡ Some v → v < 2 ^ 64) → ((more : List Entry) → r ≡ Some more → AreValues n more) → option_and_then (λ v. option_map (λ more. entry_with v ∷ more) r) o ≡ Some entries → AreValues (suc n) entries
-joined None r n entries small are e = absurd (cc)
-joined (Some v) None n entries small are e = absurd (cc)
-joined (Some v) (Some more) n entries small are e =
-    let these : AreValues n more = are more refl in
-    let is : entry_with v ∷ more ≡ entries = cc in
-    subst (AreValues (suc n)) is (record { count = ap suc these.count; each = first_or_later n v more (small v refl) these })
+negative_fits : (bits n : ℕ) (v : Value) → negative_in bits n ≡ Some v → ValueFits kinds.Signed bits v
+negative_fits bits n v e =
+    let both : ((nat_le 1 n && nat_le n (2 ^ (bits - 1))) ≡ true) × (Some (Signed (neg_ℤ (pos n))) ≡ Some v) = kept (nat_le 1 n && nat_le n (2 ^ (bits - 1))) (Some (Signed (neg_ℤ (pos n)))) v e in
+    let is : Signed (neg_ℤ (pos n)) ≡ v = cc in
+    let range = and_parts (nat_le 1 n) (nat_le n (2 ^ (bits - 1))) both.0 in
+    let some : 1 ≤ n = leb-true _ _ range.0 in
+    let few : n ≤ 2 ^ (bits - 1) = leb-true _ _ range.1 in
+    let power = pow_pos (bits - 1) in
+    subst (ValueFits kinds.Signed bits) is (record { low = omega (arith, ints, few); high = omega (arith, ints, some, power) })
 
-pub are_values : (n : ℕ) (words : List (List ℕ)) (entries : List Entry) → entries_of n words ≡ Some entries → AreValues n entries
+sized_fits : (size : ℕ) (b : List ℕ) (v : Value) (bits : ℕ) → size ≡ bits / 8 → sized size b ≡ Some v → ValueFits kinds.Fixed bits v
+sized_fits size b v bits same e =
+    let both : ((length b == size) ≡ true) × (Some (Bytes b) ≡ Some v) = kept (length b == size) (Some (Bytes b)) v e in
+    let is : Bytes b ≡ v = cc in
+    subst (ValueFits kinds.Fixed bits) is (eqb-true _ _ both.0 ∙ same)
+
+short_fits : (b : List ℕ) (v : Value) (bits : ℕ) → short b ≡ Some v → ValueFits kinds.Variable bits v
+short_fits b v bits e =
+    let both : (nat_le (length b) 65535 ≡ true) × (Some (Bytes b) ≡ Some v) = kept (nat_le (length b) 65535) (Some (Bytes b)) v e in
+    let is : Bytes b ≡ v = cc in
+    let few : length b ≤ 65535 = leb-true _ _ both.0 in
+    subst (ValueFits kinds.Variable bits) is (omega (arith, few))
+
+pub then_some : {A B : Type 0} (f : A → Option B) (o : Option A) (y : B) → option_and_then f o ≡ Some y → (x : A) × (o ≡ Some x) × (f x ≡ Some y)
+then_some f None y e = absurd (cc)
+then_some f (Some x) y e = (x, refl, e)
+
+pub mapped : {A B : Type 0} (f : A → B) (o : Option A) (y : B) → option_map f o ≡ Some y → (x : A) × (o ≡ Some x) × (f x ≡ y)
+mapped f None y e = absurd (cc)
+mapped f (Some x) y e = (x, refl, cc)
+
+signed_fits : (b : Bool) (bits : ℕ) (first second : Option ℕ) (v : Value) → cond b (option_and_then (negative_in bits) first) (option_and_then (positive_in bits) second) ≡ Some v → ValueFits kinds.Signed bits v
+signed_fits true bits first second v e = let found = then_some (negative_in bits) first v e in negative_fits bits found.0 v found.2
+signed_fits false bits first second v e = let found = then_some (positive_in bits) second v e in positive_fits bits found.0 v found.2
+
+value_as_fits : (kind : FieldKind) (bits : ℕ) (word : List ℕ) (v : Value) → value_as kind bits word ≡ Some v → ValueFits kind bits v
+unfolding unsigned_value signed_value fixed_value long_value
+value_as_fits kinds.Unsigned bits word v e = let found = then_some (held_in bits) (number_of word) v e in held_fits bits found.0 v found.2
+value_as_fits kinds.Signed bits word v e = signed_fits (begins_with 45 word) bits (number_of (drop 1 word)) (number_of word) v e
+value_as_fits kinds.Fixed bits word v e = let found = then_some (sized (bits / 8)) (bytes_of word) v e in sized_fits (bits / 8) found.0 v bits refl found.2
+value_as_fits kinds.Variable bits word v e = let found = then_some short (bytes_of word) v e in short_fits found.0 v bits found.2
+value_as_fits kinds.Virtual bits word v e = absurd (cc)
+
+value_of_fits : (row : FieldRow) (word : List ℕ) (v : Value) → value_of row word ≡ Some v → ValueFits row.kind row.bits v
+unfolding value_of
+value_of_fits row word v e = value_as_fits row.kind row.bits word v e
+
+-- where there is a position, the entry can be invalid
+has_position : (row : FieldRow) (at : Option ℕ) → row.inval ≡ at → is_some at ≡ true → row.inval ≡ None → ⊥
+has_position row None is some none = absurd (false≢true some)
+has_position row (Some p) is some none = let wrong : ◌≡◌ {A = Option ℕ} (Some p) None = sym is ∙ none in cc
+
+entry_fits_if : (b : Bool) (row : FieldRow) (word front : List ℕ) (entry : Entry)
+    → cond b (cond (is_some row.inval) (option_map (entry_with false) (value_of row front)) None) (option_map (entry_with true) (value_of row word)) ≡ Some entry → IsEntryOf row entry
+entry_fits_if true row word front entry e =
+    let both : (is_some row.inval ≡ true) × (option_map (entry_with false) (value_of row front) ≡ Some entry) = kept (is_some row.inval) (option_map (entry_with false) (value_of row front)) entry e in
+    let found = mapped (entry_with false) (value_of row front) entry both.1 in
+    subst (IsEntryOf row) found.2 (record { value = value_of_fits row front found.0 found.1; valid = λ none. absurd (has_position row row.inval refl both.0 none) })
+entry_fits_if false row word front entry e =
+    let found = mapped (entry_with true) (value_of row word) entry e in
+    subst (IsEntryOf row) found.2 (record { value = value_of_fits row word found.0 found.1; valid = λ none. refl })
+
+pub entry_fits : (row : FieldRow) (word : List ℕ) (entry : Entry) → entry_of row word ≡ Some entry → IsEntryOf row entry
+unfolding entry_of
+entry_fits row word entry e = entry_fits_if (is_marked word) row word (take (length word - 1) word) entry e
+
+none_yet : AreEntriesOf [] []
+none_yet = record { count = refl; each = λ k row entry below. absurd (omega (arith, below)) }
+
+first_or_later : (row : FieldRow) (rows : List FieldRow) (entry : Entry) (entries : List Entry) → IsEntryOf row entry → AreEntriesOf rows entries
+    → (k : ℕ) (r : FieldRow) (d : Entry) → k < suc (length rows) → IsEntryOf (get_or (row ∷ rows) k r) (get_or (entry ∷ entries) k d)
+first_or_later row rows entry entries here are zero r d below = here
+first_or_later row rows entry entries here are (suc k) r d below = are.each k r d (omega (arith, below))
+
+pub with_entry : (row : FieldRow) (rows : List FieldRow) (entry : Entry) (entries : List Entry) → IsEntryOf row entry → AreEntriesOf rows entries → AreEntriesOf (row ∷ rows) (entry ∷ entries)
+with_entry row rows entry entries here are = record { count = ap suc are.count; each = first_or_later row rows entry entries here are }
+
+-- the entries that words are fit their channels
+pub entries_fit : (rows : List FieldRow) (words : List (List ℕ)) (entries : List Entry) → entries_of rows words ≡ Some entries → AreEntriesOf rows entries
 unfolding entries_of
-are_values zero [] entries e =
+entries_fit [] [] entries e =
     let is : [] ≡ entries = cc in
-    subst (AreValues 0) is none_yet
-are_values zero (word ∷ words) entries e = absurd (cc)
-are_values (suc n) [] entries e = absurd (cc)
-are_values (suc n) (word ∷ words) entries e =
-    joined (number_of word) (entries_of n words) n entries (number_below word) (are_values n words) e
+    subst (AreEntriesOf []) is none_yet
+entries_fit [] (word ∷ words) entries e = absurd (cc)
+entries_fit (row ∷ rows) [] entries e = absurd (cc)
+entries_fit (row ∷ rows) (word ∷ words) entries e =
+    let first = then_some (λ entry. option_map (λ more. entry ∷ more) (entries_of rows words)) (entry_of row word) entries e in
+    let rest = mapped (λ more. first.0 ∷ more) (entries_of rows words) entries first.2 in
+    subst (AreEntriesOf (row ∷ rows)) rest.2 (with_entry row rows first.0 rest.0 (entry_fits row word first.0 first.1) (entries_fit rows words rest.0 rest.1))
 
--- a sample of so many values, whose record is no longer than a block, fits the plan
-pub sample_fits : (outline : Outline) (entries : List Entry) → outline.channels ≤ 256 → 1 + 8 * outline.channels ≤ outline.block → AreValues outline.channels entries → TaskFits (plan_of outline) (task.Sample (sample_with entries))
-sample_fits outline entries few room are = (
-  record {
-    layout = words outline.channels;
-    known = refl;
-    entries = record {
-      count = are.count ∙ sym (length-word_rows outline.channels);
-      each = λ k row entry below. subst (λ r. IsEntryOf r (get_or entries k entry))
-          (sym (row_at outline.channels k row (omega (arith, below, are.count, length-word_rows outline.channels))))
-          (at_row (8 * k) _ (are.each k entry (omega (arith, below, are.count, length-word_rows outline.channels))));
-    };
-  },
-  omega (arith, room, long_words outline.channels entries),
-)
+pub some_fit : (rows : List FieldRow) (words : List (List ℕ)) (found : Option (List Entry)) → found ≡ entries_of rows words → IfSome found (AreEntriesOf rows)
+some_fit rows words None is = tt
+some_fit rows words (Some entries) is = entries_fit rows words entries (sym is)

@@ -1,8 +1,12 @@
 pub mod Parts
 pub mod Numerals
-pub mod Plans
 pub mod Entries
-pub mod Sounds
 pub mod Steps
+pub mod Pairs
+pub mod Says
+pub mod Layings
+pub mod Drafts
+pub mod Sketches
+pub mod Sounds
 pub mod Spells
 pub mod Respelled

@@ -1,48 +1,56 @@
 -- A script that was spelled is read as what it was spelled for, line by line.
-use Rattle.std.proofs.Common.{◌≡◌, ◌∙◌, sym, ap, subst, ℕ, zero, suc, ◌+◌, ◌*◌, ◌<◌, ◌≤◌, Bool, true, false, cond, Option, Some, None, List, [], ◌∷◌, ◌++◌, length, get_or, map, refl, arith, append_assoc, append-nil, All, ◌^◌}
-use Rattle.std.specs.Prelude.{◌&&◌, ◌||◌, not, Result, Ok, option_to_list, count_by, codes, decimal, slice_get, nat_le, IfSome}
-use Rattle.std.specs.Option.{ok_or, option_and_then, option_map, option_map_or}
-use Rattle.std.proofs.lemmas.Bool.{lt-ltb, le-leb}
+use Rattle.std.proofs.Common.{◌≡◌, ◌∙◌, sym, ap, subst, ℕ, zero, suc, ◌+◌, ◌-◌, ◌*◌, ◌<◌, ◌≤◌, Bool, true, false, cond, Option, Some, None, List, [], ◌∷◌, ◌++◌, length, get_or, map, refl, arith, append_assoc, append-nil, length-append, All, ◌^◌}
+use Rattle.std.specs.Prelude.{◌&&◌, ◌||◌, ◌==◌, not, Result, Ok, count_by, codes, decimal, slice_get, slice_index, is_some, take, nat_le, nat_lt, IfSome}
+use Rattle.std.specs.List.{AllByRecursion, list_all}
+use Rattle.std.specs.Char.{is_ascii_digit}
+use Rattle.std.specs.Option.{ok_or, option_and_then, option_map}
+use Rattle.std.proofs.lemmas.Bool.{lt-ltb, le-leb, ne_eqb}
 use Rattle.std.proofs.lemmas.List.Elements.{All-nil, All-cons, All-head, All-tail}
 use Rattle.std.proofs.lemmas.List.Sums.{sum_by-cons}
-use Rattle.mdf_layout.specs.Written.{ValueFits, IsEntryOf}
-use Rattle.mdf_layout.specs.Record.{long_size}
-use Rattle.mdf_layout.specs.Layout.{Layout, record_size}
-use Rattle.mdf_layout.specs.Record.{SampleFits}
+use Rattle.mdf_group.specs.Recordable.{numbers_of}
+use Rattle.mdf_group.specs.declared.row.ChannelRow.{ChannelRow}
+use Rattle.mdf_layout.specs.Row.{field_row}
+use Rattle.mdf_layout.specs.Written.{ValueFits, IsEntryOf, AreEntriesOf}
+use Rattle.mdf_layout.specs.Layout.{Layout}
+use Rattle.mdf_layout.specs.Record.{encoded_size}
 use Rattle.mdf_layout.specs.declared.field.FieldKind.TheVariants.{Unsigned}
+use Rattle.mdf_layout.specs.declared.field.FieldRow.{FieldRow}
 use Rattle.mdf_layout.specs.declared.sample.Value.{Value}
 use Rattle.mdf_layout.specs.declared.sample.Value.TheVariants as value
 use Rattle.mdf_layout.specs.declared.sample.Entry.{Entry}
 use Rattle.mdf_layout.specs.declared.sample.Sample.{Sample}
 use Rattle.acq_script.specs.Text.{lines_of, is_name}
 use Rattle.acq_script.specs.Number.{number_of}
+use Rattle.acq_script.specs.Kind.{packed, count_behind, number_type, type_of}
+use Rattle.acq_script.specs.Value.{is_marked, held_in, unsigned_value, value_as, value_of, entry_with, entry_of, entries_of}
+use Rattle.acq_script.specs.Draft.{channel_row, drawn, with_channel, group_row}
 use Rattle.acq_script.specs.Line as said
-use Rattle.acq_script.specs.Line.{line_of, worded, group_of, channel_of, master_of, one_number, block_of, session_of, flush_of, alone}
-use Rattle.acq_script.specs.Stage.{step, entries_of, sample_with, with_channel, to}
-use Rattle.acq_script.specs.Plan.{word_row, words, outline_of, plan_of, TaskFits}
-use Rattle.acq_script.specs.declared.plan.Outline.{Outline}
-use Rattle.acq_script.specs.Script.{read_from, told_of}
-use Rattle.acq_script.specs.Spelled.{Channel, Spelling, outline_said, limit_lines, group_words, channel_words, value_word, task_words, line_with, text_with, spelled, IsSpellable}
+use Rattle.acq_script.specs.Line.{line_of, worded, worded_plan, group_of, channel_of, channel_with, marks_of, inval_of, one_number, block_of, session_of, flush_of, alone}
+use Rattle.acq_script.specs.Plan.{layout_of, TaskFits}
+use Rattle.acq_script.specs.Sketch.{limits_of, sketch_with, counted, channel_in, plan_with, script_with}
+use Rattle.acq_script.specs.Stage.{step, admitted, with_task}
+use Rattle.acq_script.specs.Script.{read_from, script_of}
+use Rattle.acq_script.specs.Spelled.{Channel, Spelling, limit_lines, group_words, channel_words, value_word, task_words, line_with, text_with, spelled, word_form, word_rows, sketch_of, script_said, IsSpellable}
+use Rattle.acq_script.specs.declared.script.Plan.{Plan}
+use Rattle.acq_script.specs.declared.script.Script.{Script}
 use Rattle.acq_script.specs.declared.script.Task.{Task}
 use Rattle.acq_script.specs.declared.script.Task.TheVariants as task
+use Rattle.acq_script.specs.declared.sketch.Limits.{Limits}
 use Rattle.acq_script.specs.declared.stage.Stage.{Stage}
 use Rattle.acq_script.specs.declared.stage.Stage.TheVariants.{Empty, Planned, Running, Ended}
-use Rattle.acq_script.specs.declared.stage.Change.{Change}
 use Rattle.acq_script.proofs.Parts.{some_part}
-use Rattle.acq_script.proofs.Numerals.{of_decimal, number_zero, decimal_digits}
-use Rattle.acq_script.proofs.Entries.{entry_with}
-use Rattle.acq_script.proofs.Plans.{length-word_rows, row_at}
+use Rattle.acq_script.proofs.Numerals.{of_decimal, number_zero, decimal_digits, digit_at}
 use Rattle.acq_script.proofs.Steps.{taken, at_end}
 use Rattle.acq_script.proofs.Spells.{IsByte, AreWords, line_back, line_said, literal, name_bytes, digit_bytes}
 
 -- what these lines make of the lines before them
-abbrev pub reads : Stage → List Task → ℕ → List (List (List ℕ)) → Result (Outline × List Task) ℕ
-reads stage tasks line lines = read_from stage tasks line (lines_of (text_with lines))
+abbrev pub reads : Stage → ℕ → List (List (List ℕ)) → Result Script ℕ
+reads stage line lines = read_from stage line (lines_of (text_with lines))
 
-one_line : (stage : Stage) (tasks : List Task) (line : ℕ) (words : List (List ℕ)) (lines : List (List (List ℕ))) (says : said.Line) (change : Change) (told : Outline × List Task) → AreWords words → line_of (line_with words) ≡ Some says → step stage says ≡ Some change → reads change.stage (tasks ++ option_to_list change.task) (line + 1) lines ≡ Ok told → reads stage tasks line (words ∷ lines) ≡ Ok told
-one_line stage tasks line words lines says change told are is steps follows =
-    ap (read_from stage tasks line) (line_back words lines are)
-    ∙ taken stage tasks line (line_with words) (lines_of (text_with lines)) change (some_part 10 (text_with lines))
+one_line : (stage : Stage) (line : ℕ) (words : List (List ℕ)) (lines : List (List (List ℕ))) (says : said.Line) (changed : Stage) (script : Script) → AreWords words → line_of (line_with words) ≡ Some says → step stage says ≡ Some changed → reads changed (line + 1) lines ≡ Ok script → reads stage line (words ∷ lines) ≡ Ok script
+one_line stage line words lines says changed script are is steps follows =
+    ap (read_from stage line) (line_back words lines are)
+    ∙ taken stage line (line_with words) (lines_of (text_with lines)) changed (some_part 10 (text_with lines))
     (ap (λ o. ok_or (option_and_then (step stage) o) line) is ∙ ap (λ o. ok_or o line) steps)
     ∙ follows
 
@@ -58,7 +66,7 @@ group_are name ok =
     All-cons (All IsByte) (codes "group") (codes "0" ∷ name ∷ []) (literal (codes "group") refl) (two (codes "0") name (literal (codes "0") refl) (name_bytes name ok))
 
 group_says : (name : List ℕ) → is_name name ≡ true → line_of (line_with (group_words name)) ≡ Some (said.Group 0 name)
-unfolding worded group_of
+unfolding worded_plan group_of
 group_says name ok =
     line_said 103 (codes "roup") (codes "0" ∷ name ∷ []) refl (group_are name ok)
     ∙ ap (λ b. cond (b && true) (option_map (λ s. said.Group s name) (number_of (codes "0"))) None) ok
@@ -72,14 +80,24 @@ channel_are name true ok =
 channel_are name false ok =
     All-cons (All IsByte) (codes "channel") (name ∷ codes "u64" ∷ []) (literal (codes "channel") refl) (two name (codes "u64") (name_bytes name ok) (literal (codes "u64") refl))
 
-channel_says : (name : List ℕ) (master : Bool) → is_name name ≡ true → line_of (line_with (channel_words (record { name = name; master = master }))) ≡ Some (said.Channel name master)
-unfolding worded channel_of master_of
+sixty_four : number_of (codes "64") ≡ Some 64
+unfolding number_of
+sixty_four = refl
+
+word_type : type_of (codes "u64") ≡ Some (packed 0 64)
+unfolding number_of type_of number_type count_behind
+word_type = refl
+
+channel_says : (name : List ℕ) (master : Bool) → is_name name ≡ true → line_of (line_with (channel_words (record { name = name; master = master }))) ≡ Some (said.Channel name (word_form master))
+unfolding worded_plan channel_of marks_of inval_of
 channel_says name true ok =
     line_said 99 (codes "hannel") (name ∷ codes "u64" ∷ codes "master" ∷ []) refl (channel_are name true ok)
-    ∙ ap (λ b. cond (b && true) (Some (said.Channel name true)) None) ok
+    ∙ ap (λ b. cond b (option_and_then (λ k. option_and_then (channel_with name k) (marks_of (codes "master" ∷ []))) (type_of (codes "u64"))) None) ok
+    ∙ ap (option_and_then (λ k. option_and_then (channel_with name k) (marks_of (codes "master" ∷ [])))) word_type
 channel_says name false ok =
     line_said 99 (codes "hannel") (name ∷ codes "u64" ∷ []) refl (channel_are name false ok)
-    ∙ ap (λ b. cond (b && true) (Some (said.Channel name false)) None) ok
+    ∙ ap (λ b. cond b (option_and_then (λ k. option_and_then (channel_with name k) (marks_of [])) (type_of (codes "u64"))) None) ok
+    ∙ ap (option_and_then (λ k. option_and_then (channel_with name k) (marks_of []))) word_type
 
 one_master : (had master : Bool) (rest : ℕ) → cond had 1 0 + (cond master 1 0 + rest) ≤ 1 → (not (had && master) ≡ true) × (cond (had || master) 1 0 + rest ≤ 1)
 one_master true true rest few = absurd (omega arith)
@@ -87,120 +105,165 @@ one_master true false rest few = (refl, omega arith)
 one_master false true rest few = (refl, omega arith)
 one_master false false rest few = (refl, omega arith)
 
-abbrev pub outline_at : ℕ → ℕ → ℕ → Outline
-outline_at block session n = record { channels = n; block = block; session = session }
+abbrev row_at : Channel → ℕ → ChannelRow
+row_at channel free = channel_row channel.name (word_form channel.master) free 0
 
-admitted : (block session n : ℕ) (had master : Bool) → n < 256 → not (had && master) ≡ true → with_channel (outline_at block session n) had master ≡ to (Planned (outline_at block session (n + 1)) (had || master))
-admitted block session n had master room one =
-    ap (λ b. cond (b && not (had && master)) (to (Planned (outline_at block session (n + 1)) (had || master))) None) (lt-ltb n 256 room)
-    ∙ ap (λ b. cond b (to (Planned (outline_at block session (n + 1)) (had || master))) None) one
+more_room : (a b : Bool) → a ≡ true → b ≡ true → (a && b) ≡ true
+more_room a b first second = ap (λ x. x && b) first ∙ second
 
-channels_read : (block session n m : ℕ) (had : Bool) (channels : List Channel) (line : ℕ) (lines : List (List (List ℕ))) (told : Outline × List Task) → n + length channels ≡ m → m ≤ 256 → cond had 1 0 + count_by (λ c. c.master) channels ≤ 1 → All (λ c. is_name c.name ≡ true) channels → ((had : Bool) (line : ℕ) → reads (Planned (outline_at block session m) had) [] line lines ≡ Ok told) → reads (Planned (outline_at block session n) had) [] line (map channel_words channels ++ lines) ≡ Ok told
-unfolding step
-channels_read block session n m had [] line lines told count few one names follow =
+admitted_channel : (limits : Limits) (name : List ℕ) (rows : List ChannelRow) (n free : ℕ) (had unit : Bool) (channel : Channel) → n < 256 → length rows ≡ n → not (had && channel.master) ≡ true
+    → channel_in (sketch_of limits name rows n free had unit) channel.name (word_form channel.master) ≡ Some (sketch_of limits name (rows ++ row_at channel free ∷ []) (n + 1) (free + 64) (had || channel.master) true)
+admitted_channel limits name rows n free had unit channel room long one =
+    let old = sketch_of limits name rows n free had unit in
+    let form = word_form channel.master in
+    let more = drawn old.draft channel.name form in
+    ap (λ b. cond b (option_map (sketch_with old (counted old.counts form)) (with_channel old.draft channel.name form)) None) (more_room (nat_lt n 1024) true (lt-ltb n 1024 (omega (arith, room))) refl)
+    ∙ ap (λ b. option_map (sketch_with old (counted old.counts form)) (cond b (Some more) None))
+    (more_room (nat_lt (length rows) 256) (not (had && channel.master)) (lt-ltb (length rows) 256 (omega (arith, room, long))) one)
+
+channels_read : (limits : Limits) (name : List ℕ) (rows all : List ChannelRow) (n m free e : ℕ) (had unit : Bool) (channels : List Channel) (line : ℕ) (lines : List (List (List ℕ))) (script : Script) → length rows ≡ n → n + length channels ≡ m → m ≤ 256 → free + 64 * length channels ≡ e → rows ++ word_rows free channels ≡ all → cond had 1 0 + count_by (λ c. c.master) channels ≤ 1 → All (λ c. is_name c.name ≡ true) channels → ((had unit : Bool) (line : ℕ) → reads (Planned (sketch_of limits name all m e had unit)) line lines ≡ Ok script) → reads (Planned (sketch_of limits name rows n free had unit)) line (map channel_words channels ++ lines) ≡ Ok script
+channels_read limits name rows all n m free e had unit [] line lines script long count few bits are one names follow =
     let same : m ≡ n = omega (arith, count) in
-    subst (λ k. reads (Planned (outline_at block session k) had) [] line lines ≡ Ok told) same (follow had line)
-channels_read block session n m had (channel ∷ channels) line lines told count few one names follow =
-    let name : is_name channel.name ≡ true = All-head (λ (c : Channel). is_name c.name ≡ true) channel channels names in
+    let end_ : e ≡ free = omega (arith, bits) in
+    let rows_same : all ≡ rows = sym are ∙ append-nil rows in
+    subst (λ r. reads (Planned (sketch_of limits name r n free had unit)) line lines ≡ Ok script) rows_same
+    (subst (λ k. reads (Planned (sketch_of limits name all k free had unit)) line lines ≡ Ok script) same
+    (subst (λ k. reads (Planned (sketch_of limits name all m k had unit)) line lines ≡ Ok script) end_ (follow had unit line)))
+channels_read limits name rows all n m free e had unit (channel ∷ channels) line lines script long count few bits are one names follow =
+    let ok : is_name channel.name ≡ true = All-head (λ (c : Channel). is_name c.name ≡ true) channel channels names in
     let more : count_by (λ c. c.master) (channel ∷ channels) ≡ cond channel.master 1 0 + count_by (λ c. c.master) channels = sum_by-cons (λ (c : Channel). cond c.master 1 0) channel channels in
     let master : (not (had && channel.master) ≡ true) × (cond (had || channel.master) 1 0 + count_by (λ c. c.master) channels ≤ 1) = one_master had channel.master (count_by (λ c. c.master) channels) (subst (λ k. cond had 1 0 + k ≤ 1) more one) in
-    one_line (Planned (outline_at block session n) had) [] line (channel_words channel) (map channel_words channels ++ lines) (said.Channel channel.name channel.master) (record { stage = Planned (outline_at block session (n + 1)) (had || channel.master); task = None }) told
-    (channel_are channel.name channel.master name) (channel_says channel.name channel.master name) (admitted block session n had channel.master (omega (arith, count, few)) master.0)
-    (channels_read block session (n + 1) m (had || channel.master) channels (line + 1) lines told (omega (arith, count)) few master.1
+    let row = row_at channel free in
+    one_line (Planned (sketch_of limits name rows n free had unit)) line (channel_words channel) (map channel_words channels ++ lines) (said.Channel channel.name (word_form channel.master)) (Planned (sketch_of limits name (rows ++ row ∷ []) (n + 1) (free + 64) (had || channel.master) true)) script
+    (channel_are channel.name channel.master ok) (channel_says channel.name channel.master ok)
+    (ap (option_map Planned) (admitted_channel limits name rows n free had unit channel (omega (arith, count, few)) long master.0))
+    (channels_read limits name (rows ++ row ∷ []) all (n + 1) m (free + 64) e (had || channel.master) true channels (line + 1) lines script (length-append rows (row ∷ []) ∙ omega (arith, long)) (omega (arith, count)) few (omega (arith, bits))
+    (append_assoc rows (row ∷ []) (word_rows (free + 64) channels) ∙ are) master.1
     (All-tail (λ (c : Channel). is_name c.name ≡ true) channel channels names) follow)
 
--- the values of a sample
-record IsRead (entry : Entry) : Type 0 where
-  number : ℕ
-  bytes : All IsByte (value_word entry.value)
-  says : number_of (value_word entry.value) ≡ Some number
-  is : entry ≡ entry_with number
+-- a field of a 64-bit number
+record IsWord (row : FieldRow) : Type 0 where
+  kind : row.kind ≡ Unsigned
+  bits : row.bits ≡ 64
+  inval : row.inval ≡ None
 
-value_read : (v : Value) (valid : Bool) → valid ≡ true → ValueFits Unsigned 64 v → IsRead (record { value = v; valid = valid })
-value_read (value.Unsigned n) valid ok small = record {
-  number = n;
-  bytes = digit_bytes (decimal n) (decimal_digits n small);
-  says = of_decimal (decimal n) n small refl;
-  is = ap (λ b. record { value = value.Unsigned n; valid = b }) ok;
-}
-value_read (value.Signed n) valid ok small = absurd small
-value_read (value.Bytes b) valid ok small = absurd small
-value_read (value.Index n) valid ok small = absurd small
+abbrev field_of : ChannelRow → FieldRow
+field_of channel = field_row (numbers_of channel)
 
-entry_read : (entry : Entry) → IsEntryOf (word_row 0) entry → IsRead entry
-entry_read entry fits = value_read entry.value entry.valid (fits.valid refl) fits.value
+word_field : (name : List ℕ) (master : Bool) (bit : ℕ) → IsWord (field_of (channel_row name (word_form master) bit 0))
+word_field name true bit = record { kind = refl; bits = refl; inval = refl }
+word_field name false bit = record { kind = refl; bits = refl; inval = refl }
 
-abbrev pub word_of : Entry → List ℕ
+word_fields : (bit : ℕ) (channels : List Channel) → AllByRecursion IsWord (map field_of (word_rows bit channels))
+word_fields bit [] = tt
+word_fields bit (channel ∷ channels) = (word_field channel.name channel.master bit, word_fields (bit + 64) channels)
+
+-- a number's last byte is no `?`
+no_mark : (a b : Bool) → b ≡ false → (a && b) ≡ false
+no_mark true b e = e
+no_mark false b e = refl
+
+not_marked : (word : List ℕ) → list_all is_ascii_digit word ≡ true → is_marked word ≡ false
+not_marked [] e = refl
+not_marked (first ∷ word) e =
+    let k = length (first ∷ word) - 1 in
+    let digit = digit_at (first ∷ word) k e (omega arith) in
+    no_mark (nat_lt 0 (length (first ∷ word))) (get_or (first ∷ word) k 0 == 63) (ne_eqb (get_or (first ∷ word) k 0) 63 (λ is. absurd (omega (arith, is, digit.1))))
+
+-- the value of a channel is read back
+abbrev word_of : Entry → List ℕ
 word_of entry = value_word entry.value
 
-values_are : (entries : List Entry) → All (IsEntryOf (word_row 0)) entries → AreWords (map word_of entries)
-values_are [] fit = All-nil (All IsByte)
-values_are (entry ∷ entries) fit =
-    All-cons (All IsByte) (word_of entry) (map word_of entries) (entry_read entry (All-head (IsEntryOf (word_row 0)) entry entries fit)).bytes
-    (values_are entries (All-tail (IsEntryOf (word_row 0)) entry entries fit))
+record IsRead (row : FieldRow) (entry : Entry) : Type 0 where
+  bytes : All IsByte (word_of entry)
+  says : entry_of row (word_of entry) ≡ Some entry
 
-entries_back : (entries : List Entry) → All (IsEntryOf (word_row 0)) entries → entries_of (length entries) (map word_of entries) ≡ Some entries
+value_read : (row : FieldRow) (v : Value) (valid : Bool) → IsWord row → valid ≡ true → ValueFits Unsigned 64 v → IsRead row (record { value = v; valid = valid })
+unfolding entry_of value_of unsigned_value
+value_read row (value.Unsigned n) valid word ok small =
+    let digits = decimal_digits n small in record {
+      bytes = digit_bytes (decimal n) digits;
+      says =
+          ap (λ b. cond b (cond (is_some row.inval) (option_map (entry_with false) (value_of row (take (length (decimal n) - 1) (decimal n)))) None) (option_map (entry_with true) (value_of row (decimal n)))) (not_marked (decimal n) digits)
+          ∙ ap (λ k. option_map (entry_with true) (value_as k row.bits (decimal n))) word.kind
+          ∙ ap (λ b. option_map (entry_with true) (option_and_then (held_in b) (number_of (decimal n)))) word.bits
+          ∙ ap (λ o. option_map (entry_with true) (option_and_then (held_in 64) o)) (of_decimal (decimal n) n small refl)
+          ∙ ap (λ b. option_map (entry_with true) (cond b (Some (value.Unsigned n)) None)) (lt-ltb n (2 ^ 64) small)
+          ∙ ap (λ b. Some (record { value = value.Unsigned n; valid = b })) (sym ok);
+    }
+value_read row (value.Signed z) valid word ok small = absurd small
+value_read row (value.Bytes b) valid word ok small = absurd small
+value_read row (value.Index n) valid word ok small = absurd small
+
+entry_read : (row : FieldRow) (entry : Entry) → IsWord row → IsEntryOf row entry → IsRead row entry
+entry_read row entry word is =
+    value_read row entry.value entry.valid word (is.valid word.inval) (subst (λ b. ValueFits Unsigned b entry.value) word.bits (subst (λ k. ValueFits k row.bits entry.value) word.kind is.value))
+
+record AreRead (rows : List FieldRow) (entries : List Entry) : Type 0 where
+  bytes : AreWords (map word_of entries)
+  says : entries_of rows (map word_of entries) ≡ Some entries
+
+tail_fits : (row : FieldRow) (rows : List FieldRow) (entry : Entry) (entries : List Entry) → AreEntriesOf (row ∷ rows) (entry ∷ entries) → AreEntriesOf rows entries
+tail_fits row rows entry entries are = record { count = omega (arith, are.count); each = λ k r d below. are.each (suc k) r d (omega (arith, below)) }
+
+entries_read : (rows : List FieldRow) (entries : List Entry) → AllByRecursion IsWord rows → AreEntriesOf rows entries → AreRead rows entries
 unfolding entries_of
-entries_back [] fit = refl
-entries_back (entry ∷ entries) fit =
-    let read : IsRead entry = entry_read entry (All-head (IsEntryOf (word_row 0)) entry entries fit) in
-    ap (λ o. option_and_then (λ v. option_map (λ es. entry_with v ∷ es) (entries_of (length entries) (map word_of entries))) o) read.says
-    ∙ ap (option_map (λ es. entry_with read.number ∷ es)) (entries_back entries (All-tail (IsEntryOf (word_row 0)) entry entries fit))
-    ∙ ap (λ e. Some (e ∷ entries)) (sym read.is)
-
--- a sample that fits is one of the group
-record IsOfGroup (n : ℕ) (sample : Sample) : Type 0 where
-  group : sample.group ≡ 0
-  count : length sample.values ≡ n
-  fit : All (IsEntryOf (word_row 0)) sample.values
+entries_read [] [] words are = record { bytes = All-nil (All IsByte); says = refl }
+entries_read [] (entry ∷ entries) words are = absurd (omega (arith, are.count))
+entries_read (row ∷ rows) [] words are = absurd (omega (arith, are.count))
+entries_read (row ∷ rows) (entry ∷ entries) words are =
+    let first = entry_read row entry words.0 (are.each 0 row entry (omega arith)) in
+    let rest = entries_read rows entries words.1 (tail_fits row rows entry entries are) in record {
+      bytes = All-cons (All IsByte) (word_of entry) (map word_of entries) first.bytes rest.bytes;
+      says =
+          ap (option_and_then (λ e. option_map (λ es. e ∷ es) (entries_of rows (map word_of entries)))) first.says
+          ∙ ap (option_map (λ es. entry ∷ es)) rest.says;
+    }
 
 only_layout : (one layout : Layout) (group : ℕ) → slice_get (one ∷ []) group ≡ Some layout → (group ≡ 0) × (layout ≡ one)
 only_layout one layout zero e = (refl, cc)
 only_layout one layout (suc group) e = absurd (cc)
 
-of_group : (n : ℕ) (sample : Sample) → SampleFits (words n ∷ []) sample → IsOfGroup n sample
-of_group n sample fits =
-    let both : (sample.group ≡ 0) × (fits.layout ≡ words n) = only_layout (words n) fits.layout sample.group fits.known in
-    let count : length sample.values ≡ n = fits.entries.count ∙ ap (λ l. length l.rows) both.1 ∙ length-word_rows n in record {
-      group = both.0;
-      count = count;
-      fit = λ k d below.
-          let at : IsEntryOf (get_or fits.layout.rows k (word_row 0)) (get_or sample.values k d) = fits.entries.each k (word_row 0) d (omega (arith, below, fits.entries.count)) in
-          let row : get_or fits.layout.rows k (word_row 0) ≡ word_row (8 * k) = ap (λ l. get_or l.rows k (word_row 0)) both.1 ∙ row_at n k (word_row 0) (omega (arith, below, count)) in
-          let there : IsEntryOf (word_row (8 * k)) (get_or sample.values k d) = subst (λ r. IsEntryOf r (get_or sample.values k d)) row at in
-          record { valid = λ none. there.valid none; value = there.value };
-    }
+-- the plan of the one group, its layout, and the script of what was done
+abbrev plan_at : Limits → List ℕ → List ChannelRow → ℕ → ℕ → Plan
+plan_at limits name rows n free = plan_with (sketch_of limits name rows n free false false)
 
--- the record of a sample of the group is no longer than a block
-record_fits : (n block group : ℕ) (entries : List Entry) → group ≡ 0
-    → option_map_or (λ layout. 1 + record_size layout + long_size layout.rows entries) (slice_get (words n ∷ []) group) 0 ≤ block → 1 + 8 * n ≤ block
-record_fits n block zero entries is size = omega (arith, size)
-record_fits n block (suc group) entries is size = absurd (omega (arith, is))
+abbrev layout_at : Limits → List ℕ → List ChannelRow → ℕ → ℕ → Layout
+layout_at limits name rows n free = layout_of (group_row (sketch_of limits name rows n free false false).draft)
+
+abbrev script_at : Plan → List Task → Script
+script_at plan tasks = record { plan = plan; lists = tasks ∷ [] }
 
 -- the lines of what the source does
-record IsTaken (outline : Outline) (does : Task) : Type 0 where
+record IsTaken (plan : Plan) (done : List Task) (does : Task) : Type 0 where
   says : said.Line
   are : AreWords (task_words does)
   line : line_of (line_with (task_words does)) ≡ Some says
-  steps : step (Running outline) says ≡ Some (record { stage = Running outline; task = Some does })
+  steps : step (Running (script_at plan done)) says ≡ Some (Running (script_at plan (done ++ does ∷ [])))
 
-sample_taken : (outline : Outline) (sample : Sample) → IsOfGroup outline.channels sample → 1 + 8 * outline.channels ≤ outline.block → IsTaken outline (task.Sample sample)
-unfolding worded step
-sample_taken outline sample of room =
-    let are : AreWords (task_words (task.Sample sample)) = All-cons (All IsByte) (codes "0") (map word_of sample.values) (literal (codes "0") refl) (values_are sample.values of.fit) in
-    let entries : entries_of outline.channels (map word_of sample.values) ≡ Some sample.values = ap (λ k. entries_of k (map word_of sample.values)) (sym of.count) ∙ entries_back sample.values of.fit in record {
+sample_taken : (limits : Limits) (name : List ℕ) (rows : List ChannelRow) (n free : ℕ) (done : List Task) (sample : Sample) → AllByRecursion IsWord (map field_of rows)
+    → TaskFits (plan_at limits name rows n free) (task.Sample sample) → IsTaken (plan_at limits name rows n free) done (task.Sample sample)
+unfolding worded_plan worded
+sample_taken limits name rows n free done sample words fits =
+    let plan = plan_at limits name rows n free in
+    let layout = layout_at limits name rows n free in
+    let script = script_at plan done in
+    let both : (sample.group ≡ 0) × (fits.0.layout ≡ layout) = only_layout layout fits.0.layout sample.group fits.0.known in
+    let read : AreRead layout.rows sample.values = entries_read layout.rows sample.values words (subst (λ (l : Layout). AreEntriesOf l.rows sample.values) both.1 fits.0.entries) in
+    let are : AreWords (task_words (task.Sample sample)) = All-cons (All IsByte) (codes "0") (map word_of sample.values) (literal (codes "0") refl) read.bytes in record {
       says = said.Sample 0 (map word_of sample.values);
       are = are;
       line = line_said 48 [] (map word_of sample.values) refl are ∙ ap (option_map (λ group. said.Sample group (map word_of sample.values))) number_zero;
       steps =
-          ap (λ b. cond b (option_map (λ es. record { stage = Running outline; task = Some (task.Sample (sample_with es)) }) (entries_of outline.channels (map word_of sample.values))) None) (le-leb (1 + 8 * outline.channels) outline.block room)
-          ∙ ap (option_map (λ es. record { stage = Running outline; task = Some (task.Sample (sample_with es)) })) entries
-          ∙ ap (λ g. Some (record { stage = Running outline; task = Some (task.Sample (record { group = g; values = sample.values })) })) (sym of.group);
+          ap (λ o. option_map Running (option_and_then (admitted script) (option_map (λ (es : List Entry). record { group = 0; values = es }) o))) read.says
+          ∙ ap (λ (g : ℕ). option_map Running (admitted script (record { group = g; values = sample.values }))) (sym both.0)
+          ∙ ap (λ b. option_map Running (cond b (Some (with_task script (slice_index (0 ∷ []) sample.group) (task.Sample sample))) None)) (le-leb (encoded_size plan.shapes sample) plan.block fits.1)
+          ∙ ap (λ s. Some (Running (with_task script (slice_index (0 ∷ []) s) (task.Sample sample)))) both.0;
     }
 
-flush_taken : (outline : Outline) → IsTaken outline task.Flush
-unfolding worded flush_of one_number step
-flush_taken outline =
+flush_taken : (limits : Limits) (name : List ℕ) (rows : List ChannelRow) (n free : ℕ) (done : List Task) → IsTaken (plan_at limits name rows n free) done task.Flush
+unfolding worded_plan worded flush_of one_number
+flush_taken limits name rows n free done =
     let are : AreWords (task_words task.Flush) = two (codes "!") (codes "0") (literal (codes "!") refl) (literal (codes "0") refl) in record {
       says = said.Flush 0;
       are = are;
@@ -208,92 +271,98 @@ flush_taken outline =
       steps = refl;
     }
 
-task_taken : (outline : Outline) (does : Task) → TaskFits (plan_of outline) does → IsTaken outline does
-task_taken outline (task.Sample sample) fits =
-    let of : IsOfGroup outline.channels sample = of_group outline.channels sample fits.0 in
-    sample_taken outline sample of (record_fits outline.channels outline.block sample.group sample.values of.group fits.1)
-task_taken outline task.Flush fits = flush_taken outline
+task_taken : (limits : Limits) (name : List ℕ) (rows : List ChannelRow) (n free : ℕ) (done : List Task) (does : Task) → AllByRecursion IsWord (map field_of rows)
+    → TaskFits (plan_at limits name rows n free) does → IsTaken (plan_at limits name rows n free) done does
+task_taken limits name rows n free done (task.Sample sample) words fits = sample_taken limits name rows n free done sample words fits
+task_taken limits name rows n free done task.Flush words fits = flush_taken limits name rows n free done
 
-tasks_read : (outline : Outline) (done tasks : List Task) (line : ℕ) (lines : List (List (List ℕ))) (told : Outline × List Task) → All (TaskFits (plan_of outline)) tasks → ((line : ℕ) → reads (Running outline) (done ++ tasks) line lines ≡ Ok told) → reads (Running outline) done line (map task_words tasks ++ lines) ≡ Ok told
-tasks_read outline done [] line lines told fit follow = subst (λ all. reads (Running outline) all line lines ≡ Ok told) (append-nil done) (follow line)
-tasks_read outline done (does ∷ tasks) line lines told fit follow =
-    let taken : IsTaken outline does = task_taken outline does (All-head (TaskFits (plan_of outline)) does tasks fit) in
-    one_line (Running outline) done line (task_words does) (map task_words tasks ++ lines) taken.says (record { stage = Running outline; task = Some does }) told taken.are taken.line taken.steps
-    (tasks_read outline (done ++ does ∷ []) tasks (line + 1) lines told (All-tail (TaskFits (plan_of outline)) does tasks fit)
-    (λ line. subst (λ all. reads (Running outline) all line lines ≡ Ok told) (sym (append_assoc done (does ∷ []) tasks)) (follow line)))
+tasks_read : (limits : Limits) (name : List ℕ) (rows : List ChannelRow) (n free : ℕ) (done tasks : List Task) (line : ℕ) (lines : List (List (List ℕ))) (script : Script) → AllByRecursion IsWord (map field_of rows)
+    → All (TaskFits (plan_at limits name rows n free)) tasks → ((line : ℕ) → reads (Running (script_at (plan_at limits name rows n free) (done ++ tasks))) line lines ≡ Ok script)
+    → reads (Running (script_at (plan_at limits name rows n free) done)) line (map task_words tasks ++ lines) ≡ Ok script
+tasks_read limits name rows n free done [] line lines script words fit follow =
+    subst (λ all. reads (Running (script_at (plan_at limits name rows n free) all)) line lines ≡ Ok script) (append-nil done) (follow line)
+tasks_read limits name rows n free done (does ∷ tasks) line lines script words fit follow =
+    let plan = plan_at limits name rows n free in
+    let taken : IsTaken plan done does = task_taken limits name rows n free done does words (All-head (TaskFits plan) does tasks fit) in
+    one_line (Running (script_at plan done)) line (task_words does) (map task_words tasks ++ lines) taken.says (Running (script_at plan (done ++ does ∷ []))) script taken.are taken.line taken.steps
+    (tasks_read limits name rows n free (done ++ does ∷ []) tasks (line + 1) lines script words (All-tail (TaskFits plan) does tasks fit)
+    (λ line. subst (λ all. reads (Running (script_at plan all)) line lines ≡ Ok script) (sym (append_assoc done (does ∷ []) tasks)) (follow line)))
 
 -- the lines `begin` and `end`
 begin_says : line_of (line_with (codes "begin" ∷ [])) ≡ Some said.Begin
-unfolding worded alone
+unfolding worded_plan worded alone
 begin_says = line_said 98 (codes "egin") [] refl (one (codes "begin") (literal (codes "begin") refl))
 
 end_says : line_of (line_with (codes "end" ∷ [])) ≡ Some said.End
-unfolding worded alone
+unfolding worded_plan worded alone
 end_says = line_said 101 (codes "nd") [] refl (one (codes "end") (literal (codes "end") refl))
 
-end_read : (outline : Outline) (tasks : List Task) (line : ℕ) → reads (Running outline) tasks line ((codes "end" ∷ []) ∷ []) ≡ Ok (outline, tasks)
-unfolding step
-end_read outline tasks line =
-    one_line (Running outline) tasks line (codes "end" ∷ []) [] said.End (record { stage = Ended outline; task = None }) (outline, tasks) (one (codes "end") (literal (codes "end") refl)) end_says refl
-    (subst (λ all. reads (Ended outline) all (line + 1) [] ≡ Ok (outline, tasks)) (sym (append-nil tasks)) (at_end (Ended outline) tasks (line + 1) []))
+end_read : (script : Script) (line : ℕ) → reads (Running script) line ((codes "end" ∷ []) ∷ []) ≡ Ok script
+end_read script line =
+    one_line (Running script) line (codes "end" ∷ []) [] said.End (Ended script) script (one (codes "end") (literal (codes "end") refl)) end_says refl
+    (at_end (Ended script) (line + 1) [])
 
-begin_read : (outline : Outline) (had : Bool) (line : ℕ) (lines : List (List (List ℕ))) (told : Outline × List Task) → 1 ≤ outline.channels → reads (Running outline) [] (line + 1) lines ≡ Ok told → reads (Planned outline had) [] line ((codes "begin" ∷ []) ∷ lines) ≡ Ok told
-unfolding step
-begin_read outline had line lines told some follows =
-    one_line (Planned outline had) [] line (codes "begin" ∷ []) lines said.Begin (record { stage = Running outline; task = None }) told (one (codes "begin") (literal (codes "begin") refl)) begin_says
-    (ap (λ b. cond b (to (Running outline)) None) (lt-ltb 0 outline.channels (omega arith))) follows
+begin_read : (limits : Limits) (name : List ℕ) (rows : List ChannelRow) (n free : ℕ) (had unit : Bool) (line : ℕ) (lines : List (List (List ℕ))) (script : Script) → 1 ≤ length rows
+    → reads (Running (script_at (plan_at limits name rows n free) [])) (line + 1) lines ≡ Ok script → reads (Planned (sketch_of limits name rows n free had unit)) line ((codes "begin" ∷ []) ∷ lines) ≡ Ok script
+begin_read limits name rows n free had unit line lines script some follows =
+    one_line (Planned (sketch_of limits name rows n free had unit)) line (codes "begin" ∷ []) lines said.Begin (Running (script_at (plan_at limits name rows n free) [])) script (one (codes "begin") (literal (codes "begin") refl)) begin_says
+    (ap (λ b. option_map Running (cond b (Some (script_with (sketch_of limits name rows n free had unit))) None)) (lt-ltb 0 (length rows) (omega (arith, some)))) follows
 
 -- the lines of the limits
-abbrev pub IsLimit : ℕ → Option ℕ → Type 0
-IsLimit most limit = IfSome limit (λ n. (1 ≤ n) × (n ≤ most))
+abbrev pub IsSaidLimit : ℕ → Option ℕ → Type 0
+IsSaidLimit most limit = IfSome limit (λ n. (1 ≤ n) × (n ≤ most))
 
 limit_are : (word : List ℕ) (limit : ℕ) → All IsByte word → limit < 2 ^ 64 → AreWords (word ∷ decimal limit ∷ [])
 limit_are word limit bytes small = two word (decimal limit) bytes (digit_bytes (decimal limit) (decimal_digits limit small))
 
 block_says : (limit : ℕ) → limit < 2 ^ 64 → line_of (line_with (codes "block" ∷ decimal limit ∷ [])) ≡ Some (said.Block limit)
-unfolding worded block_of one_number
+unfolding worded_plan block_of one_number
 block_says limit small =
     line_said 98 (codes "lock") (decimal limit ∷ []) refl (limit_are (codes "block") limit (literal (codes "block") refl) small)
     ∙ ap (option_map said.Block) (of_decimal (decimal limit) limit small refl)
 
 session_says : (limit : ℕ) → limit < 2 ^ 64 → line_of (line_with (codes "session" ∷ decimal limit ∷ [])) ≡ Some (said.Session limit)
-unfolding worded session_of one_number
+unfolding worded_plan session_of one_number
 session_says limit small =
     line_said 115 (codes "ession") (decimal limit ∷ []) refl (limit_are (codes "session") limit (literal (codes "session") refl) small)
     ∙ ap (option_map said.Session) (of_decimal (decimal limit) limit small refl)
 
-in_range : (limit most : ℕ) (change : Option Change) → 1 ≤ limit → limit ≤ most → cond (nat_le 1 limit && nat_le limit most) change None ≡ change
-in_range limit most change low high =
-    ap (λ b. cond (b && nat_le limit most) change None) (le-leb 1 limit low) ∙ ap (λ b. cond b change None) (le-leb limit most high)
+in_range : (limit most : ℕ) (changed : Option Stage) → 1 ≤ limit → limit ≤ most → cond (nat_le 1 limit && nat_le limit most) changed None ≡ changed
+in_range limit most changed low high =
+    ap (λ b. cond (b && nat_le limit most) changed None) (le-leb 1 limit low) ∙ ap (λ b. cond b changed None) (le-leb limit most high)
 
-block_read : (block : Option ℕ) (lines : List (List (List ℕ))) (told : Outline × List Task) → IsLimit 16777216 block → ((line : ℕ) → reads (Empty block None) [] line lines ≡ Ok told) → (line : ℕ) → reads (Empty None None) [] line (limit_lines (codes "block") block ++ lines) ≡ Ok told
-unfolding step
-block_read None lines told is follow line = follow line
-block_read (Some limit) lines told is follow line =
-    one_line (Empty None None) [] line (codes "block" ∷ decimal limit ∷ []) lines (said.Block limit) (record { stage = Empty (Some limit) None; task = None }) told
+block_read : (block : Option ℕ) (lines : List (List (List ℕ))) (script : Script) → IsSaidLimit 16777216 block → ((line : ℕ) → reads (Empty block None) line lines ≡ Ok script) → (line : ℕ) → reads (Empty None None) line (limit_lines (codes "block") block ++ lines) ≡ Ok script
+block_read None lines script is follow line = follow line
+block_read (Some limit) lines script is follow line =
+    one_line (Empty None None) line (codes "block" ∷ decimal limit ∷ []) lines (said.Block limit) (Empty (Some limit) None) script
     (limit_are (codes "block") limit (literal (codes "block") refl) (omega (arith, is.1))) (block_says limit (omega (arith, is.1)))
-    (in_range limit 16777216 (to (Empty (Some limit) None)) is.0 is.1) (follow (line + 1))
+    (in_range limit 16777216 (Some (Empty (Some limit) None)) is.0 is.1) (follow (line + 1))
 
-session_read : (block session : Option ℕ) (lines : List (List (List ℕ))) (told : Outline × List Task) → IsLimit 268435456 session → ((line : ℕ) → reads (Empty block session) [] line lines ≡ Ok told) → (line : ℕ) → reads (Empty block None) [] line (limit_lines (codes "session") session ++ lines) ≡ Ok told
-unfolding step
-session_read block None lines told is follow line = follow line
-session_read block (Some limit) lines told is follow line =
-    one_line (Empty block None) [] line (codes "session" ∷ decimal limit ∷ []) lines (said.Session limit) (record { stage = Empty block (Some limit); task = None }) told
+session_read : (block session : Option ℕ) (lines : List (List (List ℕ))) (script : Script) → IsSaidLimit 268435456 session → ((line : ℕ) → reads (Empty block session) line lines ≡ Ok script) → (line : ℕ) → reads (Empty block None) line (limit_lines (codes "session") session ++ lines) ≡ Ok script
+session_read block None lines script is follow line = follow line
+session_read block (Some limit) lines script is follow line =
+    one_line (Empty block None) line (codes "session" ∷ decimal limit ∷ []) lines (said.Session limit) (Empty block (Some limit)) script
     (limit_are (codes "session") limit (literal (codes "session") refl) (omega (arith, is.1))) (session_says limit (omega (arith, is.1)))
-    (in_range limit 268435456 (to (Empty block (Some limit))) is.0 is.1) (follow (line + 1))
+    (in_range limit 268435456 (Some (Empty block (Some limit))) is.0 is.1) (follow (line + 1))
+
+-- as many rows as channels
+length-word_rows : (bit : ℕ) (channels : List Channel) → length (word_rows bit channels) ≡ length channels
+length-word_rows bit [] = refl
+length-word_rows bit (channel ∷ channels) = ap suc (length-word_rows (bit + 64) channels)
 
 -- the whole
-group_read : (s : Spelling) → IsSpellable s → (line : ℕ) → reads (Empty s.block s.session) [] line (group_words s.name ∷ (map channel_words s.channels ++ (codes "begin" ∷ []) ∷ (map task_words s.tasks ++ (codes "end" ∷ []) ∷ []))) ≡ Ok (outline_said s, s.tasks)
-unfolding step
+group_read : (s : Spelling) → IsSpellable s → (line : ℕ) → reads (Empty s.block s.session) line (group_words s.name ∷ (map channel_words s.channels ++ (codes "begin" ∷ []) ∷ (map task_words s.tasks ++ (codes "end" ∷ []) ∷ []))) ≡ Ok (script_said s)
 group_read s is line =
     let behind : List (List (List ℕ)) = (codes "begin" ∷ []) ∷ (map task_words s.tasks ++ (codes "end" ∷ []) ∷ []) in
-    let outline : Outline = outline_said s in
-    one_line (Empty s.block s.session) [] line (group_words s.name) (map channel_words s.channels ++ behind) (said.Group 0 s.name) (record { stage = Planned (outline_of s.block s.session 0) false; task = None }) (outline, s.tasks) (group_are s.name is.name) (group_says s.name is.name) refl
-    (channels_read outline.block outline.session 0 (length s.channels) false s.channels (line + 1) behind (outline, s.tasks) (omega arith) is.few (omega (arith, is.master)) is.names
-    (λ had line. begin_read outline had line (map task_words s.tasks ++ (codes "end" ∷ []) ∷ []) (outline, s.tasks) is.some
-    (tasks_read outline [] s.tasks (line + 1) ((codes "end" ∷ []) ∷ []) (outline, s.tasks) is.tasks (λ line. end_read outline s.tasks line))))
+    let limits : Limits = limits_of s.block s.session in
+    let rows = word_rows 0 s.channels in
+    let n = length s.channels in
+    one_line (Empty s.block s.session) line (group_words s.name) (map channel_words s.channels ++ behind) (said.Group 0 s.name) (Planned (sketch_of limits s.name [] 0 0 false false)) (script_said s) (group_are s.name is.name) (group_says s.name is.name) refl
+    (channels_read limits s.name [] rows 0 n 0 (64 * n) false false s.channels (line + 1) behind (script_said s) refl (omega arith) is.few (omega arith) refl (omega (arith, is.master)) is.names
+    (λ had unit line. begin_read limits s.name rows n (64 * n) had unit line (map task_words s.tasks ++ (codes "end" ∷ []) ∷ []) (script_said s) (omega (arith, is.some, length-word_rows 0 s.channels))
+    (tasks_read limits s.name rows n (64 * n) [] s.tasks (line + 1) ((codes "end" ∷ []) ∷ []) (script_said s) (word_fields 0 s.channels) is.tasks (λ line. end_read (script_said s) line))))
 
-pub spelled_told : (s : Spelling) → IsSpellable s → told_of (spelled s) ≡ Ok (outline_said s, s.tasks)
-spelled_told s is =
-    block_read s.block _ (outline_said s, s.tasks) is.block
-    (session_read s.block s.session _ (outline_said s, s.tasks) is.session (group_read s is)) 1
+pub spelled_back : (s : Spelling) → IsSpellable s → script_of (spelled s) ≡ Ok (script_said s)
+spelled_back s is =
+    block_read s.block _ (script_said s) is.block
+    (session_read s.block s.session _ (script_said s) is.session (group_read s is)) 1

@@ -8,7 +8,7 @@ use Rattle.std.proofs.lemmas.List.Elements.{All-nil, All-cons, All-head, All-tai
 use Rattle.std.proofs.lemmas.List.Splits.{slice_split_at, slice_split_none}
 use Rattle.acq_script.specs.Text.{lines_of, words_of, is_name}
 use Rattle.acq_script.specs.Line as said
-use Rattle.acq_script.specs.Line.{line_of, worded, worded_list, is_passed}
+use Rattle.acq_script.specs.Line.{line_of, worded_plan, worded_list, is_passed}
 use Rattle.acq_script.specs.Spelled.{line_with, text_with}
 
 -- a byte of a word
@@ -51,7 +51,7 @@ not_passed : (first : ℕ) (rest : List ℕ) → (first == 59) ≡ false → is_
 not_passed first rest e = ap (λ b. b || (first == 59)) (ne_eqb (length (first ∷ rest)) 0 (λ none. absurd (omega (arith, none)))) ∙ e
 
 -- what the words of a line say, which begin with no `;`
-pub line_said : (first : ℕ) (word : List ℕ) (words : List (List ℕ)) → (first == 59) ≡ false → AreWords ((first ∷ word) ∷ words) → line_of (line_with ((first ∷ word) ∷ words)) ≡ worded (first ∷ word) words
+pub line_said : (first : ℕ) (word : List ℕ) (words : List (List ℕ)) → (first == 59) ≡ false → AreWords ((first ∷ word) ∷ words) → line_of (line_with ((first ∷ word) ∷ words)) ≡ worded_plan (first ∷ word) words
 unfolding line_of
 line_said first word [] e are =
     ap (λ b. cond b (Some said.Passed) (worded_list (words_of (first ∷ word)))) (not_passed first word e) ∙ ap worded_list (words_back (first ∷ word) [] are)

@@ -1,9 +1,13 @@
 pub mod Text
 pub mod Number
+pub mod Kind
+pub mod Value
 pub mod Line
 pub mod View
 pub mod Tasks
-pub mod Stage
+pub mod Draft
 pub mod Plan
+pub mod Sketch
+pub mod Stage
 pub mod Script
 pub mod Spelled

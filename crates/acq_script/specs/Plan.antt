@@ -1,74 +1,85 @@
 -- The plan of a script.
-use Rattle.std.specs.Prelude.{ℕ, zero, suc, ◌≡◌, ◌*◌, ◌≤◌, false, List, [], ◌∷◌, ◌++◌, length, All, Option, None, unwrap_or}
+use Rattle.std.specs.Prelude.{ℕ, ◌≡◌, ◌≢◌, ◌+◌, ◌/◌, ◌≤◌, ◌<◌, false, List, length, map, sum_by, All, AllPairs, slice_index}
+use Rattle.mdf_format.specs.Field.{HasBit}
+use Rattle.mdf_format.specs.Row.{RowNumbers, form_of, spot_of_row, IsPlaced, UsesInval}
+use Rattle.mdf_group.specs.Recordable.{numbers_of, ArePlaced, AreRecordable}
+use Rattle.mdf_group.specs.declared.row.GroupRow.{GroupRow}
 use Rattle.mdf_layout.specs.Layout.{Layout}
-use Rattle.mdf_layout.specs.Values.{IsRowPlaced}
+use Rattle.mdf_layout.specs.Row.{field_row}
 use Rattle.mdf_layout.specs.Written.{AreApart}
 use Rattle.mdf_layout.specs.Record.{SampleFits, encoded_size}
-use Rattle.mdf_layout.specs.declared.field.FieldKind.TheVariants.{Unsigned}
-use Rattle.mdf_layout.specs.declared.field.FieldRow.{FieldRow}
-use Rattle.acq_script.specs.declared.plan.Outline.{Outline}
+use Rattle.mdf_layout.specs.Behind.{variables}
+use Rattle.mdf_layout.specs.Stored.{IsStored}
 use Rattle.acq_script.specs.declared.script.Plan.{Plan}
 use Rattle.acq_script.specs.declared.script.Task.{Task}
 use Rattle.acq_script.specs.declared.script.Task.TheVariants as task
 
--- a channel of 64-bit unsigned numbers, and so many of them, one behind the other
-abbrev pub word_row : ℕ → FieldRow
-word_row byte = record { kind = Unsigned; big = false; byte = byte; bit = 0; bits = 64; inval = None; all_invalid = false }
+-- how many sources a script can have
+abbrev pub MOST_SOURCES : ℕ
+MOST_SOURCES = 1
 
-unfoldable pub word_rows : ℕ → List FieldRow
-word_rows zero = []
-word_rows (suc n) = word_rows n ++ word_row (8 * n) ∷ []
-
-abbrev pub words : ℕ → Layout
-words n = record { rows = word_rows n; data_bytes = 8 * n; inval_bytes = 0 }
-
--- so many channels, under these limits where the script says them
-abbrev pub outline_of : Option ℕ → Option ℕ → ℕ → Outline
-outline_of block session n =
-    record { channels = n; block = unwrap_or block 65536; session = unwrap_or session 268435456 }
-
--- the plan of one group of so many channels, under these limits
-abbrev pub plan_of : Outline → Plan
-plan_of outline = record {
-  shapes = words outline.channels ∷ [];
-  owners = 0 ∷ [];
-  sources = 1;
-  block = outline.block;
-  session = outline.session;
-  live = false;
+-- the layout of a group: the fields that its channels say
+abbrev pub layout_of : GroupRow → Layout
+layout_of row = record {
+  rows = map (λ channel. field_row (numbers_of channel)) row.channels;
+  data_bytes = row.data_bytes;
+  inval_bytes = row.inval_bytes;
 }
 
--- a channel of 64-bit unsigned little-endian numbers without an invalidation bit
-pub record IsWordRow (row : FieldRow) : Type 0 where
-  pub kind : row.kind ≡ Unsigned
-  pub big : row.big ≡ false
-  pub bit : row.bit ≡ 0
-  pub bits : row.bits ≡ 64
-  pub inval : row.inval ≡ None
-  pub valid : row.all_invalid ≡ false
+-- its channels keep the rules of layouts
+abbrev pub HasPlace : GroupRow → Type 0
+HasPlace row = ArePlaced row.data_bytes row.inval_bytes (map numbers_of row.channels)
 
--- a layout of 1 to 256 channels of 64-bit unsigned numbers that lie apart inside the record
-pub record IsWords (layout : Layout) : Type 0 where
-  pub some : 1 ≤ length layout.rows
-  pub few : length layout.rows ≤ 256
-  pub words : All IsWordRow layout.rows
-  pub inside : All (IsRowPlaced layout.data_bytes layout.inval_bytes) layout.rows
-  pub disjoint : AreApart layout.rows
+-- a channel below a bit and a position
+pub record IsBelow (free positions : ℕ) (row : RowNumbers) : Type 0 where
+  pub placed : IsPlaced (form_of row) ((free + 7) / 8) (spot_of_row row)
+  pub below : (p : ℕ) → HasBit (spot_of_row row) p → p < free
+  pub position : UsesInval row → row.inval < positions
 
--- what every plan is so far: one group, of source 0, and limits that a recording can keep
+-- no bit and no position belongs to both channels
+pub record LieApart (one other : RowNumbers) : Type 0 where
+  pub bits : (p : ℕ) → HasBit (spot_of_row one) p → ¬ HasBit (spot_of_row other) p
+  pub positions : UsesInval one → UsesInval other → one.inval ≢ other.inval
+
+-- channels below a bit and a position, no two of which share one
+pub record AreLaid (free positions : ℕ) (rows : List RowNumbers) : Type 0 where
+  pub each : All (IsBelow free positions) rows
+  pub apart : AllPairs LieApart rows
+
+-- limits that a recording can keep
+pub record AreLimits (block session : ℕ) : Type 0 where
+  pub block_low : 1 ≤ block
+  pub block_high : block ≤ 16777216
+  pub session_low : 1 ≤ session
+  pub session_high : session ≤ 268435456
+
+-- a layout of channels that a recording stores, no two of which share a bit
+pub record IsGroup (layout : Layout) : Type 0 where
+  pub apart : AreApart layout.rows
+  pub stored : All IsStored layout.rows
+
+-- What every plan is: rows that can be recorded, and their layouts, which a book can begin with; a source for each group;
+-- and limits that a recording can keep.
 pub record IsPlan (plan : Plan) : Type 0 where
-  pub layout : Layout
-  pub one : plan.shapes ≡ layout ∷ []
-  pub group : IsWords layout
-  pub owners : plan.owners ≡ 0 ∷ []
-  pub sources : plan.sources ≡ 1
-  pub block_low : 1 ≤ plan.block
-  pub block_high : plan.block ≤ 16777216
-  pub session_low : 1 ≤ plan.session
-  pub session_high : plan.session ≤ 268435456
+  pub planned : AreRecordable plan.rows
+  pub shapes : plan.shapes ≡ map layout_of plan.rows
+  pub groups : All IsGroup plan.shapes
+  pub few_groups : length plan.shapes ≤ 64
+  pub fields : sum_by (λ layout. length layout.rows) plan.shapes ≤ 1024
+  pub variable : sum_by (λ layout. length (variables layout.rows)) plan.shapes ≤ 128
+  pub owners : length plan.owners ≡ length plan.rows
+  pub owned : All (λ source. source < plan.sources) plan.owners
+  pub some_sources : 1 ≤ plan.sources
+  pub few_sources : plan.sources ≤ MOST_SOURCES
+  pub limits : AreLimits plan.block plan.session
   pub live : plan.live ≡ false
 
 -- a sample that the plan has room for; a flush always is
 abbrev pub TaskFits : Plan → Task → Type 0
 TaskFits plan (task.Sample sample) = SampleFits plan.shapes sample × (encoded_size plan.shapes sample ≤ plan.block)
 TaskFits plan task.Flush = Unit {0}
+
+-- a sample of a group of this source; a flush always is
+abbrev pub IsTaskOf : Plan → ℕ → Task → Type 0
+IsTaskOf plan source (task.Sample sample) = slice_index plan.owners sample.group ≡ source
+IsTaskOf plan source task.Flush = Unit {0}

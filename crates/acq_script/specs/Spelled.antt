@@ -1,11 +1,19 @@
 -- How a script is spelled: the lines that say a group with its channels, and what its source does.
-use Rattle.std.specs.Prelude.{ℕ, ◌≡◌, ◌≤◌, Bool, true, if◌then◌else◌, List, [], ◌∷◌, ◌++◌, length, map, flat_map, count_by, codes, decimal, All, Option, Some, None, IfSome}
+use Rattle.std.specs.Prelude.{ℕ, ◌≡◌, ◌+◌, ◌*◌, ◌≤◌, Bool, true, false, if◌then◌else◌, List, [], ◌∷◌, ◌++◌, length, map, flat_map, count_by, codes, decimal, All, Option, Some, None, IfSome}
 use Rattle.std.specs.List.{join_with_byte}
+use Rattle.mdf_group.specs.declared.row.ChannelRow.{ChannelRow}
 use Rattle.mdf_layout.specs.declared.sample.Value.{Value}
 use Rattle.mdf_layout.specs.declared.sample.Value.TheVariants as value
 use Rattle.acq_script.specs.Text.{is_name}
-use Rattle.acq_script.specs.Plan.{outline_of, plan_of, TaskFits}
-use Rattle.acq_script.specs.declared.plan.Outline.{Outline}
+use Rattle.acq_script.specs.Kind.{packed}
+use Rattle.acq_script.specs.Draft.{channel_row}
+use Rattle.acq_script.specs.Sketch.{limits_of, plan_with}
+use Rattle.acq_script.specs.Plan.{TaskFits}
+use Rattle.acq_script.specs.declared.line.ChannelForm.{ChannelForm}
+use Rattle.acq_script.specs.declared.sketch.Limits.{Limits}
+use Rattle.acq_script.specs.declared.sketch.Sketch.{Sketch}
+use Rattle.acq_script.specs.declared.script.Plan.{Plan}
+use Rattle.acq_script.specs.declared.script.Script.{Script}
 use Rattle.acq_script.specs.declared.script.Task.{Task}
 use Rattle.acq_script.specs.declared.script.Task.TheVariants as task
 
@@ -43,8 +51,8 @@ abbrev pub limit_lines : List ℕ → Option ℕ → List (List (List ℕ))
 limit_lines word None = []
 limit_lines word (Some limit) = (word ∷ decimal limit ∷ []) ∷ []
 
--- what a script is spelled for: the limits that it says, a group of this name and these channels, and what its source
--- does
+-- what a script is spelled for: the limits that it says, a group of this name and these channels of 64-bit numbers, and
+-- what its source does
 pub record Spelling : Type 0 where
   pub block : Option ℕ
   pub session : Option ℕ
@@ -58,9 +66,30 @@ spelled s = text_with (limit_lines (codes "block") s.block ++ (limit_lines (code
     ++ (codes "begin" ∷ []) ∷ (map task_words s.tasks
     ++ (codes "end" ∷ []) ∷ []))))
 
--- what its plan is made of
-abbrev pub outline_said : Spelling → Outline
-outline_said s = outline_of s.block s.session (length s.channels)
+-- a 64-bit number, and such channels from this bit on
+abbrev pub word_form : Bool → ChannelForm
+word_form master = record { kind = packed 0 64; master = master; inval = false }
+
+abbrev pub word_rows : ℕ → List Channel → List ChannelRow
+word_rows bit [] = []
+word_rows bit (channel ∷ channels) = channel_row channel.name (word_form channel.master) bit 0 ∷ word_rows (bit + 64) channels
+
+-- the one group of source 0 with these rows, so many, up to this bit
+abbrev pub sketch_of : Limits → List ℕ → List ChannelRow → ℕ → ℕ → Bool → Bool → Sketch
+sketch_of limits name rows n free master unit = record {
+  limits = limits;
+  counts = record { channels = n; variable = 0; sources = 1 };
+  owners = 0 ∷ [];
+  rows = [];
+  draft = record { name = name; channels = rows; free = free; positions = 0; master = master; unit = unit };
+}
+
+-- its plan, and the script
+abbrev pub plan_said : Spelling → Plan
+plan_said s = plan_with (sketch_of (limits_of s.block s.session) s.name (word_rows 0 s.channels) (length s.channels) (64 * length s.channels) false false)
+
+abbrev pub script_said : Spelling → Script
+script_said s = record { plan = plan_said s; lists = s.tasks ∷ [] }
 
 -- what can be spelled: limits that a recording can keep, names, 1 to 256 channels, of which at most one is the master,
 -- and tasks that fit the plan
@@ -72,4 +101,4 @@ pub record IsSpellable (s : Spelling) : Type 0 where
   pub few : length s.channels ≤ 256
   pub names : All (λ channel. is_name channel.name ≡ true) s.channels
   pub master : count_by (λ channel. channel.master) s.channels ≤ 1
-  pub tasks : All (TaskFits (plan_of (outline_said s))) s.tasks
+  pub tasks : All (TaskFits (plan_said s)) s.tasks

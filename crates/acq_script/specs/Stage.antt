@@ -1,70 +1,99 @@
 -- The rules of a script: which line may stand behind which.
-use Rattle.std.specs.Prelude.{ℕ, zero, suc, ◌+◌, Bool, true, false, ◌*◌, ◌&&◌, ◌||◌, not, ◌==◌, nat_lt, nat_le, if◌then◌else◌, List, [], ◌∷◌, Option, Some, None, is_none}
+use Rattle.std.specs.Prelude.{ℕ, ◌≡◌, ◌≤◌, ◌<◌, ◌&&◌, nat_le, nat_lt, if◌then◌else◌, List, [], ◌∷◌, ◌++◌, length, All, slice_get, slice_index, slice_set, Option, Some, None, is_none}
+use Rattle.std.specs.List.{slice_index_or}
 use Rattle.std.specs.Option.{option_map, option_and_then}
-use Rattle.mdf_layout.specs.declared.sample.Value.TheVariants.{Unsigned}
-use Rattle.mdf_layout.specs.declared.sample.Entry.{Entry}
+use Rattle.mdf_layout.specs.Layout.{Layout}
+use Rattle.mdf_layout.specs.Record.{encoded_size}
 use Rattle.mdf_layout.specs.declared.sample.Sample.{Sample}
-use Rattle.acq_script.specs.Number.{number_of}
 use Rattle.acq_script.specs.Line as said
-use Rattle.acq_script.specs.Plan.{outline_of}
-use Rattle.acq_script.specs.declared.plan.Outline.{Outline}
+use Rattle.acq_script.specs.Value.{entries_of}
+use Rattle.acq_script.specs.Plan.{IsPlan, TaskFits, IsTaskOf}
+use Rattle.acq_script.specs.Sketch.{IsSketch, limits_of, first_sketch, with_group, channel_in, unit_in, begun}
+use Rattle.acq_script.specs.declared.script.Script.{Script}
+use Rattle.acq_script.specs.declared.script.Task.{Task}
 use Rattle.acq_script.specs.declared.script.Task.TheVariants as task
+use Rattle.acq_script.specs.declared.sketch.Sketch.{Sketch}
 use Rattle.acq_script.specs.declared.stage.Stage.{Stage}
 use Rattle.acq_script.specs.declared.stage.Stage.TheVariants.{Empty, Planned, Running, Ended}
-use Rattle.acq_script.specs.declared.stage.Change.{Change}
-
--- the values that words are, one for each channel
-unfoldable pub entries_of : ℕ → List (List ℕ) → Option (List Entry)
-entries_of zero [] = Some []
-entries_of (suc n) (word ∷ words) =
-    option_and_then (λ v. option_map (λ entries. record { value = Unsigned v; valid = true } ∷ entries) (entries_of n words)) (number_of word)
-entries_of _ _ = None
-
--- a sample of the one group
-abbrev pub sample_with : List Entry → Sample
-sample_with entries = record { group = 0; values = entries }
-
--- a change at which the source does nothing
-abbrev pub to : Stage → Option Change
-to stage = Some (record { stage = stage; task = None })
 
 -- the limits, each at most once: 1 to 16,777,216 data bytes of a block, and 1 to 268,435,456 for what the samples cost
-abbrev pub with_block : Option ℕ → Option ℕ → ℕ → Option Change
+abbrev pub with_block : Option ℕ → Option ℕ → ℕ → Option Stage
 with_block block session limit =
-    if is_none block && nat_le 1 limit && nat_le limit 16777216 then to (Empty (Some limit) session) else None
+    if is_none block && nat_le 1 limit && nat_le limit 16777216 then Some (Empty (Some limit) session) else None
 
-abbrev pub with_session : Option ℕ → Option ℕ → ℕ → Option Change
+abbrev pub with_session : Option ℕ → Option ℕ → ℕ → Option Stage
 with_session block session limit =
-    if is_none session && nat_le 1 limit && nat_le limit 268435456 then to (Empty block (Some limit)) else None
+    if is_none session && nat_le 1 limit && nat_le limit 268435456 then Some (Empty block (Some limit)) else None
 
--- the next channel: there are at most 256, and at most one is the master
-abbrev pub with_channel : Outline → Bool → Bool → Option Change
-with_channel outline had master =
-    if nat_lt outline.channels 256 && not (had && master)
-    then to (Planned (record { channels = outline.channels + 1; block = outline.block; session = outline.session }) (had || master))
-    else None
+-- the sample of a group whose entries words are
+abbrev pub sample_of : List Layout → ℕ → List (List ℕ) → Option Sample
+sample_of layouts group words = option_and_then
+    (λ layout. option_map (λ entries. record { group = group; values = entries }) (entries_of layout.rows words)) (slice_get layouts group)
 
--- a sample, whose record is the group's id in one byte and 8 bytes for each channel, and no longer than a block; and a
--- flush
-abbrev pub with_sample : Outline → List (List ℕ) → Option Change
-with_sample outline words =
-    if nat_le (1 + 8 * outline.channels) outline.block
-    then option_map (λ entries. record { stage = Running outline; task = Some (task.Sample (sample_with entries)) }) (entries_of outline.channels words)
-    else None
+-- the script with one task more of a source
+abbrev pub list_with : List (List Task) → ℕ → Task → List (List Task)
+list_with lists source does = slice_set lists source (slice_index_or lists source [] ++ does ∷ [])
 
-abbrev pub with_flush : Outline → Option Change
-with_flush outline = Some (record { stage = Running outline; task = Some task.Flush })
+abbrev pub with_task : Script → ℕ → Task → Script
+with_task script source does = record { plan = script.plan; lists = list_with script.lists source does }
 
--- what a line makes of the lines before it, and what the source does at it; None where no rule admits it there
-unfoldable pub step : Stage → said.Line → Option Change
-step (Ended outline) line = None
-step stage said.Passed = to stage
-step (Empty block session) (said.Block limit) = with_block block session limit
-step (Empty block session) (said.Session limit) = with_session block session limit
-step (Empty block session) (said.Group source name) = if source == 0 then to (Planned (outline_of block session 0) false) else None
-step (Planned outline had) (said.Channel name master) = with_channel outline had master
-step (Planned outline had) said.Begin = if nat_lt 0 outline.channels then to (Running outline) else None
-step (Running outline) (said.Sample group words) = if group == 0 then with_sample outline words else None
-step (Running outline) (said.Flush source) = if source == 0 then with_flush outline else None
-step (Running outline) said.End = to (Ended outline)
-step _ _ = None
+-- a sample is its group's source's, and its records are no longer than a block; a flush is of one of the sources
+abbrev pub admitted : Script → Sample → Option Script
+admitted script sample =
+    if nat_le (encoded_size script.plan.shapes sample) script.plan.block
+    then Some (with_task script (slice_index script.plan.owners sample.group) (task.Sample sample)) else None
+
+abbrev pub with_sample : Script → ℕ → List (List ℕ) → Option Script
+with_sample script group words = option_and_then (admitted script) (sample_of script.plan.shapes group words)
+
+abbrev pub with_flush : Script → ℕ → Option Script
+with_flush script source = if nat_lt source script.plan.sources then Some (with_task script source task.Flush) else None
+
+-- what a line makes of the limits, of a plan, and of a script
+abbrev pub empty : Option ℕ → Option ℕ → said.Line → Option Stage
+empty block session said.Passed = Some (Empty block session)
+empty block session (said.Block limit) = with_block block session limit
+empty block session (said.Session limit) = with_session block session limit
+empty block session (said.Group source name) = option_map Planned (first_sketch (limits_of block session) source name)
+empty block session _ = None
+
+abbrev pub planned : Sketch → said.Line → Option Stage
+planned sketch said.Passed = Some (Planned sketch)
+planned sketch (said.Group source name) = option_map Planned (with_group sketch source name)
+planned sketch (said.Channel name form) = option_map Planned (channel_in sketch name form)
+planned sketch (said.Measured unit) = option_map Planned (unit_in sketch unit)
+planned sketch said.Begin = option_map Running (begun sketch)
+planned sketch _ = None
+
+abbrev pub running : Script → said.Line → Option Stage
+running script said.Passed = Some (Running script)
+running script (said.Sample group words) = option_map Running (with_sample script group words)
+running script (said.Flush source) = option_map Running (with_flush script source)
+running script said.End = Some (Ended script)
+running script _ = None
+
+-- what a line makes of the lines before it; None where no rule admits it there
+abbrev pub step : Stage → said.Line → Option Stage
+step (Empty block session) line = empty block session line
+step (Planned sketch) line = planned sketch line
+step (Running script) line = running script line
+step (Ended script) line = None
+
+-- what holds of a script: a list for each source, of tasks that fit the plan and are the source's
+pub record IsScript (script : Script) : Type 0 where
+  pub plan : IsPlan script.plan
+  pub lists : length script.lists ≡ script.plan.sources
+  pub fit : (s : ℕ) (d : List Task) → s < length script.lists → All (TaskFits script.plan) (slice_index_or script.lists s d)
+  pub own : (s : ℕ) (d : List Task) → s < length script.lists → All (IsTaskOf script.plan s) (slice_index_or script.lists s d)
+
+-- a limit that was said is 1 to so much
+abbrev pub IsLimit : ℕ → Option ℕ → Type 0
+IsLimit most None = Unit {0}
+IsLimit most (Some limit) = (1 ≤ limit) × (limit ≤ most)
+
+-- what holds of every stage
+abbrev pub Sound : Stage → Type 0
+Sound (Empty block session) = IsLimit 16777216 block × IsLimit 268435456 session
+Sound (Planned sketch) = IsSketch sketch
+Sound (Running script) = IsScript script
+Sound (Ended script) = IsScript script

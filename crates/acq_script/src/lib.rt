@@ -1,19 +1,24 @@
-//! The script of a recording: which channels its group has, and the samples of its source in order.
+//! The script of a recording: its groups with their channels, and what its sources do, in order.
 //!
-//! A script is lines, each ended by LF, of words with one blank between them. So far it has one group of one source,
-//! whose channels are 64-bit unsigned numbers.
+//! A script is lines, each ended by LF, of words with one blank between them. Its channels are numbers of 1 to 64 bits,
+//! signed or not, of both byte orders, floats, and bytes of fixed or variable length, and can have invalidation bits; so far
+//! it has one source.
 #![tactic(auto)]
 
+mod draft;
 mod fault;
+mod kind;
 mod law;
 mod line;
 mod number;
-mod plan;
 mod read;
 mod sample;
 mod script;
+mod sketch;
 mod stage;
+mod task;
 mod text;
+mod value;
 
 pub use fault::ScriptFault;
 pub use law::spelled_is_read;

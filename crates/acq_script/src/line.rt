@@ -1,11 +1,22 @@
-ghost use Rattle.std.specs.Prelude.{◌≡◌};
+ghost use Rattle.std.specs.Prelude.{◌≡◌, IfSome};
 ghost use Rattle.std.specs.Option.{option_map};
 ghost use Rattle.acq_script.specs.Text.{words_left};
-ghost use Rattle.acq_script.specs.Line.{line_of, worded, one_number, group_of, channel_of, master_of, block_of, session_of, flush_of, alone};
+ghost use Rattle.acq_script.specs.Line.{IsSaid, line_of, worded, worded_plan, one_number, group_of, channel_of, channel_with, inval_of, marks_of, unit_of, block_of, session_of, flush_of, alone};
 ghost use Rattle.acq_script.specs.View.{seen};
 
+use crate::kind::{ValueType, is_number, type_of};
 use crate::number::number_of;
 use crate::text::{cut, is_end, is_name};
+
+/// What the line of a channel says of its values.
+#[derive(Clone, Copy)]
+pub(crate) struct ChannelForm {
+    pub kind: ValueType,
+    /// Whether it is the master.
+    pub master: bool,
+    /// Whether it has an invalidation bit.
+    pub inval: bool,
+}
 
 /// What one line of a script says.
 #[derive(Clone, Copy)]
@@ -28,7 +39,11 @@ pub(crate) enum Line<'a> {
     /// The next channel of the last group.
     Channel {
         name: &'a [u8],
-        master: bool,
+        form: ChannelForm,
+    },
+    /// The unit of the last channel.
+    Unit {
+        name: &'a [u8],
     },
     /// The end of the plan.
     Begin,
@@ -45,6 +60,13 @@ pub(crate) enum Line<'a> {
     End,
 }
 
+/// What stands behind a channel's type.
+#[derive(Clone, Copy)]
+pub(crate) struct Marks {
+    pub master: bool,
+    pub inval: bool,
+}
+
 /// The line of these words behind `group`.
 #[tactic(auto, unfolding(crate::specs::Line::group_of))]
 fn group_of(words: Option<&[u8]>) -> Option<Line<'_>>
@@ -59,19 +81,53 @@ fn group_of(words: Option<&[u8]>) -> Option<Line<'_>>
     Some(Line::Group { source, name })
 }
 
-/// Whether the words behind a channel's type make it the master, if they are admitted.
-#[tactic(auto, unfolding(crate::specs::Line::master_of))]
-fn master_of(words: Option<&[u8]>) -> Option<bool>
-    ensures { result ≡ master_of (words_left words.entry) }
+/// Whether the words say that a channel has an invalidation bit, if they are admitted.
+#[tactic(auto, unfolding(crate::specs::Line::inval_of))]
+fn inval_of(words: Option<&[u8]>) -> Option<bool>
+    ensures { result ≡ inval_of (words_left words.entry) }
 {
     let Some(text) = words else {
         return Some(false);
     };
     let (word, words) = cut(text, b' ');
-    if word != b"master".as_slice() || !is_end(words) {
+    if word != b"inv".as_slice() || !is_end(words) {
         return None;
     }
     Some(true)
+}
+
+/// What the words behind a channel's type say, if they are admitted.
+#[tactic(auto, unfolding(crate::specs::Line::marks_of))]
+fn marks_of(words: Option<&[u8]>) -> Option<Marks>
+    ensures { result ≡ marks_of (words_left words.entry) }
+{
+    let Some(text) = words else {
+        return Some(Marks {
+            master: false,
+            inval: false,
+        });
+    };
+    let (word, behind) = cut(text, b' ');
+    let master = word == b"master".as_slice();
+    let inval = inval_of(if master { behind } else { words })?;
+    Some(Marks { master, inval })
+}
+
+/// The line of a channel of this type, if it can be what stands behind the type.
+fn channel_with(name: &[u8], kind: ValueType, marks: Marks) -> Option<Line<'_>>
+    ensures { option_map seen result ≡ channel_with name.now kind marks }
+{
+    if marks.master && !is_number(kind) {
+        return None;
+    }
+    Some(Line::Channel {
+        name,
+        form: ChannelForm {
+            kind,
+            master: marks.master,
+            inval: marks.inval,
+        },
+    })
 }
 
 /// The line of these words behind `channel`.
@@ -81,11 +137,24 @@ fn channel_of(words: Option<&[u8]>) -> Option<Line<'_>>
 {
     let (name, words) = cut(words?, b' ');
     let (kind, words) = cut(words?, b' ');
-    if !is_name(name) || kind != b"u64".as_slice() {
+    if !is_name(name) {
         return None;
     }
-    let master = master_of(words)?;
-    Some(Line::Channel { name, master })
+    let kind = type_of(kind)?;
+    let marks = marks_of(words)?;
+    channel_with(name, kind, marks)
+}
+
+/// The line of these words behind `unit`.
+#[tactic(auto, unfolding(crate::specs::Line::unit_of))]
+fn unit_of(words: Option<&[u8]>) -> Option<Line<'_>>
+    ensures { option_map seen result ≡ unit_of (words_left words.entry) }
+{
+    let (name, words) = cut(words?, b' ');
+    if !is_name(name) || !is_end(words) {
+        return None;
+    }
+    Some(Line::Unit { name })
 }
 
 /// The number that the one word is.
@@ -138,23 +207,11 @@ fn alone<'a>(line: Line<'a>, words: Option<&[u8]>) -> Option<Line<'a>>
     Some(line)
 }
 
-/// The line of these words.
+/// The line of these words, if it is none of a plan.
 #[tactic(auto, unfolding(crate::specs::Line::worded))]
 fn worded<'a>(word: &[u8], words: Option<&'a [u8]>) -> Option<Line<'a>>
     ensures { option_map seen result ≡ worded word.now (words_left words.entry) }
 {
-    if word == b"block".as_slice() {
-        return block_of(words);
-    }
-    if word == b"session".as_slice() {
-        return session_of(words);
-    }
-    if word == b"group".as_slice() {
-        return group_of(words);
-    }
-    if word == b"channel".as_slice() {
-        return channel_of(words);
-    }
     if word == b"begin".as_slice() {
         return alone(Line::Begin, words);
     }
@@ -171,6 +228,29 @@ fn worded<'a>(word: &[u8], words: Option<&'a [u8]>) -> Option<Line<'a>>
     })
 }
 
+/// The line of these words.
+#[tactic(auto, unfolding(crate::specs::Line::worded_plan))]
+fn worded_plan<'a>(word: &[u8], words: Option<&'a [u8]>) -> Option<Line<'a>>
+    ensures { option_map seen result ≡ worded_plan word.now (words_left words.entry) }
+{
+    if word == b"block".as_slice() {
+        return block_of(words);
+    }
+    if word == b"session".as_slice() {
+        return session_of(words);
+    }
+    if word == b"group".as_slice() {
+        return group_of(words);
+    }
+    if word == b"channel".as_slice() {
+        return channel_of(words);
+    }
+    if word == b"unit".as_slice() {
+        return unit_of(words);
+    }
+    worded(word, words)
+}
+
 /// What a line says, which is given without its LF. None where it is no line of a script.
 #[tactic(auto, unfolding(crate::specs::Line::line_of))]
 pub(crate) fn line_of(text: &[u8]) -> Option<Line<'_>>
@@ -180,5 +260,5 @@ pub(crate) fn line_of(text: &[u8]) -> Option<Line<'_>>
         return Some(Line::Passed);
     }
     let (word, words) = cut(text, b' ');
-    worded(word, words)
+    worded_plan(word, words)
 }

@@ -1,11 +1,14 @@
+use mdf_group::GroupRow;
 use mdf_layout::{Sample, Shapes};
 use mdf_num::{Bytes, Rows};
 
 /// What a script says before its samples.
 #[derive(Debug, Drop)]
 pub struct Plan {
-    /// The layouts of the groups, in the order of their numbers.
+    /// The layouts of the groups, in the order of their numbers: those of the rows.
     pub shapes: Shapes,
+    /// The groups with their channels, in the order of their numbers.
+    pub rows: Rows<GroupRow>,
     /// The source of each group.
     pub owners: Bytes,
     /// The number of sources.

@@ -1,17 +1,18 @@
-ghost use Rattle.std.specs.Prelude.{◌≡◌, IfOk, Some, None};
-ghost use Rattle.acq_script.specs.Stage.{step, with_block, with_session, with_channel, with_sample};
-ghost use Rattle.acq_script.specs.Text.{words_left};
+// The rules of a script: which line may stand behind which.
+ghost use Rattle.std.specs.Prelude.{◌≡◌, IfOk};
+ghost use Rattle.std.specs.Option.{option_map};
+ghost use Rattle.acq_script.specs.declared.stage.Stage.TheVariants.{Planned, Running};
+ghost use Rattle.acq_script.specs.Sketch.{IsSketch};
+ghost use Rattle.acq_script.specs.Stage.{IsScript, Sound, with_block, with_session, planned, running, empty, step};
+ghost use Rattle.acq_script.specs.Line.{IsSaid};
 ghost use Rattle.acq_script.specs.View.{seen};
 
 use crate::line::Line;
-use crate::plan::{Outline, outline_of};
-use crate::sample::sample_of;
-use crate::script::Task;
+use crate::script::Script;
+use crate::sketch::{Sketch, begun, channel_in, first_sketch, limits_of, unit_in, with_group};
+use crate::task::{with_flush, with_sample};
 use mdf_num::Memory;
 use std::alloc::Global;
-
-/// The most channels that a group can have.
-const MOST_CHANNELS: u32 = 256;
 
 /// How many data bytes the limit of a block can be at most.
 const MOST_BLOCK: u64 = 16_777_216;
@@ -20,141 +21,138 @@ const MOST_BLOCK: u64 = 16_777_216;
 const MOST_SESSION: u64 = 268_435_456;
 
 /// What the lines so far make.
-#[derive(Clone, Copy)]
+#[derive(Drop)]
 pub(crate) enum Stage {
     /// No group yet; the limits that were said.
     Empty {
         block: Option<u32>,
         session: Option<u64>,
     },
-    /// A plan, and whether one of its channels is the master.
+    /// A plan whose groups are being named.
     Planned {
-        outline: Outline,
-        master: bool,
+        sketch: Sketch,
     },
-    /// A plan that has ended, and samples.
+    /// A plan that has ended, and what its sources do so far.
     Running {
-        outline: Outline,
+        script: Script,
     },
     /// The whole script.
     Ended {
-        outline: Outline,
+        script: Script,
     },
 }
 
-/// What a line makes of the lines before it, and what the source does at it.
-#[derive(Drop)]
-pub(crate) struct Change {
-    pub stage: Stage,
-    pub task: Option<Task>,
-}
-
-/// A change at which the source does nothing.
-fn to(stage: Stage) -> Option<Change>
-    ensures { result ≡ Some (record { stage = stage; task = None }) }
-{
-    Some(Change { stage, task: None })
-}
-
 /// What the limit of a block makes of the limits before it, if it is admitted.
-fn with_block(block: Option<u32>, session: Option<u64>, limit: u64) -> Option<Change>
+fn with_block(block: Option<u32>, session: Option<u64>, limit: u64) -> Option<Stage>
     ensures { result ≡ with_block block session limit }
 {
     if block.is_some() || limit < 1 || limit > MOST_BLOCK {
         return None;
     }
-    to(Stage::Empty {
+    Some(Stage::Empty {
         block: Some(limit as u32),
         session,
     })
 }
 
 /// What the limit of the samples' cost makes of the limits before it, if it is admitted.
-fn with_session(block: Option<u32>, session: Option<u64>, limit: u64) -> Option<Change>
+fn with_session(block: Option<u32>, session: Option<u64>, limit: u64) -> Option<Stage>
     ensures { result ≡ with_session block session limit }
 {
     if session.is_some() || limit < 1 || limit > MOST_SESSION {
         return None;
     }
-    to(Stage::Empty {
+    Some(Stage::Empty {
         block,
         session: Some(limit),
     })
 }
 
-/// What a channel makes of a plan, if it is admitted.
-fn with_channel(outline: Outline, had: bool, master: bool) -> Option<Change>
-    ensures { result ≡ with_channel outline had master }
+/// The plan as a stage, if it is admitted.
+fn planned_by(found: Option<Sketch>) -> Option<Stage>
+    ensures { result ≡ option_map Planned found }
 {
-    if outline.channels >= MOST_CHANNELS || (had && master) {
-        return None;
+    match found {
+        Some(sketch) => Some(Stage::Planned { sketch }),
+        None => None,
     }
-    to(Stage::Planned {
-        outline: Outline {
-            channels: outline.channels + 1,
-            block: outline.block,
-            session: outline.session,
-        },
-        master: had || master,
-    })
 }
 
-/// A sample of these values, if they are admitted and its record is no longer than a block.
-fn with_sample(
-    alloc: Global,
-    outline: Outline,
-    values: Option<&[u8]>,
-) -> Result<Option<Change>, Memory>
-    ensures { IfOk result (λ found. found ≡ with_sample outline (words_left values.entry)) }
+/// The script as a stage, if it is admitted.
+fn running_by(found: Option<Script>) -> Option<Stage>
+    ensures { result ≡ option_map Running found }
 {
-    if 1 + 8 * u64::from(outline.channels) > u64::from(outline.block) {
-        return Ok(None);
+    match found {
+        Some(script) => Some(Stage::Running { script }),
+        None => None,
     }
-    match sample_of(alloc, outline.channels, values)? {
-        Some(sample) => Ok(Some(Change {
-            stage: Stage::Running { outline },
-            task: Some(Task::Sample(sample)),
-        })),
-        None => Ok(None),
+}
+
+/// What a line makes of the limits before it.
+fn empty(
+    alloc: Global,
+    block: Option<u32>,
+    session: Option<u64>,
+    line: Line<'_>,
+) -> Result<Option<Stage>, Memory>
+    ensures { IfOk result (λ found. found ≡ empty block session (seen line.entry)) }
+{
+    match line {
+        Line::Passed => Ok(Some(Stage::Empty { block, session })),
+        Line::Block { limit } => Ok(with_block(block, session, limit)),
+        Line::Session { limit } => Ok(with_session(block, session, limit)),
+        Line::Group { source, name } => Ok(planned_by(first_sketch(
+            alloc,
+            limits_of(block, session),
+            source,
+            name,
+        )?)),
+        _ => Ok(None),
+    }
+}
+
+/// What a line makes of a plan.
+fn planned(alloc: Global, sketch: Sketch, line: Line<'_>) -> Result<Option<Stage>, Memory>
+    requires sketch { IsSketch sketch }
+    requires line { IsSaid (seen line) }
+    ensures { IfOk result (λ found. found ≡ planned sketch (seen line.entry)) }
+{
+    match line {
+        Line::Passed => Ok(Some(Stage::Planned { sketch })),
+        Line::Group { source, name } => Ok(planned_by(with_group(alloc, sketch, source, name)?)),
+        Line::Channel { name, form } => Ok(planned_by(channel_in(alloc, sketch, name, form)?)),
+        Line::Unit { name } => Ok(planned_by(unit_in(alloc, sketch, name)?)),
+        Line::Begin => Ok(running_by(begun(alloc, sketch)?)),
+        _ => Ok(None),
+    }
+}
+
+/// What a line makes of a script.
+fn running(alloc: Global, script: Script, line: Line<'_>) -> Result<Option<Stage>, Memory>
+    requires { IsScript script }
+    ensures { IfOk result (λ found. found ≡ running script (seen line.entry)) }
+{
+    match line {
+        Line::Passed => Ok(Some(Stage::Running { script })),
+        Line::Sample { group, values } => Ok(running_by(with_sample(
+            alloc, script, group, values,
+        )?)),
+        Line::Flush { source } => Ok(running_by(with_flush(script, source)?)),
+        Line::End => Ok(Some(Stage::Ended { script })),
+        _ => Ok(None),
     }
 }
 
 /// What a line makes of the lines before it. None where no rule admits it there.
-#[tactic(auto, unfolding(crate::specs::Stage::step))]
-pub(crate) fn step(alloc: Global, stage: Stage, line: Line<'_>) -> Result<Option<Change>, Memory>
+pub(crate) fn step(alloc: Global, stage: Stage, line: Line<'_>) -> Result<Option<Stage>, Memory>
+    requires stage { Sound stage }
+    requires line { IsSaid (seen line) }
     ensures { IfOk result (λ found. found ≡ step stage (seen line.entry)) }
 {
-    Ok(match (stage, line) {
-        (Stage::Ended { .. }, _) => None,
-        (stage, Line::Passed) => to(stage),
-        (Stage::Empty { block, session }, Line::Block { limit }) => {
-            with_block(block, session, limit)
-        }
-        (Stage::Empty { block, session }, Line::Session { limit }) => {
-            with_session(block, session, limit)
-        }
-        (Stage::Empty { block, session }, Line::Group { source: 0, .. }) => to(Stage::Planned {
-            outline: outline_of(block, session),
-            master: false,
-        }),
-        (
-            Stage::Planned {
-                outline,
-                master: had,
-            },
-            Line::Channel { master, .. },
-        ) => { with_channel(outline, had, master) }
-        (Stage::Planned { outline, .. }, Line::Begin) if outline.channels > 0 => {
-            to(Stage::Running { outline })
-        }
-        (Stage::Running { outline }, Line::Sample { group: 0, values }) => {
-            with_sample(alloc, outline, values)?
-        }
-        (Stage::Running { .. }, Line::Flush { source: 0 }) => Some(Change {
-            stage,
-            task: Some(Task::Flush),
-        }),
-        (Stage::Running { outline }, Line::End) => to(Stage::Ended { outline }),
-        _ => None,
-    })
+    match stage {
+        Stage::Empty { block, session } => empty(alloc, block, session, line),
+        Stage::Planned { sketch } => planned(alloc, sketch, line),
+        Stage::Running { script } => running(alloc, script, line),
+        Stage::Ended { .. } => Ok(None),
+    }
 }

@@ -159,6 +159,7 @@ fn record_into<R: Threads + Wait + Sync, C: Disk, G: Gate>(
     let Script { plan, lists } = script;
     let Plan {
         shapes,
+        rows: _,
         owners: _,
         sources: _,
         block,

@@ -96,7 +96,7 @@ const GROUPS: &[(&str, &str)] = &[
 const CHANNELS: &[(&str, &str)] = &[
     ("channel t\n", "line 2"),
     ("channel t u64\r\n", "line 2"),
-    ("channel t u32\n", "line 2"),
+    ("channel t u65\n", "line 2"),
     ("channel t u64 slave\n", "line 2"),
     ("channel t u64 master master\n", "line 2"),
     (

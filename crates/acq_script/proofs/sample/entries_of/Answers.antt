@@ -1,39 +1,51 @@
-use Rattle.std.proofs.Common.{Some, arith, sym, ap, ◌≡◌, ◌∙◌, ◌-◌, ◌+◌, ◌∷◌, true, false}
+use Rattle.std.proofs.Common.{Some, sym, ap, ◌≡◌, ◌∙◌, ◌+◌, ◌∷◌, true, false, drop, get_or}
+use Rattle.std.proofs.lemmas.List.{get_or_default}
 use Rattle.acq_script.specs.Text.{words_left, is_end}
-use Rattle.acq_script.specs.Stage.{entries_of}
-use Rattle.acq_script.proofs.Entries.{behind, one_entry, no_number, too_few, too_many, all_entries}
+use Rattle.acq_script.specs.Value.{entry_of, entries_of}
+use Rattle.acq_script.proofs.Entries.{behind, some_row, row_next, none_left, one_entry, no_entry, too_few, too_many, all_entries, some_fit}
 use Rattle.acq_script.proofs.sample.entries_of.Goals as goal
 
-pub returns-in_default : goal.returns-in_default
-returns-in_default c =
-    let left = c.args.channels - c.loop.counter in
-    sym (too_few c.loop.entries.items left (left - 1) (words_left c.loop.rest) (omega arith) (ap words_left c.in_default.is))
-    ∙ c.loop.invariant
+pub returns-in_default-clause-found : goal.returns-in_default-clause-found
+returns-in_default-clause-found c =
+    let rows = c.args.rows.now in
+    let i = c.loop-row.row-index in
+    let row = get_or rows i some_row in
+    sym (too_few c.loop-row.entries.items (drop i rows) row (drop (i + 1) rows) (words_left c.loop-row.rest) (row_next rows i some_row c.loop-row-test.true) (ap words_left c.in_default.is))
+    ∙ c.loop-row.invariant
 
-pub returns-in_default-number_of : goal.returns-in_default-number_of
-returns-in_default-number_of c =
-    let left = c.args.channels - c.loop.counter in
-    let parts : words_left c.loop.rest ≡ c.cut.result.0.now ∷ words_left c.cut.result.1 = ap words_left c.in-Some.is ∙ c.cut.ensures.parts in
-    sym (no_number c.loop.entries.items left (left - 1) (words_left c.loop.rest) c.cut.result.0.now (words_left c.cut.result.1) (omega arith) parts (cc))
-    ∙ c.loop.invariant
+pub returns-in_default-2-clause-found : goal.returns-in_default-2-clause-found
+returns-in_default-2-clause-found c =
+    let rows = c.args.rows.now in
+    let i = c.loop-row.row-index in
+    let row = some_row in
+    let parts : words_left c.loop-row.rest ≡ c.cut.result.0.now ∷ words_left c.cut.result.1 = ap words_left c.in-Some.is ∙ c.cut.ensures.parts in
+    sym (no_entry c.loop-row.entries.items (drop i rows) (get_or rows i row) (drop (i + 1) rows) (words_left c.loop-row.rest) c.cut.result.0.now (words_left c.cut.result.1) (row_next rows i row c.loop-row-test.true) parts (ap (λ r. entry_of r c.cut.result.0.now) (get_or_default rows i some_row _ c.loop-row-test.true) ∙ sym c.in_ok-entry.ensures ∙ c.in_default-2.is))
+    ∙ c.loop-row.invariant
 
-pub loop-preserved : goal.loop-preserved
-loop-preserved c =
-    let left = c.args.channels - (c.loop.counter + 1) in
-    let parts : words_left c.loop.rest ≡ c.cut.result.0.now ∷ words_left c.cut.result.1 = ap words_left c.in-Some.is ∙ c.cut.ensures.parts in
-    ap (λ entries. behind entries (entries_of left (words_left c.cut.result.1))) c.in_ok-push.ensures.items
-    ∙ sym (one_entry c.loop.entries.items (c.args.channels - c.loop.counter) left c.in-Some-number_of.number (words_left c.loop.rest) c.cut.result.0.now (words_left c.cut.result.1) (omega arith) parts (cc))
-    ∙ c.loop.invariant
+pub loop-row-preserved : goal.loop-row-preserved
+loop-row-preserved c =
+    let rows = c.args.rows.now in
+    let i = c.loop-row.row-index in
+    let row = some_row in
+    let parts : words_left c.loop-row.rest ≡ c.cut.result.0.now ∷ words_left c.cut.result.1 = ap words_left c.in-Some.is ∙ c.cut.ensures.parts in
+    ap (λ entries. behind entries (entries_of (drop (i + 1) rows) (words_left c.cut.result.1))) c.in_ok-push.ensures.items
+    ∙ sym (one_entry c.loop-row.entries.items (drop i rows) (get_or rows i row) (drop (i + 1) rows) c.in-Some-2.entry (words_left c.loop-row.rest) c.cut.result.0.now (words_left c.cut.result.1) (row_next rows i row c.loop-row-test.true) parts (ap (λ r. entry_of r c.cut.result.0.now) (get_or_default rows i some_row _ c.loop-row-test.true) ∙ sym c.in_ok-entry.ensures ∙ c.in-Some-2.is))
+    ∙ c.loop-row.invariant
 
-pub returns-then-not-is_end : goal.returns-then-not-is_end
-returns-then-not-is_end c =
-    let more : is_end (words_left c.loop.rest) ≡ false = sym (c.is_end.ensures 32) ∙ c.if-not-is_end.true in
-    sym (too_many c.loop.entries.items (c.args.channels - c.loop.counter) (words_left c.loop.rest) (omega arith) more)
-    ∙ c.loop.invariant
+pub returns-then-not-is_end-clause-found : goal.returns-then-not-is_end-clause-found
+returns-then-not-is_end-clause-found c =
+    let rows = c.args.rows.now in
+    let more : is_end (words_left c.loop-row.rest) ≡ false = sym (c.is_end.ensures 32) ∙ c.if-not-is_end.true in
+    sym (too_many c.loop-row.entries.items (drop c.loop-row.row-index rows) (words_left c.loop-row.rest) (none_left rows c.loop-row.row-index c.loop-row-test.false) more)
+    ∙ c.loop-row.invariant
 
-pub returns : goal.returns
-returns c =
-    let none : is_end (words_left c.loop.rest) ≡ true = sym (c.is_end.ensures 32) ∙ c.if-not-is_end.false in
+pub returns-clause-found : goal.returns-clause-found
+returns-clause-found c =
+    let rows = c.args.rows.now in
+    let none : is_end (words_left c.loop-row.rest) ≡ true = sym (c.is_end.ensures 32) ∙ c.if-not-is_end.false in
     ap Some c.from_vec.ensures
-    ∙ sym (all_entries c.loop.entries.items (c.args.channels - c.loop.counter) (words_left c.loop.rest) (omega arith) none)
-    ∙ c.loop.invariant
+    ∙ sym (all_entries c.loop-row.entries.items (drop c.loop-row.row-index rows) (words_left c.loop-row.rest) (none_left rows c.loop-row.row-index c.loop-row-test.false) none)
+    ∙ c.loop-row.invariant
+
+pub returns-clause-fit : goal.returns-clause-fit
+returns-clause-fit c = some_fit c.args.rows.now (words_left c.args.words) (Some c.from_vec.result) (returns-clause-found c)

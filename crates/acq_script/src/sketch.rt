@@ -1,0 +1,334 @@
+// A plan whose groups are being named.
+ghost use Rattle.std.specs.Prelude.{◌≡◌, ◌≤◌, ◌<◌, All, length, map, replicate, [], IfOk};
+ghost use Rattle.mdf_group.specs.Recordable.{numbers_of};
+ghost use Rattle.mdf_layout.specs.Row.{field_row};
+ghost use Rattle.acq_script.specs.Sketch.{IsSketch, limits_of, first_sketch, with_group, channel_in, unit_in, script_with, begun, more_sources, has_room, counted};
+ghost use Rattle.acq_script.specs.Line.{IsForm};
+ghost use Rattle.acq_script.specs.Text.{is_name};
+ghost use Rattle.acq_script.specs.Plan.{layout_of, HasPlace};
+
+use crate::draft::{Draft, group_row, new_draft, with_channel, with_unit};
+use crate::line::ChannelForm;
+use crate::script::{Plan, Script, Task};
+use mdf_group::{ChannelRow, GroupRow};
+use mdf_layout::{
+    ChannelNumbers, FieldRow, Shape, ShapeFault, Shapes, field_row, rules_are_tested, shape_of,
+};
+use mdf_num::{Bytes, Memory, Rows};
+use std::alloc::Global;
+
+/// The most groups that a plan can have.
+const MOST_GROUPS: u64 = 64;
+
+/// The most channels of all groups.
+const MOST_CHANNELS: u32 = 1024;
+
+/// The most channels of variable length of all groups.
+const MOST_VARIABLE: u32 = 128;
+
+/// The most sources.
+const MOST_SOURCES: u64 = 1;
+
+/// How many data bytes a block has at most where the script says nothing of it.
+const BLOCK: u32 = 65_536;
+
+/// What the samples cost in all at most where the script says nothing of it.
+const SESSION: u64 = 268_435_456;
+
+/// The limits of a recording.
+#[derive(Clone, Copy)]
+pub(crate) struct Limits {
+    /// How many data bytes a block of records has at most.
+    pub block: u32,
+    /// What the samples cost in all at most.
+    pub session: u64,
+}
+
+/// What there is of all groups.
+#[derive(Clone, Copy)]
+pub(crate) struct Counts {
+    pub channels: u32,
+    /// The channels of variable length among them.
+    pub variable: u32,
+    pub sources: u8,
+}
+
+/// A plan whose groups are being named.
+#[derive(Drop)]
+pub(crate) struct Sketch {
+    pub limits: Limits,
+    pub counts: Counts,
+    /// The source of each group.
+    pub owners: Bytes,
+    /// The groups before the last one.
+    pub rows: Rows<GroupRow>,
+    /// The last group.
+    pub draft: Draft,
+}
+
+/// These limits where the script says them.
+pub(crate) fn limits_of(block: Option<u32>, session: Option<u64>) -> Limits
+    ensures { result ≡ limits_of block session }
+{
+    Limits {
+        block: block.unwrap_or(BLOCK),
+        session: session.unwrap_or(SESSION),
+    }
+}
+
+/// The plan of the first group, of this source and name, if they are admitted.
+pub(crate) fn first_sketch(
+    alloc: Global,
+    limits: Limits,
+    source: u64,
+    name: &[u8],
+) -> Result<Option<Sketch>, Memory>
+    ensures { IfOk result (λ found. found ≡ first_sketch limits source name.now) }
+{
+    if source >= MOST_SOURCES {
+        return Ok(None);
+    }
+    let owners = Bytes::from_slice(alloc, &[source as u8])?;
+    let draft = new_draft(alloc, name)?;
+    Ok(Some(Sketch {
+        limits,
+        counts: Counts {
+            channels: 0,
+            variable: 0,
+            sources: source as u8 + 1,
+        },
+        owners,
+        rows: Rows::empty(alloc),
+        draft,
+    }))
+}
+
+/// So many sources, or those up to this one.
+fn more_sources(sources: u8, source: u8) -> u8
+    requires { source < 255 }
+    ensures { result ≡ more_sources sources source }
+{
+    if sources <= source {
+        source + 1
+    } else {
+        sources
+    }
+}
+
+/// The plan with the next group, of this source and name, if they are admitted: the last group has a channel, and there
+/// are at most 64.
+pub(crate) fn with_group(
+    alloc: Global,
+    sketch: Sketch,
+    source: u64,
+    name: &[u8],
+) -> Result<Option<Sketch>, Memory>
+    requires { IsSketch sketch }
+    ensures { IfOk result (λ found. found ≡ with_group sketch source name.now) }
+{
+    if source >= MOST_SOURCES
+        || sketch.draft.channels.len() == 0
+        || sketch.rows.len() + 1 >= MOST_GROUPS
+    {
+        return Ok(None);
+    }
+    let next = new_draft(alloc, name)?;
+    let Sketch {
+        limits,
+        counts,
+        owners,
+        rows,
+        draft,
+    } = sketch;
+    let mut owners = owners;
+    owners.push_slice(&[source as u8])?;
+    let mut rows = rows;
+    rows.push(group_row(draft))?;
+    Ok(Some(Sketch {
+        limits,
+        counts: Counts {
+            channels: counts.channels,
+            variable: counts.variable,
+            sources: more_sources(counts.sources, source as u8),
+        },
+        owners,
+        rows,
+        draft: next,
+    }))
+}
+
+/// Whether the groups can have one channel more of this form.
+fn has_room(counts: Counts, form: ChannelForm) -> bool
+    ensures { result ≡ has_room counts form }
+{
+    counts.channels < MOST_CHANNELS && !(form.kind.variable && counts.variable >= MOST_VARIABLE)
+}
+
+/// What there is of all groups with one channel more of this form.
+fn counted(counts: Counts, form: ChannelForm) -> Counts
+    requires channels { counts.channels ≤ 1024 }
+    requires variable { counts.variable ≤ 128 }
+    ensures { result ≡ counted counts form }
+{
+    Counts {
+        channels: counts.channels + 1,
+        variable: if form.kind.variable {
+            counts.variable + 1
+        } else {
+            counts.variable
+        },
+        sources: counts.sources,
+    }
+}
+
+/// The plan with one channel more in its last group, if it is admitted.
+pub(crate) fn channel_in(
+    alloc: Global,
+    sketch: Sketch,
+    name: &[u8],
+    form: ChannelForm,
+) -> Result<Option<Sketch>, Memory>
+    requires sketch { IsSketch sketch }
+    requires form { IsForm form }
+    ensures { IfOk result (λ found. found ≡ channel_in sketch name.now form) }
+{
+    if !has_room(sketch.counts, form) {
+        return Ok(None);
+    }
+    let Sketch {
+        limits,
+        counts,
+        owners,
+        rows,
+        draft,
+    } = sketch;
+    match with_channel(alloc, draft, name, form)? {
+        Some(draft) => Ok(Some(Sketch {
+            limits,
+            counts: counted(counts, form),
+            owners,
+            rows,
+            draft,
+        })),
+        None => Ok(None),
+    }
+}
+
+/// The plan with this unit of the last channel, if it is admitted.
+pub(crate) fn unit_in(alloc: Global, sketch: Sketch, unit: &[u8]) -> Result<Option<Sketch>, Memory>
+    ensures { IfOk result (λ found. found ≡ unit_in sketch unit.now) }
+{
+    let Sketch {
+        limits,
+        counts,
+        owners,
+        rows,
+        draft,
+    } = sketch;
+    match with_unit(alloc, draft, unit)? {
+        Some(draft) => Ok(Some(Sketch {
+            limits,
+            counts,
+            owners,
+            rows,
+            draft,
+        })),
+        None => Ok(None),
+    }
+}
+
+/// The field of a channel.
+fn field_of(channel: &ChannelRow) -> FieldRow
+    ensures { result ≡ field_row (numbers_of channel.now) }
+{
+    field_row(ChannelNumbers {
+        kind: channel.kind,
+        data_type: channel.data_type,
+        byte: channel.byte,
+        bit: channel.bit,
+        bits: channel.bits,
+        flags: channel.flags,
+        inval: channel.inval,
+    })
+}
+
+/// The fields of channels.
+fn fields_of(alloc: Global, channels: &[ChannelRow]) -> Result<Rows<FieldRow>, Memory>
+    ensures { IfOk result (λ rows. rows ≡ map (λ channel. field_row (numbers_of channel)) channels.now) }
+{
+    let mut rows = Rows::empty(alloc);
+    for channel in channels {
+        rows.push(field_of(channel))?;
+    }
+    Ok(rows)
+}
+
+/// The layout of a group.
+fn shape_of_row(alloc: Global, row: &GroupRow) -> Result<Shape, Memory>
+    requires { HasPlace row.now }
+    ensures { IfOk result (λ shape. shape ≡ layout_of row.now) }
+{
+    let fields = fields_of(alloc, row.channels.as_slice())?;
+    rules_are_tested();
+    match shape_of(alloc, &fields, row.data_bytes, row.inval_bytes) {
+        Ok(shape) => Ok(shape),
+        Err(ShapeFault::Bad { .. }) => unreachable!(),
+        Err(ShapeFault::Memory) => Err(Memory),
+    }
+}
+
+/// The layouts of groups.
+fn shapes_of(alloc: Global, rows: &[GroupRow]) -> Result<Shapes, Memory>
+    requires { All HasPlace rows.now }
+    ensures { IfOk result (λ shapes. shapes ≡ map layout_of rows.now) }
+{
+    let mut shapes = Shapes::empty(alloc);
+    for row in rows {
+        shapes.push(shape_of_row(alloc, row)?)?;
+    }
+    Ok(shapes)
+}
+
+/// A list for each of so many sources, which does nothing yet.
+fn new_lists(alloc: Global, sources: u8) -> Result<Rows<Rows<Task>>, Memory>
+    ensures { IfOk result (λ lists. lists ≡ replicate sources []) }
+{
+    let mut lists = Rows::empty(alloc);
+    for _ in 0..sources {
+        lists.push(Rows::empty(alloc))?;
+    }
+    Ok(lists)
+}
+
+/// The script of a plan that has ended, without tasks yet, if its last group has a channel.
+pub(crate) fn begun(alloc: Global, sketch: Sketch) -> Result<Option<Script>, Memory>
+    requires { IsSketch sketch }
+    ensures { IfOk result (λ found. found ≡ begun sketch) }
+{
+    if sketch.draft.channels.len() == 0 {
+        return Ok(None);
+    }
+    let Sketch {
+        limits,
+        counts,
+        owners,
+        rows,
+        draft,
+    } = sketch;
+    let mut rows = rows;
+    rows.push(group_row(draft))?;
+    let shapes = shapes_of(alloc, rows.as_slice())?;
+    let lists = new_lists(alloc, counts.sources)?;
+    Ok(Some(Script {
+        plan: Plan {
+            shapes,
+            rows,
+            owners,
+            sources: counts.sources,
+            block: limits.block,
+            session: limits.session,
+            live: false,
+        },
+        lists,
+    }))
+}
