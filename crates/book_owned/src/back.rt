@@ -93,11 +93,17 @@ pub(crate) fn make_room<D: Disk, V: Shown, R: Threads + Wait + Sync>(
     Ok(())
 }
 
-/// Why a sample is not taken, before anything changes.
-pub(crate) fn refusal<V>(front: &InMemory<V>, failed: bool, sample: &Sample) -> Option<Append>
+/// Why a sample of this encoded size is not taken, before anything changes.
+pub(crate) fn refusal<V>(
+    front: &InMemory<V>,
+    failed: bool,
+    sample: &Sample,
+    size: u64,
+) -> Option<Append>
     requires counted { IsCounted front.now }
     requires fits { SampleFits front.now.shapes sample.now }
-    requires size { encoded_size front.now.shapes sample.now ≤ front.now.block.limit }
+    requires size { size ≡ encoded_size front.now.shapes sample.now }
+    requires block { encoded_size front.now.shapes sample.now ≤ front.now.block.limit }
     ensures none { IfNone result (Takes front.now failed sample.now) }
     ensures refused { IfSome result (Refuses front.now failed sample.now) }
 {
@@ -106,11 +112,11 @@ pub(crate) fn refusal<V>(front: &InMemory<V>, failed: bool, sample: &Sample) -> 
             mark: last_mark(&front.marks),
         });
     }
-    let size = front.shapes.cost_of(sample);
-    if front.held + size > front.session_limit {
+    let cost = front.shapes.cost_with(sample, size);
+    if front.held + cost > front.session_limit {
         return Some(Append::SessionFull {
             held: front.held,
-            size,
+            size: cost,
             limit: front.session_limit,
         });
     }

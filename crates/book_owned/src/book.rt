@@ -122,13 +122,13 @@ impl<D: Disk, V: Shown> Book<D, V> {
         ensures later { D.faults self.old.disk ≤ D.faults self.new.disk }
         ensures clock { D.moment self.old.disk ≤ D.moment self.new.disk }
     {
-        if let Some(refused) = refusal(&self.front, self.file.failed(), &sample) {
+        let size = self.front.shapes.encoded_size(&sample);
+        if let Some(refused) = refusal(&self.front, self.file.failed(), &sample, size) {
             return refused;
         }
         let Ok(()) = reserve(&mut self.front) else {
             return Append::Memory;
         };
-        let size = self.front.shapes.encoded_size(&sample);
         if let Err(fault) = make_room(&mut self.front, &mut self.file, rt, size) {
             return Append::DiskFault {
                 before: fault.before,

@@ -40,7 +40,7 @@ pub(crate) fn accept<V>(front: &mut InMemory<V>, sample: Sample)
         .encode(&front.shapes, &sample, &mut front.scratch);
     front.block.push(&front.scratch[..size]);
     front.next.pass(&front.shapes, &sample);
-    front.held += front.shapes.cost_of(&sample);
+    front.held += front.shapes.cost_with(&sample, size as u64);
     front.history.put(sample);
 }
 

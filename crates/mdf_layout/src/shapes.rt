@@ -116,6 +116,15 @@ impl Shapes {
         requires room { cost_of self.now sample.now < 2 ^ 64 }
         ensures { result ≡ cost_of self.now sample.now }
     {
-        self.encoded_size(sample) + SAMPLE_COST + CHANNEL_COST * sample.values.len()
+        self.cost_with(sample, self.encoded_size(sample))
+    }
+
+    /// The same of a sample whose encoded size was measured before.
+    pub fn cost_with(&self, sample: &Sample, size: u64) -> u64
+        requires size { size ≡ encoded_size self.now sample.now }
+        requires room { cost_of self.now sample.now < 2 ^ 64 }
+        ensures { result ≡ cost_of self.now sample.now }
+    {
+        size + SAMPLE_COST + CHANNEL_COST * sample.values.len()
     }
 }

@@ -1,4 +1,4 @@
-use Rattle.std.proofs.Common.{◌+◌, ◌<◌, ◌^◌, arith}
+use Rattle.std.proofs.Common.{◌<◌, ◌^◌, arith}
 use Rattle.mdf_layout.specs.Record.{history_size}
 use Rattle.book_owned.proofs.Costs.{ids_small, history_cost-least}
 use Rattle.book_owned.proofs.front.accept.Goals as goal

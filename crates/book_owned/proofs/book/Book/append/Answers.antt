@@ -1,7 +1,7 @@
 use Rattle.std.proofs.Common.{◌+◌, ◌≤◌, ◌≡◌, ◌∙◌, ap, false, sym, subst, arith, rules}
 use Rattle.book_owned.specs.Answers.{PassesBlock, Turns}
 use Rattle.book_owned.specs.Halves.{account_of}
-use Rattle.mdf_layout.specs.Record.{cost_of}
+use Rattle.mdf_layout.specs.Record.{cost_of, encoded_size}
 use Rattle.book_owned.specs.declared.in_memory.InMemory.{InMemory}
 use Rattle.book_owned.proofs.Putting.{book_put}
 use Rattle.book_owned.proofs.Flushing.{passes, turned}
@@ -24,19 +24,21 @@ returns-clause-shown g c = (invariant_of-self-2 g c).shown
 pub returns-in-Err-clause-answer : goal.returns-in-Err-clause-answer
 returns-in-Err-clause-answer g c =
     let front = c.self.inside.front in
+    let measured = c.encoded_size-size.ensures ∙ ap (λ f. encoded_size f.shapes c.args.sample) (sym c.reserve.ensures.rest) in
     let going : c.self.inside.file.failed ≡ false = sym c.failed.ensures.failed ∙ c.in_default.ensures.none.going in (
       search rules,
       search rules,
       ap (λ m. m.items) c.in-Err.ensures.fault.marks ∙ c.reserve.ensures.marks ∙ ap (λ a. a.marks) c.self.view_is,
       subst (λ a. PassesBlock a c.args.sample) c.self.view_is
           (passes g.D.Disk g.V.Shown front c.self.inside.file c.reserve.new.front c.args.sample c.encoded_size-size.result c.reserve.ensures.rest
-          (c.self.invariant.pending.records going) c.encoded_size-size.ensures c.in-Err.ensures.full),
+          (c.self.invariant.pending.records going) measured c.in-Err.ensures.full),
       c.in-Err.ensures.fault.view ∙ ap (λ f. f.view) c.reserve.ensures.rest ∙ ap (λ a. a.view) c.self.view_is,
     )
 
 pub returns-clause-answer : goal.returns-clause-answer
 returns-clause-answer g c =
     let going : c.self.inside.file.failed ≡ false = sym c.failed.ensures.failed ∙ c.in_default.ensures.none.going in
+    let measured = c.encoded_size-size.ensures ∙ ap (λ f. encoded_size f.shapes c.args.sample) (sym c.reserve.ensures.rest) in
     let new = account_of g.D.Disk g.V.Shown c.accept.new.front c.make_room.new.file in (
       search rules,
       search rules,
@@ -44,6 +46,6 @@ returns-clause-answer g c =
       search rules,
       subst (λ a. Turns g.D.Disk g.V.Shown a new c.args.sample) c.self.view_is
           (turned g.D.Disk g.V.Shown c.self.inside.front c.self.inside.file c.reserve.new.front c.args.sample c.encoded_size-size.result c.reserve.ensures.rest
-          (c.self.invariant.pending.records going) c.encoded_size-size.ensures c.make_room.new.front c.accept.new.front c.make_room.new.file
+          (c.self.invariant.pending.records going) measured c.make_room.new.front c.accept.new.front c.make_room.new.file
           c.reserve.ensures.history c.reserve.ensures.marks c.in_default-make_room.ensures.turns c.accept.ensures.put.rest),
     )
