@@ -1,0 +1,10 @@
+use Rattle.std.proofs.Common.{ℕ, Option, ◌∙◌, ap}
+use Rattle.std.specs.Option.{unwrap_or}
+use Rattle.std.proofs.lemmas.Option.{unwrap_or-slice_get}
+use Rattle.mdf_content.proofs.values.place_at.Goals as goal
+
+pub returns : goal.returns
+returns c =
+    c.unwrap_or.ensures
+    ∙ ap (λ (found : Option ℕ). unwrap_or found 0) c.get.ensures
+    ∙ unwrap_or-slice_get c.args.places.now c.args.row 0

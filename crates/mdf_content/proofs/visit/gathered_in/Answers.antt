@@ -1,0 +1,39 @@
+use Rattle.std.proofs.Common.{sym, ◌∙◌, arith}
+use Rattle.std.proofs.lemmas.Result.{err_from_is_err_and}
+use Rattle.mdf_content.specs.Fault.{read_refusal}
+use Rattle.mdf_content.proofs.Gathered.{is_done, goes_on, ends}
+use Rattle.mdf_content.proofs.visit.gathered_in.Goals as goal
+
+pub returns-in_err-found-clause-found : goal.returns-in_err-found-clause-found
+returns-in_err-found-clause-found g c = λ f told.
+    let p = err_from_is_err_and c.from_residual.result c.from_residual.ensures.1 in
+    let loop = c.loop-k in
+    let visit = c.args.visit.now in
+    let one = c.index-items-k in
+    rw (p.1, p.2) (
+    ends (g.V.Visit.read visit f) c.args.items.now read_refusal _ loop.all loop.k loop.state one.result c.loop-k-test.true one.is
+    (c.in_err-found.ensures.found f (loop.invariant.same ∙ told)) _ (loop.invariant.found f told)
+    )
+
+pub loop-k-preserved : goal.loop-k-preserved
+loop-k-preserved g c = record {
+  found = λ f told.
+      let loop = c.loop-k in
+      let visit = c.args.visit.now in
+      let one = c.index-items-k in
+      let read = c.in_ok-found.ensures.found f (loop.invariant.same ∙ told) in
+      rw c.in_ok-push_some.ensures (
+      sym (goes_on (g.V.Visit.read visit f) c.args.items.now loop.all loop.k loop.state one.result c.in_ok-found.found c.in_ok-found.next
+      c.loop-k-test.true one.is read)
+      ∙ loop.invariant.found f told
+      );
+  same = c.in_ok-found.ensures.same ∙ c.loop-k.invariant.same;
+  size = c.in_ok-found.ensures.size ∙ c.loop-k.invariant.size;
+  later = omega (arith, c.in_ok-found.ensures.cause.later);
+}
+
+pub returns-clause-found : goal.returns-clause-found
+returns-clause-found g c = λ f told.
+    let loop = c.loop-k in
+    sym (loop.invariant.found f told)
+    ∙ is_done (g.V.Visit.read c.args.visit.now f) c.args.items.now loop.all loop.k loop.state c.loop-k-test.false

@@ -1,0 +1,6 @@
+pub mod Fault
+pub mod Visit
+pub mod Layouts
+pub mod Records
+pub mod Values
+pub mod Contents

@@ -1,0 +1,79 @@
+ghost use Rattle.std.specs.Prelude.{◌≡◌, ◌^◌, ◌<◌, ℕ, List, Some, length, true, IfOk, IfErr};
+ghost use Rattle.mdf_num.specs.Halt.{HaltCause};
+ghost use Rattle.mdf_block.specs.Refusal.{Gives, IsPlain};
+ghost use Rattle.mdf_data.specs.Parts.{stream_of, stream_size, ArePartsInside};
+ghost use Rattle.mdf_data.specs.Link.{data_parts};
+ghost use Rattle.mdf_data.specs.Record.{IsIdSize};
+ghost use Rattle.mdf_data.specs.Places.{places, HaveRoom};
+ghost use Rattle.mdf_content.specs.Fault.{read_refusal};
+
+use crate::ReadFault;
+use mdf_block::{Kind, What};
+use mdf_data::{DataFault, DataView, Known, Places, SplitFault, places_in, view_data_in};
+use mdf_num::{Halt, Rows, Span};
+use std::alloc::Global;
+
+/// What a data link leads to, with the faults of this crate.
+pub(crate) fn view_of<P: Span>(
+    alloc: Global,
+    span: &mut P,
+    at: u64,
+    want: Kind,
+) -> Result<DataView, Halt<ReadFault>>
+    ensures found { (f : List ℕ) → P.bytes span.old ≡ Some f → Gives read_refusal result (data_parts f want at) }
+    ensures inside { IfOk result (ArePartsInside (P.size span.old)) }
+    ensures plain { IfErr result (IsPlain read_refusal) }
+    ensures same { P.bytes span.new ≡ P.bytes span.old }
+    ensures size { P.size span.new ≡ P.size span.old }
+    ensures cause { HaltCause true (P.faults span.old) (P.faults span.new) result }
+{
+    match view_data_in(alloc, span, at, want) {
+        Ok(view) => Ok(view),
+        Err(Halt::Fault(DataFault::Bad { at, want })) => Err(Halt::Fault(ReadFault::Block {
+            at,
+            want,
+        })),
+        Err(Halt::Fault(DataFault::Compressed { at })) => {
+            Err(Halt::Fault(ReadFault::Compressed { at }))
+        }
+        Err(Halt::Fault(DataFault::TooMany { at })) => Err(Halt::Fault(ReadFault::TooMany {
+            what: What::Block,
+            at,
+        })),
+        Err(Halt::Fault(DataFault::Memory)) => Err(Halt::Memory),
+        Err(Halt::Failed) => Err(Halt::Failed),
+        Err(Halt::Memory) => Err(Halt::Memory),
+    }
+}
+
+/// The places of the records of a stream with ids, with the faults of this crate.
+pub(crate) fn places_with<P: Span>(
+    alloc: Global,
+    span: &mut P,
+    view: &DataView,
+    id_size: u8,
+    known: &[Known],
+) -> Result<Rows<Places>, Halt<ReadFault>>
+    requires id_size { IsIdSize id_size }
+    requires few { length known.now < 2 ^ 32 }
+    requires inside { ArePartsInside (P.size span.old) view.now }
+    ensures found { (f : List ℕ) → P.bytes span.old ≡ Some f →
+        Gives read_refusal result (places (stream_of f view.now) (stream_size view.now) id_size known.now) }
+    ensures count { IfOk result (λ lists. length lists ≡ length known.now) }
+    ensures room { IfOk result (HaveRoom (stream_size view.now) known.now) }
+    ensures plain { IfErr result (IsPlain read_refusal) }
+    ensures same { P.bytes span.new ≡ P.bytes span.old }
+    ensures size { P.size span.new ≡ P.size span.old }
+    ensures cause { HaltCause true (P.faults span.old) (P.faults span.new) result }
+{
+    match places_in(alloc, span, view, id_size, known) {
+        Ok(lists) => Ok(lists),
+        Err(Halt::Fault(SplitFault::UnknownId { id, at })) => Err(Halt::Fault(ReadFault::UnknownId {
+            id,
+            at,
+        })),
+        Err(Halt::Fault(SplitFault::Cut { at })) => Err(Halt::Fault(ReadFault::Cut { at })),
+        Err(Halt::Failed) => Err(Halt::Failed),
+        Err(Halt::Memory) => Err(Halt::Memory),
+    }
+}

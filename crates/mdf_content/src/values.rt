@@ -1,0 +1,467 @@
+ghost use Rattle.std.specs.Prelude.{◌≡◌, ◌+◌, ◌-◌, ◌^◌, ◌≤◌, ◌<◌, ◌++◌, if◌then◌else◌, ◌&&◌, nat_eq, [], ℕ, List, Some, length, drop, map, take, slice_index_or, true, false, None, MatchOption, IfOk, IfErr, OnOk};
+ghost use Rattle.std.specs.List.{AllByRecursion, flat_map};
+ghost use Rattle.std.specs.BTreeMap.{get};
+ghost use Rattle.std.specs.Ordering.{nat_cmp};
+ghost use Rattle.mdf_format.specs.Number.{bytes_at};
+ghost use Rattle.mdf_format.specs.Field.{covered_end, covered_size, field_number};
+ghost use Rattle.mdf_bits.specs.Field.{spot_of};
+ghost use Rattle.mdf_num.specs.Halt.{HaltCause, StopCause};
+ghost use Rattle.mdf_block.specs.Refusal.{Gives, IsPlain};
+ghost use Rattle.mdf_data.specs.Parts.{stream_of, stream_size, ArePartsInside};
+ghost use Rattle.mdf_data.specs.Range.{parts_between};
+ghost use Rattle.mdf_group.specs.Group.{is_variable};
+ghost use Rattle.mdf_layout.specs.Rule.{spot_in};
+ghost use Rattle.mdf_content.specs.Fault.{read_refusal};
+ghost use Rattle.mdf_content.specs.Layouts.{HasOffset, field_of};
+ghost use Rattle.mdf_content.specs.Visit.{Each};
+ghost use Rattle.mdf_content.specs.Values.{
+  IsHeld,
+  IsValuesTable,
+  AreWithin,
+  channel_stream,
+  channel_values,
+  held_of,
+  has_value,
+  offset_in,
+  offset_met,
+  offsets_met,
+  value_size,
+  records_of,
+  streams,
+  values_at,
+  values_group,
+};
+
+use crate::ReadFault;
+use crate::layouts::is_variable;
+use crate::lower::view_of;
+use crate::visit::{Visit, gathered_in};
+use mdf_bits::{Field, get};
+use mdf_block::Kind;
+use mdf_data::{DataView, Places};
+use mdf_group::{ChannelRow, GroupRow};
+use mdf_num::{Bytes, Halt, Memory, Span, Stop};
+use mdf_vlsd::{Streams, ValueStream};
+use std::alloc::Global;
+use std::collections::BTreeMap;
+
+/// How many bytes a stream has fewer than.
+const LONGEST: u64 = 1 << 62;
+
+/// The stream of a data group (DGBLOCK), its channel groups, the places of their records in it, and the numbers of the
+/// groups that hold values, by their addresses.
+#[derive(Drop)]
+pub(crate) struct Held<'a> {
+    pub(crate) view: &'a DataView,
+    pub(crate) groups: &'a [GroupRow],
+    pub(crate) lists: &'a [Places],
+    pub(crate) table: &'a BTreeMap<u64, u64>,
+}
+
+/// The records of a group that are records at.
+#[derive(Drop)]
+pub(crate) struct Records<'a> {
+    /// How many data bytes they have.
+    pub(crate) data_bytes: u32,
+    /// Their places in the stream.
+    pub(crate) places: &'a Places,
+    /// How many they are.
+    pub(crate) count: u64,
+}
+
+/// Adds a group to a table of the groups that hold values, if it is one.
+fn add_group(table: &mut BTreeMap<u64, u64>, group: &GroupRow, k: u64) -> Result<(), Memory>
+    ensures { OnOk result ((at : ℕ) → get nat_cmp table.new at
+        ≡ (if is_variable group.now && nat_eq group.now.at at then Some k else get nat_cmp table.old at)) }
+{
+    if is_variable(group) {
+        table.insert(group.at, k)?;
+    }
+    Ok(())
+}
+
+/// The numbers of the groups that hold values, by their addresses; of those at one address the first.
+pub(crate) fn values_table(alloc: Global, groups: &[GroupRow]) -> Result<BTreeMap<u64, u64>, Memory>
+    ensures { IfOk result (λ table. IsValuesTable groups.now (get nat_cmp table)) }
+{
+    let mut table = BTreeMap::new(alloc);
+    let mut k = groups.len();
+    while k > 0 {
+        k -= 1;
+        add_group(&mut table, &groups[k], k as u64)?;
+    }
+    Ok(table)
+}
+
+/// Place `row`; 0 past the end.
+pub(crate) fn place_at(places: &Places, row: u64) -> u64
+    ensures { result ≡ slice_index_or places.now row 0 }
+{
+    places.get(row).unwrap_or(0)
+}
+
+/// Adds the value in the record at a place, with its length, at the end of a stream.
+fn add_value<P: Span>(
+    span: &mut P,
+    view: &DataView,
+    place: u64,
+    values: &mut DataView,
+) -> Result<(), Stop>
+    requires inside { ArePartsInside (P.size span.old) view.now }
+    requires room { place + 4 ≤ stream_size view.now }
+    ensures added { OnOk result ((f : List ℕ) → P.bytes span.old ≡ Some f →
+        values.new ≡ values.old ++ parts_between view.now place (value_size (stream_of f view.now) (stream_size view.now) place)) }
+    ensures inside { ArePartsInside (P.size span.old) values.old → OnOk result (ArePartsInside (P.size span.old) values.new) }
+    ensures same { P.bytes span.new ≡ P.bytes span.old }
+    ensures size { P.size span.new ≡ P.size span.old }
+    ensures cause { StopCause true (P.faults span.old) (P.faults span.new) result }
+{
+    let len = 4 + view.u32_in(span, place)? as u64;
+    let len = len.min(view.len() - place);
+    if len >= LONGEST - values.len() {
+        return Err(Stop::Memory);
+    }
+    match values.add_part(view, place, len) {
+        Ok(()) => Ok(()),
+        Err(_) => Err(Stop::Memory),
+    }
+}
+
+/// The values in the records at these places, each with its length, as a stream.
+fn values_in<P: Span>(
+    alloc: Global,
+    span: &mut P,
+    view: &DataView,
+    places: &Places,
+) -> Result<DataView, Stop>
+    requires inside { ArePartsInside (P.size span.old) view.now }
+    requires room { AllByRecursion (λ place. place + 4 ≤ stream_size view.now) places.now }
+    ensures values { IfOk result (λ values. (f : List ℕ) → P.bytes span.old ≡ Some f → values ≡ values_at f view.now places.now) }
+    ensures inside { IfOk result (ArePartsInside (P.size span.old)) }
+    ensures same { P.bytes span.new ≡ P.bytes span.old }
+    ensures size { P.size span.new ≡ P.size span.old }
+    ensures cause { StopCause true (P.faults span.old) (P.faults span.new) result }
+{
+    let mut values = DataView::empty(alloc);
+    let mut k = 0;
+    while k < places.len() {
+        add_value(span, view, place_at(places, k), &mut values)?;
+        k += 1;
+    }
+    Ok(values)
+}
+
+/// The number of the group of values that stands at an address, if one does.
+fn values_group(held: &Held, at: u64) -> Option<u64>
+    requires table { IsValuesTable held.now.groups.now (get nat_cmp held.now.table.now) }
+    ensures { result ≡ values_group held.now.groups.now at 0 }
+{
+    held.table.get(&at).copied()
+}
+
+/// List `k`; past the end the other one.
+pub(crate) fn places_or<'a>(lists: &'a [Places], k: usize, other: &'a Places) -> &'a Places
+    ensures { result.now ≡ slice_index_or lists.now k other.now }
+{
+    if k < lists.len() { &lists[k] } else { other }
+}
+
+/// Where the values of a channel are whose own link is `at`: in the records of a group that stands there, or where the
+/// link leads to.
+#[tactic(auto, unfolding(crate::specs::Values::channel_values))]
+fn channel_values_in<P: Span>(
+    alloc: Global,
+    span: &mut P,
+    held: &Held,
+    at: u64,
+) -> Result<DataView, Halt<ReadFault>>
+    requires held { IsHeld (P.size span.old) held.now }
+    ensures found { (f : List ℕ) → P.bytes span.old ≡ Some f → Gives read_refusal result (channel_values f (held_of held.now) at) }
+    ensures inside { IfOk result (ArePartsInside (P.size span.old)) }
+    ensures plain { IfErr result (IsPlain read_refusal) }
+    ensures same { P.bytes span.new ≡ P.bytes span.old }
+    ensures size { P.size span.new ≡ P.size span.old }
+    ensures cause { HaltCause true (P.faults span.old) (P.faults span.new) result }
+{
+    let Some(k) = values_group(held, at) else {
+        return view_of(alloc, span, at, Kind::Sd);
+    };
+    let none = Places::empty(alloc);
+    let values = values_in(
+        alloc,
+        span,
+        held.view,
+        places_or(held.lists, k as usize, &none),
+    )?;
+    Ok(values)
+}
+
+/// Whether a whole value stands at an offset of a stream.
+fn has_value_in<P: Span>(span: &mut P, values: &DataView, offset: u64) -> Result<bool, Stop>
+    requires inside { ArePartsInside (P.size span.old) values.now }
+    ensures has { IfOk result (λ has. (f : List ℕ) → P.bytes span.old ≡ Some f → has ≡ has_value (stream_of f values.now) (stream_size values.now) offset) }
+    ensures same { P.bytes span.new ≡ P.bytes span.old }
+    ensures size { P.size span.new ≡ P.size span.old }
+    ensures cause { StopCause P.may_want (P.faults span.old) (P.faults span.new) result }
+{
+    let total = values.len();
+    if total < 4 || offset > total - 4 {
+        return Ok(false);
+    }
+    let len = values.u32_in(span, offset)? as u64;
+    Ok(len <= total - offset - 4)
+}
+
+/// Where the offset of a channel of variable length lies in so many data bytes.
+fn offset_field(channel: &ChannelRow, data_bytes: u32) -> Field
+    requires kind { channel.now.kind ≡ 1 }
+    requires placed { HasOffset data_bytes channel.now }
+    ensures spot { spot_of result ≡ spot_in (field_of channel.now) }
+    ensures inside { covered_end (spot_of result) ≤ data_bytes }
+{
+    Field {
+        byte: channel.byte,
+        bit: channel.bit,
+        bits: channel.bits as u8,
+        big: false,
+    }
+}
+
+/// The number of a field in the record at a place, which has so many data bytes. The buffer has as many bytes as the
+/// field touches.
+fn number_by<P: Span>(
+    span: &mut P,
+    view: &DataView,
+    field: Field,
+    data_bytes: u32,
+    place: u64,
+    covered: &mut [u8],
+) -> Result<u64, Stop>
+    requires size { length covered.old ≡ covered_size (spot_of field) }
+    requires covered { covered_end (spot_of field) ≤ data_bytes }
+    requires inside { ArePartsInside (P.size span.old) view.now }
+    requires within { place + data_bytes ≤ stream_size view.now }
+    ensures number { IfOk result (λ number. (f : List ℕ) → P.bytes span.old ≡ Some f →
+        number ≡ field_number (spot_of field) (bytes_at data_bytes (stream_of f view.now) place)) }
+    ensures same { P.bytes span.new ≡ P.bytes span.old }
+    ensures size { P.size span.new ≡ P.size span.old }
+    ensures cause { StopCause P.may_want (P.faults span.old) (P.faults span.new) result }
+{
+    let _total = view.len();
+    let front = Field {
+        byte: 0,
+        bit: field.bit,
+        bits: field.bits,
+        big: field.big,
+    };
+    view.read_in(span, place + field.byte as u64, covered)?;
+    Ok(get(covered, front))
+}
+
+/// The number of a field in the record at a place, which has so many data bytes.
+fn number_in<P: Span>(
+    span: &mut P,
+    view: &DataView,
+    field: Field,
+    data_bytes: u32,
+    place: u64,
+) -> Result<u64, Stop>
+    requires covered { covered_end (spot_of field) ≤ data_bytes }
+    requires inside { ArePartsInside (P.size span.old) view.now }
+    requires within { place + data_bytes ≤ stream_size view.now }
+    ensures number { IfOk result (λ number. (f : List ℕ) → P.bytes span.old ≡ Some f →
+        number ≡ field_number (spot_of field) (bytes_at data_bytes (stream_of f view.now) place)) }
+    ensures same { P.bytes span.new ≡ P.bytes span.old }
+    ensures size { P.size span.new ≡ P.size span.old }
+    ensures cause { StopCause P.may_want (P.faults span.old) (P.faults span.new) result }
+{
+    let size = (field.bit as usize + field.bits as usize + 7) / 8;
+    let mut bytes = [0u8; 9];
+    number_by(span, view, field, data_bytes, place, &mut bytes[..size])
+}
+
+/// Nothing, where the offset of a channel in a row meets a value.
+fn offset_met_in<P: Span>(
+    span: &mut P,
+    view: &DataView,
+    records: &Records,
+    values: &DataView,
+    channel: &ChannelRow,
+    c: u32,
+    row: u64,
+) -> Result<(), Halt<ReadFault>>
+    requires kind { channel.now.kind ≡ 1 }
+    requires placed { HasOffset records.now.data_bytes channel.now }
+    requires inside { ArePartsInside (P.size span.old) view.now }
+    requires values { ArePartsInside (P.size span.old) values.now }
+    requires within { slice_index_or records.now.places.now row 0 + records.now.data_bytes ≤ stream_size view.now }
+    ensures found { (f : List ℕ) → P.bytes span.old ≡ Some f → Gives read_refusal result
+        (offset_met (has_value (stream_of f values.now) (stream_size values.now)) (offset_in (stream_of f view.now) (records_of records.now) channel.now) c row) }
+    ensures plain { IfErr result (IsPlain read_refusal) }
+    ensures same { P.bytes span.new ≡ P.bytes span.old }
+    ensures size { P.size span.new ≡ P.size span.old }
+    ensures cause { HaltCause true (P.faults span.old) (P.faults span.new) result }
+{
+    let place = place_at(records.places, row);
+    let field = offset_field(channel, records.data_bytes);
+    let offset = number_in(span, view, field, records.data_bytes, place)?;
+    if !has_value_in(span, values, offset)? {
+        return Err(Halt::Fault(ReadFault::Offset {
+            channel: c,
+            row,
+            offset,
+        }));
+    }
+    Ok(())
+}
+
+/// Nothing, where the offsets of a channel meet values.
+fn offsets_met_in<P: Span>(
+    span: &mut P,
+    view: &DataView,
+    records: &Records,
+    values: &DataView,
+    channel: &ChannelRow,
+    c: u32,
+) -> Result<(), Halt<ReadFault>>
+    requires kind { channel.now.kind ≡ 1 }
+    requires placed { HasOffset records.now.data_bytes channel.now }
+    requires inside { ArePartsInside (P.size span.old) view.now }
+    requires values { ArePartsInside (P.size span.old) values.now }
+    requires within { AreWithin (stream_size view.now) (records_of records.now) }
+    ensures found { (f : List ℕ) → P.bytes span.old ≡ Some f → Gives read_refusal result
+        (offsets_met (has_value (stream_of f values.now) (stream_size values.now)) (offset_in (stream_of f view.now) (records_of records.now) channel.now) c 0 records.now.count) }
+    ensures plain { IfErr result (IsPlain read_refusal) }
+    ensures same { P.bytes span.new ≡ P.bytes span.old }
+    ensures size { P.size span.new ≡ P.size span.old }
+    ensures cause { HaltCause true (P.faults span.old) (P.faults span.new) result }
+{
+    let count = records.count;
+    let mut row = 0;
+    while row < count {
+        offset_met_in(span, view, records, values, channel, c, row)?;
+        row += 1;
+    }
+    Ok(())
+}
+
+/// So many bytes of a stream.
+fn bytes_in<P: Span>(alloc: Global, span: &mut P, view: &DataView, len: u64) -> Result<Bytes, Stop>
+    requires inside { ArePartsInside (P.size span.old) view.now }
+    requires within { len ≤ stream_size view.now }
+    ensures bytes { IfOk result (λ bytes. (f : List ℕ) → P.bytes span.old ≡ Some f → bytes ≡ bytes_at len (stream_of f view.now) 0) }
+    ensures same { P.bytes span.new ≡ P.bytes span.old }
+    ensures size { P.size span.new ≡ P.size span.old }
+    ensures cause { StopCause true (P.faults span.old) (P.faults span.new) result }
+{
+    let Ok(mut items) = vec![in alloc; 0u8; len as usize] else {
+        return Err(Stop::Memory);
+    };
+    view.read_in(span, 0, items.as_mut_slice())?;
+    Ok(Bytes::from_vec(items))
+}
+
+/// The bytes of a stream.
+fn stream_in<P: Span>(alloc: Global, span: &mut P, view: &DataView) -> Result<ValueStream, Stop>
+    requires inside { ArePartsInside (P.size span.old) view.now }
+    ensures stream { IfOk result (λ stream. (f : List ℕ) → P.bytes span.old ≡ Some f → stream ≡ stream_of f view.now) }
+    ensures same { P.bytes span.new ≡ P.bytes span.old }
+    ensures size { P.size span.new ≡ P.size span.old }
+    ensures cause { StopCause true (P.faults span.old) (P.faults span.new) result }
+{
+    let bytes = bytes_in(alloc, span, view, view.len())?;
+    Ok(ValueStream::from_bytes(bytes))
+}
+
+/// The stream of a channel of variable length, whose number in its group is `c`.
+#[tactic(auto, unfolding(crate::specs::Values::channel_stream))]
+fn channel_stream_in<P: Span>(
+    alloc: Global,
+    span: &mut P,
+    held: &Held,
+    records: &Records,
+    channel: &ChannelRow,
+    c: u32,
+) -> Result<ValueStream, Halt<ReadFault>>
+    requires kind { channel.now.kind ≡ 1 }
+    requires placed { HasOffset records.now.data_bytes channel.now }
+    requires held { IsHeld (P.size span.old) held.now }
+    requires within { AreWithin (stream_size held.now.view.now) (records_of records.now) }
+    ensures found { (f : List ℕ) → P.bytes span.old ≡ Some f → Gives read_refusal result
+        (channel_stream f (held_of held.now) (records_of records.now) channel.now c) }
+    ensures plain { IfErr result (IsPlain read_refusal) }
+    ensures same { P.bytes span.new ≡ P.bytes span.old }
+    ensures size { P.size span.new ≡ P.size span.old }
+    ensures cause { HaltCause true (P.faults span.old) (P.faults span.new) result }
+{
+    let values = channel_values_in(alloc, span, held, channel.values)?;
+    offsets_met_in(span, held.view, records, &values, channel, c)?;
+    let stream = stream_in(alloc, span, &values)?;
+    Ok(stream)
+}
+
+/// The channels of a group, with its records.
+#[derive(Drop)]
+struct Channels<'a> {
+    held: &'a Held<'a>,
+    records: &'a Records<'a>,
+}
+
+impl Visit for Channels<'_> {
+    ghost use Rattle.mdf_data.specs.Parts.{stream_size};
+    ghost use Rattle.mdf_content.specs.Values.{AreWithin, IsHeld, channel_item, held_of, records_of};
+    ghost use Rattle.mdf_content.specs.Layouts.{HasOffset};
+
+    type Item = ChannelRow;
+
+    type Found = ValueStream;
+
+    type State = ();
+
+    ghost read = { λ channels file. channel_item file (held_of channels.held.now) (records_of channels.records.now) };
+
+    ghost needs = { λ channels size. IsHeld size channels.held.now × AreWithin (stream_size channels.held.now.view.now) (records_of channels.records.now) };
+
+    ghost admits = { λ channels _. HasOffset channels.records.now.data_bytes };
+
+    #[tactic(auto, unfolding(crate::specs::Values::channel_item))]
+    fn item_in<P: Span>(
+        &self,
+        alloc: Global,
+        span: &mut P,
+        k: usize,
+        item: &ChannelRow,
+        state: (),
+    ) -> Result<(Option<ValueStream>, ()), Halt<ReadFault>> {
+        if item.kind != 1 {
+            return Ok((None, state));
+        }
+        if k > u32::MAX as usize {
+            return Err(Halt::Memory);
+        }
+        let stream = channel_stream_in(alloc, span, self.held, self.records, item, k as u32)?;
+        Ok((Some(stream), state))
+    }
+}
+
+/// The streams of the channels of variable length of a group, in order, each with its values.
+#[tactic(auto, unfolding(crate::specs::Values::streams))]
+pub(crate) fn streams_in<P: Span>(
+    alloc: Global,
+    span: &mut P,
+    held: &Held,
+    records: &Records,
+    channels: &[ChannelRow],
+) -> Result<Streams, Halt<ReadFault>>
+    requires held { IsHeld (P.size span.old) held.now }
+    requires within { AreWithin (stream_size held.now.view.now) (records_of records.now) }
+    requires placed { Each (λ _. HasOffset records.now.data_bytes) channels.now }
+    ensures found { (f : List ℕ) → P.bytes span.old ≡ Some f → Gives read_refusal result (streams f (held_of held.now) (records_of records.now) channels.now) }
+    ensures plain { IfErr result (IsPlain read_refusal) }
+    ensures same { P.bytes span.new ≡ P.bytes span.old }
+    ensures size { P.size span.new ≡ P.size span.old }
+    ensures cause { HaltCause true (P.faults span.old) (P.faults span.new) result }
+{
+    let (streams, _) = gathered_in(alloc, &Channels { held, records }, span, channels, ())?;
+    Ok(streams)
+}

@@ -1,0 +1,89 @@
+ghost use Rattle.std.specs.Prelude.{◌≡◌, ◌≤◌, ◌++◌, ℕ, List, Option, Some, true, IfOk, IfErr, OnOk};
+ghost use Rattle.mdf_num.specs.Halt.{HaltCause};
+ghost use Rattle.mdf_block.specs.Refusal.{Read, Gives, IsPlain};
+ghost use Rattle.mdf_content.specs.Fault.{read_refusal};
+ghost use Rattle.mdf_content.specs.Visit.{items_of, gathered, Each};
+
+use crate::ReadFault;
+use mdf_num::{Halt, Memory, Rows, Span};
+use std::alloc::Global;
+
+/// A reader of something for each item of a list. A contract sees it by the definition of what is read for an item, over
+/// the bytes of the file.
+pub trait Visit {
+    /// An item.
+    type Item: Drop;
+
+    /// What is read for it.
+    type Found: Drop;
+
+    /// What is carried from one item to the next.
+    type State: Copy;
+
+    /// What is read for an item, which has this number in the list.
+    ghost read: { Self → List ℕ → ℕ → Self.Item → Self.State → Read (Option Self.Found × Self.State) };
+
+    /// What a file of so many bytes must have for it.
+    ghost needs: { Self → ℕ → Type 0 };
+
+    /// What an item with this number must have.
+    ghost admits: { Self → ℕ → Self.Item → Type 0 };
+
+    /// What is read for item `k`, where something is, and what is carried on.
+    fn item_in<P: Span>(
+        &self,
+        alloc: Global,
+        span: &mut P,
+        k: usize,
+        item: &Self::Item,
+        state: Self::State,
+    ) -> Result<(Option<Self::Found>, Self::State), Halt<ReadFault>>
+        requires needs { needs self.now (P.size span.old) }
+        requires admitted { admits self.now k item.now }
+        ensures found { (f : List ℕ) → P.bytes span.old ≡ Some f → Gives read_refusal result (read self.now f k item.now state) }
+        ensures plain { IfErr result (IsPlain read_refusal) }
+        ensures same { P.bytes span.new ≡ P.bytes span.old }
+        ensures size { P.size span.new ≡ P.size span.old }
+        ensures cause { HaltCause true (P.faults span.old) (P.faults span.new) result };
+}
+
+/// Adds an item at the end of a list, where there is one.
+fn push_some<T: Drop>(all: &mut Rows<T>, item: Option<T>) -> Result<(), Memory>
+    ensures { OnOk result (all.new ≡ all.old ++ items_of item) }
+{
+    match item {
+        Some(item) => all.push(item),
+        None => Ok(()),
+    }
+}
+
+/// In order what is read for each item of the list, where something is, and what is carried on behind the last.
+///
+/// # Errors
+/// The first refusal of an item; the span's own; and want of memory.
+pub fn gathered_in<V: Visit, P: Span>(
+    alloc: Global,
+    visit: &V,
+    span: &mut P,
+    items: &[V::Item],
+    start: V::State,
+) -> Result<(Rows<V::Found>, V::State), Halt<ReadFault>>
+    requires needs { V.needs visit.now (P.size span.old) }
+    requires admitted { Each (V.admits visit.now) items.now }
+    ensures found { (f : List ℕ) → P.bytes span.old ≡ Some f → Gives read_refusal result (gathered (V.read visit.now f) 0 items.now start) }
+    ensures plain { IfErr result (IsPlain read_refusal) }
+    ensures same { P.bytes span.new ≡ P.bytes span.old }
+    ensures size { P.size span.new ≡ P.size span.old }
+    ensures cause { HaltCause true (P.faults span.old) (P.faults span.new) result }
+{
+    let mut all = Rows::empty(alloc);
+    let mut state = start;
+    let mut k = 0;
+    while k < items.len() {
+        let (found, next) = visit.item_in(alloc, span, k, &items[k], state)?;
+        push_some(&mut all, found)?;
+        state = next;
+        k += 1;
+    }
+    Ok((all, state))
+}
