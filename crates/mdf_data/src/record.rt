@@ -4,7 +4,7 @@ ghost use Rattle.mdf_num.specs.Halt.{StopCause, HaltCause};
 ghost use Rattle.mdf_block.specs.Refusal.{Gives};
 ghost use Rattle.mdf_data.specs.declared.known.Size.{Size};
 ghost use Rattle.mdf_data.specs.Parts.{stream_of, stream_size, ArePartsInside};
-ghost use Rattle.mdf_data.specs.Record.{IsIdSize, least_size, group_of, body_size, id_at, group_piece, piece_at, split_refusal, IsPieceAt};
+ghost use Rattle.mdf_data.specs.Record.{IsIdSize, least_size, group_of, body_size, id_at, group_piece, split_refusal};
 
 use crate::known::Group;
 use crate::{DataView, Known, Piece, Size, SplitFault};
@@ -12,7 +12,7 @@ use mdf_block::u64_field;
 use mdf_num::{Halt, Span, Stop};
 
 /// The first of these groups that has this id.
-fn group_of(known: &[Known], id: u64) -> Option<Group>
+pub(crate) fn group_of(known: &[Known], id: u64) -> Option<Group>
     requires { length known.now < 2 ^ 32 }
     ensures { result ≡ group_of known.now id 0 }
 {
@@ -146,31 +146,4 @@ pub(crate) fn group_piece_in<P: Span>(
         at,
         len: id_size as u64 + size,
     })
-}
-
-/// The record that begins at `at`, and None at the end of the stream.
-#[tactic(auto, unfolding(crate::specs::Record::piece_at))]
-pub(crate) fn piece_in<P: Span>(
-    span: &mut P,
-    view: &DataView,
-    id_size: u8,
-    known: &[Known],
-    at: u64,
-) -> Result<Option<Piece>, Halt<SplitFault>>
-    requires id_size { IsIdSize id_size }
-    requires few { length known.now < 2 ^ 32 }
-    requires inside { ArePartsInside (P.size span.old) view.now }
-    requires within { at ≤ stream_size view.now }
-    ensures found { (f : List ℕ) → P.bytes span.old ≡ Some f →
-        Gives split_refusal result (piece_at (stream_of f view.now) id_size known.now at (stream_size view.now - at)) }
-    ensures piece { IfOk result (λ found. IfSome found (IsPieceAt (stream_size view.now) id_size known.now at)) }
-    ensures same { P.bytes span.new ≡ P.bytes span.old }
-    ensures size { P.size span.new ≡ P.size span.old }
-    ensures cause { HaltCause P.may_want (P.faults span.old) (P.faults span.new) result }
-{
-    let Some(id) = id_here_in(span, view, id_size, at)? else {
-        return Ok(None);
-    };
-    let piece = group_piece_in(span, view, id_size, at, id, group_of(known, id))?;
-    Ok(Some(piece))
 }

@@ -5,7 +5,7 @@ ghost use Rattle.mdf_data.specs.Parts.{stream_of, stream_size, ArePartsInside};
 ghost use Rattle.mdf_data.specs.Record.{IsIdSize, piece_at, split_refusal, IsPieceAt};
 ghost use Rattle.mdf_data.specs.Splitting.{advanced};
 
-use crate::record::piece_in;
+use crate::record::{group_of, group_piece_in, id_here_in};
 use crate::{DataView, Known, Piece, SplitFault};
 use mdf_num::{Halt, Rows, SliceSpan, Span};
 use std::marker::Model;
@@ -50,6 +50,7 @@ impl Splitter {
     ///
     /// # Errors
     /// As `next`, and the span's own. The splitter is as before.
+    #[tactic(auto, unfolding(crate::specs::Record::piece_at))]
     pub fn next_in<P: Span>(
         &mut self,
         span: &mut P,
@@ -67,11 +68,13 @@ impl Splitter {
         ensures size { P.size span.new ≡ P.size span.old }
         ensures cause { HaltCause P.may_want (P.faults span.old) (P.faults span.new) result }
     {
-        let found = piece_in(span, view, self.id_size, self.known.as_slice(), self.place)?;
-        if let Some(piece) = found {
-            self.place = piece.at + piece.len;
-        }
-        Ok(found)
+        let Some(id) = id_here_in(span, view, self.id_size, self.place)? else {
+            return Ok(None);
+        };
+        let group = group_of(self.known.as_slice(), id);
+        let piece = group_piece_in(span, view, self.id_size, self.place, id, group)?;
+        self.place = piece.at + piece.len;
+        Ok(Some(piece))
     }
 
     /// The next whole record of the stream, where its parts are of these bytes, and None exactly at the end. It takes no
