@@ -6,6 +6,7 @@ pub mod Truths
 pub mod Groups
 pub mod Spreads
 pub mod Steps
+pub mod Ids
 pub mod Splits
 pub mod Pieces
 pub mod Alones
