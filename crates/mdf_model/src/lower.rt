@@ -1,0 +1,109 @@
+ghost use Rattle.std.specs.Prelude.{◌≡◌, ℕ, List, Some, true, IfOk, IfErr};
+ghost use Rattle.mdf_num.specs.Halt.{HaltCause};
+ghost use Rattle.mdf_block.specs.Refusal.{Gives, IsPlain};
+ghost use Rattle.mdf_block.specs.Block.{block, IsInside, IsFilled};
+ghost use Rattle.mdf_group.specs.Group.{groups};
+ghost use Rattle.mdf_content.specs.Fault.{read_refusal};
+ghost use Rattle.mdf_model.specs.Tree.{header_of};
+
+use mdf_block::{BlockAt, BlockFault, Kind, block_in};
+use mdf_content::ReadFault;
+use mdf_conv::Budget;
+use mdf_group::{DataRow, GroupFault, read_groups_in};
+use mdf_head::{Head, HeadFault, History, read_head_in};
+use mdf_num::{Halt, Rows, Span};
+use std::alloc::Global;
+
+/// A block, with the faults of reading.
+pub(crate) fn block_of<P: Span>(
+    span: &mut P,
+    at: u64,
+    want: Kind,
+) -> Result<BlockAt, Halt<ReadFault>>
+    ensures found { (f : List ℕ) → P.bytes span.old ≡ Some f → Gives read_refusal result (block f at want) }
+    ensures inside { IfOk result (IsInside (P.size span.old)) }
+    ensures filled { IfOk result (IsFilled want) }
+    ensures plain { IfErr result (IsPlain read_refusal) }
+    ensures same { P.bytes span.new ≡ P.bytes span.old }
+    ensures size { P.size span.new ≡ P.size span.old }
+    ensures cause { HaltCause P.may_want (P.faults span.old) (P.faults span.new) result }
+{
+    match block_in(span, at, want) {
+        Ok(block) => Ok(block),
+        Err(Halt::Fault(BlockFault::Bad { at, want })) => Err(Halt::Fault(ReadFault::Block {
+            at,
+            want,
+        })),
+        Err(Halt::Fault(BlockFault::Compressed { at })) => {
+            Err(Halt::Fault(ReadFault::Compressed { at }))
+        }
+        Err(Halt::Failed) => Err(Halt::Failed),
+        Err(Halt::Memory) => Err(Halt::Memory),
+    }
+}
+
+/// The header and the file history, with the faults of reading, and what may still come.
+pub(crate) fn header_of<P: Span>(
+    alloc: Global,
+    span: &mut P,
+    budget: Budget,
+) -> Result<(Head, Rows<History>, Budget), Halt<ReadFault>>
+    ensures found { (f : List ℕ) → P.bytes span.old ≡ Some f → Gives read_refusal result (header_of f budget) }
+    ensures plain { IfErr result (IsPlain read_refusal) }
+    ensures same { P.bytes span.new ≡ P.bytes span.old }
+    ensures size { P.size span.new ≡ P.size span.old }
+    ensures cause { HaltCause true (P.faults span.old) (P.faults span.new) result }
+{
+    let mut text = budget.text;
+    match read_head_in(alloc, span, &mut text) {
+        Ok((head, history)) => Ok((head, history, Budget { text, ..budget })),
+        Err(Halt::Fault(HeadFault::Bad { at, want })) => Err(Halt::Fault(ReadFault::Block {
+            at,
+            want,
+        })),
+        Err(Halt::Fault(HeadFault::TooMany { what, at })) => Err(Halt::Fault(ReadFault::TooMany {
+            what,
+            at,
+        })),
+        Err(Halt::Fault(HeadFault::Memory)) => Err(Halt::Memory),
+        Err(Halt::Failed) => Err(Halt::Failed),
+        Err(Halt::Memory) => Err(Halt::Memory),
+    }
+}
+
+/// The data groups, with the faults of reading, and what may still come.
+pub(crate) fn groups_of<P: Span>(
+    alloc: Global,
+    span: &mut P,
+    first: u64,
+    budget: Budget,
+) -> Result<(Rows<DataRow>, Budget), Halt<ReadFault>>
+    ensures found { (f : List ℕ) → P.bytes span.old ≡ Some f → Gives read_refusal result (groups f first budget) }
+    ensures plain { IfErr result (IsPlain read_refusal) }
+    ensures same { P.bytes span.new ≡ P.bytes span.old }
+    ensures size { P.size span.new ≡ P.size span.old }
+    ensures cause { HaltCause true (P.faults span.old) (P.faults span.new) result }
+{
+    let mut left = budget;
+    match read_groups_in(alloc, span, first, &mut left) {
+        Ok(rows) => Ok((rows, left)),
+        Err(Halt::Fault(GroupFault::Bad { at, want })) => Err(Halt::Fault(ReadFault::Block {
+            at,
+            want,
+        })),
+        Err(Halt::Fault(GroupFault::TooMany { what, at })) => Err(Halt::Fault(ReadFault::TooMany {
+            what,
+            at,
+        })),
+        Err(Halt::Fault(GroupFault::ChannelKind { at, kind })) => {
+            Err(Halt::Fault(ReadFault::ChannelKind { at, kind }))
+        }
+        Err(Halt::Fault(GroupFault::ChannelType { at, value })) => {
+            Err(Halt::Fault(ReadFault::ChannelType { at, value }))
+        }
+        Err(Halt::Fault(GroupFault::Deep { at })) => Err(Halt::Fault(ReadFault::Deep { at })),
+        Err(Halt::Fault(GroupFault::Memory)) => Err(Halt::Memory),
+        Err(Halt::Failed) => Err(Halt::Failed),
+        Err(Halt::Memory) => Err(Halt::Memory),
+    }
+}
