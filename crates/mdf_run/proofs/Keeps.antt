@@ -15,11 +15,13 @@ use Rattle.acq_script.specs.declared.script.Script.{Script}
 use Rattle.acq_script.specs.declared.script.Task.{Task}
 use Rattle.mdf_run.specs.Drive.{AreMarked}
 use Rattle.mdf_run.specs.Faults.{fault_status}
-use Rattle.mdf_run.specs.Head.{plain_head}
+use Rattle.mdf_disk.specs.Crash.{HoldsSince}
+use Rattle.mdf_gate.specs.Images.{IsBegun}
+use Rattle.mdf_run.specs.Head.{script_head}
 use Rattle.mdf_run.specs.Kept.{IsDone}
 use Rattle.mdf_run.specs.Record.{CloseComes, IsComplete, Outcome, fault_code, record_status, record_text}
 use Rattle.mdf_run.specs.Script.{SCRIPT_LIMIT}
-use Rattle.mdf_run.specs.Recorded.{IsClosed, IsRefused, RecordComes}
+use Rattle.mdf_run.specs.Recorded.{IsClosed, IsNotBegun, IsRefused, IsUnread, RecordComes}
 use Rattle.mdf_run.specs.Texts.{Prints, unwritten_status}
 use Rattle.mdf_run.specs.declared.fault.Fault.{Fault}
 use Rattle.mdf_run.specs.declared.fault.Fault.TheVariants as fault
@@ -53,13 +55,19 @@ completes script tasks faults left result (Some problem) is done comes = absurd 
 same_script : (text : List ℕ) (script other : Script) → script_of text ≡ Ok script → script_of text ≡ Ok other → script ≡ other
 same_script text script other is also = cc
 
+-- the script that a source says, where it tells its bytes
+meant : (left : Option (List ℕ)) (text : List ℕ) (script : Script) → left ≡ Some text
+    → IfSome left (λ t. (script_of t ≡ Ok script) × (length t ≤ SCRIPT_LIMIT)) → script_of text ≡ Ok script
+meant left text script told says =
+    let of_text = subst (λ (l : Option (List ℕ)). IfSome l (λ t. (script_of t ≡ Ok script) × (length t ≤ SCRIPT_LIMIT))) told says in of_text.0
+
 same_tasks : (script : Script) (tasks other : List Task) → script.lists ≡ tasks ∷ [] → script.lists ≡ other ∷ [] → tasks ≡ other
 same_tasks script tasks other is also = cc
 
 -- the clauses on a recording that began at this moment of its disk
 pub record Keeps (start now : ℕ) (script : Script) (tasks : List Task) (disk : DiskState) (history : List Sample) (marks : List Mark) (status : ℕ) : Type 0 where
-  pub marks_hold : MarksHold script.plan.shapes (plain_head now) disk.story disk.moment history marks
-  pub start_holds : StartHolds script.plan.shapes (plain_head now) disk.story start history
+  pub marks_hold : MarksHold script.plan.shapes (script_head now script) disk.story disk.moment history marks
+  pub start_holds : StartHolds script.plan.shapes (script_head now script) disk.story start history
   pub marks_rise : (marks ≡ []) ⊎ AreRising (is_some disk.story) marks
   pub own_prefix : IsPrefix history (samples_of tasks)
   pub flush_lines : AreMarked (λ n. n < length history) tasks 0 marks
@@ -77,17 +85,22 @@ module _ (source source' : SourceState) (name : List ℕ) (now : ℕ) (out disk 
       → (status ≡ fault_status problem) ⊎ (status ≡ unwritten_status (fault_status problem)) → Keep history marks
   of_refused problem refused is = rw (refused.history, refused.marks) (record {
     marks_hold = λ k mark within. absurd (omega (arith, within));
-    start_holds = λ file may. carries_begun script.plan.shapes (plain_head now) [] file (refused.begun file may);
+    start_holds = λ file may. carries_begun script.plan.shapes (script_head now script) [] file (begun refused.comes file may);
     marks_rise = inl refl;
     own_prefix = (samples_of tasks, refl);
     flush_lines = none_marked 0 tasks 0 [] (omega arith);
     complete = λ done. absurd (not_done problem status is done);
-  })
+  }) where
+    begun : IsUnread source source' out disk problem ⊎ IsNotBegun source name now out disk problem → HoldsSince disk.story out.moment (IsBegun (script_head now script))
+    begun (inl unread) = unread.begun (script_head now script)
+    begun (inr unmade) =
+        let same = same_script text unmade.script script (meant source.left text unmade.script told unmade.says) means in
+        subst (λ (s : Script). HoldsSince disk.story out.moment (IsBegun (script_head now s))) same unmade.begun
 
   of_closed : (accepted last : ℕ) (problem : Option Fault) → IsClosed source name now out left accepted last problem
       → (status ≡ fault_code problem) ⊎ (status ≡ unwritten_status (fault_code problem)) → Keep history marks
   of_closed accepted last problem closed is =
-      let says = subst (λ l. IfSome l (λ t. script_of t ≡ Ok closed.script)) told (of_says source.left closed.says) in
+      let says = meant source.left text closed.script told closed.says in
       let script_is : closed.script ≡ script = same_script text closed.script script says means in
       let tasks_are : closed.tasks ≡ tasks = same_tasks script closed.tasks tasks (subst (λ (s : Script). s.lists ≡ closed.tasks ∷ []) script_is closed.recorded.one) one in
       let recorded = rw (script_is, tasks_are) at closed.recorded in
@@ -99,10 +112,7 @@ module _ (source source' : SourceState) (name : List ℕ) (now : ℕ) (out disk 
         own_prefix = recorded.own_prefix;
         flush_lines = recorded.flush_lines;
         complete = λ done. completes script tasks out.faults left status problem is done comes;
-      } where
-        of_says : (l : Option (List ℕ)) → IfSome l (λ t. (script_of t ≡ Ok closed.script) × (length t ≤ SCRIPT_LIMIT)) → IfSome l (λ t. script_of t ≡ Ok closed.script)
-        of_says None says = tt
-        of_says (Some t) says = says.0
+      }
 
   of_end : (end : RecordEnd) → RecordComes source source' name now out left end
       → (status ≡ record_status end) ⊎ (status ≡ unwritten_status (record_status end)) → Keep history marks

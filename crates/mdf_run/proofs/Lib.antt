@@ -1,3 +1,4 @@
+mod Heads
 mod Keeps
 mod Marking
 mod Pieces

@@ -1,5 +1,5 @@
 -- A book that was driven, flushed and closed says how the recording ended.
-use Rattle.std.proofs.Common.{◌≡◌, ◌≤◌, ◌<◌, ◌+◌, inr, ⊎_elim, ℕ, List, [], ◌∷◌, ◌++◌, length, Option, Some, None, Result, Ok, Err, false, true≢false, get_or, take, refl, sym, ◌∙◌, ap, subst, arith, append-nil, length-append}
+use Rattle.std.proofs.Common.{◌≡◌, ◌≤◌, ◌<◌, ◌+◌, inr, ⊎_elim, ℕ, List, [], ◌∷◌, ◌++◌, length, Option, Some, None, Result, Ok, Err, true≢false, get_or, take, refl, sym, ◌∙◌, ap, subst, arith, append-nil, length-append}
 use Rattle.std.specs.Prelude.{slice_get, is_some, IsOk, IfSome, All}
 use Rattle.std.proofs.lemmas.Option.{slice_get_cases}
 use Rattle.std.proofs.Math.Seq.{get_or-append_seam}
@@ -15,7 +15,6 @@ use Rattle.mdf_disk.specs.State.{DiskState, state_of}
 use Rattle.mdf_port.specs.State.{SourceState}
 use Rattle.mdf_format.specs.Cause.{Rose}
 use Rattle.mdf_layout.specs.Record.{cost_of, history_cost}
-use Rattle.mdf_layout.specs.declared.sample.Sample.{Sample}
 use Rattle.mdf_gate.specs.Gated.{Gated}
 use Rattle.mdf_gate.specs.Images.{head_of, IsBegun}
 use Rattle.mdf_gate.proofs.Begun.{begun_holds}
@@ -34,7 +33,7 @@ use Rattle.acq_script.specs.declared.script.Task.TheVariants as task
 use Rattle.mdf_run.specs.Drive.{AreMarked, Drives, Ends, IsOver}
 use Rattle.mdf_run.specs.Finish.{FileFaultComes, Finishes, FinishEnds, IsAllDurable}
 use Rattle.mdf_run.specs.Record.{CloseComes, IsComplete, IsFull, IsRecorded, IsSaved, Outcome, outcome}
-use Rattle.mdf_run.specs.Head.{plain_head}
+use Rattle.mdf_run.specs.Head.{script_head}
 use Rattle.mdf_run.specs.Script.{SaysScript}
 use Rattle.mdf_run.specs.Recorded.{Closes, HasRun, RunComes, RecordComes}
 use Rattle.mdf_run.specs.declared.drive.End.{End}
@@ -252,8 +251,8 @@ close_earlier plan tasks earlier faults left (Some (fault.Script number)) later 
 
 -- what was recorded into a file that was made on a disk
 pub record_comes : {C : Type 0} (tells : DiskOf C) (source source' : SourceState) (name : List ℕ) (now : ℕ) (out : C) (script : Script) (file : Gated C) (left : Outcome) (end : RecordEnd)
-    → SaysScript source script → tells.asked file.disk ≡ Some (name, Create) → HoldsSince (tells.story file.disk) (tells.moment out) (IsBegun (plain_head now))
-    → IfSome (tells.story file.disk) (λ _. head_of (tells.story file.disk) file.first ≡ plain_head now) → is_some (tells.story file.disk) ≡ is_some (tells.story out)
+    → SaysScript source script → tells.asked file.disk ≡ Some (name, Create) → HoldsSince (tells.story file.disk) (tells.moment out) (IsBegun (script_head now script))
+    → IfSome (tells.story file.disk) (λ _. head_of (tells.story file.disk) file.first ≡ script_head now script) → is_some (tells.story file.disk) ≡ is_some (tells.story out)
     → IfSome (tells.story out) (λ _. file.start ≡ tells.moment out) → tells.faults out ≤ file.faults → HasRun tells script file left end
     → RecordComes source source' name now (state_of tells out) left end
 record_comes tells source source' name now out script file left end says asked_is begun head_is told start_is later run = of_end end run.comes where
@@ -262,14 +261,19 @@ record_comes tells source source' name now out script file left end says asked_i
   of_end (Refused problem) comes = record {
     history = comes.2;
     marks = comes.3;
-    begun = subst (λ (d : DiskState). HoldsSince d.story (tells.moment out) (IsBegun (plain_head now))) (sym comes.1) begun;
-    comes = inr (subst (FileFaultComes (state_of tells out) left.disk) (sym comes.0) tt, inr (run.asked_is ∙ asked_is));
+    comes = inr (record {
+      script = script;
+      says = says;
+      begun = subst (λ (d : DiskState). HoldsSince d.story (tells.moment out) (IsBegun (script_head now script))) (sym comes.1) begun;
+      comes = subst (FileFaultComes (state_of tells out) left.disk) (sym comes.0) tt;
+      asked_is = inr (run.asked_is ∙ asked_is);
+    });
   }
   of_end (Closed accepted last problem) comes = record {
     script = script;
     tasks = comes.tasks;
     says = says;
-    recorded = recorded_told script comes.tasks (head_of (tells.story file.disk) file.first) (plain_head now) left.disk.story (tells.story file.disk) (tells.story out)
+    recorded = recorded_told script comes.tasks (head_of (tells.story file.disk) file.first) (script_head now script) left.disk.story (tells.story file.disk) (tells.story out)
         file.start (tells.moment out) left refl run.told told head_is start_is comes.recorded;
     accepted_is = comes.accepted_is;
     durable_is = comes.durable_is;

@@ -7,7 +7,6 @@ use Rattle.mdf_disk.specs.declared.role.Role.TheVariants.{Create}
 use Rattle.mdf_gate.specs.Images.{IsBegun}
 use Rattle.book_owned.specs.Marks.{durable}
 use Rattle.book_owned.specs.Account.{Account, Steps}
-use Rattle.mdf_run.specs.Head.{plain_head}
 use Rattle.mdf_run.specs.declared.drive.End.{End}
 use Rattle.mdf_run.specs.declared.drive.End.TheVariants as end_
 use Rattle.mdf_run.specs.declared.fault.Fault.{Fault}
@@ -25,9 +24,9 @@ FileFaultComes old new fault.Memory = Unit {0}
 FileFaultComes old new (fault.Script number) = ⊥
 
 -- no file was made: what the disk was asked for, what a crash since may leave, and why
-pub record IsUnmade (name : List ℕ) (now : ℕ) (old new : DiskState) (fault : Fault) : Type 0 where
+pub record IsUnmade (name head : List ℕ) (old new : DiskState) (fault : Fault) : Type 0 where
   pub asked_is : (new.asked ≡ None) ⊎ (new.asked ≡ Some (name, Create))
-  pub begun : HoldsSince new.story old.moment (IsBegun (plain_head now))
+  pub begun : HoldsSince new.story old.moment (IsBegun head)
   pub comes : FileFaultComes old new fault
 
 -- all samples are durable

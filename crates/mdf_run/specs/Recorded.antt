@@ -15,7 +15,7 @@ use Rattle.book_owned.specs.declared.view.NoView.{NoView}
 use Rattle.book_owned.specs.Marks.{durable}
 use Rattle.acq_script.specs.declared.script.Script.{Script}
 use Rattle.acq_script.specs.declared.script.Task.{Task}
-use Rattle.mdf_run.specs.Head.{plain_head}
+use Rattle.mdf_run.specs.Head.{script_head}
 use Rattle.mdf_run.specs.Script.{SaysScript, ScriptFaultComes}
 use Rattle.mdf_run.specs.Finish.{FileFaultComes}
 use Rattle.mdf_run.specs.Texts.{Prints}
@@ -26,21 +26,33 @@ use Rattle.mdf_run.specs.declared.record.Recorded.{Recorded}
 use Rattle.mdf_run.specs.declared.record.RecordEnd.{RecordEnd}
 use Rattle.mdf_run.specs.declared.record.RecordEnd.TheVariants.{Refused, Closed}
 
--- Nothing was begun. Since the start a crash leaves no MDF file, or the head with no opened block. Either the script was
--- refused, and the disk is as before, or the file could not be made, or the book not be begun.
+-- The script was read, but the file could not be made, or the book not be begun: since the start a crash leaves no MDF
+-- file, or the head with no opened block.
+pub record IsNotBegun (source : SourceState) (name : List ℕ) (now : ℕ) (disk left : DiskState) (fault : Fault) : Type 0 where
+  pub script : Script
+  pub says : SaysScript source script
+  pub begun : HoldsSince left.story disk.moment (IsBegun (script_head now script))
+  pub comes : FileFaultComes disk left fault
+  pub asked_is : (left.asked ≡ None) ⊎ (left.asked ≡ Some (name, Create))
+
+-- The script was refused: the disk is as before, and since the start a crash leaves no MDF file, whatever head it has.
+pub record IsUnread (source source' : SourceState) (disk left : DiskState) (fault : Fault) : Type 0 where
+  pub comes : ScriptFaultComes source source' fault
+  pub same : left ≡ disk
+  pub begun : (head : List ℕ) → HoldsSince left.story disk.moment (IsBegun head)
+
+-- Nothing was recorded.
 pub record IsRefused (source source' : SourceState) (name : List ℕ) (now : ℕ) (disk : DiskState) (left : Outcome) (fault : Fault) : Type 0 where
   pub history : left.history ≡ []
   pub marks : left.marks ≡ []
-  pub begun : HoldsSince left.disk.story disk.moment (IsBegun (plain_head now))
-  pub comes : (ScriptFaultComes source source' fault × (left.disk ≡ disk))
-      ⊎ (FileFaultComes disk left.disk fault × ((left.disk.asked ≡ None) ⊎ (left.disk.asked ≡ Some (name, Create))))
+  pub comes : IsUnread source source' disk left.disk fault ⊎ IsNotBegun source name now disk left.disk fault
 
 -- A book was begun over the script that the source has.
 pub record IsClosed (source : SourceState) (name : List ℕ) (now : ℕ) (disk : DiskState) (left : Outcome) (accepted last : ℕ) (fault : Option Fault) : Type 0 where
   pub script : Script
   pub tasks : List Task
   pub says : SaysScript source script
-  pub recorded : IsRecorded script tasks (plain_head now) disk.moment left
+  pub recorded : IsRecorded script tasks (script_head now script) disk.moment left
   pub accepted_is : accepted ≡ length left.history
   pub durable_is : last ≡ durable left.marks
   pub comes : CloseComes script.plan tasks disk.faults left fault

@@ -1,5 +1,5 @@
 -- The script that a source has, and why it is refused.
-use Rattle.std.specs.Prelude.{ℕ, ◌≡◌, ◌≤◌, ◌<◌, List, length, IfSome, Ok, Err}
+use Rattle.std.specs.Prelude.{ℕ, ◌≡◌, ◌≤◌, ◌<◌, length, IfSome, Ok, Err}
 use Rattle.mdf_format.specs.Cause.{Rose}
 use Rattle.mdf_port.specs.State.{SourceState}
 use Rattle.acq_script.specs.Script.{script_of}

@@ -1,29 +1,30 @@
-ghost use Rattle.std.specs.Prelude.{◌≡◌, length};
+ghost use Rattle.std.specs.Prelude.{◌≡◌, ◌^◌, ◌<◌, length, IfOk};
+ghost use Rattle.mdf_group.specs.Recordable.{AreRecordable};
 ghost use Rattle.mdf_gate.specs.Gated.{IsRecordingHead};
-ghost use Rattle.mdf_run.specs.Head.{plain_head};
+ghost use Rattle.mdf_spell.specs.Recording.{head_file};
 
-use mdf_num::put_u64;
+use mdf_group::GroupRow;
+use mdf_num::{Bytes, Memory, Rows};
+use mdf_spell::recording_head;
+use std::alloc::Global;
 
-/// Where the start time stands: in the body of the header (HDBLOCK) at 64.
-const START: usize = 136;
+/// No memory holds a head of so many bytes.
+const LONGEST: usize = 1 << 61;
 
-/// The head of a recording without history, of 232 bytes: the identification (IDBLOCK), a header (HDBLOCK) at 64 with
-/// this start time in ns, and a data group (DGBLOCK) at 168 with record ids of one byte, whose data begin behind it.
-pub fn plain_head(start_ns: u64) -> [u8; 232]
-    ensures head { result ≡ plain_head start_ns }
-    ensures recording { IsRecordingHead result }
+/// The head of a recording of these groups, up to the place where its data begin, with this start time in ns: what
+/// `recording_head` gives.
+///
+/// # Errors
+/// `Memory` where memory runs out.
+pub(crate) fn head_for(alloc: Global, start_ns: u64, rows: &Rows<GroupRow>) -> Result<Bytes, Memory>
+    requires { AreRecordable rows.now }
+    ensures head { IfOk result (λ head. head ≡ head_file start_ns rows.now) }
+    ensures recording { IfOk result (λ head. IsRecordingHead head) }
+    ensures short { IfOk result (λ head. length head < 2 ^ 61) }
 {
-    let mut head = [
-        85, 110, 70, 105, 110, 77, 70, 32, 52, 46, 49, 48, 32, 32, 32, 32, 109, 100, 102, 52, 114,
-        101, 99, 32, 0, 0, 0, 0, 154, 1, 0, 0, 0, 0, 0, 0, 0, 0, 0, 0, 0, 0, 0, 0, 0, 0, 0, 0, 0,
-        0, 0, 0, 0, 0, 0, 0, 0, 0, 0, 0, 33, 0, 1, 0, 35, 35, 72, 68, 0, 0, 0, 0, 104, 0, 0, 0, 0,
-        0, 0, 0, 6, 0, 0, 0, 0, 0, 0, 0, 168, 0, 0, 0, 0, 0, 0, 0, 0, 0, 0, 0, 0, 0, 0, 0, 0, 0, 0,
-        0, 0, 0, 0, 0, 0, 0, 0, 0, 0, 0, 0, 0, 0, 0, 0, 0, 0, 0, 0, 0, 0, 0, 0, 0, 0, 0, 0, 0, 0,
-        0, 0, 0, 0, 0, 0, 0, 0, 0, 0, 0, 0, 0, 0, 0, 0, 0, 0, 0, 0, 0, 0, 0, 0, 0, 0, 0, 0, 0, 0,
-        0, 35, 35, 68, 71, 0, 0, 0, 0, 64, 0, 0, 0, 0, 0, 0, 0, 4, 0, 0, 0, 0, 0, 0, 0, 0, 0, 0, 0,
-        0, 0, 0, 0, 0, 0, 0, 0, 0, 0, 0, 0, 232, 0, 0, 0, 0, 0, 0, 0, 0, 0, 0, 0, 0, 0, 0, 0, 1, 0,
-        0, 0, 0, 0, 0, 0,
-    ];
-    put_u64(&mut head, START, start_ns);
-    head
+    let head = recording_head(alloc, start_ns, rows)?;
+    if head.as_slice().len() >= LONGEST {
+        return Err(Memory);
+    }
+    Ok(head)
 }

@@ -10,7 +10,7 @@ ghost use Rattle.mdf_run.specs.Words.{AsksOpened, AsksRecord, AsksInput, AsksOut
 ghost use Rattle.mdf_run.specs.Texts.{Prints, usage_line};
 ghost use Rattle.mdf_run.specs.Opened.{EndsOpened};
 ghost use Rattle.mdf_run.specs.Drive.{AreMarked};
-ghost use Rattle.mdf_run.specs.Head.{plain_head};
+ghost use Rattle.mdf_run.specs.Head.{script_head};
 ghost use Rattle.mdf_run.specs.Record.{IsComplete, outcome};
 ghost use Rattle.mdf_run.specs.Recorded.{EndsRecord};
 ghost use Rattle.mdf_run.specs.Kept.{OfRecording, IsDone};
@@ -112,9 +112,9 @@ where
 
     // What a recording keeps, whatever happens: of each crash, of the marks, of the samples of its source and of its
     // flushes; and what it has done where the status is 0, or 6.
-    ensures marks_hold { OfRecording words.now (S.left source.old) (λ script _. MarksHold script.plan.shapes (plain_head now_ns)
+    ensures marks_hold { OfRecording words.now (S.left source.old) (λ script _. MarksHold script.plan.shapes (script_head now_ns script)
         (C.story result.out) (C.moment result.out) result.history.items result.marks.items) }
-    ensures start_holds { OfRecording words.now (S.left source.old) (λ script _. StartHolds script.plan.shapes (plain_head now_ns)
+    ensures start_holds { OfRecording words.now (S.left source.old) (λ script _. StartHolds script.plan.shapes (script_head now_ns script)
         (C.story result.out) (C.moment out) result.history.items) }
     ensures marks_rise { OfRecording words.now (S.left source.old) (λ _ _.
         (result.marks.items ≡ []) ⊎ AreRising (is_some (C.story result.out)) result.marks.items) }

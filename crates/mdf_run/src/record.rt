@@ -6,7 +6,8 @@ ghost use Rattle.mdf_gate.specs.Images.{IsBegun, head_of};
 ghost use Rattle.book_owned.specs.Begun.{IsNewFile};
 ghost use Rattle.acq_script.specs.Plan.{IsPlan, TaskFits};
 ghost use Rattle.acq_script.specs.declared.script.Task.{Task};
-ghost use Rattle.mdf_run.specs.Head.{plain_head};
+ghost use Rattle.mdf_spell.specs.Recording.{head_file};
+ghost use Rattle.mdf_group.specs.Recordable.{AreRecordable};
 ghost use Rattle.mdf_run.specs.Script.{SaysScript, ScriptFaultComes};
 ghost use Rattle.mdf_run.specs.Finish.{IsUnmade, Finishes};
 ghost use Rattle.mdf_port.specs.State.{sink_state, source_state};
@@ -17,13 +18,14 @@ ghost use Rattle.mdf_run.specs.Recorded.{RecordComes, Closes, HasRun};
 use crate::drive::{End, drive};
 use crate::fault::Fault;
 use crate::gate::Gate;
-use crate::head::plain_head;
+use crate::head::head_for;
 use crate::report::Piece::{Number, Text};
 use crate::report::{give_line, status_after};
 use acq_script::{Plan, Script, Task, read_script};
 use book_owned::{Book, Flush, Marks, NoView};
 use mdf_disk::{Disk, Role};
 use mdf_gate::GatedFile;
+use mdf_group::GroupRow;
 use mdf_layout::Samples;
 use mdf_num::{Bytes, Failed, Rows};
 use mdf_port::{Sink, Source, take_all};
@@ -84,26 +86,38 @@ fn read<S: Source>(alloc: Global, source: &mut S) -> Result<Script, Fault>
     Ok(read_script(alloc, bytes.as_slice())?)
 }
 
-/// Makes the file, with its head and no sample.
-fn create<C: Disk>(name: &Bytes, now_ns: u64, mut out: C) -> Result<GatedFile<C>, (Fault, C)>
-    requires { C.asked out ≡ None }
+/// Makes the file, with the head of a recording of these groups and no sample.
+fn create<C: Disk>(
+    alloc: Global,
+    name: &Bytes,
+    now_ns: u64,
+    rows: &Rows<GroupRow>,
+    mut out: C,
+) -> Result<GatedFile<C>, (Fault, C)>
+    requires asked { C.asked out ≡ None }
+    requires rows { AreRecordable rows.now }
     ensures created { IfOk result (IsNewFile C.Disk) }
-    ensures head { IfOk result (λ file. IfSome (C.story file.disk) (λ _. head_of (C.story file.disk) file.first ≡ plain_head now_ns)) }
+    ensures head { IfOk result (λ file. IfSome (C.story file.disk) (λ _. head_of (C.story file.disk) file.first ≡ head_file now_ns rows.now)) }
     ensures asked { IfOk result (λ file. C.asked file.disk ≡ Some (name.now, Create)) }
-    ensures begun { IfOk result (λ file. HoldsSince (C.story file.disk) (C.moment out) (IsBegun (plain_head now_ns))) }
+    ensures begun { IfOk result (λ file. HoldsSince (C.story file.disk) (C.moment out) (IsBegun (head_file now_ns rows.now))) }
     ensures told { IfOk result (λ file. is_some (C.story file.disk) ≡ is_some (C.story out)) }
     ensures start { IfOk result (λ file. IfSome (C.story out) (λ _. file.start ≡ C.moment out)) }
     ensures faults { IfOk result (λ file. C.faults out ≤ file.faults) }
-    ensures refused { IfErr result (λ refused. IsUnmade name.now now_ns (state_of C.Disk out) (state_of C.Disk refused.1) refused.0) }
+    ensures refused { IfErr result (λ refused. IsUnmade name.now (head_file now_ns rows.now) (state_of C.Disk out) (state_of C.Disk refused.1) refused.0) }
     ensures untouched { IfErr result (λ refused. C.asked refused.1 ≡ None → refused.1 ≡ out) }
 {
+    let Ok(head) = head_for(alloc, now_ns, rows) else {
+        return Err((Fault::Memory, out));
+    };
     let Ok(copy) = name.copy() else {
         return Err((Fault::Memory, out));
     };
     let Ok(()) = out.attach(copy, Role::Create) else {
         return Err((Fault::Device, out));
     };
-    match GatedFile::create(out, &plain_head(now_ns)) {
+    let made = GatedFile::create(out, head.as_slice());
+    drop(head);
+    match made {
         Ok(file) => Ok(file),
         Err((_, out)) => Err((Fault::Device, out)),
     }
@@ -214,7 +228,7 @@ fn record<R: Threads + Wait + Sync, S: Source, C: Disk, G: Gate>(
         Ok(script) => script,
         Err(fault) => return refused(alloc, fault, out),
     };
-    match create(output, now_ns, out) {
+    match create(alloc, output, now_ns, &script.plan.rows, out) {
         Ok(file) => record_into(rt, alloc, script, file, gate),
         Err((fault, out)) => refused(alloc, fault, out),
     }

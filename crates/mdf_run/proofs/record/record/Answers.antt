@@ -2,21 +2,24 @@ use Rattle.std.proofs.Common.{◌∙◌, ap, inl, inr, sym, subst}
 use Rattle.mdf_disk.specs.Crash.{HoldsSince}
 use Rattle.mdf_disk.specs.State.{state_of}
 use Rattle.mdf_gate.specs.Images.{IsBegun}
-use Rattle.mdf_run.specs.Head.{plain_head}
 use Rattle.mdf_run.proofs.Recording.{fresh_begun, record_comes, was_asked}
 use Rattle.mdf_run.proofs.record.record.Goals as goal
 
 pub returns-in-Err : goal.returns-in-Err
 returns-in-Err g c =
     let k = c.refused.ensures in
-    let head = plain_head c.args.now_ns in
-    let begun = fresh_begun head (g.C.Disk.story c.args.out) (g.C.Disk.content c.args.out) (g.C.Disk.moment c.args.out) (g.met.C.Disk.agrees c.args.out) (g.met.C.Disk.unattached c.args.out (g.met.C.Disk.unasked c.args.out c.requires)) in
+    let story = g.C.Disk.story c.args.out in
     record {
       comes = rw k.end (record {
         history = k.history;
         marks = k.marks;
-        begun = subst (λ d. HoldsSince (g.C.Disk.story d) (g.C.Disk.moment c.args.out) (IsBegun head)) (sym k.out) begun;
-        comes = inl (c.in-Err.ensures.fault, ap (state_of g.C.Disk) k.out);
+        comes = inl (record {
+          comes = c.in-Err.ensures.fault;
+          same = ap (state_of g.C.Disk) k.out;
+          begun = λ head. subst (λ d. HoldsSince (g.C.Disk.story d) (g.C.Disk.moment c.args.out) (IsBegun head)) (sym k.out)
+              (fresh_begun head story (g.C.Disk.content c.args.out) (g.C.Disk.moment c.args.out) (g.met.C.Disk.agrees c.args.out)
+              (g.met.C.Disk.unattached c.args.out (g.met.C.Disk.unasked c.args.out c.requires)));
+        });
       });
       untouched = λ none. k.out;
     }
@@ -38,8 +41,13 @@ returns-in-Err-create g c =
       comes = rw k.end (record {
         history = k.history;
         marks = k.marks;
-        begun = rw k.out h.begun;
-        comes = inr (rw k.out (h.comes, h.asked_is));
+        comes = inr (record {
+          script = c.in-Ok.script;
+          says = c.in-Ok.ensures.script;
+          begun = rw k.out h.begun;
+          comes = rw k.out h.comes;
+          asked_is = rw k.out h.asked_is;
+        });
       });
       untouched = λ none. k.out ∙ c.in-Err-create.ensures.untouched (ap g.C.Disk.asked (sym k.out) ∙ none);
     }
