@@ -297,7 +297,7 @@ const SHORT_SESSION: &str =
     "session 200\ngroup 0 g\nchannel t u64 master\nbegin\n0 1\n0 2\n! 0\n0 3\nend\n";
 
 // A script; which calls of the source, of the disk and of the sink fail; the status and what is printed, with what is
-// left. The head and its closed gate are 233 bytes. A block adds 24 bytes and its data, up to the next multiple of 8.
+// left. The head and its closed gate are 769 bytes. A block adds 24 bytes and its data, up to the next multiple of 8.
 // Making the file takes the calls 0 to 7 of the disk, and each block four.
 const RECORDED: [(&str, &[u64], &[u64], &[u64], &str); 17] = [
     (
@@ -305,14 +305,14 @@ const RECORDED: [(&str, &[u64], &[u64], &[u64], &str); 17] = [
         &[],
         &[],
         &[],
-        "0 source 0 accepted 3\nsamples 3 durable 3\nfile 321 history 3 marks [0, 2, 3]",
+        "0 source 0 accepted 3\nsamples 3 durable 3\nfile 857 history 3 marks [0, 2, 3]",
     ),
     (
         SMALL_BLOCKS,
         &[],
         &[],
         &[],
-        "0 source 0 accepted 3\nsamples 3 durable 3\nfile 353 history 3 marks [0, 1, 2, 3]",
+        "0 source 0 accepted 3\nsamples 3 durable 3\nfile 889 history 3 marks [0, 1, 2, 3]",
     ),
     (
         COUNTING,
@@ -341,14 +341,14 @@ const RECORDED: [(&str, &[u64], &[u64], &[u64], &str); 17] = [
         &[],
         &[],
         &[],
-        "5 source 0 accepted 1\nsamples 1 durable 1\nsession full 145 145 200\nfile 273 history 1 marks [0, 1]",
+        "5 source 0 accepted 1\nsamples 1 durable 1\nsession full 145 145 200\nfile 809 history 1 marks [0, 1]",
     ),
     (
         SHORT_SESSION,
         &[],
         &[8],
         &[],
-        "4 source 0 accepted 1\nsamples 1 durable 0\ndevice fault\nfile 233 history 1 marks [0]",
+        "4 source 0 accepted 1\nsamples 1 durable 0\ndevice fault\nfile 769 history 1 marks [0]",
     ),
     (
         COUNTING,
@@ -362,50 +362,50 @@ const RECORDED: [(&str, &[u64], &[u64], &[u64], &str); 17] = [
         &[],
         &[8],
         &[],
-        "4 source 0 accepted 2\nsamples 2 durable 0\ndevice fault\nfile 233 history 2 marks [0]",
+        "4 source 0 accepted 2\nsamples 2 durable 0\ndevice fault\nfile 769 history 2 marks [0]",
     ),
     (
         COUNTING,
         &[],
         &[12],
         &[],
-        "4 source 0 accepted 3\nsamples 3 durable 2\ndevice fault\nfile 281 history 3 marks [0, 2]",
+        "4 source 0 accepted 3\nsamples 3 durable 2\ndevice fault\nfile 817 history 3 marks [0, 2]",
     ),
-    (COUNTING, &[], &[8], &[0], "4 file 233 history 2 marks [0]"),
+    (COUNTING, &[], &[8], &[0], "4 file 769 history 2 marks [0]"),
     (
         COUNTING,
         &[],
         &[],
         &[0],
-        "6 file 321 history 3 marks [0, 2, 3]",
+        "6 file 857 history 3 marks [0, 2, 3]",
     ),
     (
         COUNTING,
         &[],
         &[],
         &[1],
-        "6 source 0 accepted file 321 history 3 marks [0, 2, 3]",
+        "6 source 0 accepted file 857 history 3 marks [0, 2, 3]",
     ),
     (
         COUNTING,
         &[],
         &[],
         &[3],
-        "6 source 0 accepted 3\nfile 321 history 3 marks [0, 2, 3]",
+        "6 source 0 accepted 3\nfile 857 history 3 marks [0, 2, 3]",
     ),
     (
         COUNTING,
         &[],
         &[],
         &[6],
-        "6 source 0 accepted 3\nsamples 3 durable file 321 history 3 marks [0, 2, 3]",
+        "6 source 0 accepted 3\nsamples 3 durable file 857 history 3 marks [0, 2, 3]",
     ),
     (
         COUNTING,
         &[],
         &[],
         &[7],
-        "6 source 0 accepted 3\nsamples 3 durable 3file 321 history 3 marks [0, 2, 3]",
+        "6 source 0 accepted 3\nsamples 3 durable 3file 857 history 3 marks [0, 2, 3]",
     ),
 ];
 
@@ -449,15 +449,27 @@ where
     Ok(Bytes::from_slice(alloc, ended.finished.out.bytes())?)
 }
 
-// The two blocks of that recording, and the closed place behind them.
-const COUNTED: [Part; 7] = [
-    (232, b"##DT\0\0\0\0\x2A\0\0\0\0\0\0\0"),
-    (256, b"\x01\x01\0\0\0\0\0\0\0"),
-    (265, b"\x01\x02\0\0\0\0\0\0\0"),
-    (274, b"\0\0\0\0\0\0"),
-    (280, b"##DT\0\0\0\0\x21\0\0\0\0\0\0\0"),
-    (304, b"\x01\x03\0\0\0\0\0\0\0"),
-    (313, b"\0\0\0\0\0\0\0\0"),
+// The blocks of the head of that recording and the names in them, its two blocks of data, and the closed place behind
+// them.
+const COUNTED: [Part; 18] = [
+    (0, b"UnFinMF 4.10    mdf4rec "),
+    (64, b"##HD"),
+    (168, b"##FH"),
+    (224, b"##MD"),
+    (376, b"##DG"),
+    (440, b"##CG"),
+    (544, b"##TX"),
+    (568, b"g\0\0\0\0\0\0\0"),
+    (576, b"##CN"),
+    (736, b"##TX"),
+    (760, b"t\0\0\0\0\0\0\0"),
+    (768, b"##DT\0\0\0\0\x2A\0\0\0\0\0\0\0"),
+    (792, b"\x01\x01\0\0\0\0\0\0\0"),
+    (801, b"\x01\x02\0\0\0\0\0\0\0"),
+    (810, b"\0\0\0\0\0\0"),
+    (816, b"##DT\0\0\0\0\x21\0\0\0\0\0\0\0"),
+    (840, b"\x01\x03\0\0\0\0\0\0\0"),
+    (849, b"\0\0\0\0\0\0\0\0"),
 ];
 
 /// Whether the part stands in the file.
