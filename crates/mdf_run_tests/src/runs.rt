@@ -289,17 +289,21 @@ fn an_input_over_the_limit_is_refused(rt: HostRuntime) -> Result<(), Fail> {
 // Three samples of one channel, with a flush after the second.
 const COUNTING: &str = "group 0 g\nchannel t u64 master\nbegin\n0 1\n0 2\n! 0\n0 3\nend\n";
 
-// The same with one record of 9 bytes a block, and with a session limit that has room for one sample, which costs 145.
+// The same with one record of 9 bytes a block, and with session limits that have room for one sample and for two, of which
+// each costs 145.
 const SMALL_BLOCKS: &str =
     "block 9\ngroup 0 g\nchannel t u64 master\nbegin\n0 1\n0 2\n! 0\n0 3\nend\n";
 
 const SHORT_SESSION: &str =
     "session 200\ngroup 0 g\nchannel t u64 master\nbegin\n0 1\n0 2\n! 0\n0 3\nend\n";
 
+const TWO_SAMPLES: &str =
+    "session 290\ngroup 0 g\nchannel t u64 master\nbegin\n0 1\n0 2\n! 0\n0 3\nend\n";
+
 // A script; which calls of the source, of the disk and of the sink fail; the status and what is printed, with what is
 // left. The head and its closed gate are 769 bytes. A block adds 24 bytes and its data, up to the next multiple of 8.
 // Making the file takes the calls 0 to 7 of the disk, and each block four.
-const RECORDED: [(&str, &[u64], &[u64], &[u64], &str); 17] = [
+const RECORDED: [(&str, &[u64], &[u64], &[u64], &str); 18] = [
     (
         COUNTING,
         &[],
@@ -342,6 +346,13 @@ const RECORDED: [(&str, &[u64], &[u64], &[u64], &str); 17] = [
         &[],
         &[],
         "5 source 0 accepted 1\nsamples 1 durable 1\nsession full 145 145 200\nfile 809 history 1 marks [0, 1]",
+    ),
+    (
+        TWO_SAMPLES,
+        &[],
+        &[],
+        &[],
+        "5 source 0 accepted 2\nsamples 2 durable 2\nsession full 290 145 290\nfile 281 history 2 marks [0, 2]",
     ),
     (
         SHORT_SESSION,
@@ -438,14 +449,14 @@ fn a_taken_name_is_not_recorded_over(rt: HostRuntime) -> Result<(), Fail> {
     Ok(())
 }
 
-/// The bytes of that recording.
-fn recorded<R>(rt: &R) -> Result<Bytes, Fail>
+/// The bytes of a recording of this script.
+pub fn recorded<R>(rt: &R, script: &'static str) -> Result<Bytes, Fail>
 where
     R: AllocGlobal + Threads + Wait + Sync,
 {
     let alloc = rt.alloc();
     let (first, out) = (MemoryDisk::new(alloc), MemoryDisk::new(alloc));
-    let ended = ran(rt, record(COUNTING, &[], &[]), first, out)?;
+    let ended = ran(rt, record(script, &[], &[]), first, out)?;
     Ok(Bytes::from_slice(alloc, ended.finished.out.bytes())?)
 }
 
@@ -479,7 +490,7 @@ fn stands(file: &[u8], (at, part): Part) -> bool {
 
 #[test]
 fn a_recording_has_its_blocks(rt: HostRuntime) -> Result<(), Fail> {
-    let file = recorded(&rt)?;
+    let file = recorded(&rt, COUNTING)?;
     for (at, part) in COUNTED {
         assert!(rt; stands(file.as_slice(), (at, part)), "at {at}");
     }
@@ -488,7 +499,7 @@ fn a_recording_has_its_blocks(rt: HostRuntime) -> Result<(), Fail> {
 
 #[test]
 fn a_recording_is_opened(rt: HostRuntime) -> Result<(), Fail> {
-    let first = MemoryDisk::holding(rt.alloc(), recorded(&rt)?);
+    let first = MemoryDisk::holding(rt.alloc(), recorded(&rt, COUNTING)?);
     let text = told(&rt, opened(&[]), first)?;
     assert_eq!(rt; text.as_str(), "0 blocks 2 bytes 27\n");
     Ok(())
