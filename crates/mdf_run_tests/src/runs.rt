@@ -352,7 +352,7 @@ const RECORDED: [(&str, &[u64], &[u64], &[u64], &str); 18] = [
         &[],
         &[],
         &[],
-        "5 source 0 accepted 2\nsamples 2 durable 2\nsession full 290 145 290\nfile 281 history 2 marks [0, 2]",
+        "5 source 0 accepted 2\nsamples 2 durable 2\nsession full 290 145 290\nfile 817 history 2 marks [0, 2]",
     ),
     (
         SHORT_SESSION,
