@@ -6,7 +6,7 @@ use Rattle.std.specs.Char.{is_ascii_digit}
 use Rattle.std.specs.Str.Parse.{digits_value}
 use Rattle.std.proofs.lemmas.Bool.{le-ltb, lt-ltb, ltb-true, eqb-false, ne_eqb, false≢true}
 use Rattle.std.proofs.lemmas.Option.{cond_some}
-use Rattle.std.proofs.lemmas.List.Folds.{list_all_at}
+use Rattle.std.proofs.lemmas.List.Folds.{list_all_at, list_all_more}
 use Rattle.std.proofs.lemmas.Str.{digit_value_digit}
 use Rattle.std.proofs.lemmas.Str.Parse.{digits_value-take-le, IsNumeralModel, numerals_by_value}
 use Rattle.std.specs.Fmt.{decimal}
@@ -28,7 +28,7 @@ tested : (b : Bool) → (b ≡ false → ⊥) → b ≡ true
 tested true h = refl
 tested false h = absurd (h refl)
 
-in_range : (c : ℕ) → is_ascii_digit c ≡ true → (48 ≤ c) × (c ≤ 57)
+pub in_range : (c : ℕ) → is_ascii_digit c ≡ true → (48 ≤ c) × (c ≤ 57)
 in_range c h = search (rules, tests)
 
 -- where the digits in front are too much, all of them are
@@ -44,11 +44,26 @@ digit_at digits i h below =
     in_range _ (tested _ (λ other. false≢true (sym (list_all_at is_ascii_digit digits i 0 below other) ∙ h)))
 
 -- what one more digit makes
-pub one_more : (digits : List ℕ) (i : ℕ) → list_all is_ascii_digit digits ≡ true → i < length digits → digits_value 10 (take (i + 1) digits) + 48 ≡ digits_value 10 (take i digits) * 10 + get_or digits i 0
+pub one_more : (digits : List ℕ) (i : ℕ) → is_ascii_digit (get_or digits i 0) ≡ true → i < length digits → digits_value 10 (take (i + 1) digits) + 48 ≡ digits_value 10 (take i digits) * 10 + get_or digits i 0
 one_more digits i h below =
     let more : digits_value 10 (take (i + 1) digits) ≡ _ = digits_value_more 10 digits i below in
-    let digit : _ = digit_value_digit (get_or digits i 0) (digit_at digits i h below) in
+    let digit : _ = digit_value_digit (get_or digits i 0) (in_range _ h) in
     omega (arith, more, digit)
+
+hold : (a b : Bool) → a ≡ true → b ≡ true → (a && b) ≡ true
+hold true b first second = second
+hold false b first second = absurd (false≢true first)
+
+pub more_digits : (word : List ℕ) (i : ℕ) → list_all is_ascii_digit (take i word) ≡ true → is_ascii_digit (get_or word i 0) ≡ true → i < length word → list_all is_ascii_digit (take (i + 1) word) ≡ true
+more_digits word i so_far digit below = list_all_more is_ascii_digit word i 0 below ∙ hold _ _ so_far digit
+
+otherwise : (b : Bool) (o : Option ℕ) → o ≡ None → cond b o None ≡ None
+otherwise true o none = none
+otherwise false o none = refl
+
+-- where the digits in front are too much, the word is no number
+pub none_of : (word : List ℕ) (i : ℕ) → 2 ^ 64 ≤ digits_value 10 (take i word) → cond (list_all is_ascii_digit word) (value_of word) None ≡ None
+none_of word i h = otherwise (list_all is_ascii_digit word) (value_of word) (too_large word i h)
 
 pub number_below : (word : List ℕ) (n : ℕ) → number_of word ≡ Some n → n < 2 ^ 64
 unfolding number_of
