@@ -1,9 +1,10 @@
 -- What a recording keeps, whatever happened.
-use Rattle.std.proofs.Common.{◌≡◌, ◌⊎◌, ◌<◌, ◌≤◌, inl, inr, ⊎_elim, ℕ, List, [], ◌∷◌, length, Option, Some, None, Ok, refl, subst, arith}
+use Rattle.std.proofs.Common.{◌≡◌, ◌⊎◌, ◌<◌, ◌≤◌, inl, inr, ⊎_elim, ℕ, List, [], length, Option, Some, None, Ok, refl, subst, arith}
 use Rattle.std.specs.Prelude.{is_some, IfSome}
 use mathlib.Core.List.{IsPrefix}
 use Rattle.mdf_port.specs.State.{SinkState, SourceState}
 use Rattle.mdf_disk.specs.State.{DiskState}
+use Rattle.mdf_layout.specs.History.{source_samples}
 use Rattle.mdf_layout.specs.declared.sample.Sample.{Sample}
 use Rattle.mdf_gate.proofs.Carrying.{carries_begun}
 use Rattle.book_owned.specs.Kept.{MarksHold, StartHolds}
@@ -12,14 +13,13 @@ use Rattle.book_owned.specs.declared.mark.Mark.{Mark}
 use Rattle.acq_script.specs.Script.{script_of}
 use Rattle.acq_script.specs.Tasks.{samples_of}
 use Rattle.acq_script.specs.declared.script.Script.{Script}
-use Rattle.acq_script.specs.declared.script.Task.{Task}
-use Rattle.mdf_run.specs.Drive.{AreMarked}
+use Rattle.mdf_run.specs.Sources.{AreOwnMarked}
 use Rattle.mdf_run.specs.Faults.{fault_status}
 use Rattle.mdf_disk.specs.Crash.{HoldsSince}
 use Rattle.mdf_gate.specs.Images.{IsBegun}
 use Rattle.mdf_run.specs.Head.{script_head}
 use Rattle.mdf_run.specs.Kept.{IsDone}
-use Rattle.mdf_run.specs.Record.{CloseComes, IsComplete, Outcome, fault_code, record_status, record_text}
+use Rattle.mdf_run.specs.Record.{CloseComes, IsComplete, OfSources, Outcome, fault_code, record_status, record_text}
 use Rattle.mdf_run.specs.Script.{SCRIPT_LIMIT}
 use Rattle.mdf_run.specs.Recorded.{IsClosed, IsNotBegun, IsRefused, IsUnread, RecordComes}
 use Rattle.mdf_run.specs.Texts.{Prints, unwritten_status}
@@ -27,7 +27,7 @@ use Rattle.mdf_run.specs.declared.fault.Fault.{Fault}
 use Rattle.mdf_run.specs.declared.fault.Fault.TheVariants as fault
 use Rattle.mdf_run.specs.declared.record.RecordEnd.{RecordEnd}
 use Rattle.mdf_run.specs.declared.record.RecordEnd.TheVariants.{Refused, Closed}
-use Rattle.mdf_run.proofs.Recording.{none_marked}
+use Rattle.mdf_run.proofs.Runs.{none_own}
 
 -- a status that was printed is that of the end, or stands for it
 was_status : (text : List ℕ) (status : ℕ) (sink sink' : SinkState) (result : ℕ) → Prints text status sink sink' result
@@ -45,11 +45,11 @@ not_done (fault.SessionFull held size limit) result is done = absurd (omega (ari
 not_done fault.Memory result is done = absurd (omega (arith, is, done))
 not_done (fault.Script number) result is done = absurd (omega (arith, is, done))
 
-completes : (script : Script) (tasks : List Task) (faults : ℕ) (left : Outcome) (result : ℕ) (problem : Option Fault)
+completes : (script : Script) (faults : ℕ) (left : Outcome) (result : ℕ) (problem : Option Fault)
     → (result ≡ fault_code problem) ⊎ (result ≡ unwritten_status (fault_code problem)) → IsDone result
-    → CloseComes script.plan tasks faults left problem → IsComplete script.plan tasks left
-completes script tasks faults left result None is done comes = comes
-completes script tasks faults left result (Some problem) is done comes = absurd (not_done problem result is done)
+    → CloseComes script faults left problem → IsComplete script left
+completes script faults left result None is done comes = comes
+completes script faults left result (Some problem) is done comes = absurd (not_done problem result is done)
 
 -- one script has one meaning
 same_script : (text : List ℕ) (script other : Script) → script_of text ≡ Ok script → script_of text ≡ Ok other → script ≡ other
@@ -61,25 +61,23 @@ meant : (left : Option (List ℕ)) (text : List ℕ) (script : Script) → left 
 meant left text script told says =
     let of_text = subst (λ (l : Option (List ℕ)). IfSome l (λ t. (script_of t ≡ Ok script) × (length t ≤ SCRIPT_LIMIT))) told says in of_text.0
 
-same_tasks : (script : Script) (tasks other : List Task) → script.lists ≡ tasks ∷ [] → script.lists ≡ other ∷ [] → tasks ≡ other
-same_tasks script tasks other is also = cc
-
 -- the clauses on a recording that began at this moment of its disk
-pub record Keeps (start now : ℕ) (script : Script) (tasks : List Task) (disk : DiskState) (history : List Sample) (marks : List Mark) (status : ℕ) : Type 0 where
+pub record Keeps (start now : ℕ) (script : Script) (disk : DiskState) (history : List Sample) (marks : List Mark) (status : ℕ) : Type 0 where
   pub marks_hold : MarksHold script.plan.shapes (script_head now script) disk.story disk.moment history marks
   pub start_holds : StartHolds script.plan.shapes (script_head now script) disk.story start history
   pub marks_rise : (marks ≡ []) ⊎ AreRising (is_some disk.story) marks
-  pub own_prefix : IsPrefix history (samples_of tasks)
-  pub flush_lines : AreMarked (λ n. n < length history) tasks 0 marks
-  pub complete : IsDone status → IsComplete script.plan tasks (record { disk = disk; history = history; marks = marks })
+  pub own_prefix : OfSources script (λ source tasks. IsPrefix (source_samples script.plan.owners history source) (samples_of tasks))
+  pub flush_lines : OfSources script (λ source tasks. AreOwnMarked script.plan.owners source history marks
+      (λ n. n < length (source_samples script.plan.owners history source)) [] tasks)
+  pub complete : IsDone status → IsComplete script (record { disk = disk; history = history; marks = marks })
 
 module _ (source source' : SourceState) (name : List ℕ) (now : ℕ) (out disk : DiskState) (history : List Sample) (marks : List Mark) (status : ℕ)
-    (text : List ℕ) (told : source.left ≡ Some text) (script : Script) (means : script_of text ≡ Ok script) (tasks : List Task) (one : script.lists ≡ tasks ∷ []) where
+    (text : List ℕ) (told : source.left ≡ Some text) (script : Script) (means : script_of text ≡ Ok script) where
   abbrev left : Outcome
   left = record { disk = disk; history = history; marks = marks }
 
   abbrev Keep : List Sample → List Mark → Type 0
-  Keep samples ms = Keeps out.moment now script tasks disk samples ms status
+  Keep samples ms = Keeps out.moment now script disk samples ms status
 
   of_refused : (problem : Fault) → IsRefused source source' name now out left problem
       → (status ≡ fault_status problem) ⊎ (status ≡ unwritten_status (fault_status problem)) → Keep history marks
@@ -87,8 +85,8 @@ module _ (source source' : SourceState) (name : List ℕ) (now : ℕ) (out disk 
     marks_hold = λ k mark within. absurd (omega (arith, within));
     start_holds = λ file may. carries_begun script.plan.shapes (script_head now script) [] file (begun refused.comes file may);
     marks_rise = inl refl;
-    own_prefix = (samples_of tasks, refl);
-    flush_lines = none_marked 0 tasks 0 [] (omega arith);
+    own_prefix = λ source tasks there. (samples_of tasks, refl);
+    flush_lines = λ source tasks there. none_own script.plan.owners source [] [] 0 [] tasks (omega arith);
     complete = λ done. absurd (not_done problem status is done);
   }) where
     begun : IsUnread source source' out disk problem ⊎ IsNotBegun source name now out disk problem → HoldsSince disk.story out.moment (IsBegun (script_head now script))
@@ -97,27 +95,26 @@ module _ (source source' : SourceState) (name : List ℕ) (now : ℕ) (out disk 
         let same = same_script text unmade.script script (meant source.left text unmade.script told unmade.says) means in
         subst (λ (s : Script). HoldsSince disk.story out.moment (IsBegun (script_head now s))) same unmade.begun
 
-  of_closed : (accepted last : ℕ) (problem : Option Fault) → IsClosed source name now out left accepted last problem
+  of_closed : (accepted : List ℕ) (samples last : ℕ) (problem : Option Fault) → IsClosed source name now out left accepted samples last problem
       → (status ≡ fault_code problem) ⊎ (status ≡ unwritten_status (fault_code problem)) → Keep history marks
-  of_closed accepted last problem closed is =
+  of_closed accepted samples last problem closed is =
       let says = meant source.left text closed.script told closed.says in
       let script_is : closed.script ≡ script = same_script text closed.script script says means in
-      let tasks_are : closed.tasks ≡ tasks = same_tasks script closed.tasks tasks (subst (λ (s : Script). s.lists ≡ closed.tasks ∷ []) script_is closed.recorded.one) one in
-      let recorded = rw (script_is, tasks_are) at closed.recorded in
-      let comes = rw (script_is, tasks_are) at closed.comes in
+      let recorded = rw script_is at closed.recorded in
+      let comes = rw script_is at closed.comes in
       record {
         marks_hold = recorded.marks_hold;
         start_holds = recorded.start_holds;
         marks_rise = inr recorded.marks_rise;
         own_prefix = recorded.own_prefix;
         flush_lines = recorded.flush_lines;
-        complete = λ done. completes script tasks out.faults left status problem is done comes;
+        complete = λ done. completes script out.faults left status problem is done comes;
       }
 
   of_end : (end : RecordEnd) → RecordComes source source' name now out left end
       → (status ≡ record_status end) ⊎ (status ≡ unwritten_status (record_status end)) → Keep history marks
   of_end (Refused problem) comes is = of_refused problem comes is
-  of_end (Closed accepted last problem) comes is = of_closed accepted last problem comes is
+  of_end (Closed accepted samples last problem) comes is = of_closed accepted.items samples last problem comes is
 
   pub recording_keeps : (end : RecordEnd) (sink sink' : SinkState) → RecordComes source source' name now out left end
       → Prints (record_text end) (record_status end) sink sink' status → Keep history marks

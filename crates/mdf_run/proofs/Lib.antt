@@ -5,3 +5,4 @@ mod Pieces
 mod Recording
 mod Told
 mod Begins
+mod Runs

@@ -11,8 +11,7 @@ use Rattle.book_owned.specs.declared.mark.Mark.{Mark}
 use Rattle.acq_script.specs.Tasks.{samples_of}
 use Rattle.acq_script.specs.declared.script.Task.{Task}
 use Rattle.acq_script.specs.declared.script.Task.TheVariants as task
-use Rattle.mdf_run.specs.Drive.{HasMark, AreMarked, IsMarked, IsOver, Does, samples_by}
-use Rattle.mdf_layout.specs.Record.{cost_of, history_cost}
+use Rattle.mdf_run.specs.Drive.{HasMark, AreMarked, IsMarked, Does, samples_by}
 use Rattle.std.specs.List.{All}
 use Rattle.std.proofs.Math.Seq.{get_or-append_seam}
 
@@ -94,17 +93,6 @@ does_none old = record { history = sym (append-nil old.history); marks = prefix_
 pub samples_by-done : (E : Type 0) (u : Unit {0}) (next : Task) → samples_by {E = E} (Ok u) next ≡ samples_of (next ∷ [])
 samples_by-done E u (task.Sample sample) = refl
 samples_by-done E u task.Flush = refl
-
--- a task that was not done leaves the history
-pub over_stays : {D V : Type 0} (old new : Account D V) (next : Task) (held size limit : ℕ) → new.history ≡ old.history → new.terms ≡ old.terms
-    → IsOver old next held size limit → IsOver new next held size limit
-over_stays old new (task.Sample sample) held size limit history terms over = (
-  over.0 ∙ ap (λ t. history_cost t.layouts old.history) (sym terms) ∙ ap (history_cost new.terms.layouts) (sym history),
-  over.1 ∙ ap (λ t. cost_of t.layouts sample) (sym terms),
-  over.2 ∙ ap (λ t. t.session_limit) (sym terms),
-  over.3,
-)
-over_stays old new task.Flush held size limit history terms over = over
 
 -- one of the tasks
 pub one_fits : (P : Task → Type 0) (tasks yielded rest : List Task) (next : Task) → yielded ++ (next ∷ rest) ≡ tasks → All P tasks → P next

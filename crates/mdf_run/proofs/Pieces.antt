@@ -1,10 +1,13 @@
 -- The parts of a line, given one behind the other.
-use Rattle.std.proofs.Common.{◌≡◌, ◌≤◌, ◌<◌, ◌+◌, Result, Ok, Err, map, arith, ℕ, List, [], ◌∷◌, ◌++◌, length, take, drop, get_or, Option, Some, None, refl, sym, ◌∙◌, ap, subst, add-one, append_assoc, append-nil, take-append-drop}
+use Rattle.std.proofs.Common.{◌≡◌, ◌≤◌, ◌<◌, ◌+◌, Result, Ok, Err, map, arith, ℕ, zero, suc, List, [], ◌∷◌, ◌++◌, length, take, drop, get_or, Option, Some, None, refl, sym, ◌∙◌, ap, subst, add-one, append_assoc, append-nil, take-append-drop}
 use Rattle.std.proofs.Math.Seq.{take-suc}
 use Rattle.std.proofs.lemmas.Grind.{flat_map-append}
 use Rattle.std.specs.Io.KnownBytes.{Appends}
 use Rattle.mdf_port.specs.State.{SinkState}
+use Rattle.std.specs.Prelude.{codes}
+use Rattle.std.specs.Fmt.{decimal}
 use Rattle.mdf_run.specs.Texts.{Gives, line, piece_text, pieces_text}
+use Rattle.mdf_run.specs.Record.{sources_text}
 use Rattle.std.proofs.lemmas.List.Concat.{flat_map-cons}
 use Rattle.mdf_run.specs.declared.report.Piece.{Piece}
 
@@ -69,3 +72,41 @@ pieces_around pieces i d within =
     sym (ap pieces_text (take-append-drop (i + 1) pieces)) ∙ flat_map-append piece_text (take (i + 1) pieces) (drop (i + 1) pieces)
     ∙ ap (λ front. front ++ pieces_text (drop (i + 1) pieces)) (pieces_more pieces i d within)
     ∙ append_assoc (pieces_text (take i pieces)) (piece_text (get_or pieces i d)) (pieces_text (drop (i + 1) pieces))
+
+-- the lines of the sources up to one, that one's, and those behind it
+abbrev source_line : ℕ → ℕ → List ℕ
+source_line source n = line (codes "source " ∷ decimal source ∷ codes " accepted " ∷ decimal n ∷ [])
+
+more_from : (from : ℕ) (xs : List ℕ) (i d : ℕ) → i < length xs → sources_text from (take (suc i) xs) ≡ sources_text from (take i xs) ++ source_line (from + i) (get_or xs i d)
+more_from from [] i d within = absurd (omega (arith, within))
+more_from from (x ∷ xs) zero d within = let none : from ≡ from + 0 = omega arith in append-nil (source_line from x) ∙ ap (λ k. source_line k x) none
+more_from from (x ∷ xs) (suc i) d within =
+    let next : from + 1 + i ≡ from + suc i = omega arith in
+    ap (λ text. source_line from x ++ text) (more_from (from + 1) xs i d (omega (arith, within)) ∙ ap (λ k. sources_text (from + 1) (take i xs) ++ source_line k (get_or xs i d)) next)
+    ∙ sym (append_assoc (source_line from x) (sources_text (from + 1) (take i xs)) (source_line (from + suc i) (get_or xs i d)))
+
+around_from : (from : ℕ) (xs : List ℕ) (i d : ℕ) → i < length xs
+    → sources_text from xs ≡ sources_text from (take i xs) ++ (source_line (from + i) (get_or xs i d) ++ sources_text (from + suc i) (drop (suc i) xs))
+around_from from [] i d within = absurd (omega (arith, within))
+around_from from (x ∷ xs) zero d within =
+    let none : from ≡ from + 0 = omega arith in
+    let next : from + 1 ≡ from + suc zero = omega arith in
+    ap (λ k. source_line k x ++ sources_text (from + 1) xs) none ∙ ap (λ k. source_line (from + 0) x ++ sources_text k xs) next
+around_from from (x ∷ xs) (suc i) d within =
+    let next : from + 1 + i ≡ from + suc i = omega arith in
+    let later : from + 1 + suc i ≡ from + suc (suc i) = omega arith in
+    ap (λ text. source_line from x ++ text) (around_from (from + 1) xs i d (omega (arith, within))
+    ∙ ap (λ k. sources_text (from + 1) (take i xs) ++ (source_line k (get_or xs i d) ++ sources_text (from + 1 + suc i) (drop (suc i) xs))) next
+    ∙ ap (λ k. sources_text (from + 1) (take i xs) ++ (source_line (from + suc i) (get_or xs i d) ++ sources_text k (drop (suc i) xs))) later)
+    ∙ sym (append_assoc (source_line from x) (sources_text (from + 1) (take i xs)) (source_line (from + suc i) (get_or xs i d) ++ sources_text (from + suc (suc i)) (drop (suc i) xs)))
+
+pub sources_more : (xs : List ℕ) (i d : ℕ) → i < length xs → sources_text 0 (take (i + 1) xs) ≡ sources_text 0 (take i xs) ++ source_line i (get_or xs i d)
+sources_more xs i d within =
+    let none : 0 + i ≡ i = omega arith in
+    ap (λ k. sources_text 0 (take k xs)) (add-one i) ∙ more_from 0 xs i d within ∙ ap (λ k. sources_text 0 (take i xs) ++ source_line k (get_or xs i d)) none
+
+pub sources_around : (xs : List ℕ) (i d : ℕ) → i < length xs
+    → sources_text 0 xs ≡ sources_text 0 (take i xs) ++ (source_line i (get_or xs i d) ++ sources_text (0 + suc i) (drop (suc i) xs))
+sources_around xs i d within =
+    let none : 0 + i ≡ i = omega arith in
+    around_from 0 xs i d within ∙ ap (λ k. sources_text 0 (take i xs) ++ (source_line k (get_or xs i d) ++ sources_text (0 + suc i) (drop (suc i) xs))) none

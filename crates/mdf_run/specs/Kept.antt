@@ -1,16 +1,14 @@
 -- What `run` keeps of a recording, whatever happens.
-use Rattle.std.specs.Prelude.{ℕ, ◌≡◌, ◌⊎◌, List, [], ◌∷◌, Option, Some, Ok}
+use Rattle.std.specs.Prelude.{ℕ, ◌≡◌, ◌⊎◌, List, Option, Some, Ok}
 use Rattle.acq_script.specs.Script.{script_of}
 use Rattle.acq_script.specs.declared.script.Script.{Script}
-use Rattle.acq_script.specs.declared.script.Task.{Task}
 use Rattle.mdf_run.specs.Words.{AsksRecord}
 
--- Where the words ask for a recording, and the source tells its bytes, which are a script, this holds of the script and of
--- the tasks of its only source.
-abbrev pub OfRecording : List (List ℕ) → Option (List ℕ) → (Script → List Task → Type 0) → Type 0
+-- Where the words ask for a recording, and the source tells its bytes, which are a script, this holds of the script.
+abbrev pub OfRecording : List (List ℕ) → Option (List ℕ) → (Script → Type 0) → Type 0
 OfRecording words left P =
     (name : List ℕ) → AsksRecord words name → (text : List ℕ) → left ≡ Some text → (script : Script) → script_of text ≡ Ok script
-    → (tasks : List Task) → script.lists ≡ tasks ∷ [] → P script tasks
+    → P script
 
 -- the status of a command that did what it was asked for, though the sink may have failed
 abbrev pub IsDone : ℕ → Type 0

@@ -5,6 +5,7 @@ pub mod Texts
 pub mod Opened
 pub mod Head
 pub mod Drive
+pub mod Sources
 pub mod Script
 pub mod Finish
 pub mod Record

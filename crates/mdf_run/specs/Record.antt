@@ -5,6 +5,7 @@ use mathlib.Core.List.{IsPrefix}
 use Rattle.mdf_format.specs.Cause.{Rose}
 use Rattle.mdf_disk.specs.State.{DiskState, state_of}
 use Rattle.book_owned.specs.Members.{DiskOf}
+use Rattle.mdf_layout.specs.History.{source_samples}
 use Rattle.mdf_layout.specs.Record.{cost_of, history_cost}
 use Rattle.mdf_layout.specs.declared.sample.Sample.{Sample}
 use Rattle.mdf_gate.specs.Carried.{IsCarried, IsEncoded}
@@ -17,16 +18,22 @@ use Rattle.acq_script.specs.declared.script.Script.{Script}
 use Rattle.acq_script.specs.declared.script.Task.{Task}
 use Rattle.mdf_run.specs.Texts.{line}
 use Rattle.mdf_run.specs.Faults.{fault_line, fault_status}
-use Rattle.mdf_run.specs.Drive.{AreMarked}
+use Rattle.mdf_run.specs.Sources.{AreOwnMarked}
 use Rattle.mdf_run.specs.declared.fault.Fault.{Fault}
 use Rattle.mdf_run.specs.declared.fault.Fault.TheVariants as fault
 use Rattle.mdf_run.specs.declared.record.RecordEnd.{RecordEnd}
 use Rattle.mdf_run.specs.declared.record.RecordEnd.TheVariants.{Refused, Closed}
 
+-- a line for each source from this one on: how many samples it accepted
+abbrev pub sources_text : ℕ → List ℕ → List ℕ
+sources_text source [] = []
+sources_text source (n ∷ accepted) =
+    line (codes "source " ∷ decimal source ∷ codes " accepted " ∷ decimal n ∷ []) ++ sources_text (source + 1) accepted
+
 -- the lines on the recording
-abbrev pub summary_text : ℕ → ℕ → List ℕ
-summary_text accepted durable =
-    line (codes "source 0 accepted " ∷ decimal accepted ∷ []) ++ line (codes "samples " ∷ decimal accepted ∷ codes " durable " ∷ decimal durable ∷ [])
+abbrev pub summary_text : List ℕ → ℕ → ℕ → List ℕ
+summary_text accepted samples durable =
+    sources_text 0 accepted ++ line (codes "samples " ∷ decimal samples ∷ codes " durable " ∷ decimal durable ∷ [])
 
 abbrev pub fault_text : Option Fault → List ℕ
 fault_text None = []
@@ -38,11 +45,11 @@ fault_code (Some fault) = fault_status fault
 
 abbrev pub record_text : RecordEnd → List ℕ
 record_text (Refused fault) = fault_line fault
-record_text (Closed accepted durable fault) = summary_text accepted durable ++ fault_text fault
+record_text (Closed accepted samples durable fault) = summary_text accepted.items samples durable ++ fault_text fault
 
 abbrev pub record_status : RecordEnd → ℕ
 record_status (Refused fault) = fault_status fault
-record_status (Closed accepted durable fault) = fault_code fault
+record_status (Closed accepted samples durable fault) = fault_code fault
 
 -- what a recording leaves: its disk, as that tells it, the samples that were accepted, in order, and the marks
 pub record Outcome : Type 0 where
@@ -60,42 +67,57 @@ pub record IsSaved (plan : Plan) (left : Outcome) : Type 0 where
   pub all_durable : durable left.marks ≡ length left.history
   pub holds : IfSome left.disk.content (λ file. IsCarried plan.shapes file left.history × IsEncoded plan.shapes file left.history)
 
--- The whole script was recorded and saved, each flush has its mark, and the samples cost no more than the session limit.
-pub record IsComplete (plan : Plan) (tasks : List Task) (left : Outcome) : Type 0 where
-  pub history_is : left.history ≡ samples_of tasks
-  pub flush_lines : AreMarked (λ n. Unit {0}) tasks 0 left.marks
-  pub cost : history_cost plan.shapes left.history ≤ plan.session
-  pub saved : IsSaved plan left
+-- this holds of each source of the script and its tasks
+abbrev pub OfSources : Script → (ℕ → List Task → Type 0) → Type 0
+OfSources script P = (source : ℕ) (tasks : List Task) → slice_get script.lists source ≡ Some tasks → P source tasks
 
--- The next sample would have passed the session limit, and all before it is saved.
-pub record IsFull (plan : Plan) (tasks : List Task) (left : Outcome) (held size limit : ℕ) : Type 0 where
+-- just the samples of each source's tasks that were accepted are its own, and so many they are
+pub record AreAccepted (script : Script) (left : Outcome) (accepted : List ℕ) : Type 0 where
+  pub count : length accepted ≡ length script.lists
+  pub each : OfSources script (λ source tasks. slice_get accepted source ≡ Some (length (source_samples script.plan.owners left.history source)))
+
+-- The whole script was recorded and saved, each flush has its mark, and the samples cost no more than the session limit.
+pub record IsComplete (script : Script) (left : Outcome) : Type 0 where
+  pub history_is : OfSources script (λ source tasks. source_samples script.plan.owners left.history source ≡ samples_of tasks)
+  pub flush_lines : OfSources script (λ source tasks. AreOwnMarked script.plan.owners source left.history left.marks (λ n. Unit {0}) [] tasks)
+  pub cost : history_cost script.plan.shapes left.history ≤ script.plan.session
+  pub saved : IsSaved script.plan left
+
+-- The next sample of a source would have passed the session limit, when the history was this beginning of it; and all that
+-- was accepted is saved.
+pub record IsFull (script : Script) (left : Outcome) (held size limit : ℕ) : Type 0 where
+  pub source : ℕ
+  pub tasks : List Task
+  pub there : slice_get script.lists source ≡ Some tasks
   pub sample : Sample
-  pub next : slice_get (samples_of tasks) (length left.history) ≡ Some sample
-  pub held_is : held ≡ history_cost plan.shapes left.history
-  pub size_is : size ≡ cost_of plan.shapes sample
-  pub limit_is : limit ≡ plan.session
+  pub next : slice_get (samples_of tasks) (length (source_samples script.plan.owners left.history source)) ≡ Some sample
+  pub before : List Sample
+  pub begins : IsPrefix before left.history
+  pub held_is : held ≡ history_cost script.plan.shapes before
+  pub size_is : size ≡ cost_of script.plan.shapes sample
+  pub limit_is : limit ≡ script.plan.session
   pub over : limit < held + size
-  pub saved : IsSaved plan left
+  pub saved : IsSaved script.plan left
 
 -- How a recording that was begun ends, where the disk's count of faults was `faults` before: all was done, the disk failed,
 -- the session is full, or memory was wanted. All that was accepted is saved but where the disk failed.
-abbrev pub CloseComes : Plan → List Task → ℕ → Outcome → Option Fault → Type 0
-CloseComes plan tasks faults left None = IsComplete plan tasks left
-CloseComes plan tasks faults left (Some (fault.Gate refused)) = ⊥
-CloseComes plan tasks faults left (Some fault.Source) = ⊥
-CloseComes plan tasks faults left (Some fault.Device) = Rose faults left.disk.faults
-CloseComes plan tasks faults left (Some (fault.InputOver size limit)) = ⊥
-CloseComes plan tasks faults left (Some (fault.ScriptOver limit)) = ⊥
-CloseComes plan tasks faults left (Some (fault.SessionFull held size limit)) = IsFull plan tasks left held size limit
-CloseComes plan tasks faults left (Some fault.Memory) = IsSaved plan left
-CloseComes plan tasks faults left (Some (fault.Script number)) = ⊥
+abbrev pub CloseComes : Script → ℕ → Outcome → Option Fault → Type 0
+CloseComes script faults left None = IsComplete script left
+CloseComes script faults left (Some (fault.Gate refused)) = ⊥
+CloseComes script faults left (Some fault.Source) = ⊥
+CloseComes script faults left (Some fault.Device) = Rose faults left.disk.faults
+CloseComes script faults left (Some (fault.InputOver size limit)) = ⊥
+CloseComes script faults left (Some (fault.ScriptOver limit)) = ⊥
+CloseComes script faults left (Some (fault.SessionFull held size limit)) = IsFull script left held size limit
+CloseComes script faults left (Some fault.Memory) = IsSaved script.plan left
+CloseComes script faults left (Some (fault.Script number)) = ⊥
 
 -- What a recording of this script keeps, whatever happened: of its marks, of what a crash since its start may leave, and of
--- the samples and the flushes of its source.
-pub record IsRecorded (script : Script) (tasks : List Task) (head : List ℕ) (start : ℕ) (left : Outcome) : Type 0 where
-  pub one : script.lists ≡ tasks ∷ []
+-- the samples and the flushes of each source.
+pub record IsRecorded (script : Script) (head : List ℕ) (start : ℕ) (left : Outcome) : Type 0 where
   pub marks_hold : MarksHold script.plan.shapes head left.disk.story left.disk.moment left.history left.marks
   pub start_holds : StartHolds script.plan.shapes head left.disk.story start left.history
   pub marks_rise : AreRising (is_some left.disk.story) left.marks
-  pub own_prefix : IsPrefix left.history (samples_of tasks)
-  pub flush_lines : AreMarked (λ n. n < length left.history) tasks 0 left.marks
+  pub own_prefix : OfSources script (λ source tasks. IsPrefix (source_samples script.plan.owners left.history source) (samples_of tasks))
+  pub flush_lines : OfSources script (λ source tasks. AreOwnMarked script.plan.owners source left.history left.marks
+      (λ n. n < length (source_samples script.plan.owners left.history source)) [] tasks)

@@ -7,6 +7,7 @@ use Rattle.book_owned.specs.Members.{DiskOf}
 use Rattle.mdf_disk.specs.declared.role.Role.TheVariants.{Create}
 use Rattle.mdf_format.specs.Cause.{Rose}
 use Rattle.mdf_layout.specs.Record.{history_cost}
+use Rattle.mdf_layout.specs.Stock.{Stock}
 use Rattle.mdf_gate.specs.Gated.{Gated}
 use Rattle.mdf_gate.specs.Images.{IsBegun, head_of}
 use Rattle.book_owned.specs.Account.{Account}
@@ -14,12 +15,11 @@ use Rattle.book_owned.specs.Kept.{HoldsDurable, IsKept}
 use Rattle.book_owned.specs.declared.view.NoView.{NoView}
 use Rattle.book_owned.specs.Marks.{durable}
 use Rattle.acq_script.specs.declared.script.Script.{Script}
-use Rattle.acq_script.specs.declared.script.Task.{Task}
 use Rattle.mdf_run.specs.Head.{script_head}
 use Rattle.mdf_run.specs.Script.{SaysScript, ScriptFaultComes}
 use Rattle.mdf_run.specs.Finish.{FileFaultComes}
 use Rattle.mdf_run.specs.Texts.{Prints}
-use Rattle.mdf_run.specs.Record.{CloseComes, IsRecorded, Outcome, record_status, record_text}
+use Rattle.mdf_run.specs.Record.{AreAccepted, CloseComes, IsRecorded, Outcome, record_status, record_text}
 use Rattle.mdf_run.specs.declared.fault.Fault.{Fault}
 use Rattle.mdf_run.specs.declared.fault.Fault.TheVariants.{Memory}
 use Rattle.mdf_run.specs.declared.record.Recorded.{Recorded}
@@ -48,19 +48,19 @@ pub record IsRefused (source source' : SourceState) (name : List ℕ) (now : ℕ
   pub comes : IsUnread source source' disk left.disk fault ⊎ IsNotBegun source name now disk left.disk fault
 
 -- A book was begun over the script that the source has.
-pub record IsClosed (source : SourceState) (name : List ℕ) (now : ℕ) (disk : DiskState) (left : Outcome) (accepted last : ℕ) (fault : Option Fault) : Type 0 where
+pub record IsClosed (source : SourceState) (name : List ℕ) (now : ℕ) (disk : DiskState) (left : Outcome) (accepted : List ℕ) (samples last : ℕ) (fault : Option Fault) : Type 0 where
   pub script : Script
-  pub tasks : List Task
   pub says : SaysScript source script
-  pub recorded : IsRecorded script tasks (script_head now script) disk.moment left
-  pub accepted_is : accepted ≡ length left.history
+  pub recorded : IsRecorded script (script_head now script) disk.moment left
+  pub accepted_is : AreAccepted script left accepted
+  pub samples_is : samples ≡ length left.history
   pub durable_is : last ≡ durable left.marks
-  pub comes : CloseComes script.plan tasks disk.faults left fault
+  pub comes : CloseComes script disk.faults left fault
   pub asked_is : left.disk.asked ≡ Some (name, Create)
 
 abbrev pub RecordComes : SourceState → SourceState → List ℕ → ℕ → DiskState → Outcome → RecordEnd → Type 0
 RecordComes source source' name now disk left (Refused fault) = IsRefused source source' name now disk left fault
-RecordComes source source' name now disk left (Closed accepted last fault) = IsClosed source name now disk left accepted last fault
+RecordComes source source' name now disk left (Closed accepted samples last fault) = IsClosed source name now disk left accepted.items samples last fault
 
 -- How the command ends, by what the source, the disk and the sink tell before, and what the recording left.
 abbrev pub EndsRecord : SourceState → SourceState → List ℕ → ℕ → DiskState → Outcome → SinkState → SinkState → ℕ → Type 0
@@ -69,8 +69,8 @@ EndsRecord source source' name now disk left sink sink' status =
     × Prints (record_text end) (record_status end) sink sink' status
 
 -- the book was closed with this fault
-pub record Closes {C : Type 0} (tells : DiskOf C) (book : Account C NoView) (fault : Option Fault) (result : Recorded C) : Type 0 where
-  pub end_is : result.end ≡ Closed (length book.history) (durable book.marks) fault
+pub record Closes {C : Type 0} (tells : DiskOf C) (book : Account C NoView) (accepted : Stock ℕ) (fault : Option Fault) (result : Recorded C) : Type 0 where
+  pub end_is : result.end ≡ Closed accepted (length book.history) (durable book.marks) fault
   pub disk : result.out ≡ book.disk
   pub history : result.history.items ≡ book.history
   pub marks : result.marks.items ≡ book.marks
@@ -82,17 +82,17 @@ pub record Closes {C : Type 0} (tells : DiskOf C) (book : Account C NoView) (fau
   pub holds : book.stopped ≡ false → IfSome (tells.content book.disk) (HoldsDurable book.terms book.history book.marks)
 
 -- The tasks of a script were recorded into a file with this head, begun at this moment of its disk, with this count of faults.
-pub record HasTasks (script : Script) (head : List ℕ) (start faults : ℕ) (left : Outcome) (accepted last : ℕ) (fault : Option Fault) : Type 0 where
-  pub tasks : List Task
-  pub recorded : IsRecorded script tasks head start left
-  pub accepted_is : accepted ≡ length left.history
+pub record HasTasks (script : Script) (head : List ℕ) (start faults : ℕ) (left : Outcome) (accepted : List ℕ) (samples last : ℕ) (fault : Option Fault) : Type 0 where
+  pub recorded : IsRecorded script head start left
+  pub accepted_is : AreAccepted script left accepted
+  pub samples_is : samples ≡ length left.history
   pub durable_is : last ≡ durable left.marks
-  pub comes : CloseComes script.plan tasks faults left fault
+  pub comes : CloseComes script faults left fault
 
 -- or no book could be begun over it
 abbrev pub RunComes : Script → DiskState → List ℕ → ℕ → ℕ → Outcome → RecordEnd → Type 0
 RunComes script disk head start faults left (Refused fault) = (fault ≡ Memory) × (left.disk ≡ disk) × (left.history ≡ []) × (left.marks ≡ [])
-RunComes script disk head start faults left (Closed accepted last fault) = HasTasks script head start faults left accepted last fault
+RunComes script disk head start faults left (Closed accepted samples last fault) = HasTasks script head start faults left accepted.items samples last fault
 
 pub record HasRun {C : Type 0} (tells : DiskOf C) (script : Script) (file : Gated C) (left : Outcome) (end : RecordEnd) : Type 0 where
   pub comes : RunComes script (state_of tells file.disk) (head_of (tells.story file.disk) file.first) file.start file.faults left end

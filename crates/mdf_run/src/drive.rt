@@ -58,6 +58,7 @@ fn perform<R: Threads + Wait + Sync, D: Disk>(
 pub fn drive<R: Threads + Wait + Sync, D: Disk, G: Gate>(
     rt: &R,
     book: &mut Book<D, NoView>,
+    source: u8,
     tasks: Vec<Task>,
     gate: &G,
 ) -> Result<(), End>
@@ -66,7 +67,7 @@ pub fn drive<R: Threads + Wait + Sync, D: Disk, G: Gate>(
     ensures drives { Drives book.old book.new tasks.items result }
 {
     for task in tasks {
-        gate.pass(0);
+        gate.pass(source);
         perform(rt, book, task)?;
     }
     Ok(())

@@ -14,6 +14,7 @@ mod opened;
 mod program;
 mod record;
 mod report;
+mod sources;
 mod unread;
 
 pub use gate::{Gate, Open};

@@ -9,9 +9,10 @@ ghost use Rattle.acq_script.specs.Tasks.{samples_of};
 ghost use Rattle.mdf_run.specs.Words.{AsksOpened, AsksRecord, AsksInput, AsksOutput, IsUsage};
 ghost use Rattle.mdf_run.specs.Texts.{Prints, usage_line};
 ghost use Rattle.mdf_run.specs.Opened.{EndsOpened};
-ghost use Rattle.mdf_run.specs.Drive.{AreMarked};
+ghost use Rattle.mdf_run.specs.Sources.{AreOwnMarked};
+ghost use Rattle.mdf_layout.specs.History.{source_samples};
 ghost use Rattle.mdf_run.specs.Head.{script_head};
-ghost use Rattle.mdf_run.specs.Record.{IsComplete, outcome};
+ghost use Rattle.mdf_run.specs.Record.{IsComplete, OfSources, outcome};
 ghost use Rattle.mdf_run.specs.Recorded.{EndsRecord};
 ghost use Rattle.mdf_run.specs.Kept.{OfRecording, IsDone};
 
@@ -110,19 +111,21 @@ where
         (outcome C.Disk result.out result.history.items result.marks.items)
         (sink_state K.Sink sink.old) (sink_state K.Sink sink.new) result.status }
 
-    // What a recording keeps, whatever happens: of each crash, of the marks, of the samples of its source and of its
+    // What a recording keeps, whatever happens: of each crash, of the marks, of the samples of each source and of its
     // flushes; and what it has done where the status is 0, or 6.
-    ensures marks_hold { OfRecording words.now (S.left source.old) (λ script _. MarksHold script.plan.shapes (script_head now_ns script)
+    ensures marks_hold { OfRecording words.now (S.left source.old) (λ script. MarksHold script.plan.shapes (script_head now_ns script)
         (C.story result.out) (C.moment result.out) result.history.items result.marks.items) }
-    ensures start_holds { OfRecording words.now (S.left source.old) (λ script _. StartHolds script.plan.shapes (script_head now_ns script)
+    ensures start_holds { OfRecording words.now (S.left source.old) (λ script. StartHolds script.plan.shapes (script_head now_ns script)
         (C.story result.out) (C.moment out) result.history.items) }
-    ensures marks_rise { OfRecording words.now (S.left source.old) (λ _ _.
+    ensures marks_rise { OfRecording words.now (S.left source.old) (λ _.
         (result.marks.items ≡ []) ⊎ AreRising (is_some (C.story result.out)) result.marks.items) }
-    ensures own_prefix { OfRecording words.now (S.left source.old) (λ _ tasks. IsPrefix result.history.items (samples_of tasks)) }
-    ensures flush_lines { OfRecording words.now (S.left source.old) (λ _ tasks.
-        AreMarked (λ n. n < length result.history.items) tasks 0 result.marks.items) }
-    ensures complete { OfRecording words.now (S.left source.old) (λ script tasks. IsDone result.status
-        → IsComplete script.plan tasks (outcome C.Disk result.out result.history.items result.marks.items)) }
+    ensures own_prefix { OfRecording words.now (S.left source.old) (λ script. OfSources script (λ number tasks.
+        IsPrefix (source_samples script.plan.owners result.history.items number) (samples_of tasks))) }
+    ensures flush_lines { OfRecording words.now (S.left source.old) (λ script. OfSources script (λ number tasks.
+        AreOwnMarked script.plan.owners number result.history.items result.marks.items
+        (λ n. n < length (source_samples script.plan.owners result.history.items number)) [] tasks)) }
+    ensures complete { OfRecording words.now (S.left source.old) (λ script. IsDone result.status
+        → IsComplete script (outcome C.Disk result.out result.history.items result.marks.items)) }
 
     // Another command has no history and no marks, and takes nothing from the source.
     ensures no_history { ((name : List ℕ) → ¬ AsksRecord words.now name) → result.history.items ≡ [] }

@@ -4,30 +4,30 @@ ghost use Rattle.mdf_disk.specs.State.{state_of};
 ghost use Rattle.mdf_disk.specs.declared.role.Role.TheVariants.{Create};
 ghost use Rattle.mdf_gate.specs.Images.{IsBegun, head_of};
 ghost use Rattle.book_owned.specs.Begun.{IsNewFile};
-ghost use Rattle.acq_script.specs.Plan.{IsPlan, TaskFits};
-ghost use Rattle.acq_script.specs.declared.script.Task.{Task};
+ghost use Rattle.acq_script.specs.Stage.{IsScript};
 ghost use Rattle.mdf_spell.specs.Recording.{head_file};
 ghost use Rattle.mdf_group.specs.Recordable.{AreRecordable};
 ghost use Rattle.mdf_run.specs.Script.{SaysScript, ScriptFaultComes};
 ghost use Rattle.mdf_run.specs.Finish.{IsUnmade, Finishes};
 ghost use Rattle.mdf_port.specs.State.{sink_state, source_state};
 ghost use Rattle.mdf_run.specs.Texts.{Gives, Prints};
-ghost use Rattle.mdf_run.specs.Record.{fault_text, outcome, record_status, record_text, summary_text};
+ghost use Rattle.mdf_run.specs.Record.{fault_text, outcome, record_status, record_text, sources_text, summary_text};
 ghost use Rattle.mdf_run.specs.Recorded.{RecordComes, Closes, HasRun};
 
-use crate::drive::{End, drive};
+use crate::drive::End;
 use crate::fault::Fault;
 use crate::gate::Gate;
 use crate::head::head_for;
 use crate::report::Piece::{Number, Text};
 use crate::report::{give_line, status_after};
-use acq_script::{Plan, Script, Task, read_script};
+use crate::sources::{Accepted, drive_all};
+use acq_script::{Plan, Script, read_script};
 use book_owned::{Book, Flush, Marks, NoView};
 use mdf_disk::{Disk, Role};
 use mdf_gate::GatedFile;
 use mdf_group::GroupRow;
 use mdf_layout::Samples;
-use mdf_num::{Bytes, Failed, Rows};
+use mdf_num::{Bytes, Failed, Memory, Rows};
 use mdf_port::{Sink, Source, take_all};
 use std::alloc::Global;
 use std::sync::Wait;
@@ -37,14 +37,15 @@ use std::thread::Threads;
 const SCRIPT_LIMIT: u64 = 67_108_864;
 
 /// How a recording ended.
-#[derive(Clone, Copy)]
+#[derive(Drop)]
 pub enum RecordEnd {
     /// No book was begun.
     Refused(Fault),
-    /// A book was begun and closed: how many samples it accepted, how many of them are durable, and what went wrong, if
-    /// anything did.
+    /// A book was begun and closed: how many samples of each source it accepted, how many in all, how many of them are
+    /// durable, and what went wrong, if anything did.
     Closed {
-        accepted: u64,
+        accepted: Accepted,
+        samples: u64,
         durable: u64,
         fault: Option<Fault>,
     },
@@ -76,10 +77,8 @@ fn refused<C>(alloc: Global, fault: Fault, out: C) -> Recorded<C>
 
 /// Reads the script of a source.
 fn read<S: Source>(alloc: Global, source: &mut S) -> Result<Script, Fault>
-    ensures script { IfOk result (SaysScript (source_state S.Source source.old)) }
-    ensures plan { IfOk result (λ script. IsPlan script.plan) }
-    ensures samples { IfOk result (λ script. All (λ tasks. All (TaskFits script.plan) tasks) script.lists) }
-    ensures lists { IfOk result (λ script. length script.lists ≡ 1) }
+    ensures says { IfOk result (SaysScript (source_state S.Source source.old)) }
+    ensures script { IfOk result IsScript }
     ensures fault { IfErr result (ScriptFaultComes (source_state S.Source source.old) (source_state S.Source source.new)) }
 {
     let bytes = take_all(alloc, source, SCRIPT_LIMIT)?;
@@ -123,15 +122,14 @@ fn create<C: Disk>(
     }
 }
 
-/// The list of the only source.
-fn only(alloc: Global, lists: Rows<Rows<Task>>) -> Vec<Task>
-    ensures { (tasks : List Task) → lists ≡ tasks ∷ [] → result.items ≡ tasks }
+/// Room for the numbers of so many sources.
+fn room_for(alloc: Global, sources: u64) -> Result<Accepted, Memory>
+    ensures none { IfOk result (λ accepted. accepted.items ≡ []) }
+    ensures room { IfOk result (λ accepted. sources ≤ accepted.spare) }
 {
-    let mut lists = lists.into_vec();
-    match lists.pop() {
-        Some(tasks) => tasks.into_vec(),
-        None => Vec::new(alloc),
-    }
+    let mut accepted = Accepted::empty(alloc);
+    accepted.reserve(sources)?;
+    Ok(accepted)
 }
 
 /// Flushes the book a last time, unless it is stopped, and says what went wrong: a fault of the disk before all else.
@@ -140,7 +138,7 @@ fn finish<R: Threads + Wait + Sync, C: Disk>(
     book: &mut Book<C, NoView>,
     driven: Result<(), End>,
 ) -> Option<Fault>
-    requires { IfErr driven (λ end_. end_ ≡ End.Stopped → book.old.stopped ≡ true) }
+    requires stopped { IfErr driven (λ end_. end_ ≡ End.Stopped → book.old.stopped ≡ true) }
     ensures finishes { Finishes book.old book.new driven result }
 {
     match book.flush(rt) {
@@ -164,9 +162,7 @@ fn record_into<R: Threads + Wait + Sync, C: Disk, G: Gate>(
     file: GatedFile<C>,
     gate: &G,
 ) -> Recorded<C>
-    requires plan { IsPlan script.plan }
-    requires samples { All (λ tasks. All (TaskFits script.plan) tasks) script.lists }
-    requires lists { length script.lists ≡ 1 }
+    requires script { IsScript script }
     requires created { IsNewFile C.Disk file }
     ensures recorded { HasRun C.Disk script file (outcome C.Disk result.out result.history.items result.marks.items) result.end }
 {
@@ -180,26 +176,30 @@ fn record_into<R: Threads + Wait + Sync, C: Disk, G: Gate>(
         session,
         live: _,
     } = plan;
+    let Ok(mut accepted) = room_for(alloc, lists.len()) else {
+        return refused(alloc, Fault::Memory, file.into_disk());
+    };
     let mut book = match Book::begin(alloc, file, shapes, block, session, NoView::new()) {
         Ok(book) => book,
         Err((_, file, _)) => return refused(alloc, Fault::Memory, file.into_disk()),
     };
-    let driven = drive(rt, &mut book, only(alloc, lists), gate);
+    let driven = drive_all(rt, &mut book, lists.into_vec(), gate, &mut accepted);
     let fault = finish(rt, &mut book, driven);
-    close(book, fault)
+    close(book, accepted, fault)
 }
 
 /// Closes the book.
-fn close<C: Disk>(book: Book<C, NoView>, fault: Option<Fault>) -> Recorded<C>
-    ensures closes { Closes C.Disk book fault result }
+fn close<C: Disk>(book: Book<C, NoView>, accepted: Accepted, fault: Option<Fault>) -> Recorded<C>
+    ensures closes { Closes C.Disk book accepted fault result }
 {
-    let accepted = book.history_len();
+    let samples = book.history_len();
     let durable = book.last_mark().through;
     let _stopped = book.stopped();
     let (out, history, marks, _) = book.close();
     Recorded {
         end: RecordEnd::Closed {
             accepted,
+            samples,
             durable,
             fault,
         },
@@ -234,16 +234,39 @@ fn record<R: Threads + Wait + Sync, S: Source, C: Disk, G: Gate>(
     }
 }
 
-/// Gives the lines on the recording.
-fn give_summary<K: Sink>(sink: &mut K, accepted: u64, durable: u64) -> Result<(), Failed>
-    ensures { Gives (summary_text accepted durable) (sink_state K.Sink sink.old) (sink_state K.Sink sink.new) result }
+/// Gives a line for each source: how many of its samples were accepted.
+fn give_sources<K: Sink>(sink: &mut K, accepted: &[u64]) -> Result<(), Failed>
+    ensures { Gives (sources_text 0 accepted.now) (sink_state K.Sink sink.old) (sink_state K.Sink sink.new) result }
 {
-    give_line(sink, &[Text(b"source 0 accepted "), Number(accepted)])?;
+    for source in 0..accepted.len() {
+        give_line(
+            sink,
+            &[
+                Text(b"source "),
+                Number(source as u64),
+                Text(b" accepted "),
+                Number(accepted[source]),
+            ],
+        )?;
+    }
+    Ok(())
+}
+
+/// Gives the lines on the recording.
+fn give_summary<K: Sink>(
+    sink: &mut K,
+    accepted: &[u64],
+    samples: u64,
+    durable: u64,
+) -> Result<(), Failed>
+    ensures { Gives (summary_text accepted.now samples durable) (sink_state K.Sink sink.old) (sink_state K.Sink sink.new) result }
+{
+    give_sources(sink, accepted)?;
     give_line(
         sink,
         &[
             Text(b"samples "),
-            Number(accepted),
+            Number(samples),
             Text(b" durable "),
             Number(durable),
         ],
@@ -268,10 +291,11 @@ fn give_end<K: Sink>(sink: &mut K, end: &RecordEnd) -> Result<(), Failed>
         RecordEnd::Refused(fault) => fault.give(sink),
         RecordEnd::Closed {
             accepted,
+            samples,
             durable,
             fault,
         } => {
-            give_summary(sink, *accepted, *durable)?;
+            give_summary(sink, accepted.rest(0), *samples, *durable)?;
             give_fault(sink, fault)
         }
     }

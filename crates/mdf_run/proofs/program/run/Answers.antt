@@ -5,32 +5,39 @@ use Rattle.mdf_run.proofs.Keeps.{recording_keeps}
 use Rattle.mdf_run.proofs.program.run.Goals as goal
 
 pub returns-in-Some-Record-clause-marks_hold : goal.returns-in-Some-Record-clause-marks_hold
-returns-in-Some-Record-clause-marks_hold g c = λ name asks text told script means tasks one.
+returns-in-Some-Record-clause-marks_hold g c = λ name asks text told script means.
     (recording_keeps (source_state g.S.Source c.args.source.now) (source_state g.S.Source c.run_record-status.new.source) _ c.args.now_ns (state_of g.C.Disk c.args.out)
     (state_of g.C.Disk c.run_record-status.result.1.out) _ _ c.run_record-status.result.0
-    text told script means tasks one c.run_record-status.result.1.end (sink_state g.K.Sink c.args.sink.now) (sink_state g.K.Sink c.run_record-status.new.sink)
+    text told script means c.run_record-status.result.1.end (sink_state g.K.Sink c.args.sink.now) (sink_state g.K.Sink c.run_record-status.new.sink)
     c.run_record-status.ensures.comes c.run_record-status.ensures.printed).marks_hold
 
 pub returns-in-Some-Record-clause-start_holds : goal.returns-in-Some-Record-clause-start_holds
-returns-in-Some-Record-clause-start_holds g c = λ name asks text told script means tasks one.
+returns-in-Some-Record-clause-start_holds g c = λ name asks text told script means.
     (recording_keeps (source_state g.S.Source c.args.source.now) (source_state g.S.Source c.run_record-status.new.source) _ c.args.now_ns (state_of g.C.Disk c.args.out)
     (state_of g.C.Disk c.run_record-status.result.1.out) _ _ c.run_record-status.result.0
-    text told script means tasks one c.run_record-status.result.1.end (sink_state g.K.Sink c.args.sink.now) (sink_state g.K.Sink c.run_record-status.new.sink)
+    text told script means c.run_record-status.result.1.end (sink_state g.K.Sink c.args.sink.now) (sink_state g.K.Sink c.run_record-status.new.sink)
     c.run_record-status.ensures.comes c.run_record-status.ensures.printed).start_holds
 
 pub returns-in-Some-Record-clause-own_prefix : goal.returns-in-Some-Record-clause-own_prefix
-returns-in-Some-Record-clause-own_prefix g c = λ name asks text told script means tasks one.
+returns-in-Some-Record-clause-own_prefix g c = λ name asks text told script means.
     (recording_keeps (source_state g.S.Source c.args.source.now) (source_state g.S.Source c.run_record-status.new.source) _ c.args.now_ns (state_of g.C.Disk c.args.out)
     (state_of g.C.Disk c.run_record-status.result.1.out) _ _ c.run_record-status.result.0
-    text told script means tasks one c.run_record-status.result.1.end (sink_state g.K.Sink c.args.sink.now) (sink_state g.K.Sink c.run_record-status.new.sink)
+    text told script means c.run_record-status.result.1.end (sink_state g.K.Sink c.args.sink.now) (sink_state g.K.Sink c.run_record-status.new.sink)
     c.run_record-status.ensures.comes c.run_record-status.ensures.printed).own_prefix
 
 pub returns-in-Some-Record-clause-flush_lines : goal.returns-in-Some-Record-clause-flush_lines
-returns-in-Some-Record-clause-flush_lines g c = λ name asks text told script means tasks one.
+returns-in-Some-Record-clause-flush_lines g c = λ name asks text told script means.
     (recording_keeps (source_state g.S.Source c.args.source.now) (source_state g.S.Source c.run_record-status.new.source) _ c.args.now_ns (state_of g.C.Disk c.args.out)
     (state_of g.C.Disk c.run_record-status.result.1.out) _ _ c.run_record-status.result.0
-    text told script means tasks one c.run_record-status.result.1.end (sink_state g.K.Sink c.args.sink.now) (sink_state g.K.Sink c.run_record-status.new.sink)
+    text told script means c.run_record-status.result.1.end (sink_state g.K.Sink c.args.sink.now) (sink_state g.K.Sink c.run_record-status.new.sink)
     c.run_record-status.ensures.comes c.run_record-status.ensures.printed).flush_lines
+
+pub returns-in-Some-Record-clause-complete : goal.returns-in-Some-Record-clause-complete
+returns-in-Some-Record-clause-complete g c = λ name asks text told script means.
+    (recording_keeps (source_state g.S.Source c.args.source.now) (source_state g.S.Source c.run_record-status.new.source) _ c.args.now_ns (state_of g.C.Disk c.args.out)
+    (state_of g.C.Disk c.run_record-status.result.1.out) _ _ c.run_record-status.result.0
+    text told script means c.run_record-status.result.1.end (sink_state g.K.Sink c.args.sink.now) (sink_state g.K.Sink c.run_record-status.new.sink)
+    c.run_record-status.ensures.comes c.run_record-status.ensures.printed).complete
 
 -- words that are no command ask for none
 pub returns-in-None-clause-opened : goal.returns-in-None-clause-opened

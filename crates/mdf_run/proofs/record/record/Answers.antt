@@ -29,7 +29,7 @@ returns-in-Ok-create g c =
     let h = c.in-Ok-create.ensures in
     record {
       comes = record_comes g.C.Disk _ _ _ c.args.now_ns c.args.out c.in-Ok.script c.in-Ok-create.file _ _
-          c.in-Ok.ensures.script h.asked h.begun h.head h.told h.start h.faults c.record_into.ensures.recorded;
+          c.in-Ok.ensures.says h.asked h.begun h.head h.told h.start h.faults c.record_into.ensures.recorded;
       untouched = λ none. absurd (was_asked _ _ (c.record_into.ensures.recorded.asked_is ∙ h.asked) none);
     }
 
@@ -43,7 +43,7 @@ returns-in-Err-create g c =
         marks = k.marks;
         comes = inr (record {
           script = c.in-Ok.script;
-          says = c.in-Ok.ensures.script;
+          says = c.in-Ok.ensures.says;
           begun = rw k.out h.begun;
           comes = rw k.out h.comes;
           asked_is = rw k.out h.asked_is;
