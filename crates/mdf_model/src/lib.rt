@@ -3,9 +3,13 @@
 
 mod identity;
 mod lower;
+mod measurement;
+mod part;
 mod tree;
 mod whole;
 
 pub use mdf_content::ReadFault;
+pub use measurement::{Measurement, measurement_in, read_measurement};
+pub use part::{GroupPart, Measure};
 pub use tree::{Tree, tree_in};
 pub use whole::{Whole, whole_in};

@@ -1,0 +1,71 @@
+-- The measurement of a finalized file.
+use Rattle.std.specs.Prelude.{ℕ, Bool, ◌&&◌, not, nat_eq, List, [], ◌∷◌, filter, Ok}
+use Rattle.std.specs.List.{flat_map, list_all, zip}
+use Rattle.mdf_block.specs.declared.note.Note.{Note}
+use Rattle.mdf_block.specs.Refusal.{Read, ◌>>=◌}
+use Rattle.mdf_head.specs.declared.entry.Head.{Head}
+use Rattle.mdf_head.specs.declared.entry.History.{History}
+use Rattle.mdf_group.specs.declared.row.GroupRow.{GroupRow}
+use Rattle.mdf_group.specs.declared.row.DataRow.{DataRow}
+use Rattle.mdf_group.specs.Group.{is_variable}
+use Rattle.mdf_content.specs.declared.contents.Contents.{Contents}
+use Rattle.mdf_content.specs.declared.contents.DataContents.{DataContents}
+use Rattle.mdf_model.specs.declared.part.Measure.{Measure}
+use Rattle.mdf_model.specs.declared.whole.Whole.{Whole}
+use Rattle.mdf_model.specs.Whole.{whole}
+
+-- the records of the group are samples, and not values of a channel of variable length
+abbrev pub holds_samples : GroupRow → Bool
+holds_samples row = not (is_variable row)
+
+-- a group with the comment of its data group and with what it holds
+abbrev pub measure_of : Note → GroupRow → Contents → Measure
+measure_of comment row contents = record {
+  part = record { row = row; comment = comment; content = contents.content; streams = contents.streams };
+  shape = contents.shape;
+  count = contents.count;
+}
+
+-- groups with what they hold, one by one
+abbrev pub one_measure : Note → GroupRow × Contents → List Measure
+one_measure comment pair = measure_of comment pair.0 pair.1 ∷ []
+
+abbrev pub paired : Note → List GroupRow → List Contents → List Measure
+paired comment rows found = flat_map (one_measure comment) (zip rows found)
+
+abbrev pub data_measures : DataRow → DataContents → List Measure
+data_measures row found = paired row.comment (filter holds_samples row.groups) found.groups
+
+-- those of all data groups
+abbrev pub pair_measures : DataRow × DataContents → List Measure
+pair_measures pair = data_measures pair.0 pair.1
+
+abbrev pub measures : List DataRow → List DataContents → List Measure
+measures rows found = flat_map pair_measures (zip rows found)
+
+-- the parts of a measurement: the header, the history, the groups whose records are samples in the order of the links, how
+-- many links were passed over, and whether the file is as the standard has a finalized one
+pub record Measured : Type 0 where
+  pub head : Head
+  pub history : List History
+  pub groups : List Measure
+  pub dropped : ℕ
+  pub strict : Bool
+
+-- no flag of an unfinalized file is set, and each data group is as the standard has it
+abbrev pub is_strict : Whole → Bool
+is_strict all =
+    nat_eq all.ident.std_flags 0 && (nat_eq all.ident.custom_flags 0 && list_all (λ (found : DataContents). found.strict) all.contents)
+
+abbrev pub measured : Whole → Measured
+measured all = record {
+  head = all.tree.head;
+  history = all.tree.history;
+  groups = measures all.tree.rows all.contents;
+  dropped = all.tree.dropped;
+  strict = is_strict all;
+}
+
+-- the measurement of a file, or the first reason to refuse it
+unfoldable pub measurement : List ℕ → Read Measured
+measurement file = whole file >>= λ all. Ok (measured all)

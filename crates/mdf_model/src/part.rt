@@ -1,0 +1,159 @@
+ghost use Rattle.std.specs.Prelude.{◌≡◌, ◌++◌, ◌∷◌, [], filter, reverse, IfOk, OnOk};
+ghost use Rattle.mdf_model.specs.Measurement.{holds_samples, measure_of, paired, data_measures, measures};
+
+use mdf_block::Note;
+use mdf_content::{Contents, DataContents};
+use mdf_group::{DataRow, GroupRow};
+use mdf_layout::Shape;
+use mdf_num::{Bytes, Memory, Rows};
+use mdf_vlsd::Streams;
+use std::alloc::Global;
+
+/// A channel group of a measurement, with its records.
+#[derive(Debug, Drop)]
+pub struct GroupPart {
+    /// The channel group and its channels.
+    pub row: GroupRow,
+    /// The comment of its data group.
+    pub comment: Note,
+    /// The data bytes and the invalidation bytes of its records, one record behind the other.
+    pub content: Bytes,
+    /// The streams of its channels of variable length, in order.
+    pub streams: Streams,
+}
+
+/// The same with the layout of its records, and with how many they are.
+#[derive(Debug, Drop)]
+pub struct Measure {
+    pub(crate) part: GroupPart,
+    pub(crate) shape: Shape,
+    pub(crate) count: u64,
+}
+
+/// An equal text.
+fn copied(note: &Note) -> Result<Note, Memory>
+    ensures { IfOk result (λ copy. copy ≡ note.now) }
+{
+    Ok(match note {
+        Note::Nothing => Note::Nothing,
+        Note::Plain(bytes) => Note::Plain(bytes.copy()?),
+        Note::Xml(bytes) => Note::Xml(bytes.copy()?),
+    })
+}
+
+/// Whether the records of the group are samples.
+fn holds_samples(row: &GroupRow) -> bool
+    ensures { result ≡ holds_samples row.now }
+{
+    row.flags % 2 != 1
+}
+
+/// Adds a group with what it holds.
+fn add_measure(
+    all: &mut Vec<Measure>,
+    comment: &Note,
+    row: GroupRow,
+    contents: Contents,
+) -> Result<(), Memory>
+    ensures { OnOk result (all.new.items ≡ all.old.items ++ measure_of comment.now row contents ∷ []) }
+{
+    let comment = copied(comment)?;
+    let Contents {
+        shape,
+        count,
+        content,
+        streams,
+    } = contents;
+    let part = GroupPart {
+        row,
+        comment,
+        content,
+        streams,
+    };
+    all.push(Measure { part, shape, count })?;
+    Ok(())
+}
+
+/// The groups whose records are samples.
+fn sample_groups(groups: Vec<GroupRow>) -> Vec<GroupRow>
+    ensures { result.items ≡ filter holds_samples groups.items }
+{
+    let mut groups = groups;
+    groups.retain(|row| holds_samples(row));
+    groups
+}
+
+/// The items in the other order.
+fn turned<T>(items: Vec<T>) -> Vec<T>
+    ensures { reverse result.items ≡ items.items }
+{
+    let mut items = items;
+    items.reverse();
+    items
+}
+
+/// Adds groups with what they hold. Both stand with the last first.
+fn add_paired(
+    all: &mut Vec<Measure>,
+    comment: &Note,
+    rows: Vec<GroupRow>,
+    found: Vec<Contents>,
+) -> Result<(), Memory>
+    ensures { OnOk result (all.new.items ≡ all.old.items ++ paired comment.now (reverse rows.items) (reverse found.items)) }
+{
+    let mut rows = rows;
+    let mut found = found;
+    'rows: while let Some(row) = rows.pop() {
+        let Some(contents) = found.pop() else {
+            return Ok(());
+        };
+        add_measure(all, comment, row, contents)?;
+    }
+    Ok(())
+}
+
+/// Adds the groups of a data group with what they hold.
+fn add_data(all: &mut Vec<Measure>, row: DataRow, found: DataContents) -> Result<(), Memory>
+    ensures { OnOk result (all.new.items ≡ all.old.items ++ data_measures row found) }
+{
+    let DataRow {
+        comment,
+        groups,
+        ..
+    } = row;
+    let DataContents { groups: found, .. } = found;
+    let rows = turned(sample_groups(groups.into_vec()));
+    add_paired(all, &comment, rows, turned(found.into_vec()))
+}
+
+/// Adds the groups of data groups with what they hold. Both stand with the last first.
+fn add_all(
+    all: &mut Vec<Measure>,
+    rows: Vec<DataRow>,
+    found: Vec<DataContents>,
+) -> Result<(), Memory>
+    ensures { OnOk result (all.new.items ≡ all.old.items ++ measures (reverse rows.items) (reverse found.items)) }
+{
+    let mut rows = rows;
+    let mut found = found;
+    'rows: while let Some(row) = rows.pop() {
+        let Some(contents) = found.pop() else {
+            return Ok(());
+        };
+        add_data(all, row, contents)?;
+    }
+    Ok(())
+}
+
+/// The groups whose records are samples, with what they hold, in the order of the links.
+pub(crate) fn measures_of(
+    alloc: Global,
+    rows: Rows<DataRow>,
+    found: Rows<DataContents>,
+) -> Result<Vec<Measure>, Memory>
+    ensures { IfOk result (λ all. all.items ≡ measures rows found) }
+{
+    let mut all = Vec::new(alloc);
+    add_all(&mut all, turned(rows.into_vec()), turned(found.into_vec()))?;
+    Ok(all)
+}
