@@ -1,5 +1,7 @@
 use acq_script::{Plan, Script, ScriptFault, Task, read_script};
-use mdf_layout::{Sample, Value};
+use mdf_block::Note;
+use mdf_group::ChannelRow;
+use mdf_layout::{Entry, Sample, Value};
 use mdf_num::{Memory, Rows};
 use std::alloc::Global;
 use std::test::Fail;
@@ -14,7 +16,7 @@ const SCRIPTS: &[(&str, &str)] = &[
     ("live\ngroup 0 g\n", "line 1"),
     ("group 0 g\nbegin\n", "line 2"),
     ("group 0 g\ngroup 0 h\n", "line 2"),
-    ("group 0 g\nchannel t u64\ngroup 0 h\n", "line 3"),
+    ("group 0 g\nchannel t u64\ngroup 0 h\n", "line 4"),
     ("group 0 g\nchannel t u64\n0 1\n", "line 3"),
     ("group 0 g\nchannel t u64\n! 0\n", "line 3"),
     ("group 0 g\nchannel t u64\nend\n", "line 3"),
@@ -85,7 +87,7 @@ const GROUPS: &[(&str, &str)] = &[
     ("group 0 \x7F\n", "line 1"),
     ("group 0 \n", "line 1"),
     ("group 0\n", "line 1"),
-    ("group 1 g\n", "line 1"),
+    ("group 16 g\n", "line 1"),
     (
         "group 0 01234567890123456789012345678901234567890123456789012345678901234\n",
         "line 1",
@@ -163,12 +165,27 @@ fn plan_told(alloc: Global, plan: &Plan) -> Result<String, Fail> {
     Ok(told)
 }
 
-// The value of a sample of one channel; nothing of any other sample.
-fn push_value(told: &mut String, sample: &Sample) -> Result<(), Fail> {
-    if let [entry] = sample.values.as_slice() {
-        if let Value::Unsigned(number) = entry.value {
-            write!(told, " {number}")?;
-        }
+// The value of a channel, with `?` behind it where it is invalid.
+fn push_entry(told: &mut String, entry: &Entry) -> Result<(), Fail> {
+    match &entry.value {
+        Value::Unsigned(number) => write!(told, "{number}")?,
+        Value::Signed(number) => write!(told, "{number}")?,
+        Value::Bytes(bytes) => write!(told, "{:?}", bytes.as_slice())?,
+        Value::Index(index) => write!(told, "#{index}")?,
+    }
+    if !entry.valid {
+        told.push_str("?")?;
+    }
+    Ok(())
+}
+
+// The values of a sample.
+fn push_values(told: &mut String, sample: &Sample) -> Result<(), Fail> {
+    let mut between = " ";
+    for entry in sample.values.as_slice() {
+        told.push_str(between)?;
+        push_entry(told, entry)?;
+        between = ",";
     }
     Ok(())
 }
@@ -177,7 +194,7 @@ fn push_value(told: &mut String, sample: &Sample) -> Result<(), Fail> {
 fn push_tasks(told: &mut String, tasks: &Rows<Task>) -> Result<(), Fail> {
     for task in tasks.as_slice() {
         match task {
-            Task::Sample(sample) => push_value(told, sample)?,
+            Task::Sample(sample) => push_values(told, sample)?,
             Task::Flush => told.push_str(" !")?,
         }
     }
@@ -240,28 +257,228 @@ fn lines_behind_a_plan_are_told(rt: HostRuntime) -> Result<(), Fail> {
     Ok(())
 }
 
-// A script of so many channels and no sample.
-fn of_channels(alloc: Global, channels: u32) -> Result<String, Fail> {
-    let mut text = String::from_str(alloc, GROUP)?;
-    for _ in 0..channels {
-        text.push_str("channel c u64\n")?;
+// Types that no rule admits, behind the name of a channel.
+const WRONG_TYPES: &[(&str, &str)] = &[
+    ("u\n", "line 2"),
+    ("u0\n", "line 2"),
+    ("u01\n", "line 2"),
+    ("u65\n", "line 2"),
+    ("s0\n", "line 2"),
+    ("s65\n", "line 2"),
+    ("ub0\n", "line 2"),
+    ("ub65\n", "line 2"),
+    ("sb65\n", "line 2"),
+    ("f16\n", "line 2"),
+    ("bytes0\n", "line 2"),
+    ("bytes256\n", "line 2"),
+    ("text256\n", "line 2"),
+    ("var1\n", "line 2"),
+    ("u8 inv master\n", "line 2"),
+    ("u8 inv inv\n", "line 2"),
+    ("bytes1 master\n", "line 2"),
+    ("vartext master\n", "line 2"),
+    ("u8\nunit s\nunit s\n", "line 4"),
+    ("u8\nunit s m\n", "line 3"),
+    ("u8\nbegin\nunit s\n", "line 4"),
+];
+
+// Types with samples, behind the name of a channel, each with what is told of the script.
+const VALUES: &[(&str, &str)] = &[
+    (
+        "u1\nbegin\n0 0\n0 1\nend\n",
+        "[0] 1 65536 268435456 false 1: 0 1",
+    ),
+    ("u1\nbegin\n0 2\nend\n", "line 4"),
+    (
+        "ub64\nbegin\n0 18446744073709551615\nend\n",
+        "[0] 1 65536 268435456 false 8: 18446744073709551615",
+    ),
+    (
+        "s1\nbegin\n0 -1\n0 0\nend\n",
+        "[0] 1 65536 268435456 false 1: -1 0",
+    ),
+    ("s1\nbegin\n0 1\nend\n", "line 4"),
+    (
+        "s8\nbegin\n0 -128\n0 127\nend\n",
+        "[0] 1 65536 268435456 false 1: -128 127",
+    ),
+    ("s8\nbegin\n0 -129\nend\n", "line 4"),
+    ("s8\nbegin\n0 128\nend\n", "line 4"),
+    ("s8\nbegin\n0 -0\nend\n", "line 4"),
+    ("s8\nbegin\n0 -01\nend\n", "line 4"),
+    (
+        "sb64\nbegin\n0 -9223372036854775808\n0 9223372036854775807\nend\n",
+        "[0] 1 65536 268435456 false 8: -9223372036854775808 9223372036854775807",
+    ),
+    ("s64\nbegin\n0 -9223372036854775809\nend\n", "line 4"),
+    (
+        "f32\nbegin\n0 4294967295\nend\n",
+        "[0] 1 65536 268435456 false 4: 4294967295",
+    ),
+    ("f32\nbegin\n0 4294967296\nend\n", "line 4"),
+    (
+        "bytes1\nbegin\n0 xff\nend\n",
+        "[0] 1 65536 268435456 false 1: [255]",
+    ),
+    ("bytes1\nbegin\n0 xFF\nend\n", "line 4"),
+    ("bytes1\nbegin\n0 xf\nend\n", "line 4"),
+    ("bytes1\nbegin\n0 x\nend\n", "line 4"),
+    (
+        "text2\nbegin\n0 x6162\nend\n",
+        "[0] 1 65536 268435456 false 2: [97, 98]",
+    ),
+    (
+        "var\nbegin\n0 x\n0 x6162\nend\n",
+        "[0] 1 65536 268435456 false 8: [] [97, 98]",
+    ),
+    (
+        "u8 inv\nbegin\n0 7?\n0 7\nend\n",
+        "[0] 1 65536 268435456 false 1: 7? 7",
+    ),
+    ("u8\nbegin\n0 7?\nend\n", "line 4"),
+    ("u8 inv\nbegin\n0 7??\nend\n", "line 4"),
+    (
+        "u3\nchannel b u7\nbegin\n0 5 86\nend\n",
+        "[0] 1 65536 268435456 false 2: 5,86",
+    ),
+    (
+        "u8\ngroup 0 h\nchannel b s8\nbegin\n1 -1\n0 1\n2 0\n",
+        "line 8",
+    ),
+];
+
+// Behind the name of a channel.
+const CHANNEL: &str = "group 0 g\nchannel c ";
+
+#[test]
+fn types_are_told(rt: HostRuntime) -> Result<(), Fail> {
+    assert_eq!(rt; first_wrong(rt.alloc(), CHANNEL, WRONG_TYPES)?, None);
+    assert_eq!(rt; first_wrong(rt.alloc(), CHANNEL, VALUES)?, None);
+    Ok(())
+}
+
+// Limits of a block, and samples of a channel of variable length, each with what is told.
+const BLOCKS: &[(&str, &str)] = &[
+    (
+        "block 20\ngroup 0 g\nchannel v var\nbegin\n0 x010203040506\nend\n",
+        "[0] 1 20 268435456 false 8: [1, 2, 3, 4, 5, 6]",
+    ),
+    (
+        "block 20\ngroup 0 g\nchannel v var\nbegin\n0 x010203040506\n0 x01020304050607\nend\n",
+        "line 6",
+    ),
+    ("group 0 g\nunit s\n", "line 2"),
+];
+
+#[test]
+fn blocks_are_told(rt: HostRuntime) -> Result<(), Fail> {
+    assert_eq!(rt; first_wrong(rt.alloc(), "", BLOCKS)?, None);
+    Ok(())
+}
+
+// A channel of each type.
+const ALL_TYPES: &str =
+    "group 0 g\nchannel a u3 master\n\n;\nunit s\nchannel b ub13 inv\nchannel c s5 inv\nchannel d f32\nchannel e bytes3\nchannel f text2\nchannel g var\nchannel h vartext inv\nbegin\nend\n";
+
+// Of each channel its kind, what it counts, its data type, its first byte, first bit and number of bits, its flags and
+// the position of its invalidation bit, and then its unit; and how many data and invalidation bytes a record has.
+const ALL_ROWS: &str =
+    "2 1 0 0 0 3 0 0 s; 0 0 1 1 0 13 2 0; 0 0 2 3 0 5 2 1; 0 0 4 4 0 32 0 0; 0 0 10 8 0 24 0 0; 0 0 7 11 0 16 0 0; 1 0 10 13 0 64 0 0; 1 0 7 21 0 64 2 2; 29 1";
+
+// The numbers of a channel, and its unit.
+fn push_row(told: &mut String, row: &ChannelRow) -> Result<(), Fail> {
+    write!(
+        told,
+        "{} {} {} {} {} {} {} {}",
+        row.kind, row.sync, row.data_type, row.byte, row.bit, row.bits, row.flags, row.inval
+    )?;
+    if let Note::Plain(unit) = &row.unit {
+        for byte in unit.as_slice() {
+            write!(told, " {}", *byte as char)?;
+        }
+    }
+    told.push_str("; ")?;
+    Ok(())
+}
+
+// The channels of a script's groups.
+fn rows_told(alloc: Global, text: &str) -> Result<String, Fail> {
+    let mut told = String::new(alloc);
+    if let Ok(script) = read_script(alloc, text.as_bytes()) {
+        for group in script.plan.rows.as_slice() {
+            for row in group.channels.as_slice() {
+                push_row(&mut told, row)?;
+            }
+            write!(told, "{} {}", group.data_bytes, group.inval_bytes)?;
+        }
+    }
+    Ok(told)
+}
+
+#[test]
+fn rows_of_all_types_are_told(rt: HostRuntime) -> Result<(), Fail> {
+    assert_eq!(rt; rows_told(rt.alloc(), ALL_TYPES)?.as_str(), ALL_ROWS);
+    Ok(())
+}
+
+// A script of so many groups of so many channels of a type, and no sample.
+fn of_groups(alloc: Global, groups: u32, channels: u32, kind: &str) -> Result<String, Fail> {
+    let mut text = String::new(alloc);
+    for _ in 0..groups {
+        text.push_str(GROUP)?;
+        for _ in 0..channels {
+            write!(text, "channel c {kind}\n")?;
+        }
     }
     text.push_str("begin\nend\n")?;
     Ok(text)
 }
 
-// How many channels, and what is told.
-const CHANNEL_COUNTS: &[(u32, &str)] = &[
-    (255, "[0] 1 65536 268435456 false 2040:"),
-    (256, "[0] 1 65536 268435456 false 2048:"),
-    (257, "line 258"),
+// How many groups, channels of each, and of which type, and the line that is refused; 0 for none.
+const COUNTS: &[(u32, u32, &str, u64)] = &[
+    (1, 256, "u64", 0),
+    (1, 257, "u1", 258),
+    (64, 16, "u1", 0),
+    (65, 1, "u1", 129),
+    (4, 256, "u1", 0),
+    (5, 256, "u1", 1030),
+    (2, 64, "var", 0),
+    (2, 65, "var", 131),
 ];
 
-#[test]
-fn at_most_256_channels(rt: HostRuntime) -> Result<(), Fail> {
-    for (channels, want) in CHANNEL_COUNTS {
-        let text = of_channels(rt.alloc(), *channels)?;
-        assert_eq!(rt; told(rt.alloc(), &text)?.as_str(), *want);
+// The line of a script that is refused; 0 for none.
+fn line_of(alloc: Global, text: &str) -> u64 {
+    match read_script(alloc, text.as_bytes()) {
+        Err(ScriptFault::Line { line }) => line,
+        _ => 0,
     }
+}
+
+#[test]
+fn counts_are_told(rt: HostRuntime) -> Result<(), Fail> {
+    for (groups, channels, kind, line) in COUNTS {
+        let text = of_groups(rt.alloc(), *groups, *channels, kind)?;
+        assert_eq!(rt; line_of(rt.alloc(), &text), *line);
+    }
+    Ok(())
+}
+
+// A script with a value of so many bytes.
+fn of_bytes(alloc: Global, bytes: u32) -> Result<String, Fail> {
+    let mut text = String::from_str(
+        alloc,
+        "block 16777216\ngroup 0 g\nchannel v var\nbegin\n0 x",
+    )?;
+    for _ in 0..bytes {
+        text.push_str("61")?;
+    }
+    text.push_str("\nend\n")?;
+    Ok(text)
+}
+
+#[test]
+fn a_value_has_at_most_65535_bytes(rt: HostRuntime) -> Result<(), Fail> {
+    assert_eq!(rt; line_of(rt.alloc(), &of_bytes(rt.alloc(), 65_535)?), 0);
+    assert_eq!(rt; line_of(rt.alloc(), &of_bytes(rt.alloc(), 65_536)?), 5);
     Ok(())
 }
