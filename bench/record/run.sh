@@ -1,7 +1,8 @@
 #!/usr/bin/env bash
 # Counts the instructions, or without valgrind the best time in microseconds, of `record` of a script of 100,000 samples of two
-# channels, and of a twin in straight C that reads the script whole, keeps each sample and writes the same file with the same
-# calls. Prints both numbers and their ratio, which is to be at most 1.5.
+# channels of words, and of one of 60,000 samples with channels of all kinds; and of a twin in straight C that reads the script
+# whole, keeps each sample and writes the same file with the same calls. Prints both numbers for each script and their ratio,
+# which is to be at most 1.5.
 #
 # usage: bench/record/run.sh [RUNS]
 #
@@ -40,3 +41,4 @@ compare() {
 }
 
 compare words
+compare mixed

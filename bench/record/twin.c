@@ -1,6 +1,6 @@
 /* Records a script as `record` does, in straight C: it reads the script whole, keeps each sample, and writes the same file with
    the same calls. It takes every line but `live`, and prints the same lines. The start time is that of a recording that was
-   made from the same script, and so is the form of the head: with the rows of the groups where that one has a history.
+   made from the same script.
 
    usage: twin RECORDING OUT < SCRIPT */
 #include <fcntl.h>
@@ -468,7 +468,7 @@ static void add_groups(struct head *head, uint64_t data) {
     free(places);
 }
 
-static struct head head_of(uint64_t start, bool with_rows) {
+static struct head head_of(uint64_t start) {
     struct head head = {checked(calloc(1, 64)), 64};
     memcpy(head.bytes, "UnFinMF 4.10    mdf4rec ", 24);
     put(&head, 28, 410, 2);
@@ -476,11 +476,11 @@ static struct head head_of(uint64_t start, bool with_rows) {
     put(&head, 62, 1, 2);
     uint64_t header = add_block(&head, "##HD", 6, 32);
     put(&head, header + 72, start, 8);
-    if (with_rows) add_history(&head, header, start);
+    add_history(&head, header, start);
     uint64_t data = add_block(&head, "##DG", 4, 8);
     link_to(&head, header, 0, data);
     put(&head, data + 56, 1, 1);
-    if (with_rows) add_groups(&head, data);
+    add_groups(&head, data);
     link_to(&head, data, 2, head.len);
     return head;
 }
@@ -624,13 +624,13 @@ static void tell(void) {
 int main(int argc, char **argv) {
     need(argc == 3, "usage: twin RECORDING OUT");
     int in = open(argv[1], O_RDONLY);
-    uint8_t told[168];
+    uint8_t told[144];
     need(in >= 0 && pread(in, told, sizeof told, 0) == (ssize_t)sizeof told, argv[1]);
     close(in);
     size_t size;
     uint8_t *script = read_all(0, &size);
     read_script(script, size);
-    struct head head = head_of(word(told + 136), word(told + 96) != 0);
+    struct head head = head_of(word(told + 136));
     struct file file = create(argv[2], head);
     record(&file);
     close(file.out);
