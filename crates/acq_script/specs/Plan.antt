@@ -16,7 +16,7 @@ use Rattle.acq_script.specs.declared.script.Task.TheVariants as task
 
 -- how many sources a script can have
 abbrev pub MOST_SOURCES : ℕ
-MOST_SOURCES = 1
+MOST_SOURCES = 16
 
 -- the layout of a group: the fields that its channels say
 abbrev pub layout_of : GroupRow → Layout

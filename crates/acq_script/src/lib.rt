@@ -1,8 +1,8 @@
 //! The script of a recording: its groups with their channels, and what its sources do, in order.
 //!
 //! A script is lines, each ended by LF, of words with one blank between them. Its channels are numbers of 1 to 64 bits,
-//! signed or not, of both byte orders, floats, and bytes of fixed or variable length, and can have invalidation bits; so far
-//! it has one source.
+//! signed or not, of both byte orders, floats, and bytes of fixed or variable length, and can have invalidation bits; its
+//! groups belong to up to 16 sources.
 #![tactic(auto)]
 
 mod draft;

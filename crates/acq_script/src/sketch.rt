@@ -27,7 +27,7 @@ const MOST_CHANNELS: u32 = 1024;
 const MOST_VARIABLE: u32 = 128;
 
 /// The most sources.
-const MOST_SOURCES: u64 = 1;
+const MOST_SOURCES: u64 = 16;
 
 /// How many data bytes a block has at most where the script says nothing of it.
 const BLOCK: u32 = 65_536;
