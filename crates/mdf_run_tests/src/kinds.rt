@@ -1,6 +1,7 @@
 //! Recordings of channels of every type.
 
-use crate::runs::recorded;
+use crate::recordings::Part;
+use crate::runs::{recorded, stands};
 use mdf_gate::opened;
 use std::test::Fail;
 
@@ -67,5 +68,54 @@ fn has_blocks(file: &[u8], parts: &[&[u8]]) -> bool {
 fn a_channel_of_every_type_is_recorded(rt: HostRuntime) -> Result<(), Fail> {
     let file = recorded(&rt, EVERY_TYPE)?;
     assert!(rt; has_blocks(file.as_slice(), &EVERY_RECORD));
+    Ok(())
+}
+
+// Two groups with a channel of variable length each, and no samples.
+const TWO_VALUES: &str = "group 0 a\nchannel p var\ngroup 0 b\nchannel q var\nbegin\nend\n";
+
+// The two groups stand at 440 and 768, their channels at 576 and 904, the groups of the values at 1096 and 1200, with the
+// record ids 3 and 4, and the data begin at 1304: the links from one to the next, and the ids and flags of the latter two.
+const VALUE_GROUPS: [Part; 14] = [
+    (416, b"\x18\x05\0\0\0\0\0\0"),
+    (440, b"##CG"),
+    (464, b"\0\x03\0\0\0\0\0\0"),
+    (576, b"##CN"),
+    (640, b"\x48\x04\0\0\0\0\0\0"),
+    (768, b"##CG"),
+    (792, b"\x48\x04\0\0\0\0\0\0"),
+    (904, b"##CN"),
+    (968, b"\xB0\x04\0\0\0\0\0\0"),
+    (
+        1096,
+        b"##CG\0\0\0\0\x68\0\0\0\0\0\0\0\x06\0\0\0\0\0\0\0\xB0\x04\0\0\0\0\0\0\0\0\0\0\0\0\0\0",
+    ),
+    (1168, b"\x03\0\0\0\0\0\0\0\0\0\0\0\0\0\0\0\x01\0"),
+    (
+        1200,
+        b"##CG\0\0\0\0\x68\0\0\0\0\0\0\0\x06\0\0\0\0\0\0\0\0\0\0\0\0\0\0\0\0\0\0\0\0\0\0\0",
+    ),
+    (1272, b"\x04\0\0\0\0\0\0\0\0\0\0\0\0\0\0\0\x01\0"),
+    (1304, b"\0"),
+];
+
+#[test]
+fn groups_of_values_stand_behind_the_groups(rt: HostRuntime) -> Result<(), Fail> {
+    let file = recorded(&rt, TWO_VALUES)?;
+    assert_eq!(rt; file.as_slice().len(), 1305);
+    for part in VALUE_GROUPS {
+        assert!(rt; stands(file.as_slice(), part));
+    }
+    Ok(())
+}
+
+// One group with one channel, and no samples.
+const EMPTY: &str = "group 0 g\nchannel t u64 master\nbegin\nend\n";
+
+#[test]
+fn an_empty_recording_is_a_head_and_a_closed_place(rt: HostRuntime) -> Result<(), Fail> {
+    let file = recorded(&rt, EMPTY)?;
+    assert_eq!(rt; file.as_slice().len(), 769);
+    assert!(rt; stands(file.as_slice(), (768, b"\0")));
     Ok(())
 }

@@ -484,7 +484,7 @@ const COUNTED: [Part; 18] = [
 ];
 
 /// Whether the part stands in the file.
-fn stands(file: &[u8], (at, part): Part) -> bool {
+pub fn stands(file: &[u8], (at, part): Part) -> bool {
     at <= file.len() && file[at..].starts_with(part)
 }
 
