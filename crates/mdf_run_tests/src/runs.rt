@@ -300,10 +300,22 @@ const SHORT_SESSION: &str =
 const TWO_SAMPLES: &str =
     "session 290\ngroup 0 g\nchannel t u64 master\nbegin\n0 1\n0 2\n! 0\n0 3\nend\n";
 
+// Two groups of two sources. The second group adds 328 bytes to the head; each record has its id and a byte.
+const TWO_SOURCES: &str =
+    "group 0 a\nchannel x u8\ngroup 1 b\nchannel y u8\nbegin\n0 1\n0 2\n1 7\n1 8\nend\n";
+
+// A channel of variable length, whose group of values adds 104 bytes to the head. Each sample has 9 bytes, and 5 and the
+// length of its value.
+const THREE_TEXTS: &str = "group 0 g\nchannel v var\nbegin\n0 x\n0 x6162\n0 x63\nend\n";
+
+// The first sample fills a block, and the second is longer.
+const FULL_BLOCK: &str =
+    "block 20\ngroup 0 g\nchannel v var\nbegin\n0 x010203040506\n0 x01020304050607\nend\n";
+
 // A script; which calls of the source, of the disk and of the sink fail; the status and what is printed, with what is
 // left. The head and its closed gate are 769 bytes. A block adds 24 bytes and its data, up to the next multiple of 8.
 // Making the file takes the calls 0 to 7 of the disk, and each block four.
-const RECORDED: [(&str, &[u64], &[u64], &[u64], &str); 18] = [
+const RECORDED: [(&str, &[u64], &[u64], &[u64], &str); 21] = [
     (
         COUNTING,
         &[],
@@ -317,6 +329,27 @@ const RECORDED: [(&str, &[u64], &[u64], &[u64], &str); 18] = [
         &[],
         &[],
         "0 source 0 accepted 3\nsamples 3 durable 3\nfile 889 history 3 marks [0, 1, 2, 3]",
+    ),
+    (
+        TWO_SOURCES,
+        &[],
+        &[],
+        &[],
+        "0 source 0 accepted 2\nsource 1 accepted 2\nsamples 4 durable 4\nfile 1129 history 4 marks [0, 4]",
+    ),
+    (
+        THREE_TEXTS,
+        &[],
+        &[],
+        &[],
+        "0 source 0 accepted 3\nsamples 3 durable 3\nfile 945 history 3 marks [0, 3]",
+    ),
+    (
+        FULL_BLOCK,
+        &[],
+        &[],
+        &[],
+        "8 script line 6\nfile 0 history 0 marks []",
     ),
     (
         COUNTING,

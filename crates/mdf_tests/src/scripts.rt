@@ -37,6 +37,18 @@ const SCRIPTS: &[(&str, &str)] = &[
         "[0] 1 65536 268435456 false 8: 1",
     ),
     (
+        "group 0 g\nchannel t u8\ngroup 1 h\nchannel u u8\nbegin\n1 9\n0 5\n! 1\n! 2\n",
+        "line 9",
+    ),
+    (
+        "group 0 g\nchannel t u8\ngroup 1 h\nchannel u u8\nbegin\n1 9\n0 5\n! 1\nend\n",
+        "[0, 1] 2 65536 268435456 false 1: 5 9 !",
+    ),
+    (
+        "group 15 g\nchannel t u8\nbegin\n! 3\nend\n",
+        "[15] 16 65536 268435456 false 1: !",
+    ),
+    (
         "group 0 ~!\nchannel t u64\nchannel u u64 master\nbegin\nend\n",
         "[0] 1 65536 268435456 false 16:",
     ),
