@@ -17,6 +17,8 @@ mod groups;
 #[cfg(test)]
 mod heads;
 #[cfg(test)]
+mod measurements;
+#[cfg(test)]
 mod recorded;
 #[cfg(test)]
 mod span;

@@ -1,0 +1,144 @@
+use crate::files::{Piece, file_of, put, put_number};
+use mdf_model::{Measurement, read_measurement};
+use mdf_num::Memory;
+use std::alloc::Global;
+use std::test::Fail;
+
+// A finalized file of two data groups. The first has one channel group with a master of 32 bits, and no ids. The second has
+// ids of one byte, a channel group with one channel of variable length, and the group that holds its values.
+const IDENT: [u8; 64] =
+    *b"MDF     4.10    test    \0\0\0\0\x9a\x01\0\0\0\0\0\0\0\0\0\0\0\0\0\0\0\0\0\0\0\0\0\0\0\0\0\0\0\0\0\0\0\0\0\0";
+
+const NUMBERS: [u8; 32] = [
+    0, 0, 0, 0, 0, 0, 0, 0, 2, 0, 0, 0, 0, 0, 0, 0, 0, 0, 0, 0, 0, 0, 0, 0, 4, 0, 0, 0, 0, 0, 0, 0,
+];
+
+const OFFSETS: [u8; 32] = [
+    1, 0, 0, 0, 0, 0, 0, 0, 2, 0, 0, 0, 0, 0, 0, 0, 0, 0, 0, 0, 0, 0, 0, 0, 8, 0, 0, 0, 0, 0, 0, 0,
+];
+
+const VALUES: [u8; 32] = [
+    2, 0, 0, 0, 0, 0, 0, 0, 2, 0, 0, 0, 0, 0, 0, 0, 1, 0, 0, 0, 0, 0, 0, 0, 0, 0, 0, 0, 0, 0, 0, 0,
+];
+
+const MASTER: [u8; 72] = [
+    2, 1, 0, 0, 0, 0, 0, 0, 32, 0, 0, 0, 0, 0, 0, 0, 0, 0, 0, 0, 0, 0, 0, 0, 0, 0, 0, 0, 0, 0, 0,
+    0, 0, 0, 0, 0, 0, 0, 0, 0, 0, 0, 0, 0, 0, 0, 0, 0, 0, 0, 0, 0, 0, 0, 0, 0, 0, 0, 0, 0, 0, 0, 0,
+    0, 0, 0, 0, 0, 0, 0, 0, 0,
+];
+
+const TEXT: [u8; 72] = [
+    1, 0, 7, 0, 0, 0, 0, 0, 64, 0, 0, 0, 0, 0, 0, 0, 0, 0, 0, 0, 0, 0, 0, 0, 0, 0, 0, 0, 0, 0, 0,
+    0, 0, 0, 0, 0, 0, 0, 0, 0, 0, 0, 0, 0, 0, 0, 0, 0, 0, 0, 0, 0, 0, 0, 0, 0, 0, 0, 0, 0, 0, 0, 0,
+    0, 0, 0, 0, 0, 0, 0, 0, 0,
+];
+
+const FILE: [Piece; 10] = [
+    (64, b"##HD", &[168, 0, 0, 0, 0, 0], &[0; 32]),
+    (168, b"##DG", &[232, 296, 928, 0], &[0; 8]),
+    (232, b"##DG", &[0, 400, 960, 0], &[1, 0, 0, 0, 0, 0, 0, 0]),
+    (296, b"##CG", &[0, 608, 0, 0, 0, 0], &NUMBERS),
+    (400, b"##CG", &[504, 768, 0, 0, 0, 0], &OFFSETS),
+    (504, b"##CG", &[0, 0, 0, 0, 0, 0], &VALUES),
+    (608, b"##CN", &[0, 0, 0, 0, 0, 0, 0, 0], &MASTER),
+    (768, b"##CN", &[0, 0, 0, 0, 0, 504, 0, 0], &TEXT),
+    (928, b"##DT", &[], &[7, 0, 0, 0, 8, 0, 0, 0]),
+    (
+        960,
+        b"##DT",
+        &[],
+        &[
+            2, 3, 0, 0, 0, 97, 98, 99, 1, 0, 0, 0, 0, 0, 0, 0, 0, 2, 0, 0, 0, 0, 1, 7, 0, 0, 0, 0,
+            0, 0, 0,
+        ],
+    ),
+];
+
+// The numbers of 8 bytes that are changed in the file, and what is told then.
+type Row = (&'static [(usize, u64)], &'static str);
+
+const TOLD: [Row; 16] = [
+    (
+        &[],
+        "2 0 true 2 [7, 0, 0, 0, 8, 0, 0, 0] 0 [] 2 [0, 0, 0, 0, 0, 0, 0, 0, 7, 0, 0, 0, 0, 0, 0, 0] 1 [3, 0, 0, 0, 97, 98, 99, 0, 0, 0, 0]",
+    ),
+    (&[(0, 0)], "NotMdf"),
+    (
+        &[(0, 0x20464d6e69466e55)],
+        "Unfinalized { std: 0, custom: 0 }",
+    ),
+    (&[(24, 0x1a4_0000_0000)], "Version { ver: 420 }"),
+    (
+        &[(24, 0x1a4_0000_0000), (0, 0x20464d6e69466e55)],
+        "Version { ver: 420 }",
+    ),
+    (&[(88, 160)], "Block { at: 160, want: Dg }"),
+    // the cycle count of the first group
+    (&[(376, 3)], "Cycles { group: 0, said: 3, found: 2 }"),
+    (
+        &[(376, 1)],
+        "2 0 false 1 [7, 0, 0, 0] 0 [] 2 [0, 0, 0, 0, 0, 0, 0, 0, 7, 0, 0, 0, 0, 0, 0, 0] 1 [3, 0, 0, 0, 97, 98, 99, 0, 0, 0, 0]",
+    ),
+    // and of the second, with an offset that meets no value
+    (&[(480, 3)], "Cycles { group: 1, said: 3, found: 2 }"),
+    (&[(1007, 8)], "Offset { channel: 0, row: 1, offset: 8 }"),
+    (
+        &[(480, 3), (1007, 8)],
+        "Cycles { group: 1, said: 3, found: 2 }",
+    ),
+    (
+        &[(376, 3), (288, 3)],
+        "Cycles { group: 0, said: 3, found: 2 }",
+    ),
+    // the id size of the second data group, and how many bits its channel has
+    (&[(288, 3)], "Layout { at: 232 }"),
+    (&[(864, 65), (968, 54)], "Layout { at: 768 }"),
+    (&[(968, 54)], "Cut { at: 22 }"),
+    (&[(984, 9)], "UnknownId { id: 9, at: 0 }"),
+];
+
+// The parts of a measurement: how many groups, links that were passed over, and whether the file is as the standard has it;
+// and of each group how many samples, its records, how many streams, and the first stream.
+fn group_told(alloc: Global, text: &str, m: &Measurement, group: u32) -> Result<String, Memory> {
+    if group >= m.groups() {
+        return Ok(format!(in alloc; "no group")?);
+    }
+    let part = m.part(group);
+    let first = match part.streams.get(0) {
+        Some(stream) => stream.bytes(),
+        None => &[],
+    };
+    let samples = m.samples(group);
+    let content = part.content.as_slice();
+    let count = part.streams.len();
+    Ok(format!(in alloc; "{text} {samples} {content:?} {count} {first:?}")?)
+}
+
+fn parts_told(alloc: Global, m: &Measurement) -> Result<String, Memory> {
+    let (groups, dropped, strict) = (m.groups(), m.dropped(), m.strict());
+    let mut text = format!(in alloc; "{groups} {dropped} {strict}")?;
+    for group in 0..groups {
+        text = group_told(alloc, text.as_str(), m, group)?;
+    }
+    Ok(text)
+}
+
+fn told(alloc: Global, changes: &[(usize, u64)]) -> Result<String, Memory> {
+    let mut file = file_of(alloc, 1016, &FILE)?;
+    put(file.as_mut_slice(), 0, &IDENT);
+    for (at, number) in changes {
+        put_number(file.as_mut_slice(), *at, *number);
+    }
+    match read_measurement(alloc, file.as_slice()) {
+        Ok(m) => parts_told(alloc, &m),
+        Err(fault) => Ok(format!(in alloc; "{fault:?}")?),
+    }
+}
+
+#[test]
+fn measurements_are_told(rt: HostRuntime) -> Result<(), Fail> {
+    for (changes, want) in TOLD {
+        assert_eq!(rt; told(rt.alloc(), changes)?.as_str(), want);
+    }
+    Ok(())
+}
