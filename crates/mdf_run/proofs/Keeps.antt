@@ -14,7 +14,9 @@ use Rattle.acq_script.specs.Script.{script_of}
 use Rattle.acq_script.specs.Tasks.{samples_of}
 use Rattle.acq_script.specs.declared.script.Script.{Script}
 use Rattle.mdf_run.specs.Sources.{AreOwnMarked}
-use Rattle.mdf_run.specs.Faults.{fault_status}
+use Rattle.mdf_block.specs.Refusal.{Refusal}
+use Rattle.mdf_content.specs.Fault.{read_refusal}
+use Rattle.mdf_run.specs.Faults.{fault_status, refused_status}
 use Rattle.mdf_disk.specs.Crash.{HoldsSince}
 use Rattle.mdf_gate.specs.Images.{IsBegun}
 use Rattle.mdf_run.specs.Head.{script_head}
@@ -34,6 +36,10 @@ was_status : (text : List ℕ) (status : ℕ) (sink sink' : SinkState) (result :
     → (result ≡ status) ⊎ (result ≡ unwritten_status status)
 was_status text status sink sink' result prints = ⊎_elim (λ all. inl all.1) (λ front. inr front.2) prints
 
+not_read : (refusal : Option Refusal) (result : ℕ) → (result ≡ refused_status refusal) ⊎ (result ≡ unwritten_status (refused_status refusal)) → ¬ IsDone result
+not_read None result is done = absurd (omega (arith, is, done))
+not_read (Some refusal) result is done = absurd (omega (arith, is, done))
+
 -- no fault has the status of a command that did what it was asked for
 not_done : (problem : Fault) (result : ℕ) → (result ≡ fault_status problem) ⊎ (result ≡ unwritten_status (fault_status problem)) → ¬ IsDone result
 not_done (fault.Gate refused) result is done = absurd (omega (arith, is, done))
@@ -44,6 +50,7 @@ not_done (fault.ScriptOver limit) result is done = absurd (omega (arith, is, don
 not_done (fault.SessionFull held size limit) result is done = absurd (omega (arith, is, done))
 not_done fault.Memory result is done = absurd (omega (arith, is, done))
 not_done (fault.Script number) result is done = absurd (omega (arith, is, done))
+not_done (fault.Read refused) result is done = not_read (read_refusal refused) result is done
 
 completes : (script : Script) (faults : ℕ) (left : Outcome) (result : ℕ) (problem : Option Fault)
     → (result ≡ fault_code problem) ⊎ (result ≡ unwritten_status (fault_code problem)) → IsDone result

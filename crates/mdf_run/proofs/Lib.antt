@@ -4,5 +4,6 @@ mod Marking
 mod Pieces
 mod Recording
 mod Told
+mod Totals
 mod Begins
 mod Runs

@@ -4,10 +4,8 @@ use Rattle.std.proofs.Math.Seq.{take-suc}
 use Rattle.std.proofs.lemmas.Grind.{flat_map-append}
 use Rattle.std.specs.Io.KnownBytes.{Appends}
 use Rattle.mdf_port.specs.State.{SinkState}
-use Rattle.std.specs.Prelude.{codes}
-use Rattle.std.specs.Fmt.{decimal}
-use Rattle.mdf_run.specs.Texts.{Gives, line, piece_text, pieces_text}
-use Rattle.mdf_run.specs.Record.{sources_text}
+use Rattle.std.specs.List.{flat_map}
+use Rattle.mdf_run.specs.Texts.{Gives, line, numbered, piece_text, pieces_text, shown}
 use Rattle.std.proofs.lemmas.List.Concat.{flat_map-cons}
 use Rattle.mdf_run.specs.declared.report.Piece.{Piece}
 
@@ -59,54 +57,73 @@ line-pieces (piece ∷ pieces) =
     ap (λ zs. piece_text piece ++ zs) (line-pieces pieces) ∙ sym (append_assoc (piece_text piece) (pieces_text pieces) (10 ∷ []))
     ∙ ap (λ zs. zs ++ 10 ∷ []) (sym (flat_map-cons piece_text piece pieces))
 
--- the parts up to one, that one, and those behind it
+-- the texts of the items up to one, of that one, and of those behind it
+module _ {A : Type 0} (text : A → List ℕ) (items : List A) (i : ℕ) (d : A) (within : i < length items) where
+  pub each_more : flat_map text (take (i + 1) items) ≡ flat_map text (take i items) ++ text (get_or items i d)
+  each_more =
+      ap (flat_map text) (ap (λ n. take n items) (add-one i) ∙ take-suc items i d within) ∙ flat_map-append text (take i items) (get_or items i d ∷ [])
+      ∙ ap (λ last. flat_map text (take i items) ++ last) (append-nil (text (get_or items i d)))
+
+  pub each_around : flat_map text items ≡ flat_map text (take i items) ++ (text (get_or items i d) ++ flat_map text (drop (i + 1) items))
+  each_around =
+      sym (ap (flat_map text) (take-append-drop (i + 1) items)) ∙ flat_map-append text (take (i + 1) items) (drop (i + 1) items)
+      ∙ ap (λ front. front ++ flat_map text (drop (i + 1) items)) each_more
+      ∙ append_assoc (flat_map text (take i items)) (text (get_or items i d)) (flat_map text (drop (i + 1) items))
+
 pub pieces_more : (pieces : List Piece) (i : ℕ) (d : Piece) → i < length pieces
     → pieces_text (take (i + 1) pieces) ≡ pieces_text (take i pieces) ++ piece_text (get_or pieces i d)
-pieces_more pieces i d within =
-    ap pieces_text (ap (λ n. take n pieces) (add-one i) ∙ take-suc pieces i d within) ∙ flat_map-append piece_text (take i pieces) (get_or pieces i d ∷ [])
-    ∙ ap (λ last. pieces_text (take i pieces) ++ last) (append-nil (piece_text (get_or pieces i d)))
+pieces_more pieces i d within = each_more piece_text pieces i d within
 
 pub pieces_around : (pieces : List Piece) (i : ℕ) (d : Piece) → i < length pieces
     → pieces_text pieces ≡ pieces_text (take i pieces) ++ (piece_text (get_or pieces i d) ++ pieces_text (drop (i + 1) pieces))
-pieces_around pieces i d within =
-    sym (ap pieces_text (take-append-drop (i + 1) pieces)) ∙ flat_map-append piece_text (take (i + 1) pieces) (drop (i + 1) pieces)
-    ∙ ap (λ front. front ++ pieces_text (drop (i + 1) pieces)) (pieces_more pieces i d within)
-    ∙ append_assoc (pieces_text (take i pieces)) (piece_text (get_or pieces i d)) (pieces_text (drop (i + 1) pieces))
+pieces_around pieces i d within = each_around piece_text pieces i d within
 
--- the lines of the sources up to one, that one's, and those behind it
-abbrev source_line : ℕ → ℕ → List ℕ
-source_line source n = line (codes "source " ∷ decimal source ∷ codes " accepted " ∷ decimal n ∷ [])
+pub bytes_more : (bytes : List ℕ) (i d : ℕ) → i < length bytes
+    → flat_map shown (take (i + 1) bytes) ≡ flat_map shown (take i bytes) ++ shown (get_or bytes i d)
+bytes_more bytes i d within = each_more shown bytes i d within
 
-more_from : (from : ℕ) (xs : List ℕ) (i d : ℕ) → i < length xs → sources_text from (take (suc i) xs) ≡ sources_text from (take i xs) ++ source_line (from + i) (get_or xs i d)
-more_from from [] i d within = absurd (omega (arith, within))
-more_from from (x ∷ xs) zero d within = let none : from ≡ from + 0 = omega arith in append-nil (source_line from x) ∙ ap (λ k. source_line k x) none
-more_from from (x ∷ xs) (suc i) d within =
-    let next : from + 1 + i ≡ from + suc i = omega arith in
-    ap (λ text. source_line from x ++ text) (more_from (from + 1) xs i d (omega (arith, within)) ∙ ap (λ k. sources_text (from + 1) (take i xs) ++ source_line k (get_or xs i d)) next)
-    ∙ sym (append_assoc (source_line from x) (sources_text (from + 1) (take i xs)) (source_line (from + suc i) (get_or xs i d)))
+pub bytes_around : (bytes : List ℕ) (i d : ℕ) → i < length bytes
+    → flat_map shown bytes ≡ flat_map shown (take i bytes) ++ (shown (get_or bytes i d) ++ flat_map shown (drop (i + 1) bytes))
+bytes_around bytes i d within = each_around shown bytes i d within
 
-around_from : (from : ℕ) (xs : List ℕ) (i d : ℕ) → i < length xs
-    → sources_text from xs ≡ sources_text from (take i xs) ++ (source_line (from + i) (get_or xs i d) ++ sources_text (from + suc i) (drop (suc i) xs))
-around_from from [] i d within = absurd (omega (arith, within))
-around_from from (x ∷ xs) zero d within =
-    let none : from ≡ from + 0 = omega arith in
-    let next : from + 1 ≡ from + suc zero = omega arith in
-    ap (λ k. source_line k x ++ sources_text (from + 1) xs) none ∙ ap (λ k. source_line (from + 0) x ++ sources_text k xs) next
-around_from from (x ∷ xs) (suc i) d within =
-    let next : from + 1 + i ≡ from + suc i = omega arith in
-    let later : from + 1 + suc i ≡ from + suc (suc i) = omega arith in
-    ap (λ text. source_line from x ++ text) (around_from (from + 1) xs i d (omega (arith, within))
-    ∙ ap (λ k. sources_text (from + 1) (take i xs) ++ (source_line k (get_or xs i d) ++ sources_text (from + 1 + suc i) (drop (suc i) xs))) next
-    ∙ ap (λ k. sources_text (from + 1) (take i xs) ++ (source_line (from + suc i) (get_or xs i d) ++ sources_text k (drop (suc i) xs))) later)
-    ∙ sym (append_assoc (source_line from x) (sources_text (from + 1) (take i xs)) (source_line (from + suc i) (get_or xs i d) ++ sources_text (from + suc (suc i)) (drop (suc i) xs)))
+-- the same of texts with numbers
+module _ {A : Type 0} (text : ℕ → A → List ℕ) where
+  more_from : (from : ℕ) (xs : List A) (i : ℕ) (d : A) → i < length xs
+      → numbered text from (take (suc i) xs) ≡ numbered text from (take i xs) ++ text (from + i) (get_or xs i d)
+  more_from from [] i d within = absurd (omega (arith, within))
+  more_from from (x ∷ xs) zero d within = let none : from ≡ from + 0 = omega arith in append-nil (text from x) ∙ ap (λ k. text k x) none
+  more_from from (x ∷ xs) (suc i) d within =
+      let next : from + 1 + i ≡ from + suc i = omega arith in
+      ap (λ rest. text from x ++ rest) (more_from (from + 1) xs i d (omega (arith, within)) ∙ ap (λ k. numbered text (from + 1) (take i xs) ++ text k (get_or xs i d)) next)
+      ∙ sym (append_assoc (text from x) (numbered text (from + 1) (take i xs)) (text (from + suc i) (get_or xs i d)))
 
-pub sources_more : (xs : List ℕ) (i d : ℕ) → i < length xs → sources_text 0 (take (i + 1) xs) ≡ sources_text 0 (take i xs) ++ source_line i (get_or xs i d)
-sources_more xs i d within =
-    let none : 0 + i ≡ i = omega arith in
-    ap (λ k. sources_text 0 (take k xs)) (add-one i) ∙ more_from 0 xs i d within ∙ ap (λ k. sources_text 0 (take i xs) ++ source_line k (get_or xs i d)) none
+  around_from : (from : ℕ) (xs : List A) (i : ℕ) (d : A) → i < length xs
+      → numbered text from xs ≡ numbered text from (take i xs) ++ (text (from + i) (get_or xs i d) ++ numbered text (from + suc i) (drop (suc i) xs))
+  around_from from [] i d within = absurd (omega (arith, within))
+  around_from from (x ∷ xs) zero d within =
+      let none : from ≡ from + 0 = omega arith in
+      let next : from + 1 ≡ from + suc zero = omega arith in
+      ap (λ k. text k x ++ numbered text (from + 1) xs) none ∙ ap (λ k. text (from + 0) x ++ numbered text k xs) next
+  around_from from (x ∷ xs) (suc i) d within =
+      let next : from + 1 + i ≡ from + suc i = omega arith in
+      let later : from + 1 + suc i ≡ from + suc (suc i) = omega arith in
+      ap (λ rest. text from x ++ rest) (around_from (from + 1) xs i d (omega (arith, within))
+      ∙ ap (λ k. numbered text (from + 1) (take i xs) ++ (text k (get_or xs i d) ++ numbered text (from + 1 + suc i) (drop (suc i) xs))) next
+      ∙ ap (λ k. numbered text (from + 1) (take i xs) ++ (text (from + suc i) (get_or xs i d) ++ numbered text k (drop (suc i) xs))) later)
+      ∙ sym (append_assoc (text from x) (numbered text (from + 1) (take i xs)) (text (from + suc i) (get_or xs i d) ++ numbered text (from + suc (suc i)) (drop (suc i) xs)))
 
-pub sources_around : (xs : List ℕ) (i d : ℕ) → i < length xs
-    → sources_text 0 xs ≡ sources_text 0 (take i xs) ++ (source_line i (get_or xs i d) ++ sources_text (0 + suc i) (drop (suc i) xs))
-sources_around xs i d within =
-    let none : 0 + i ≡ i = omega arith in
-    around_from 0 xs i d within ∙ ap (λ k. sources_text 0 (take i xs) ++ (source_line k (get_or xs i d) ++ sources_text (0 + suc i) (drop (suc i) xs))) none
+  pub numbered_more : (xs : List A) (i : ℕ) (d : A) → i < length xs → numbered text 0 (take (i + 1) xs) ≡ numbered text 0 (take i xs) ++ text i (get_or xs i d)
+  numbered_more xs i d within =
+      let none : 0 + i ≡ i = omega arith in
+      ap (λ k. numbered text 0 (take k xs)) (add-one i) ∙ more_from 0 xs i d within ∙ ap (λ k. numbered text 0 (take i xs) ++ text k (get_or xs i d)) none
+
+  pub numbered_around : (xs : List A) (i : ℕ) (d : A) → i < length xs
+      → numbered text 0 xs ≡ numbered text 0 (take i xs) ++ (text i (get_or xs i d) ++ numbered text (0 + suc i) (drop (suc i) xs))
+  numbered_around xs i d within =
+      let none : 0 + i ≡ i = omega arith in
+      around_from 0 xs i d within ∙ ap (λ k. numbered text 0 (take i xs) ++ (text k (get_or xs i d) ++ numbered text (0 + suc i) (drop (suc i) xs))) none
+
+-- a list with an item has a first one
+pub first_of : {A : Type 0} (xs : List A) (i : ℕ) → i < length xs → A
+first_of [] i within = absurd (omega (arith, within))
+first_of (x ∷ xs) i within = x

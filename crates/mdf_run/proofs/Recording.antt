@@ -165,6 +165,7 @@ module _ {D N : Type 0} (tells : DiskOf D) (shows : ViewOf NoView N)
   ended (Some (fault.SessionFull held size limit)) ends = fills held size limit ends.0 ends.1
   ended (Some fault.Memory) ends = saved ends.1
   ended (Some (fault.Script number)) ends = absurd ends
+  ended (Some (fault.Read refused)) ends = absurd ends
 
   pub has_run : HasRun tells script file (outcome tells recorded.out recorded.history.items recorded.marks.items) recorded.end
   has_run = record {
@@ -212,6 +213,7 @@ close_earlier script earlier faults left (Some (fault.ScriptOver limit)) later c
 close_earlier script earlier faults left (Some (fault.SessionFull held size limit)) later comes = comes
 close_earlier script earlier faults left (Some fault.Memory) later comes = comes
 close_earlier script earlier faults left (Some (fault.Script number)) later comes = comes
+close_earlier script earlier faults left (Some (fault.Read refused)) later comes = comes
 
 -- what was recorded into a file that was made on a disk
 pub record_comes : {C : Type 0} (tells : DiskOf C) (source source' : SourceState) (name : List ℕ) (now : ℕ) (out : C) (script : Script) (file : Gated C) (left : Outcome) (end : RecordEnd)

@@ -22,6 +22,7 @@ FileFaultComes old new (fault.ScriptOver limit) = ⊥
 FileFaultComes old new (fault.SessionFull held size limit) = ⊥
 FileFaultComes old new fault.Memory = Unit {0}
 FileFaultComes old new (fault.Script number) = ⊥
+FileFaultComes old new (fault.Read refused) = ⊥
 
 -- no file was made: what the disk was asked for, what a crash since may leave, and why
 pub record IsUnmade (name head : List ℕ) (old new : DiskState) (fault : Fault) : Type 0 where
@@ -45,6 +46,7 @@ FinishEnds book driven (Some (fault.ScriptOver limit)) = ⊥
 FinishEnds book driven (Some (fault.SessionFull held size limit)) = (driven ≡ Err (end_.SessionFull held size limit)) × IsAllDurable book
 FinishEnds book driven (Some fault.Memory) = (driven ≡ Err end_.Memory) × IsAllDurable book
 FinishEnds book driven (Some (fault.Script number)) = ⊥
+FinishEnds book driven (Some (fault.Read refused)) = ⊥
 
 pub record Finishes {D V : Type 0} (old new : Account D V) (driven : Result Unit End) (fault : Option Fault) : Type 0 where
   pub steps : Steps old new []

@@ -3,6 +3,9 @@ pub mod Commands
 pub mod Faults
 pub mod Texts
 pub mod Opened
+pub mod Reading
+pub mod Check
+pub mod Info
 pub mod Head
 pub mod Drive
 pub mod Sources

@@ -16,7 +16,7 @@ use Rattle.acq_script.specs.Tasks.{samples_of}
 use Rattle.acq_script.specs.declared.script.Plan.{Plan}
 use Rattle.acq_script.specs.declared.script.Script.{Script}
 use Rattle.acq_script.specs.declared.script.Task.{Task}
-use Rattle.mdf_run.specs.Texts.{line}
+use Rattle.mdf_run.specs.Texts.{line, numbered}
 use Rattle.mdf_run.specs.Faults.{fault_line, fault_status}
 use Rattle.mdf_run.specs.Sources.{AreOwnMarked}
 use Rattle.mdf_run.specs.declared.fault.Fault.{Fault}
@@ -24,16 +24,14 @@ use Rattle.mdf_run.specs.declared.fault.Fault.TheVariants as fault
 use Rattle.mdf_run.specs.declared.record.RecordEnd.{RecordEnd}
 use Rattle.mdf_run.specs.declared.record.RecordEnd.TheVariants.{Refused, Closed}
 
--- a line for each source from this one on: how many samples it accepted
-abbrev pub sources_text : ℕ → List ℕ → List ℕ
-sources_text source [] = []
-sources_text source (n ∷ accepted) =
-    line (codes "source " ∷ decimal source ∷ codes " accepted " ∷ decimal n ∷ []) ++ sources_text (source + 1) accepted
+-- the line of a source: how many samples it accepted
+abbrev pub source_line : ℕ → ℕ → List ℕ
+source_line source n = line (codes "source " ∷ decimal source ∷ codes " accepted " ∷ decimal n ∷ [])
 
 -- the lines on the recording
 abbrev pub summary_text : List ℕ → ℕ → ℕ → List ℕ
 summary_text accepted samples durable =
-    sources_text 0 accepted ++ line (codes "samples " ∷ decimal samples ∷ codes " durable " ∷ decimal durable ∷ [])
+    numbered source_line 0 accepted ++ line (codes "samples " ∷ decimal samples ∷ codes " durable " ∷ decimal durable ∷ [])
 
 abbrev pub fault_text : Option Fault → List ℕ
 fault_text None = []
@@ -111,6 +109,7 @@ CloseComes script faults left (Some (fault.ScriptOver limit)) = ⊥
 CloseComes script faults left (Some (fault.SessionFull held size limit)) = IsFull script left held size limit
 CloseComes script faults left (Some fault.Memory) = IsSaved script.plan left
 CloseComes script faults left (Some (fault.Script number)) = ⊥
+CloseComes script faults left (Some (fault.Read refused)) = ⊥
 
 -- What a recording of this script keeps, whatever happened: of its marks, of what a crash since its start may leave, and of
 -- the samples and the flushes of each source.

@@ -25,3 +25,4 @@ ScriptFaultComes old new (fault.ScriptOver limit) = (limit ≡ SCRIPT_LIMIT) × 
 ScriptFaultComes old new (fault.SessionFull held size limit) = ⊥
 ScriptFaultComes old new fault.Memory = Unit {0}
 ScriptFaultComes old new (fault.Script number) = IfSome old.left (λ text. (script_of text ≡ Err number) × (length text ≤ SCRIPT_LIMIT))
+ScriptFaultComes old new (fault.Read refused) = ⊥

@@ -9,11 +9,15 @@ use Rattle.mdf_run.specs.declared.command.Name.TheVariants as name
 pub data Request : Type 0 where
   opened : (input : List ℕ) → Request
   recorded : (output : List ℕ) → Request
+  checked : (input : List ℕ) → Request
+  described : (input : List ℕ) → Request
 
 -- the first word of each command
 abbrev pub name_text : Name → List ℕ
 name_text name.Opened = codes "opened"
 name_text name.Record = codes "record"
+name_text name.Check = codes "check"
+name_text name.Info = codes "info"
 
 -- the word is that of this command, and of none
 abbrev pub Names : List ℕ → Name → Type 0
@@ -26,10 +30,14 @@ NamesNothing word = (name : Name) → ¬ Names word name
 abbrev pub name_of : Request → Name
 name_of (opened input) = name.Opened
 name_of (recorded output) = name.Record
+name_of (checked input) = name.Check
+name_of (described input) = name.Info
 
 abbrev pub arguments_of : Request → List (List ℕ)
 arguments_of (opened input) = input ∷ []
 arguments_of (recorded output) = output ∷ []
+arguments_of (checked input) = input ∷ []
+arguments_of (described input) = input ∷ []
 
 -- the words that ask for it
 abbrev pub Asks : List (List ℕ) → Request → Type 0
@@ -47,14 +55,26 @@ AsksOpened words input = Asks words (opened input)
 abbrev pub AsksRecord : List (List ℕ) → List ℕ → Type 0
 AsksRecord words output = Asks words (recorded output)
 
+-- `check IN`
+abbrev pub AsksCheck : List (List ℕ) → List ℕ → Type 0
+AsksCheck words input = Asks words (checked input)
+
+-- `info IN`
+abbrev pub AsksInfo : List (List ℕ) → List ℕ → Type 0
+AsksInfo words input = Asks words (described input)
+
 -- the file that it reads, and the file that it makes
 abbrev pub input_of : Request → Option (List ℕ)
 input_of (opened input) = Some input
 input_of (recorded output) = None
+input_of (checked input) = Some input
+input_of (described input) = Some input
 
 abbrev pub output_of : Request → Option (List ℕ)
 output_of (opened input) = None
 output_of (recorded output) = Some output
+output_of (checked input) = None
+output_of (described input) = None
 
 -- the input disk was asked for nothing, or for the input that the words name, to be read
 abbrev pub AsksInput : List (List ℕ) → Option (List ℕ × Role) → Type 0

@@ -9,6 +9,8 @@ use mdf_num::{Bytes, Rows};
 pub enum Name {
     Opened,
     Record,
+    Check,
+    Info,
 }
 
 impl Name {
@@ -22,6 +24,12 @@ impl Name {
         if word == b"record".as_slice() {
             return Some(Name::Record);
         }
+        if word == b"check".as_slice() {
+            return Some(Name::Check);
+        }
+        if word == b"info".as_slice() {
+            return Some(Name::Info);
+        }
         None
     }
 }
@@ -33,6 +41,10 @@ pub enum Command<'a> {
     Opened { input: &'a Bytes },
     /// `record OUT`
     Record { output: &'a Bytes },
+    /// `check IN`
+    Check { input: &'a Bytes },
+    /// `info IN`
+    Info { input: &'a Bytes },
 }
 
 /// The command that the words name, if any.
@@ -45,6 +57,8 @@ pub fn command_of(words: &Rows<Bytes>) -> Option<Command<'_>>
     match (Name::of(first.as_slice())?, arguments) {
         (Name::Opened, [input]) => Some(Command::Opened { input }),
         (Name::Record, [output]) => Some(Command::Record { output }),
+        (Name::Check, [input]) => Some(Command::Check { input }),
+        (Name::Info, [input]) => Some(Command::Info { input }),
         _ => None,
     }
 }

@@ -1,6 +1,8 @@
 ghost use Rattle.std.specs.Prelude.{◌≡◌};
-ghost use Rattle.mdf_run.specs.declared.fault.Fault.TheVariants.{Gate, Device, Memory as NoMemory};
-ghost use Rattle.mdf_run.specs.Faults.{fault_of_load, fault_of_script, fault_of_take, gate_line};
+ghost use Rattle.mdf_run.specs.declared.fault.Fault.TheVariants.{Gate, Device, Read, Memory as NoMemory};
+ghost use Rattle.mdf_run.specs.Faults.{fault_of_load, fault_of_script, fault_of_take, gate_line, read_line, refusal_line, text_line, texts_line, what_text};
+ghost use Rattle.mdf_content.specs.Fault.{read_refusal};
+ghost use Rattle.mdf_block.specs.Refusal.{Bad, Cycles, Offset, TooMany};
 ghost use Rattle.mdf_format.specs.Block.{name_of};
 ghost use Rattle.mdf_port.specs.State.{sink_state};
 ghost use Rattle.mdf_run.specs.Texts.{Gives};
@@ -8,6 +10,8 @@ ghost use Rattle.mdf_run.specs.Texts.{Gives};
 use crate::report::Piece::{Number, Text};
 use crate::report::give_line;
 use acq_script::ScriptFault;
+use mdf_block::What;
+use mdf_content::ReadFault;
 use mdf_disk::LoadFault;
 use mdf_format::Kind;
 use mdf_gate::GateFault;
@@ -33,6 +37,8 @@ pub enum Fault {
     Memory,
     /// No rule admits this line of the script after the lines before it, counted from 1.
     Script { line: u64 },
+    /// The input is no finalized file that can be read, or there was no memory for it.
+    Read(ReadFault),
 }
 
 impl Fault {
@@ -49,6 +55,8 @@ impl Fault {
             Fault::InputOver { .. } | Fault::ScriptOver { .. } | Fault::SessionFull { .. } => 5,
             Fault::Memory => 7,
             Fault::Script { .. } => 8,
+            Fault::Read(ReadFault::Memory) => 7,
+            Fault::Read(_) => 3,
         }
     }
 
@@ -85,6 +93,7 @@ impl Fault {
             ),
             Fault::Memory => give_line(sink, &[Text(b"want of memory")]),
             Fault::Script { line } => give_line(sink, &[Text(b"script line "), Number(*line)]),
+            Fault::Read(fault) => give_read_line(sink, *fault),
         }
     }
 }
@@ -110,34 +119,179 @@ fn name_of(kind: Kind) -> &'static [u8]
     }
 }
 
+/// The word for what there is too many of.
+fn what_text(what: What) -> &'static [u8]
+    ensures { result.now ≡ what_text what }
+{
+    match what {
+        What::Fh => b"FH",
+        What::Dg => b"DG",
+        What::Cg => b"CG",
+        What::Cn => b"CN",
+        What::Cc => b"CC",
+        What::Text => b"text",
+        What::Block => b"block",
+        What::Sample => b"sample",
+    }
+}
+
+/// The same fault of a reader of finalized files.
+fn read_fault_of(fault: GateFault) -> ReadFault
+    ensures { read_line (read_refusal result) ≡ gate_line fault }
+{
+    match fault {
+        GateFault::NotMdf => ReadFault::NotMdf,
+        GateFault::Version { ver } => ReadFault::Version { ver },
+        GateFault::NotRecording { std, custom } => ReadFault::NotRecording { std, custom },
+        GateFault::Bad { at, want } => ReadFault::Block { at, want },
+    }
+}
+
+/// Gives a line of a text and a number.
+fn give_text<K: Sink>(sink: &mut K, text: &[u8], number: u64) -> Result<(), Failed>
+    ensures { Gives (text_line text.now number) (sink_state K.Sink sink.old) (sink_state K.Sink sink.new) result }
+{
+    give_line(sink, &[Text(text), Number(number)])
+}
+
+/// Gives a line of two texts with a number each.
+fn give_texts<'x, K: Sink>(
+    sink: &mut K,
+    text: &'x [u8],
+    number: u64,
+    more: &'x [u8],
+    next: u64,
+) -> Result<(), Failed>
+    ensures { Gives (texts_line text.now number more.now next) (sink_state K.Sink sink.old) (sink_state K.Sink sink.new) result }
+{
+    give_line(
+        sink,
+        &[Text(text), Number(number), Text(more), Number(next)],
+    )
+}
+
+/// Gives the line of a block that does not stand at an address.
+fn give_block<K: Sink>(sink: &mut K, at: u64, want: Kind) -> Result<(), Failed>
+    ensures { Gives (refusal_line (Bad at want)) (sink_state K.Sink sink.old) (sink_state K.Sink sink.new) result }
+{
+    give_line(
+        sink,
+        &[
+            Text(b"block at "),
+            Number(at),
+            Text(b" is not "),
+            Text(name_of(want)),
+        ],
+    )
+}
+
+/// Gives the line of what there is too many of.
+fn give_many<K: Sink>(sink: &mut K, what: What, at: u64) -> Result<(), Failed>
+    ensures { Gives (refusal_line (TooMany what at)) (sink_state K.Sink sink.old) (sink_state K.Sink sink.new) result }
+{
+    give_line(
+        sink,
+        &[
+            Text(b"too many "),
+            Text(what_text(what)),
+            Text(b" at "),
+            Number(at),
+        ],
+    )
+}
+
+/// Gives the line of a group that has fewer records than it says.
+fn give_cycles<K: Sink>(sink: &mut K, group: u64, said: u64, found: u64) -> Result<(), Failed>
+    ensures { Gives (refusal_line (Cycles group said found)) (sink_state K.Sink sink.old) (sink_state K.Sink sink.new) result }
+{
+    give_line(
+        sink,
+        &[
+            Text(b"cycles group "),
+            Number(group),
+            Text(b" said "),
+            Number(said),
+            Text(b" found "),
+            Number(found),
+        ],
+    )
+}
+
+/// Gives the line of an offset that meets no value.
+fn give_offset<K: Sink>(sink: &mut K, channel: u64, row: u64, offset: u64) -> Result<(), Failed>
+    ensures { Gives (refusal_line (Offset channel row offset)) (sink_state K.Sink sink.old) (sink_state K.Sink sink.new) result }
+{
+    give_line(
+        sink,
+        &[
+            Text(b"offset "),
+            Number(offset),
+            Text(b" channel "),
+            Number(channel),
+            Text(b" row "),
+            Number(row),
+        ],
+    )
+}
+
+/// Gives the line of an input that could not be read.
+fn give_read_line<K: Sink>(sink: &mut K, fault: ReadFault) -> Result<(), Failed>
+    ensures { Gives (read_line (read_refusal fault)) (sink_state K.Sink sink.old) (sink_state K.Sink sink.new) result }
+{
+    match fault {
+        ReadFault::NotMdf => give_line(sink, &[Text(b"not MDF")]),
+        ReadFault::Unfinalized { std, custom } => {
+            give_texts(
+                sink,
+                b"unfinalized ",
+                u64::from(std),
+                b" ",
+                u64::from(custom),
+            )
+        }
+        ReadFault::NotRecording { std, custom } => {
+            give_texts(
+                sink,
+                b"not a recording ",
+                u64::from(std),
+                b" ",
+                u64::from(custom),
+            )
+        }
+        ReadFault::Version { ver } => give_text(sink, b"version ", u64::from(ver)),
+        ReadFault::Block { at, want } => give_block(sink, at, want),
+        ReadFault::Compressed { at } => give_text(sink, b"compressed at ", at),
+        ReadFault::TooMany { what, at } => give_many(sink, what, at),
+        ReadFault::Deep { at } => give_text(sink, b"deep at ", at),
+        ReadFault::ChannelKind { at, kind } => {
+            give_texts(sink, b"channel kind ", u64::from(kind), b" at ", at)
+        }
+        ReadFault::ChannelType { at, value } => {
+            give_texts(sink, b"channel type ", u64::from(value), b" at ", at)
+        }
+        ReadFault::Layout { at } => give_text(sink, b"layout at ", at),
+        ReadFault::UnknownId { id, at } => give_texts(sink, b"unknown id ", id, b" at ", at),
+        ReadFault::Cut { at } => give_text(sink, b"cut at ", at),
+        ReadFault::Cycles { group, said, found } => give_cycles(
+            sink,
+            u64::from(group),
+            said,
+            found,
+        ),
+        ReadFault::Offset {
+            channel,
+            row,
+            offset,
+        } => give_offset(sink, u64::from(channel), row, offset),
+        ReadFault::Memory => give_line(sink, &[Text(b"want of memory")]),
+    }
+}
+
 /// Gives the line of an input that is no recording.
 fn give_gate_line<K: Sink>(sink: &mut K, fault: GateFault) -> Result<(), Failed>
     ensures { Gives (gate_line fault) (sink_state K.Sink sink.old) (sink_state K.Sink sink.new) result }
 {
-    match fault {
-        GateFault::NotMdf => give_line(sink, &[Text(b"not MDF")]),
-        GateFault::Version { ver } => {
-            give_line(sink, &[Text(b"version "), Number(u64::from(ver))])
-        }
-        GateFault::NotRecording { std, custom } => give_line(
-            sink,
-            &[
-                Text(b"not a recording "),
-                Number(u64::from(std)),
-                Text(b" "),
-                Number(u64::from(custom)),
-            ],
-        ),
-        GateFault::Bad { at, want } => give_line(
-            sink,
-            &[
-                Text(b"block at "),
-                Number(at),
-                Text(b" is not "),
-                Text(name_of(want)),
-            ],
-        ),
-    }
+    give_read_line(sink, read_fault_of(fault))
 }
 
 impl From<GateFault> for Fault {
@@ -145,6 +299,14 @@ impl From<GateFault> for Fault {
 
     fn from(fault: GateFault) -> Self {
         Fault::Gate(fault)
+    }
+}
+
+impl From<ReadFault> for Fault {
+    ghost from_gives = { λ read fault. fault ≡ Read read };
+
+    fn from(fault: ReadFault) -> Self {
+        Fault::Read(fault)
     }
 }
 

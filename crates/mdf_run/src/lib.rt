@@ -5,13 +5,16 @@
 //! and a test those over memory.
 #![tactic(auto)]
 
+mod check;
 mod command;
 mod drive;
 mod fault;
 mod gate;
 mod head;
+mod info;
 mod opened;
 mod program;
+mod reading;
 mod record;
 mod report;
 mod sources;

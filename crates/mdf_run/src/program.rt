@@ -6,9 +6,11 @@ ghost use Rattle.mdf_disk.specs.State.{state_of};
 ghost use Rattle.book_owned.specs.Kept.{MarksHold, StartHolds};
 ghost use Rattle.book_owned.specs.Marks.{AreRising};
 ghost use Rattle.acq_script.specs.Tasks.{samples_of};
-ghost use Rattle.mdf_run.specs.Words.{AsksOpened, AsksRecord, AsksInput, AsksOutput, IsUsage};
+ghost use Rattle.mdf_run.specs.Words.{AsksCheck, AsksInfo, AsksOpened, AsksRecord, AsksInput, AsksOutput, IsUsage};
 ghost use Rattle.mdf_run.specs.Texts.{Prints, usage_line};
 ghost use Rattle.mdf_run.specs.Opened.{EndsOpened};
+ghost use Rattle.mdf_run.specs.Check.{EndsCheck};
+ghost use Rattle.mdf_run.specs.Info.{EndsInfo};
 ghost use Rattle.mdf_run.specs.Sources.{AreOwnMarked};
 ghost use Rattle.mdf_layout.specs.History.{source_samples};
 ghost use Rattle.mdf_run.specs.Head.{script_head};
@@ -16,8 +18,10 @@ ghost use Rattle.mdf_run.specs.Record.{IsComplete, OfSources, outcome};
 ghost use Rattle.mdf_run.specs.Recorded.{EndsRecord};
 ghost use Rattle.mdf_run.specs.Kept.{OfRecording, IsDone};
 
+use crate::check::run_check;
 use crate::command::{Command, command_of};
 use crate::gate::Gate;
+use crate::info::run_info;
 use crate::opened::run_opened;
 use crate::record::{Recorded, run_record};
 use crate::report::Piece::Text;
@@ -106,6 +110,12 @@ where
     ensures opened { (input : List ℕ) → AsksOpened words.now input
         → EndsOpened (state_of A.Disk first) (state_of A.Disk result.first)
         (sink_state K.Sink sink.old) (sink_state K.Sink sink.new) result.status }
+    ensures check { (input : List ℕ) → AsksCheck words.now input
+        → EndsCheck (state_of A.Disk first) (state_of A.Disk result.first)
+        (sink_state K.Sink sink.old) (sink_state K.Sink sink.new) result.status }
+    ensures info { (input : List ℕ) → AsksInfo words.now input
+        → EndsInfo (state_of A.Disk first) (state_of A.Disk result.first)
+        (sink_state K.Sink sink.old) (sink_state K.Sink sink.new) result.status }
     ensures record { (name : List ℕ) → AsksRecord words.now name
         → EndsRecord (source_state S.Source source.old) (source_state S.Source source.new) name now_ns (state_of C.Disk out)
         (outcome C.Disk result.out result.history.items result.marks.items)
@@ -168,6 +178,16 @@ where
                 history,
                 marks,
             }
+        }
+        Some(Command::Check { input }) => {
+            let mut first = first;
+            let status = run_check(alloc, input, sink, &mut first);
+            without_recording(alloc, status, first, out)
+        }
+        Some(Command::Info { input }) => {
+            let mut first = first;
+            let status = run_info(alloc, input, sink, &mut first);
+            without_recording(alloc, status, first, out)
         }
         None => {
             let status = run_usage(sink);

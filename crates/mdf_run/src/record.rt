@@ -10,8 +10,8 @@ ghost use Rattle.mdf_group.specs.Recordable.{AreRecordable};
 ghost use Rattle.mdf_run.specs.Script.{SaysScript, ScriptFaultComes};
 ghost use Rattle.mdf_run.specs.Finish.{IsUnmade, Finishes};
 ghost use Rattle.mdf_port.specs.State.{sink_state, source_state};
-ghost use Rattle.mdf_run.specs.Texts.{Gives, Prints};
-ghost use Rattle.mdf_run.specs.Record.{fault_text, outcome, record_status, record_text, sources_text, summary_text};
+ghost use Rattle.mdf_run.specs.Texts.{Gives, Prints, numbered};
+ghost use Rattle.mdf_run.specs.Record.{fault_text, outcome, record_status, record_text, source_line, summary_text};
 ghost use Rattle.mdf_run.specs.Recorded.{RecordComes, Closes, HasRun};
 
 use crate::drive::End;
@@ -236,7 +236,7 @@ fn record<R: Threads + Wait + Sync, S: Source, C: Disk, G: Gate>(
 
 /// Gives a line for each source: how many of its samples were accepted.
 fn give_sources<K: Sink>(sink: &mut K, accepted: &[u64]) -> Result<(), Failed>
-    ensures { Gives (sources_text 0 accepted.now) (sink_state K.Sink sink.old) (sink_state K.Sink sink.new) result }
+    ensures { Gives (numbered source_line 0 accepted.now) (sink_state K.Sink sink.old) (sink_state K.Sink sink.new) result }
 {
     for source in 0..accepted.len() {
         give_line(

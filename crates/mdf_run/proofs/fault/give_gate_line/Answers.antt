@@ -1,4 +1,5 @@
+use Rattle.mdf_run.proofs.Pieces.{gives_same}
 use Rattle.mdf_run.proofs.fault.give_gate_line.Goals as goal
 
-pub returns-in-Bad : goal.returns-in-Bad
-returns-in-Bad g c = rw c.in-Bad.is (rw c.name_of.ensures at c.give_line-in-Bad.ensures)
+pub returns : goal.returns
+returns g c = gives_same _ _ _ _ _ c.read_fault_of.ensures c.give_read_line.ensures

@@ -1,6 +1,6 @@
 use Rattle.mdf_port.specs.State.{sink_state, source_state}
 use Rattle.mdf_disk.specs.State.{state_of}
-use Rattle.mdf_run.specs.Words.{opened, recorded}
+use Rattle.mdf_run.specs.Words.{opened, recorded, checked, described}
 use Rattle.mdf_run.proofs.Keeps.{recording_keeps}
 use Rattle.mdf_run.proofs.program.run.Goals as goal
 
@@ -54,3 +54,9 @@ returns-in-None-clause-own_prefix g c = λ name asks. absurd (c.in-None.ensures 
 
 pub returns-in-None-clause-flush_lines : goal.returns-in-None-clause-flush_lines
 returns-in-None-clause-flush_lines g c = λ name asks. absurd (c.in-None.ensures (recorded name) asks)
+
+pub returns-in-None-clause-check : goal.returns-in-None-clause-check
+returns-in-None-clause-check g c = λ input asks. absurd (c.in-None.ensures (checked input) asks)
+
+pub returns-in-None-clause-info : goal.returns-in-None-clause-info
+returns-in-None-clause-info g c = λ input asks. absurd (c.in-None.ensures (described input) asks)

@@ -1,11 +1,12 @@
 use Rattle.std.proofs.Common.{◌≤◌, take}
 use Rattle.std.specs.Io.KnownBytes.{Appends}
-use Rattle.mdf_run.specs.Record.{sources_text}
+use Rattle.mdf_run.specs.Record.{source_line}
+use Rattle.mdf_run.specs.Texts.{numbered}
 use Rattle.mdf_run.proofs.record.give_sources.Given as goal
 
 -- the lines so far were given
 abbrev pub invariant-loop-source : goal.invariant-loop-source
 invariant-loop-source g l = record {
-  given : Appends (g.K.Sink.held l.initial.sink) (g.K.Sink.held l.sink) (sources_text 0 (take l.source l.accepted));
+  given : Appends (g.K.Sink.held l.initial.sink) (g.K.Sink.held l.sink) (numbered source_line 0 (take l.source l.accepted));
   later : g.K.Sink.faults l.initial.sink ≤ g.K.Sink.faults l.sink;
 }

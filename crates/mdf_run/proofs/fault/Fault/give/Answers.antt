@@ -5,3 +5,6 @@ returns-in-SessionFull g c = rw c.in-SessionFull.is c.give_line-in-SessionFull.e
 
 pub returns-in-Script : goal.returns-in-Script
 returns-in-Script g c = rw c.in-Script.is c.give_line-in-Script.ensures
+
+pub returns-in-Read : goal.returns-in-Read
+returns-in-Read g c = rw c.in-Read.is c.give_read_line.ensures

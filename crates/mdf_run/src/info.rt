@@ -1,0 +1,129 @@
+ghost use Rattle.std.specs.Prelude.{◌≡◌, ◌⊎◌, ◌<◌, Some, None, length, slice_index_or};
+ghost use Rattle.mdf_disk.specs.State.{state_of};
+ghost use Rattle.mdf_disk.specs.declared.role.Role.TheVariants.{Read};
+ghost use Rattle.mdf_model.specs.declared.part.Measure.{Measure};
+ghost use Rattle.mdf_port.specs.State.{sink_state};
+ghost use Rattle.mdf_run.specs.Texts.{Gives, numbered, text_of};
+ghost use Rattle.mdf_run.specs.Info.{EndsInfo, group_line, info_text, reading_text, total, total_line, version_line};
+
+use crate::fault::Fault;
+use crate::reading::{Reading, read_input, status};
+use crate::report::Piece::{Name, Number, Sum, Text};
+use crate::report::{give_line, status_after};
+use mdf_block::Note;
+use mdf_disk::Disk;
+use mdf_model::Measurement;
+use mdf_num::{Bytes, Failed};
+use mdf_port::Sink;
+use std::alloc::Global;
+
+/// The text of a name, which is empty where there is none.
+fn text_of(name: &Note) -> &[u8]
+    ensures { result.now ≡ text_of name.now }
+{
+    match name {
+        Note::Nothing => &[],
+        Note::Plain(text) => text.as_slice(),
+        Note::Xml(text) => text.as_slice(),
+    }
+}
+
+/// Gives the line of a group.
+fn give_group<K: Sink>(sink: &mut K, found: &Measurement, group: u32) -> Result<(), Failed>
+    requires { group < length found.now.groups }
+    ensures { (d : Measure) → Gives (group_line group (slice_index_or found.now.groups group d))
+        (sink_state K.Sink sink.old) (sink_state K.Sink sink.new) result }
+{
+    let row = &found.part(group).row;
+    give_line(
+        sink,
+        &[
+            Text(b"group "),
+            Number(u64::from(group)),
+            Text(b" "),
+            Name(text_of(&row.name)),
+            Text(b" channels "),
+            Number(row.channels.len()),
+            Text(b" samples "),
+            Number(found.samples(group)),
+        ],
+    )
+}
+
+/// Gives the lines of the groups.
+fn give_groups<K: Sink>(sink: &mut K, found: &Measurement) -> Result<(), Failed>
+    ensures { Gives (numbered group_line 0 found.now.groups) (sink_state K.Sink sink.old) (sink_state K.Sink sink.new) result }
+{
+    for group in 0..found.groups() {
+        give_group(sink, found, group)?;
+    }
+    Ok(())
+}
+
+/// How many samples all groups have.
+fn total(found: &Measurement) -> u128
+    ensures { result ≡ total found.now.groups }
+{
+    let mut total = 0u128;
+    for group in 0..found.groups() {
+        total += u128::from(found.samples(group));
+    }
+    total
+}
+
+/// Gives the line of all groups.
+fn give_total<K: Sink>(sink: &mut K, found: &Measurement) -> Result<(), Failed>
+    ensures { Gives (total_line found.now) (sink_state K.Sink sink.old) (sink_state K.Sink sink.new) result }
+{
+    give_line(
+        sink,
+        &[
+            Text(b"groups "),
+            Number(u64::from(found.groups())),
+            Text(b" samples "),
+            Sum(total(found)),
+            Text(b" dropped "),
+            Number(found.dropped()),
+        ],
+    )
+}
+
+/// Gives the line of the version.
+fn give_version<K: Sink>(sink: &mut K, version: u16) -> Result<(), Failed>
+    ensures { Gives (version_line version) (sink_state K.Sink sink.old) (sink_state K.Sink sink.new) result }
+{
+    give_line(sink, &[Text(b"version "), Number(u64::from(version))])
+}
+
+/// Gives the lines of a file.
+fn give_reading<K: Sink>(sink: &mut K, found: &Reading) -> Result<(), Failed>
+    ensures { Gives (reading_text found.now) (sink_state K.Sink sink.old) (sink_state K.Sink sink.new) result }
+{
+    give_version(sink, found.version)?;
+    give_groups(sink, &found.measurement)?;
+    give_total(sink, &found.measurement)
+}
+
+/// Gives the lines with which the command ends.
+fn give_end<K: Sink>(sink: &mut K, end: &Result<Reading, Fault>) -> Result<(), Failed>
+    ensures { Gives (info_text end.now) (sink_state K.Sink sink.old) (sink_state K.Sink sink.new) result }
+{
+    match end {
+        Ok(found) => give_reading(sink, found),
+        Err(fault) => fault.give(sink),
+    }
+}
+
+/// `info IN`: prints the version of the file, its groups and how many samples they have, or why it is not read.
+pub fn run_info<K: Sink, A: Disk>(alloc: Global, input: &Bytes, sink: &mut K, first: &mut A) -> u8
+    requires { A.asked first.old ≡ None }
+    ensures ends { EndsInfo (state_of A.Disk first.old) (state_of A.Disk first.new)
+        (sink_state K.Sink sink.old) (sink_state K.Sink sink.new) result }
+    ensures asked { (A.asked first.new ≡ None) ⊎ (A.asked first.new ≡ Some (input.now, Read)) }
+    ensures content { A.content first.new ≡ A.content first.old }
+    ensures untouched { A.asked first.new ≡ None → first.new ≡ first.old }
+{
+    let end = read_input(alloc, input, first);
+    let given = give_end(sink, &end);
+    status_after(given, status(&end))
+}
