@@ -1,4 +1,4 @@
-ghost use Rattle.std.specs.Prelude.{◌≡◌, ◌⊎◌, ◌<◌, Some, None, length, slice_index_or};
+ghost use Rattle.std.specs.Prelude.{◌≡◌, ◌⊎◌, ◌<◌, ◌≤◌, Some, None, length, slice_index_or};
 ghost use Rattle.mdf_disk.specs.State.{state_of};
 ghost use Rattle.mdf_disk.specs.declared.role.Role.TheVariants.{Read};
 ghost use Rattle.mdf_model.specs.declared.part.Measure.{Measure};
@@ -60,13 +60,22 @@ fn give_groups<K: Sink>(sink: &mut K, found: &Measurement) -> Result<(), Failed>
     Ok(())
 }
 
+/// How many samples a group has.
+fn samples_of(found: &Measurement, group: u32) -> u128
+    requires { group < length found.now.groups }
+    ensures count { (d : Measure) → result ≡ (slice_index_or found.now.groups group d).count }
+    ensures small { result ≤ 18446744073709551615 }
+{
+    u128::from(found.samples(group))
+}
+
 /// How many samples all groups have.
 fn total(found: &Measurement) -> u128
     ensures { result ≡ total found.now.groups }
 {
     let mut total = 0u128;
     for group in 0..found.groups() {
-        total += u128::from(found.samples(group));
+        total += samples_of(found, group);
     }
     total
 }

@@ -11,8 +11,8 @@ loop-group-preserved c =
     let i = c.loop-group.group in
     let within : i < length xs = omega (arith, c.loop-group-test.true, c.groups-group-end.ensures) in
     let d = first_of xs i within in record {
-      counted = total_more xs i d _ _ within c.loop-group.invariant.counted (c.from-total.ensures ∙ c.samples.ensures d);
-      small = omega (arith, c.loop-group.invariant.small, c.from-total.ensures, c.samples.auto, c.ranges);
+      counted = total_more xs i d _ _ within c.loop-group.invariant.counted (c.samples_of-total.ensures.count d);
+      small = omega (arith, c.loop-group.invariant.small, c.samples_of-total.ensures.small);
     }
 
 pub returns : goal.returns
