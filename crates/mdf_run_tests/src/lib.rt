@@ -4,6 +4,8 @@
 #[cfg(test)]
 mod kinds;
 #[cfg(test)]
+mod readings;
+#[cfg(test)]
 mod recordings;
 #[cfg(test)]
 mod runs;

@@ -28,7 +28,7 @@ const TWO_BLOCKS: [Part; 17] = [
     (280, b"\x28"),
 ];
 
-fn put(file: &mut Vec<u8>, (at, part): Part) {
+pub fn put(file: &mut Vec<u8>, (at, part): Part) {
     if at <= file.len() && part.len() <= file.len() - at {
         file[at..at + part.len()].copy_from_slice(part);
     }

@@ -13,11 +13,11 @@ use std::thread::Threads;
 
 /// What a run is given: the command words, the text at the source, and which calls of the source and of the sink fail.
 #[derive(Clone, Copy)]
-struct Given {
-    words: &'static [&'static str],
-    script: &'static str,
-    broken: &'static [u64],
-    failing: &'static [u64],
+pub struct Given {
+    pub words: &'static [&'static str],
+    pub script: &'static str,
+    pub broken: &'static [u64],
+    pub failing: &'static [u64],
 }
 
 /// What a run left, and what it printed.
@@ -104,7 +104,7 @@ fn record_line<A>(alloc: Global, ended: &Ended<A>) -> Result<String, Fail> {
     Ok(format!(in alloc; "{line}file {length} history {accepted} marks {marks:?}")?)
 }
 
-fn told<R, A>(rt: &R, given: Given, first: A) -> Result<String, Fail>
+pub fn told<R, A>(rt: &R, given: Given, first: A) -> Result<String, Fail>
 where
     R: AllocGlobal + Threads + Wait + Sync,
     A: Disk + Drop,
@@ -287,7 +287,7 @@ fn an_input_over_the_limit_is_refused(rt: HostRuntime) -> Result<(), Fail> {
 }
 
 // Three samples of one channel, with a flush after the second.
-const COUNTING: &str = "group 0 g\nchannel t u64 master\nbegin\n0 1\n0 2\n! 0\n0 3\nend\n";
+pub const COUNTING: &str = "group 0 g\nchannel t u64 master\nbegin\n0 1\n0 2\n! 0\n0 3\nend\n";
 
 // The same with one record of 9 bytes a block, and with session limits that have room for one sample and for two, of which
 // each costs 145.
