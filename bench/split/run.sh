@@ -17,13 +17,13 @@ trap 'rm -rf "$work"' EXIT
 
 program="$work/crates/bench_split"
 mkdir -p "$program/src" "$program/proofs/sum_of"
-for crate in mdf_format mdf_num mdf_block mdf_data; do
+for crate in mdf_format mdf_num mdf_block mdf_stream mdf_data; do
     cp -r "$top/crates/$crate" "$work/crates/"
 done
 cp "$here/program.rt.txt" "$program/src/main.rt"
 cp "$here/invariants.antt.txt" "$program/proofs/sum_of/Invariants.antt"
-grep -E '^(mdf_format|mdf_num|mdf_block|mdf_data):' "$top/crates.txt" > "$work/crates.txt"
-echo 'bench_split: mdf_num mdf_data' >> "$work/crates.txt"
+grep -E '^(mdf_format|mdf_num|mdf_block|mdf_stream|mdf_data):' "$top/crates.txt" > "$work/crates.txt"
+echo 'bench_split: mdf_num mdf_stream mdf_data' >> "$work/crates.txt"
 if ! (cd "$program" && rt run) > "$work/log" 2>&1; then
     cat "$work/log" >&2
     exit 1

@@ -5,9 +5,9 @@ use Rattle.std.specs.List.{flat_map}
 use Rattle.mdf_format.specs.Number.{bytes_at}
 use Rattle.mdf_num.specs.Span.{IsTold}
 use Rattle.std.specs.Prelude.{Option, Some}
-use Rattle.mdf_data.specs.declared.part.Part.{Part}
-use Rattle.mdf_data.specs.Parts.{stream_of, stream_size, ArePartsInside}
-use Rattle.mdf_data.proofs.Joins.{length-stream, told_inside}
+use Rattle.mdf_stream.specs.declared.part.Part.{Part}
+use Rattle.mdf_stream.specs.Parts.{stream_of, stream_size, ArePartsInside}
+use Rattle.mdf_stream.proofs.Joins.{length-stream, told_inside}
 
 -- one more item
 pub one_more : {A B : Type 0} (piece : A → List B) (xs : List A) (k : ℕ) (x d : A) → k < length xs → x ≡ get_or xs k d

@@ -4,9 +4,9 @@ use Rattle.std.specs.List.{flat_map, list_any}
 use Rattle.mdf_format.specs.Number.{bytes_at}
 use Rattle.mdf_format.specs.declared.kind.Kind.TheVariants.{Dt}
 use Rattle.mdf_block.specs.Refusal.{Read, ◌>>=◌}
-use Rattle.mdf_data.specs.declared.part.Part.{Part}
-use Rattle.mdf_data.specs.Parts.{stream_of, stream_size}
-use Rattle.mdf_data.specs.Link.{data_parts}
+use Rattle.mdf_stream.specs.declared.part.Part.{Part}
+use Rattle.mdf_stream.specs.Parts.{stream_of, stream_size}
+use Rattle.mdf_stream.specs.Link.{data_parts}
 use Rattle.mdf_group.specs.declared.row.GroupRow.{GroupRow}
 use Rattle.mdf_group.specs.declared.row.DataRow.{DataRow}
 use Rattle.mdf_group.specs.Group.{is_variable}

@@ -5,11 +5,11 @@ use Rattle.mdf_format.specs.Number.{le_number, bytes_at}
 use Rattle.mdf_format.specs.Field.{field_number}
 use Rattle.mdf_format.specs.declared.kind.Kind.TheVariants.{Sd}
 use Rattle.mdf_block.specs.Refusal.{Offset, Read, ◌>>=◌}
-use Rattle.mdf_data.specs.declared.part.Part.{Part}
-use Rattle.mdf_data.specs.Parts.{stream_of, stream_size, ArePartsInside}
+use Rattle.mdf_stream.specs.declared.part.Part.{Part}
+use Rattle.mdf_stream.specs.Parts.{stream_of, stream_size, ArePartsInside}
 use Rattle.mdf_data.specs.Places.{HaveRoom}
-use Rattle.mdf_data.specs.Link.{data_parts}
-use Rattle.mdf_data.specs.Range.{parts_between}
+use Rattle.mdf_stream.specs.Link.{data_parts}
+use Rattle.mdf_stream.specs.Range.{parts_between}
 use Rattle.mdf_group.specs.declared.row.ChannelRow.{ChannelRow}
 use Rattle.mdf_group.specs.declared.row.GroupRow.{GroupRow}
 use Rattle.mdf_group.specs.Group.{is_variable}

@@ -5,7 +5,7 @@ ghost use Rattle.std.specs.BTreeSet.{contains};
 ghost use Rattle.mdf_format.specs.Number.{bytes_at};
 ghost use Rattle.mdf_num.specs.Halt.{HaltCause, StopCause};
 ghost use Rattle.mdf_block.specs.Refusal.{Gives, IsPlain};
-ghost use Rattle.mdf_data.specs.Parts.{stream_of, stream_size, ArePartsInside};
+ghost use Rattle.mdf_stream.specs.Parts.{stream_of, stream_size, ArePartsInside};
 ghost use Rattle.mdf_data.specs.Places.{HaveRoom};
 ghost use Rattle.mdf_group.specs.Group.{is_variable};
 ghost use Rattle.mdf_content.specs.Fault.{read_refusal};
@@ -182,7 +182,7 @@ struct Groups<'a> {
 }
 
 impl Visit for Groups<'_> {
-    ghost use Rattle.mdf_data.specs.Parts.{stream_size};
+    ghost use Rattle.mdf_stream.specs.Parts.{stream_size};
     ghost use Rattle.mdf_content.specs.Records.{HasRoom};
     ghost use Rattle.mdf_content.specs.Values.{IsHeld, held_of};
     ghost use Rattle.mdf_content.specs.Contents.{group_item};

@@ -1,8 +1,8 @@
 ghost use Rattle.std.specs.Prelude.{◌≡◌, ◌^◌, ◌<◌, ℕ, List, Some, length, true, IfOk, IfErr};
 ghost use Rattle.mdf_num.specs.Halt.{HaltCause};
 ghost use Rattle.mdf_block.specs.Refusal.{Gives, IsPlain};
-ghost use Rattle.mdf_data.specs.Parts.{stream_of, stream_size, ArePartsInside};
-ghost use Rattle.mdf_data.specs.Link.{data_parts};
+ghost use Rattle.mdf_stream.specs.Parts.{stream_of, stream_size, ArePartsInside};
+ghost use Rattle.mdf_stream.specs.Link.{data_parts};
 ghost use Rattle.mdf_data.specs.Record.{IsIdSize};
 ghost use Rattle.mdf_data.specs.Places.{places, HaveRoom};
 ghost use Rattle.mdf_content.specs.Fault.{read_refusal};

@@ -1,7 +1,7 @@
 ghost use Rattle.std.specs.Prelude.{◌≡◌, ◌+◌, ◌^◌, ◌<◌, [], ℕ, List, Some, length, map, slice_index_or, true, IsTrue, IfOk, IfErr};
 ghost use Rattle.mdf_num.specs.Halt.{HaltCause};
 ghost use Rattle.mdf_block.specs.Refusal.{Gives, IsPlain};
-ghost use Rattle.mdf_data.specs.Parts.{stream_of, stream_size, ArePartsInside};
+ghost use Rattle.mdf_stream.specs.Parts.{stream_of, stream_size, ArePartsInside};
 ghost use Rattle.mdf_data.specs.Places.{HaveRoom};
 ghost use Rattle.mdf_content.specs.Fault.{read_refusal};
 ghost use Rattle.mdf_content.specs.Layouts.{has_id_size};

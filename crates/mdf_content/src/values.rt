@@ -7,8 +7,8 @@ ghost use Rattle.mdf_format.specs.Field.{covered_end, covered_size, field_number
 ghost use Rattle.mdf_bits.specs.Field.{spot_of};
 ghost use Rattle.mdf_num.specs.Halt.{HaltCause, StopCause};
 ghost use Rattle.mdf_block.specs.Refusal.{Gives, IsPlain};
-ghost use Rattle.mdf_data.specs.Parts.{stream_of, stream_size, ArePartsInside};
-ghost use Rattle.mdf_data.specs.Range.{parts_between};
+ghost use Rattle.mdf_stream.specs.Parts.{stream_of, stream_size, ArePartsInside};
+ghost use Rattle.mdf_stream.specs.Range.{parts_between};
 ghost use Rattle.mdf_group.specs.Group.{is_variable};
 ghost use Rattle.mdf_layout.specs.Rule.{spot_in};
 ghost use Rattle.mdf_content.specs.Fault.{read_refusal};
@@ -408,7 +408,7 @@ struct Channels<'a> {
 }
 
 impl Visit for Channels<'_> {
-    ghost use Rattle.mdf_data.specs.Parts.{stream_size};
+    ghost use Rattle.mdf_stream.specs.Parts.{stream_size};
     ghost use Rattle.mdf_content.specs.Values.{AreWithin, IsHeld, channel_item, held_of, records_of};
     ghost use Rattle.mdf_content.specs.Layouts.{HasOffset};
 

@@ -1,8 +1,3 @@
-pub mod Joins
-pub mod Links
-pub mod Ranges
-pub mod Streams
-pub mod Truths
 pub mod Groups
 pub mod Spreads
 pub mod Steps

@@ -17,7 +17,7 @@ use Rattle.mdf_data.specs.declared.known.Group.{Group}
 use Rattle.mdf_data.specs.Record.{group_of, body_size, id_at, whole_piece, group_piece, piece_with, piece_at}
 use Rattle.mdf_data.specs.Places.{pieces_after, pieces_from, pieces}
 use Rattle.mdf_data.specs.Split.{Record, IsValue, IsBody, IsRecord, record_of, IsRefusedAt, IsRecordSplit}
-use Rattle.mdf_data.proofs.Joins.{bytes_at-add}
+use Rattle.mdf_stream.proofs.Joins.{bytes_at-add}
 
 ok_injective : {A : Type 0} (x y : A) → ◌≡◌ {A = Read A} (Ok x) (Ok y) → x ≡ y
 ok_injective x y same = cc

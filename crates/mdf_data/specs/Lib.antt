@@ -1,9 +1,3 @@
-pub mod Parts
-pub mod Stretch
-pub mod Range
-pub mod Link
-pub mod Truth
-pub mod Stream
 pub mod Record
 pub mod Splitting
 pub mod Places

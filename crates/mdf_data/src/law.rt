@@ -1,22 +1,9 @@
-ghost use Rattle.std.specs.Prelude.{◌≡◌, ◌-◌, ◌≤◌, ◌⊎◌, ◌∷◌, ℕ, List, [], Ok, Err, length, map, drop, min};
+ghost use Rattle.std.specs.Prelude.{◌≡◌, ◌≤◌, ◌∷◌, ℕ, List, [], Ok, Err, length, map, drop};
 ghost use Rattle.mdf_block.specs.Refusal.{Refusal};
+ghost use Rattle.mdf_data.specs.declared.known.Known.{Known};
 ghost use Rattle.mdf_data.specs.declared.known.Piece.{Piece};
 ghost use Rattle.mdf_data.specs.Places.{pieces, places_alone};
-ghost use Rattle.mdf_format.specs.Number.{bytes_at};
-ghost use Rattle.mdf_format.specs.declared.kind.Kind.{Kind};
-ghost use Rattle.mdf_format.specs.declared.kind.Kind.TheVariants.{Dt, Sd};
-ghost use Rattle.mdf_data.specs.declared.known.Known.{Known};
-ghost use Rattle.mdf_data.specs.declared.part.Part.{Part};
-ghost use Rattle.mdf_data.specs.Parts.{stream_of, stream_size, ArePartsInside};
-ghost use Rattle.mdf_data.specs.Range.{parts_between};
-ghost use Rattle.mdf_data.specs.Stream.{IsStream};
 ghost use Rattle.mdf_data.specs.Split.{Record, IsRecordSplit, record_of, alone_at, IsRefusedAt};
-
-/// A link to data has one stream.
-pub fn streams_agree()
-    ensures { (file : List ℕ) (link : ℕ) (kind : Kind) (xs ys : List ℕ) → (kind ≡ Dt) ⊎ (kind ≡ Sd)
-        → IsStream file link kind xs → IsStream file link kind ys → xs ≡ ys }
-{}
 
 /// A stream has one split into records and a rest.
 pub fn record_splits_agree()
@@ -42,11 +29,4 @@ pub fn places_alone_are_the_split()
     ensures { (stream : List ℕ) (group : Known) (known : List Known) (empties : ℕ)
         → (rest : List ℕ) × IsRecordSplit stream 0 (group ∷ known) empties
         (map (alone_at stream group.size) (places_alone (length stream) empties group.size)) rest }
-{}
-
-/// The parts of a range of a stream have the bytes of that range, as many as the stream has there.
-pub fn a_range_has_its_bytes()
-    ensures bytes { (file : List ℕ) (parts : List Part) (at len : ℕ) → ArePartsInside (length file) parts
-        → stream_of file (parts_between parts at len) ≡ bytes_at len (stream_of file parts) at }
-    ensures size { (parts : List Part) (at len : ℕ) → stream_size (parts_between parts at len) ≡ min (stream_size parts - at) len }
 {}

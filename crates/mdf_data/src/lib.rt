@@ -1,31 +1,24 @@
-//! The data of an MDF 4 file: parts of the file that a data link leads to, read as one stream, and its records.
+//! The records in the data of an MDF 4 file: each a place in the stream of a data link.
 //!
-//! Nothing is copied. A record is a place in the stream, and a place is found by a search over the parts.
+//! Nothing is copied. The stream and its reading are those of `mdf_stream`, whose names stand here too.
 #![tactic(auto)]
 
 mod fault;
 mod known;
 mod law;
-mod link;
-mod part;
 mod places;
 mod record;
 mod splitter;
 mod spread;
-mod stretch;
 mod table;
-mod view;
 
-pub use fault::{DataFault, SplitFault};
+pub use fault::SplitFault;
 pub use known::{Known, Piece, Size};
 pub use law::{
-    a_range_has_its_bytes, a_refusal_leaves_the_rest, places_alone_are_the_split,
-    record_splits_agree, records_are_the_split, streams_agree,
+    a_refusal_leaves_the_rest, places_alone_are_the_split, record_splits_agree,
+    records_are_the_split,
 };
-pub use link::{view_data, view_data_in};
-pub use mdf_format::Kind;
-pub use part::Part;
+pub use mdf_stream::{DataFault, DataView, Kind, Part, view_data, view_data_in};
 pub use places::Places;
 pub use splitter::Splitter;
 pub use spread::{places_alone, places_in};
-pub use view::DataView;

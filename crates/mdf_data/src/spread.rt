@@ -4,7 +4,7 @@ ghost use Rattle.std.specs.Ordering.{nat_cmp};
 ghost use Rattle.mdf_num.specs.Halt.{HaltCause};
 ghost use Rattle.mdf_block.specs.Refusal.{Gives};
 ghost use Rattle.mdf_data.specs.declared.known.Known.{Known};
-ghost use Rattle.mdf_data.specs.Parts.{stream_of, stream_size, ArePartsInside};
+ghost use Rattle.mdf_stream.specs.Parts.{stream_of, stream_size, ArePartsInside};
 ghost use Rattle.mdf_data.specs.Record.{IsIdSize, piece_at, split_refusal, IsPieceAt};
 ghost use Rattle.mdf_data.specs.Table.{IsTable};
 ghost use Rattle.mdf_data.specs.Places.{with_place, places, places_alone, HaveRoom};

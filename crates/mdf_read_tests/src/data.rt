@@ -1,5 +1,5 @@
 ghost use Rattle.std.specs.Prelude.{◌≡◌, ◌≤◌, length, IfOk};
-ghost use Rattle.mdf_data.specs.Parts.{stream_size, ArePartsInside};
+ghost use Rattle.mdf_stream.specs.Parts.{stream_size, ArePartsInside};
 
 use crate::files::{Piece, file_of, put_number, set_link};
 use crate::span::span_over;

@@ -1,4 +1,4 @@
-use Rattle.mdf_data.specs.Parts.{stream_size}
+use Rattle.mdf_stream.specs.Parts.{stream_size}
 use Rattle.mdf_content.proofs.Rooms.{rooms}
 use Rattle.mdf_content.proofs.contents.all_contents_in.Goals as goal
 

@@ -1,5 +1,5 @@
 use Rattle.std.proofs.Common.{◌≡◌, ◌-◌, ◌≤◌, ℕ, List, Some, length, take}
-use Rattle.mdf_data.specs.Parts.{stream_of}
+use Rattle.mdf_stream.specs.Parts.{stream_of}
 use Rattle.mdf_content.specs.Contents.{content_of}
 use Rattle.mdf_content.proofs.contents.content_in.Given as goal
 

@@ -1,5 +1,5 @@
 use Rattle.std.proofs.Common.{map, sym, subst}
-use Rattle.mdf_data.specs.Parts.{stream_size}
+use Rattle.mdf_stream.specs.Parts.{stream_size}
 use Rattle.mdf_data.specs.Places.{HaveRoom}
 use Rattle.mdf_content.specs.Records.{known_of}
 use Rattle.mdf_content.proofs.contents.data_in.Goals as goal

@@ -1,5 +1,5 @@
 use Rattle.std.proofs.Common.{List, map, sym, subst}
-use Rattle.mdf_data.specs.Parts.{stream_size}
+use Rattle.mdf_stream.specs.Parts.{stream_size}
 use Rattle.mdf_data.specs.Places.{HaveRoom}
 use Rattle.mdf_group.specs.declared.row.GroupRow.{GroupRow}
 use Rattle.mdf_content.specs.Records.{known_of}

@@ -1,7 +1,7 @@
 use Rattle.std.proofs.Common.{◌+◌, ◌≤◌, sym, ◌∙◌, ap, subst}
 use Rattle.std.specs.List.{AllByRecursion}
 use Rattle.std.specs.Prelude.{slice_index_or}
-use Rattle.mdf_data.specs.Parts.{stream_size}
+use Rattle.mdf_stream.specs.Parts.{stream_size}
 use Rattle.mdf_content.proofs.Tables.{values_room}
 use Rattle.mdf_content.proofs.values.channel_values_in.Goals as goal
 

@@ -2,7 +2,7 @@ use Rattle.std.proofs.Common.{◌+◌, ℕ, ◌∙◌, ap, arith}
 use Rattle.mdf_format.specs.Number.{bytes_at}
 use Rattle.mdf_format.specs.Field.{field_number}
 use Rattle.mdf_bits.specs.Field.{spot_of}
-use Rattle.mdf_data.specs.Parts.{stream_of}
+use Rattle.mdf_stream.specs.Parts.{stream_of}
 use Rattle.mdf_content.proofs.Spots.{same_number}
 use Rattle.mdf_content.proofs.values.number_by.Goals as goal
 

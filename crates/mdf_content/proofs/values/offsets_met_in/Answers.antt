@@ -1,6 +1,6 @@
 use Rattle.std.proofs.Common.{sym, ◌∙◌, arith}
 use Rattle.std.proofs.lemmas.Result.{err_from_is_err_and}
-use Rattle.mdf_data.specs.Parts.{stream_of, stream_size}
+use Rattle.mdf_stream.specs.Parts.{stream_of, stream_size}
 use Rattle.mdf_content.specs.Fault.{read_refusal}
 use Rattle.mdf_content.specs.Values.{has_value, offset_in, records_of}
 use Rattle.mdf_content.proofs.Offsets.{is_done, goes_on, ends}

@@ -1,5 +1,5 @@
 use Rattle.std.proofs.Common.{◌≡◌, ◌-◌, ◌≤◌, ℕ, List, Some}
-use Rattle.mdf_data.specs.Parts.{stream_of, stream_size}
+use Rattle.mdf_stream.specs.Parts.{stream_of, stream_size}
 use Rattle.mdf_content.specs.Values.{has_value, offset_in, offsets_met, records_of}
 use Rattle.mdf_content.proofs.values.offsets_met_in.Given as goal
 

@@ -1,6 +1,6 @@
 use Rattle.std.proofs.Common.{ℕ, ◌∙◌, ap}
 use Rattle.mdf_format.specs.Number.{bytes_at}
-use Rattle.mdf_data.specs.Parts.{stream_of}
+use Rattle.mdf_stream.specs.Parts.{stream_of}
 use Rattle.mdf_content.proofs.Takes.{whole_stream}
 use Rattle.mdf_content.proofs.values.stream_in.Goals as goal
 

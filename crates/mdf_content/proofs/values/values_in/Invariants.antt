@@ -1,5 +1,5 @@
 use Rattle.std.proofs.Common.{◌≡◌, ◌-◌, ◌≤◌, ℕ, List, Some, length, take}
-use Rattle.mdf_data.specs.Parts.{ArePartsInside}
+use Rattle.mdf_stream.specs.Parts.{ArePartsInside}
 use Rattle.mdf_content.specs.Values.{values_at}
 use Rattle.mdf_content.proofs.values.values_in.Given as goal
 

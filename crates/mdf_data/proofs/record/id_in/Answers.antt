@@ -1,7 +1,7 @@
 use Rattle.std.proofs.Common.{◌≡◌, ℕ, length, ◌∙◌, ap}
 use Rattle.std.proofs.lemmas.List.{length-take-le}
 use Rattle.mdf_format.specs.Number.{le_number, bytes_at}
-use Rattle.mdf_data.specs.Parts.{stream_of}
+use Rattle.mdf_stream.specs.Parts.{stream_of}
 use Rattle.mdf_data.proofs.Ids.{id_short, zeros, id_number}
 use Rattle.mdf_data.proofs.record.id_in.Goals as goal
 

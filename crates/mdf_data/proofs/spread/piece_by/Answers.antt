@@ -1,5 +1,5 @@
 use Rattle.std.proofs.Common.{◌∙◌}
-use Rattle.mdf_data.specs.Parts.{stream_size}
+use Rattle.mdf_stream.specs.Parts.{stream_size}
 use Rattle.mdf_data.proofs.Groups.{piece_stands}
 use Rattle.mdf_data.proofs.spread.piece_by.Goals as goal
 

@@ -4,7 +4,7 @@ use Rattle.std.proofs.Math.ListN.{length-set}
 use Rattle.std.specs.BTreeMap.{get}
 use Rattle.std.specs.Ordering.{nat_cmp}
 use Rattle.std.proofs.lemmas.Result.{err_from_is_err_and}
-use Rattle.mdf_data.specs.Parts.{stream_of, stream_size}
+use Rattle.mdf_stream.specs.Parts.{stream_of, stream_size}
 use Rattle.mdf_data.specs.Record.{split_refusal}
 use Rattle.mdf_data.proofs.Spreads.{begins, goes_on, is_done, ends, none_of, room_more, room_none, some_stands, moves_on, shrinks}
 use Rattle.mdf_data.proofs.spread.places_in.Goals as goal

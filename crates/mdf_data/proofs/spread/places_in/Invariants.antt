@@ -1,5 +1,5 @@
 use Rattle.std.proofs.Common.{◌≡◌, ◌-◌, ◌≤◌, ℕ, List, Some, length}
-use Rattle.mdf_data.specs.Parts.{stream_of, stream_size}
+use Rattle.mdf_stream.specs.Parts.{stream_of, stream_size}
 use Rattle.mdf_data.specs.Places.{places, HaveRoom}
 use Rattle.mdf_data.proofs.Spreads.{Leads}
 use Rattle.mdf_data.proofs.spread.places_in.Given as goal

@@ -1,6 +1,6 @@
 use Rattle.std.proofs.Common.{◌≡◌, List, ◌∙◌, ap, subst}
 use Rattle.mdf_data.specs.declared.known.Known.{Known}
-use Rattle.mdf_data.specs.Parts.{stream_size}
+use Rattle.mdf_stream.specs.Parts.{stream_size}
 use Rattle.mdf_data.specs.Record.{group_of, IsPieceAt}
 use Rattle.mdf_data.specs.Splitting.{Splitting}
 use Rattle.mdf_data.proofs.Groups.{piece_stands}

@@ -1,5 +1,0 @@
-use Rattle.mdf_data.proofs.Streams.{streams_agree}
-use Rattle.mdf_data.proofs.law.streams_agree.Goals as goal
-
-pub returns : goal.returns
-returns c = streams_agree

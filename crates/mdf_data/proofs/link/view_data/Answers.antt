@@ -1,7 +1,0 @@
-use Rattle.std.proofs.Common.{rules}
-use Rattle.mdf_data.proofs.Streams.{stream_found}
-use Rattle.mdf_data.proofs.link.view_data.Goals as goal
-
-pub returns-in-Ok-clause-stream : goal.returns-in-Ok-clause-stream
-returns-in-Ok-clause-stream c =
-    stream_found c.args.bytes.now c.args.want c.args.at _ (c.in-Ok.ensures.found c.args.bytes.now (search rules))

@@ -1,7 +1,0 @@
-use Rattle.std.proofs.Common.{refl, lit<}
-use Rattle.mdf_data.specs.Stretch.{AreJoined}
-use Rattle.mdf_data.proofs.view.DataView.empty.Goals as goal
-
-pub invariant_of-result : goal.invariant_of-result
-unfolding AreJoined
-invariant_of-result c = rw c.new.ensures.items (refl, lit< tt)

@@ -1,0 +1,290 @@
+ghost use Rattle.std.specs.Prelude.{◌≡◌, ◌-◌, ◌≤◌, ◌++◌, ◌∷◌, [], ℕ, List, Some, length, true, IfOk, IfErr, IfSome, OnOk};
+ghost use Rattle.std.specs.List.{AllByRecursion};
+ghost use Rattle.mdf_format.specs.declared.kind.Kind.TheVariants.{Dl};
+ghost use Rattle.mdf_num.specs.Halt.{HaltCause};
+ghost use Rattle.mdf_block.specs.Refusal.{Gives, GivesOf, IsPlain};
+ghost use Rattle.mdf_block.specs.Block.{block, IsInside, IsFilled};
+ghost use Rattle.mdf_block.specs.Each.{each};
+ghost use Rattle.mdf_stream.specs.Parts.{IsPartInside, ArePartsInside, stream_of};
+ghost use Rattle.mdf_stream.specs.Link.{data_refusal, data_block, named_block, data_list, data_lists, listed_parts, one_part, data_parts, part_of, joined};
+ghost use Rattle.mdf_stream.specs.Truth.{IsTrueOfLink, IfFault};
+ghost use Rattle.mdf_stream.specs.Stream.{IsStream};
+
+use crate::{DataFault, DataView, Part};
+use mdf_block::{BlockAt, BlockFault, Kind, block_in, is_named_in, link_in};
+use mdf_num::{Halt, Memory, Rows, SliceSpan, Span};
+use std::alloc::Global;
+
+/// How many blocks a data link may lead to, the DLBLOCKs counted.
+const MOST_BLOCKS: u64 = 1_048_576;
+
+/// How many bytes a stream has fewer than. No file's blocks have as many, so that more count as want of memory.
+const LONGEST: u64 = 1 << 62;
+
+/// A block, with the faults of this crate.
+fn block_of<P: Span>(span: &mut P, at: u64, want: Kind) -> Result<BlockAt, Halt<DataFault>>
+    ensures found { (f : List ℕ) → P.bytes span.old ≡ Some f → Gives data_refusal result (block f at want) }
+    ensures plain { IfErr result (IsPlain data_refusal) }
+    ensures inside { IfOk result (IsInside (P.size span.old)) }
+    ensures filled { IfOk result (IsFilled want) }
+    ensures same { P.bytes span.new ≡ P.bytes span.old }
+    ensures size { P.size span.new ≡ P.size span.old }
+    ensures cause { HaltCause P.may_want (P.faults span.old) (P.faults span.new) result }
+{
+    match block_in(span, at, want) {
+        Ok(block) => Ok(block),
+        Err(Halt::Fault(BlockFault::Bad { at, want })) => Err(Halt::Fault(DataFault::Bad {
+            at,
+            want,
+        })),
+        Err(Halt::Fault(BlockFault::Compressed { at })) => {
+            Err(Halt::Fault(DataFault::Compressed { at }))
+        }
+        Err(Halt::Failed) => Err(Halt::Failed),
+        Err(Halt::Memory) => Err(Halt::Memory),
+    }
+}
+
+/// The body of a block.
+fn part_of(block: &BlockAt) -> Part
+    ensures { result ≡ part_of block.now }
+{
+    Part {
+        at: block.body_at,
+        len: block.body_len,
+    }
+}
+
+/// The block of data at `at`, and how many more may come.
+#[tactic(auto, unfolding(crate::specs::Link::data_block, crate::specs::Link::one_less))]
+fn data_block_in<P: Span>(
+    span: &mut P,
+    at: u64,
+    want: Kind,
+    left: u64,
+) -> Result<(Part, u64), Halt<DataFault>>
+    ensures found { (f : List ℕ) → P.bytes span.old ≡ Some f → Gives data_refusal result (data_block f want at left) }
+    ensures plain { IfErr result (IsPlain data_refusal) }
+    ensures inside { IfOk result (λ found. IsPartInside (P.size span.old) found.0) }
+    ensures same { P.bytes span.new ≡ P.bytes span.old }
+    ensures size { P.size span.new ≡ P.size span.old }
+    ensures cause { HaltCause P.may_want (P.faults span.old) (P.faults span.new) result }
+{
+    let block = block_of(span, at, want)?;
+    if left == 0 {
+        return Err(Halt::Fault(DataFault::TooMany { at }));
+    }
+    Ok((part_of(&block), left - 1))
+}
+
+/// The blocks of data that the links of a DLBLOCK after the first name, and how many more may come.
+fn named_in<P: Span>(
+    alloc: Global,
+    span: &mut P,
+    block: &BlockAt,
+    want: Kind,
+    most: u64,
+) -> Result<(Rows<Part>, u64), Halt<DataFault>>
+    requires inside { IsInside (P.size span.old) block.now }
+    ensures found { (f : List ℕ) → P.bytes span.old ≡ Some f →
+        Gives data_refusal result (each (named_block f want block.now.at) 1 (block.now.links - 1) most) }
+    ensures plain { IfErr result (IsPlain data_refusal) }
+    ensures inside { IfOk result (λ found. ArePartsInside (P.size span.old) found.0) }
+    ensures same { P.bytes span.new ≡ P.bytes span.old }
+    ensures size { P.size span.new ≡ P.size span.old }
+    ensures cause { HaltCause true (P.faults span.old) (P.faults span.new) result }
+{
+    let mut parts = Rows::empty(alloc);
+    let mut left = most;
+    let links = block.links;
+    let mut k = 1;
+    while k < links {
+        let link = link_in(span, block, k)?;
+        let (part, rest) = data_block_in(span, link, want, left)?;
+        parts.push(part)?;
+        left = rest;
+        k += 1;
+    }
+    Ok((parts, left))
+}
+
+/// The DLBLOCK at `at` with its blocks of data, the address of the next one, and how many more may come.
+#[tactic(auto, unfolding(crate::specs::Link::data_list, crate::specs::Link::one_less))]
+fn list_in<P: Span>(
+    alloc: Global,
+    span: &mut P,
+    want: Kind,
+    at: u64,
+    left: u64,
+) -> Result<(Rows<Part>, u64, u64), Halt<DataFault>>
+    ensures found { (f : List ℕ) → P.bytes span.old ≡ Some f → Gives data_refusal result (data_list f want at left) }
+    ensures plain { IfErr result (IsPlain data_refusal) }
+    ensures inside { IfOk result (λ found. ArePartsInside (P.size span.old) found.0) }
+    ensures same { P.bytes span.new ≡ P.bytes span.old }
+    ensures size { P.size span.new ≡ P.size span.old }
+    ensures cause { HaltCause true (P.faults span.old) (P.faults span.new) result }
+{
+    let block = block_of(span, at, Kind::Dl)?;
+    if left == 0 {
+        return Err(Halt::Fault(DataFault::TooMany { at }));
+    }
+    let (parts, rest) = named_in(alloc, span, &block, want, left - 1)?;
+    let next = link_in(span, &block, 0)?;
+    Ok((parts, next, rest))
+}
+
+/// The DLBLOCKs from `first` on with their blocks of data, and how many of both may still come.
+fn lists_in<P: Span>(
+    alloc: Global,
+    span: &mut P,
+    want: Kind,
+    first: u64,
+) -> Result<(Rows<Rows<Part>>, u64, u64), Halt<DataFault>>
+    ensures found { (f : List ℕ) → P.bytes span.old ≡ Some f → Gives data_refusal result (data_lists f want first) }
+    ensures plain { IfErr result (IsPlain data_refusal) }
+    ensures inside { IfOk result (λ found. AllByRecursion (ArePartsInside (P.size span.old)) found.0) }
+    ensures same { P.bytes span.new ≡ P.bytes span.old }
+    ensures size { P.size span.new ≡ P.size span.old }
+    ensures cause { HaltCause true (P.faults span.old) (P.faults span.new) result }
+{
+    let mut lists = Rows::empty(alloc);
+    let mut at = first;
+    let mut left = MOST_BLOCKS;
+    let mut room = MOST_BLOCKS;
+    while at != 0 {
+        if room == 0 {
+            block_of(span, at, Kind::Dl)?;
+            return Err(Halt::Fault(DataFault::TooMany { at }));
+        }
+        let (parts, next, rest) = list_in(alloc, span, want, at, left)?;
+        lists.push(parts)?;
+        at = next;
+        left = rest;
+        room -= 1;
+    }
+    Ok((lists, room, left))
+}
+
+/// Adds a part at the end of a view.
+fn add_one(view: &mut DataView, part: Part) -> Result<(), Memory>
+    ensures { OnOk result (view.new ≡ view.old ++ part ∷ []) }
+{
+    if part.len > u64::MAX - part.at || part.len >= LONGEST - view.len() {
+        return Err(Memory);
+    }
+    view.add(part.at, part.len)
+}
+
+/// Adds parts at the end of a view.
+fn add_all(view: &mut DataView, parts: &[Part]) -> Result<(), Memory>
+    ensures { OnOk result (view.new ≡ view.old ++ parts.now) }
+{
+    for part in parts {
+        add_one(view, *part)?;
+    }
+    Ok(())
+}
+
+/// The parts of all lists, as one view.
+fn view_of(alloc: Global, lists: &[Rows<Part>]) -> Result<DataView, Memory>
+    ensures { IfOk result (λ view. view ≡ joined lists.now) }
+{
+    let mut view = DataView::empty(alloc);
+    let mut k = 0;
+    while k < lists.len() {
+        add_all(&mut view, lists[k].as_slice())?;
+        k += 1;
+    }
+    Ok(view)
+}
+
+/// The blocks of data that the DLBLOCKs from `at` on list, as one view.
+fn listed_in<P: Span>(
+    alloc: Global,
+    span: &mut P,
+    at: u64,
+    want: Kind,
+) -> Result<DataView, Halt<DataFault>>
+    ensures found { (f : List ℕ) → P.bytes span.old ≡ Some f → Gives data_refusal result (listed_parts f want at) }
+    ensures plain { IfErr result (IsPlain data_refusal) }
+    ensures inside { IfOk result (ArePartsInside (P.size span.old)) }
+    ensures same { P.bytes span.new ≡ P.bytes span.old }
+    ensures size { P.size span.new ≡ P.size span.old }
+    ensures cause { HaltCause true (P.faults span.old) (P.faults span.new) result }
+{
+    let (lists, _, _) = lists_in(alloc, span, want, at)?;
+    let view = view_of(alloc, lists.as_slice())?;
+    Ok(view)
+}
+
+/// The one block of data at `at`, as a view.
+fn one_in<P: Span>(
+    alloc: Global,
+    span: &mut P,
+    at: u64,
+    want: Kind,
+) -> Result<DataView, Halt<DataFault>>
+    ensures found { (f : List ℕ) → P.bytes span.old ≡ Some f → Gives data_refusal result (one_part f want at) }
+    ensures plain { IfErr result (IsPlain data_refusal) }
+    ensures inside { IfOk result (ArePartsInside (P.size span.old)) }
+    ensures same { P.bytes span.new ≡ P.bytes span.old }
+    ensures size { P.size span.new ≡ P.size span.old }
+    ensures cause { HaltCause true (P.faults span.old) (P.faults span.new) result }
+{
+    let block = block_of(span, at, want)?;
+    let mut view = DataView::empty(alloc);
+    add_one(&mut view, part_of(&block))?;
+    Ok(view)
+}
+
+/// What a data link at `at` leads to, read through a span: nothing for 0, the body of the block of the kind that is
+/// wanted, or the bodies of the blocks that a chain of DLBLOCKs lists. Offsets, counts and flags of a DLBLOCK are passed
+/// over.
+///
+/// # Errors
+/// As `view_data`, and the span's own. The span is as before in what it tells.
+#[tactic(auto, unfolding(crate::specs::Link::data_parts))]
+pub fn view_data_in<P: Span>(
+    alloc: Global,
+    span: &mut P,
+    at: u64,
+    want: Kind,
+) -> Result<DataView, Halt<DataFault>>
+    ensures found { (f : List ℕ) → P.bytes span.old ≡ Some f → Gives data_refusal result (data_parts f want at) }
+    ensures refused { (f : List ℕ) → P.bytes span.old ≡ Some f → IfErr result (IfFault (IsTrueOfLink f want)) }
+    ensures plain { IfErr result (IsPlain data_refusal) }
+    ensures inside { IfOk result (ArePartsInside (P.size span.old)) }
+    ensures same { P.bytes span.new ≡ P.bytes span.old }
+    ensures size { P.size span.new ≡ P.size span.old }
+    ensures cause { HaltCause true (P.faults span.old) (P.faults span.new) result }
+{
+    if at == 0 {
+        return Ok(DataView::empty(alloc));
+    }
+    if is_named_in(span, at, Kind::Dl)? {
+        return listed_in(alloc, span, at, want);
+    }
+    one_in(alloc, span, at, want)
+}
+
+/// What a data link at `at` leads to: nothing for 0, the body of the block of the kind that is wanted, or the bodies of
+/// the blocks that a chain of DLBLOCKs lists. Offsets, counts and flags of a DLBLOCK are passed over.
+///
+/// # Errors
+/// The first fault in the order of the links, each DLBLOCK before the blocks that it lists, and these before the next
+/// DLBLOCK: `Bad` exactly where no block of the kind stands whole (a DLBLOCK where one is named or comes next, 0 among
+/// what it lists), `Compressed` exactly where a DZBLOCK or an HLBLOCK is named in place of a DT, an SD or a DL,
+/// `TooMany` at the block past 1,048,576; and `Memory`.
+pub fn view_data(alloc: Global, bytes: &[u8], at: u64, want: Kind) -> Result<DataView, DataFault>
+    ensures exact { GivesOf data_refusal result (data_parts bytes.now want at) }
+    ensures stream { IfOk result (λ view. IsStream bytes.now at want (stream_of bytes.now view)) }
+    ensures refused { IfErr result (λ fault. IfSome (data_refusal fault) (IsTrueOfLink bytes.now want)) }
+    ensures inside { IfOk result (ArePartsInside (length bytes.now)) }
+{
+    match view_data_in(alloc, &mut SliceSpan::new(bytes), at, want) {
+        Ok(view) => Ok(view),
+        Err(Halt::Fault(fault)) => Err(fault),
+        Err(Halt::Failed) => unreachable!(),
+        Err(Halt::Memory) => Err(DataFault::Memory),
+    }
+}

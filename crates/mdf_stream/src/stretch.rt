@@ -1,0 +1,119 @@
+ghost use Rattle.std.specs.Prelude.{◌≡◌, ◌+◌, ◌-◌, ◌^◌, ◌≤◌, ◌<◌, ◌++◌, ◌∷◌, ℕ, List, Some, length, drop, slice_index_or, IfOk, OnOk};
+ghost use Rattle.std.specs.List.Sorted.{IsNonDecreasingBy};
+ghost use Rattle.mdf_format.specs.Number.{bytes_at};
+ghost use Rattle.mdf_num.specs.Halt.{StopCause};
+ghost use Rattle.mdf_stream.specs.declared.stretch.Stretch.{Stretch};
+ghost use Rattle.mdf_stream.specs.Parts.{stream_of, ArePartsInside};
+ghost use Rattle.mdf_stream.specs.Stretch.{parts_of, AreJoined, front_len, front_part};
+ghost use Rattle.mdf_stream.specs.Range.{parts_between};
+
+use crate::Part;
+use mdf_num::{Span, Stop};
+
+/// A part of a stream.
+#[derive(Clone, Copy, Debug)]
+pub(crate) struct Stretch {
+    /// Where it stands in the file.
+    pub(crate) part: Part,
+    /// The place behind it in the stream.
+    pub(crate) end: u64,
+}
+
+/// The number of the first part that ends behind a place of the stream.
+pub(crate) fn stretch_at(items: &[Stretch], at: u64) -> usize
+    requires { IsNonDecreasingBy (λ (stretch : Stretch). stretch.end) items.now }
+    ensures bound { result ≤ length items.now }
+    ensures before { (k : ℕ) (d : Stretch) → k < result → (slice_index_or items.now k d).end ≤ at }
+    ensures behind { (d : Stretch) → result < length items.now → at < (slice_index_or items.now result d).end }
+{
+    items.partition_point(|stretch| stretch.end <= at)
+}
+
+/// The part that has a place of the stream.
+pub(crate) fn stretch_of(items: &[Stretch], end: u64, at: u64) -> Stretch
+    requires joined { AreJoined 0 items.now end }
+    requires within { at < end }
+    ensures begins { result.end ≤ at + result.part.len }
+    ensures behind { at < result.end }
+    ensures fits { result.part.at + result.part.len < 2 ^ 64 }
+    ensures inside { (size : ℕ) → ArePartsInside size (parts_of items.now) → result.part.at + result.part.len ≤ size }
+    ensures bytes { (f : List ℕ) (n : ℕ) → ArePartsInside (length f) (parts_of items.now) → at + n ≤ result.end →
+        bytes_at n (stream_of f (parts_of items.now)) at ≡ bytes_at n f (result.part.at + (result.part.len - (result.end - at))) }
+    ensures range { (len : ℕ) → 0 < len → parts_between (parts_of items.now) at len
+        ≡ front_part result at len ∷ parts_between (parts_of items.now) (at + front_len result at len) (len - front_len result at len) }
+{
+    let k = stretch_at(items, at);
+    items[k]
+}
+
+/// The first part of the range of `len` bytes from a place of the stream on.
+pub(crate) fn front_of(items: &[Stretch], end: u64, at: u64, len: u64) -> Part
+    requires joined { AreJoined 0 items.now end }
+    requires some { 0 < len }
+    requires within { at + len ≤ end }
+    ensures some { 0 < result.len }
+    ensures most { result.len ≤ len }
+    ensures fits { result.at + result.len < 2 ^ 64 }
+    ensures range { parts_between (parts_of items.now) at len
+        ≡ result ∷ parts_between (parts_of items.now) (at + result.len) (len - result.len) }
+{
+    let stretch = stretch_of(items, end, at);
+    let left = stretch.end - at;
+    Part {
+        at: stretch.part.at + (stretch.part.len - left),
+        len: left.min(len),
+    }
+}
+
+/// Fills the front of the buffer with the bytes of the stream from `at` on, as many as one part has, and answers how
+/// many.
+fn front_in<P: Span>(
+    span: &mut P,
+    items: &[Stretch],
+    end: u64,
+    at: u64,
+    buf: &mut [u8],
+) -> Result<usize, Stop>
+    requires joined { AreJoined 0 items.now end }
+    requires inside { ArePartsInside (P.size span.old) (parts_of items.now) }
+    requires some { 0 < length buf.old }
+    requires within { at + length buf.old ≤ end }
+    ensures some { IfOk result (λ n. 0 < n) }
+    ensures most { IfOk result (λ n. n ≤ length buf.old) }
+    ensures filled { IfOk result (λ n. (f : List ℕ) → P.bytes span.old ≡ Some f →
+        buf.new ≡ bytes_at n (stream_of f (parts_of items.now)) at ++ drop n buf.old) }
+    ensures same { P.bytes span.new ≡ P.bytes span.old }
+    ensures size { P.size span.new ≡ P.size span.old }
+    ensures cause { StopCause P.may_want (P.faults span.old) (P.faults span.new) result }
+{
+    let stretch = stretch_of(items, end, at);
+    let left = stretch.end - at;
+    let place = stretch.part.at + (stretch.part.len - left);
+    let count = (buf.len() as u64).min(left) as usize;
+    span.fill(place, &mut buf[..count])?;
+    Ok(count)
+}
+
+/// Fills the buffer with the bytes of the stream from `at` on, part by part.
+pub(crate) fn fill_in<P: Span>(
+    span: &mut P,
+    items: &[Stretch],
+    end: u64,
+    at: u64,
+    buf: &mut [u8],
+) -> Result<(), Stop>
+    requires joined { AreJoined 0 items.now end }
+    requires inside { ArePartsInside (P.size span.old) (parts_of items.now) }
+    requires within { at + length buf.old ≤ end }
+    ensures filled { OnOk result ((f : List ℕ) → P.bytes span.old ≡ Some f →
+        buf.new ≡ bytes_at (length buf.old) (stream_of f (parts_of items.now)) at) }
+    ensures same { P.bytes span.new ≡ P.bytes span.old }
+    ensures size { P.size span.new ≡ P.size span.old }
+    ensures cause { StopCause P.may_want (P.faults span.old) (P.faults span.new) result }
+{
+    let mut done = 0;
+    while done < buf.len() {
+        done += front_in(span, items, end, at + done as u64, &mut buf[done..])?;
+    }
+    Ok(())
+}

@@ -1,0 +1,173 @@
+ghost use Rattle.std.specs.Prelude.{◌≡◌, ◌+◌, ◌-◌, ◌^◌, ◌≤◌, ◌<◌, ◌↔◌, ◌++◌, ◌∷◌, [], ℕ, List, Some, length, take, IsTrue, IfOk, OnOk, OnErr};
+ghost use Rattle.mdf_format.specs.Number.{le_number, bytes_at};
+ghost use Rattle.mdf_num.specs.Halt.{StopCause};
+ghost use Rattle.mdf_stream.specs.Parts.{stream_of, stream_size, ArePartsInside};
+ghost use Rattle.mdf_stream.specs.Range.{parts_between};
+
+use crate::Part;
+use crate::stretch::{Stretch, fill_in, front_of};
+use mdf_block::u32_field;
+use mdf_num::{Memory, SliceSpan, Span, Stop};
+use std::alloc::Global;
+use std::marker::Model;
+
+/// Parts of a file, read one behind the other as one stream of less than 2^62 bytes. Contracts see it as the list of
+/// its parts.
+#[derive(Debug, Drop)]
+pub struct DataView {
+    items: Vec<Stretch>,
+    end: u64,
+}
+
+impl Model for DataView {
+    ghost use Rattle.std.specs.Prelude.{List, map, ◌<◌, ◌^◌};
+    ghost use Rattle.mdf_stream.specs.declared.part.Part.{Part};
+    ghost use Rattle.mdf_stream.specs.Stretch.{parts_of, AreJoined};
+
+    ghost Value = { List Part };
+
+    ghost view = { λ v. parts_of v.items.items };
+
+    ghost invariant = { λ v. AreJoined 0 v.items.items v.end × (v.end < 2 ^ 62) };
+}
+
+impl DataView {
+    /// A stream of no bytes. It takes no memory.
+    pub fn empty(alloc: Global) -> DataView
+        ensures { result ≡ [] }
+    {
+        DataView {
+            items: Vec::new(alloc),
+            end: 0,
+        }
+    }
+
+    /// How many bytes the stream has.
+    pub fn len(&self) -> u64
+        ensures size { result ≡ stream_size self.now }
+        ensures small { result < 2 ^ 62 }
+    {
+        self.end
+    }
+
+    pub fn is_empty(&self) -> bool
+        ensures { IsTrue result ↔ (stream_size self.now ≡ 0) }
+    {
+        self.len() == 0
+    }
+
+    /// Adds the `len` bytes from `at` on at the end of the stream.
+    ///
+    /// # Errors
+    /// Want of memory. The stream is as before.
+    pub fn add(&mut self, at: u64, len: u64) -> Result<(), Memory>
+        requires fits { at + len < 2 ^ 64 }
+        requires room { stream_size self.old + len < 2 ^ 62 }
+        ensures ok { OnOk result (self.new ≡ self.old ++ record { at = at; len = len } ∷ []) }
+        ensures err { OnErr result (self.new ≡ self.old) }
+    {
+        let end = self.end + len;
+        self.items.push(Stretch {
+            part: Part { at, len },
+            end,
+        })?;
+        self.end = end;
+        Ok(())
+    }
+
+    /// Adds the parts of a range of a stream, one by one.
+    ///
+    /// # Errors
+    /// Want of memory. The parts that were there are still the first.
+    fn add_range(&mut self, view: &DataView, at: u64, len: u64) -> Result<(), Memory>
+        requires within { at + len ≤ stream_size view.now }
+        requires room { stream_size self.old + len < 2 ^ 62 }
+        ensures ok { OnOk result (self.new ≡ self.old ++ parts_between view.now at len) }
+        ensures err { OnErr result (take (length self.old) self.new ≡ self.old) }
+    {
+        let mut place = at;
+        let mut left = len;
+        while left > 0 {
+            let part = front_of(view.items.as_slice(), view.end, place, left);
+            self.add(part.at, part.len)?;
+            place += part.len;
+            left -= part.len;
+        }
+        Ok(())
+    }
+
+    /// Takes away all but the first parts, of which the last ends at `end`.
+    fn truncate(&mut self, count: usize, end: u64)
+        requires ends { stream_size (take count self.old) ≡ end }
+        ensures { self.new ≡ take count self.old }
+    {
+        self.items.truncate(count);
+        self.end = end;
+    }
+
+    /// Adds the `len` bytes of another stream from `at` on at the end of this one: of each of its parts what lies in that
+    /// range. Nothing is copied.
+    ///
+    /// # Errors
+    /// Want of memory. The stream is as before.
+    pub fn add_part(&mut self, view: &DataView, at: u64, len: u64) -> Result<(), Memory>
+        requires within { at + len ≤ stream_size view.now }
+        requires room { stream_size self.old + len < 2 ^ 62 }
+        ensures ok { OnOk result (self.new ≡ self.old ++ parts_between view.now at len) }
+        ensures err { OnErr result (self.new ≡ self.old) }
+        ensures inside { (size : ℕ) → ArePartsInside size self.old → ArePartsInside size view.now → OnOk result (ArePartsInside size self.new) }
+    {
+        let count = self.items.len();
+        let end = self.end;
+        if let Err(memory) = self.add_range(view, at, len) {
+            self.truncate(count, end);
+            return Err(memory);
+        }
+        Ok(())
+    }
+
+    /// Fills the buffer with the bytes of the stream from `at` on.
+    ///
+    /// # Errors
+    /// The span's own. It is as before in what it tells.
+    pub fn read_in<P: Span>(&self, span: &mut P, at: u64, buf: &mut [u8]) -> Result<(), Stop>
+        requires inside { ArePartsInside (P.size span.old) self.now }
+        requires within { at + length buf.old ≤ stream_size self.now }
+        ensures filled { OnOk result ((f : List ℕ) → P.bytes span.old ≡ Some f →
+            buf.new ≡ bytes_at (length buf.old) (stream_of f self.now) at) }
+        ensures same { P.bytes span.new ≡ P.bytes span.old }
+        ensures size { P.size span.new ≡ P.size span.old }
+        ensures cause { StopCause P.may_want (P.faults span.old) (P.faults span.new) result }
+    {
+        fill_in(span, self.items.as_slice(), self.end, at, buf)
+    }
+
+    /// Fills the buffer with the bytes of the stream from `at` on, where the parts are of these bytes.
+    pub fn read(&self, bytes: &[u8], at: u64, buf: &mut [u8])
+        requires inside { ArePartsInside (length bytes.now) self.now }
+        requires within { at + length buf.old ≤ stream_size self.now }
+        ensures { buf.new ≡ bytes_at (length buf.old) (stream_of bytes.now self.now) at }
+    {
+        match self.read_in(&mut SliceSpan::new(bytes), at, buf) {
+            Ok(()) => (),
+            Err(_) => unreachable!(),
+        }
+    }
+
+    /// The number in the 4 bytes of the stream from `at` on.
+    ///
+    /// # Errors
+    /// The span's own. It is as before in what it tells.
+    pub fn u32_in<P: Span>(&self, span: &mut P, at: u64) -> Result<u32, Stop>
+        requires inside { ArePartsInside (P.size span.old) self.now }
+        requires within { at + 4 ≤ stream_size self.now }
+        ensures number { IfOk result (λ n. (f : List ℕ) → P.bytes span.old ≡ Some f → n ≡ le_number (bytes_at 4 (stream_of f self.now) at)) }
+        ensures same { P.bytes span.new ≡ P.bytes span.old }
+        ensures size { P.size span.new ≡ P.size span.old }
+        ensures cause { StopCause P.may_want (P.faults span.old) (P.faults span.new) result }
+    {
+        let mut word = [0u8; 4];
+        self.read_in(span, at, &mut word)?;
+        Ok(u32_field(&word, 0))
+    }
+}
