@@ -8,12 +8,12 @@ use Rattle.std.proofs.lemmas.List.{map-append}
 use Rattle.std.proofs.lemmas.List.Elements.{All-nil}
 use Rattle.mdf_group.specs.Recordable.{numbers_of, is_of_values, IsShortText, IsRecordableChannel, IsRecordableGroup}
 use Rattle.mdf_group.specs.declared.row.ChannelRow.{ChannelRow}
-use Rattle.acq_script.specs.Text.{is_name}
-use Rattle.acq_script.specs.Line.{IsForm}
+use Rattle.script_line.specs.Text.{is_name}
+use Rattle.script_line.specs.Line.{IsForm}
 use Rattle.acq_script.specs.Draft.{start_of, free_behind, channel_row, new_draft, drawn, measured, set_unit, unit_draft, with_unit, group_row}
 use Rattle.acq_script.specs.Plan.{AreLaid}
 use Rattle.acq_script.specs.Sketch.{IsDraft}
-use Rattle.acq_script.specs.declared.line.ChannelForm.{ChannelForm}
+use Rattle.script_line.specs.declared.line.ChannelForm.{ChannelForm}
 use Rattle.acq_script.specs.declared.draft.Draft.{Draft}
 use Rattle.acq_script.proofs.Layings.{kind_low, kind_of_values, grows, laid_more, laid_placed}
 

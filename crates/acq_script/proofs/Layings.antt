@@ -10,11 +10,11 @@ use Rattle.mdf_format.specs.Field.{Spot, HasBit, covered_size}
 use Rattle.mdf_format.specs.Row.{RowNumbers, Form, Unsigned, Signed, Fixed, Variable, Virtual, form_of, is_big, field_bits, spot_of_row, IsNumberPlaced, AreBytesPlaced, IsPlaced, SharesBit, BreaksRowRule}
 use Rattle.mdf_bits.proofs.Spots.{comes_from}
 use Rattle.mdf_group.specs.Recordable.{ArePlaced}
-use Rattle.acq_script.specs.Kind.{IsType}
+use Rattle.script_line.specs.Kind.{IsType}
 use Rattle.acq_script.specs.Draft.{whole, start_of, free_behind, channel_kind}
 use Rattle.acq_script.specs.Plan.{IsBelow, LieApart, AreLaid}
-use Rattle.acq_script.specs.declared.kind.ValueType.{ValueType}
-use Rattle.acq_script.specs.declared.line.ChannelForm.{ChannelForm}
+use Rattle.script_line.specs.declared.kind.ValueType.{ValueType}
+use Rattle.script_line.specs.declared.line.ChannelForm.{ChannelForm}
 
 -- the form of a channel that is not virtual, by three tests
 abbrev pub form_by : Bool → Bool → Bool → Form

@@ -1,9 +1,4 @@
-pub mod Parts
-pub mod Numerals
-pub mod Entries
 pub mod Steps
-pub mod Pairs
-pub mod Says
 pub mod Layings
 pub mod Drafts
 pub mod Sketches

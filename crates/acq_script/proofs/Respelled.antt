@@ -1,10 +1,9 @@
 -- A script that was spelled is read as what it was spelled for, line by line.
-use Rattle.std.proofs.Common.{◌≡◌, ◌∙◌, sym, ap, subst, ℕ, zero, suc, ◌+◌, ◌-◌, ◌*◌, ◌<◌, ◌≤◌, Bool, true, false, cond, Option, Some, None, List, [], ◌∷◌, ◌++◌, length, get_or, map, refl, arith, append_assoc, append-nil, length-append, All, ◌^◌}
-use Rattle.std.specs.Prelude.{◌&&◌, ◌||◌, ◌==◌, not, Result, Ok, count_by, codes, decimal, slice_get, slice_index, is_some, take, nat_le, nat_lt, IfSome}
-use Rattle.std.specs.List.{AllByRecursion, list_all}
-use Rattle.std.specs.Char.{is_ascii_digit}
+use Rattle.std.proofs.Common.{◌≡◌, ◌∙◌, sym, ap, subst, ℕ, zero, suc, ◌+◌, ◌-◌, ◌*◌, ◌<◌, ◌≤◌, Bool, true, false, cond, Option, Some, None, List, [], ◌∷◌, ◌++◌, length, map, refl, arith, append_assoc, append-nil, length-append, All, ◌^◌}
+use Rattle.std.specs.Prelude.{◌&&◌, ◌||◌, not, Result, Ok, count_by, codes, decimal, slice_get, slice_index, is_some, take, nat_le, nat_lt, IfSome}
+use Rattle.std.specs.List.{AllByRecursion}
 use Rattle.std.specs.Option.{ok_or, option_and_then, option_map}
-use Rattle.std.proofs.lemmas.Bool.{lt-ltb, le-leb, ne_eqb}
+use Rattle.std.proofs.lemmas.Bool.{lt-ltb, le-leb}
 use Rattle.std.proofs.lemmas.List.Elements.{All-nil, All-cons, All-head, All-tail}
 use Rattle.std.proofs.lemmas.List.Sums.{sum_by-cons}
 use Rattle.mdf_group.specs.Recordable.{numbers_of}
@@ -19,13 +18,13 @@ use Rattle.mdf_layout.specs.declared.sample.Value.{Value}
 use Rattle.mdf_layout.specs.declared.sample.Value.TheVariants as value
 use Rattle.mdf_layout.specs.declared.sample.Entry.{Entry}
 use Rattle.mdf_layout.specs.declared.sample.Sample.{Sample}
-use Rattle.acq_script.specs.Text.{lines_of, is_name}
-use Rattle.acq_script.specs.Number.{number_of}
-use Rattle.acq_script.specs.Kind.{packed, count_behind, number_type, type_of}
-use Rattle.acq_script.specs.Value.{is_marked, held_in, unsigned_value, value_as, value_of, entry_with, entry_of, entries_of}
+use Rattle.script_line.specs.Text.{lines_of, is_name}
+use Rattle.script_line.specs.Number.{number_of}
+use Rattle.script_line.specs.Kind.{packed, count_behind, number_type, type_of}
+use Rattle.script_line.specs.Value.{held_in, unsigned_value, value_as, value_of, entry_with, entry_of, entries_of}
 use Rattle.acq_script.specs.Draft.{channel_row, drawn, with_channel, group_row}
-use Rattle.acq_script.specs.Line as said
-use Rattle.acq_script.specs.Line.{line_of, worded, worded_plan, group_of, channel_of, channel_with, marks_of, inval_of, one_number, block_of, session_of, flush_of, alone}
+use Rattle.script_line.specs.Line as said
+use Rattle.script_line.specs.Line.{line_of, worded, worded_plan, group_of, channel_of, channel_with, marks_of, inval_of, one_number, block_of, session_of, flush_of, alone}
 use Rattle.acq_script.specs.Plan.{layout_of, TaskFits}
 use Rattle.acq_script.specs.Sketch.{limits_of, sketch_with, counted, channel_in, plan_with, script_with}
 use Rattle.acq_script.specs.Stage.{step, admitted, with_task}
@@ -38,8 +37,9 @@ use Rattle.acq_script.specs.declared.script.Task.TheVariants as task
 use Rattle.acq_script.specs.declared.sketch.Limits.{Limits}
 use Rattle.acq_script.specs.declared.stage.Stage.{Stage}
 use Rattle.acq_script.specs.declared.stage.Stage.TheVariants.{Empty, Planned, Running, Ended}
-use Rattle.acq_script.proofs.Parts.{some_part}
-use Rattle.acq_script.proofs.Numerals.{of_decimal, number_zero, decimal_digits, digit_at}
+use Rattle.script_line.proofs.Parts.{some_part}
+use Rattle.script_line.proofs.Numerals.{of_decimal, number_zero, decimal_digits}
+use Rattle.script_line.proofs.Fronts.{not_marked}
 use Rattle.acq_script.proofs.Steps.{taken, at_end}
 use Rattle.acq_script.proofs.Spells.{IsByte, AreWords, line_back, line_said, literal, name_bytes, digit_bytes}
 
@@ -157,18 +157,6 @@ word_field name false bit = record { kind = refl; bits = refl; inval = refl }
 word_fields : (bit : ℕ) (channels : List Channel) → AllByRecursion IsWord (map field_of (word_rows bit channels))
 word_fields bit [] = tt
 word_fields bit (channel ∷ channels) = (word_field channel.name channel.master bit, word_fields (bit + 64) channels)
-
--- a number's last byte is no `?`
-no_mark : (a b : Bool) → b ≡ false → (a && b) ≡ false
-no_mark true b e = e
-no_mark false b e = refl
-
-not_marked : (word : List ℕ) → list_all is_ascii_digit word ≡ true → is_marked word ≡ false
-not_marked [] e = refl
-not_marked (first ∷ word) e =
-    let k = length (first ∷ word) - 1 in
-    let digit = digit_at (first ∷ word) k e (omega arith) in
-    no_mark (nat_lt 0 (length (first ∷ word))) (get_or (first ∷ word) k 0 == 63) (ne_eqb (get_or (first ∷ word) k 0) 63 (λ is. absurd (omega (arith, is, digit.1))))
 
 -- the value of a channel is read back
 abbrev word_of : Entry → List ℕ

@@ -22,18 +22,18 @@ use Rattle.mdf_layout.specs.Behind.{variables}
 use Rattle.mdf_layout.specs.Stored.{IsStored}
 use Rattle.mdf_layout.specs.declared.field.FieldKind.TheVariants as kinds
 use Rattle.mdf_layout.specs.declared.field.FieldRow.{FieldRow}
-use Rattle.acq_script.specs.Text.{is_name}
-use Rattle.acq_script.specs.Line.{IsForm}
+use Rattle.script_line.specs.Text.{is_name}
+use Rattle.script_line.specs.Line.{IsForm}
 use Rattle.acq_script.specs.Draft.{drawn, with_channel, with_unit, group_row}
 use Rattle.acq_script.specs.Plan.{layout_of, HasPlace, IsGroup, IsPlan, AreLimits, MOST_SOURCES, TaskFits, IsTaskOf}
 use Rattle.acq_script.specs.Sketch.{limits_of, first_of, first_sketch, more_sources, grouped, with_group, has_room, counted, sketch_with, channel_in, unit_in, all_rows, plan_with, script_with, begun, IsDraft, IsSketch}
 use Rattle.acq_script.specs.Stage.{IsLimit, IsScript}
-use Rattle.acq_script.specs.declared.line.ChannelForm.{ChannelForm}
+use Rattle.script_line.specs.declared.line.ChannelForm.{ChannelForm}
 use Rattle.acq_script.specs.declared.draft.Draft.{Draft}
 use Rattle.acq_script.specs.declared.sketch.Limits.{Limits}
 use Rattle.acq_script.specs.declared.sketch.Sketch.{Sketch}
 use Rattle.acq_script.specs.declared.script.Script.{Script}
-use Rattle.acq_script.proofs.Entries.{kept, mapped}
+use Rattle.script_line.proofs.Entries.{kept, mapped}
 use Rattle.acq_script.proofs.Layings.{only_one, form_by, form_is, test_values, test_signed, test_number}
 use Rattle.acq_script.proofs.Drafts.{each_more, new_is, drawn_is, unit_is, group_is}
 

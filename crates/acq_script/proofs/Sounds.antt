@@ -1,6 +1,6 @@
 -- What holds of every stage of a script.
 use Rattle.std.proofs.Common.{◌≡◌, ◌∙◌, sym, ap, subst, ℕ, ◌<◌, ◌≤◌, inl, inr, Bool, true, Option, Some, List, [], ◌∷◌, ◌++◌, length, get_or, refl, arith}
-use Rattle.std.specs.Prelude.{nat_lt, nat_le, ◌&&◌, All, slice_get, slice_index, is_none, IfSome}
+use Rattle.std.specs.Prelude.{nat_lt, nat_le, ◌&&◌, All, slice_get, slice_index, is_none}
 use Rattle.std.specs.Option.{option_map}
 use Rattle.std.proofs.lemmas.Bool.{leb-true, ltb-true, and_parts, cases_eq}
 use Rattle.std.proofs.lemmas.Option.{slice_get_within}
@@ -10,9 +10,9 @@ use Rattle.mdf_layout.specs.Layout.{Layout}
 use Rattle.mdf_layout.specs.Record.{SampleFits, encoded_size}
 use Rattle.mdf_layout.specs.declared.sample.Entry.{Entry}
 use Rattle.mdf_layout.specs.declared.sample.Sample.{Sample}
-use Rattle.acq_script.specs.Value.{entries_of}
-use Rattle.acq_script.specs.Line as said
-use Rattle.acq_script.specs.Line.{IsSaid, line_of}
+use Rattle.script_line.specs.Value.{entries_of}
+use Rattle.script_line.specs.Line as said
+use Rattle.script_line.specs.Line.{IsSaid}
 use Rattle.acq_script.specs.Plan.{TaskFits, IsTaskOf, layout_of}
 use Rattle.acq_script.specs.Sketch.{limits_of, first_sketch, with_group, channel_in, unit_in, begun, IsSketch}
 use Rattle.acq_script.specs.Stage.{sample_of, list_with, with_task, admitted, with_sample, with_flush, empty, planned, running, step, IsScript, IsLimit, Sound}
@@ -22,8 +22,7 @@ use Rattle.acq_script.specs.declared.script.Task.TheVariants as task
 use Rattle.acq_script.specs.declared.sketch.Sketch.{Sketch}
 use Rattle.acq_script.specs.declared.stage.Stage.{Stage}
 use Rattle.acq_script.specs.declared.stage.Stage.TheVariants.{Empty, Planned, Running, Ended}
-use Rattle.acq_script.proofs.Entries.{kept, mapped, then_some, entries_fit}
-use Rattle.acq_script.proofs.Says.{lines_said}
+use Rattle.script_line.proofs.Entries.{kept, mapped, then_some, entries_fit}
 use Rattle.acq_script.proofs.Layings.{only_one}
 use Rattle.acq_script.proofs.Sketches.{limits_are, first_is, group_more, channel_more, unit_more, begun_is, long_mapped}
 
@@ -131,7 +130,3 @@ step_sound (Empty block session) changed line is ok e = empty_sound block sessio
 step_sound (Planned sketch) changed line is ok e = planned_sound sketch line changed is ok e
 step_sound (Running script) changed line is ok e = running_sound script line changed is e
 step_sound (Ended script) changed line is ok e = absurd (cc)
-
--- what the code has of a line has a name and a type
-pub said_so : (o : Option said.Line) (text : List ℕ) → o ≡ line_of text → IfSome o IsSaid
-said_so o text is = subst (λ x. IfSome x IsSaid) (sym is) (lines_said text)

@@ -6,9 +6,9 @@ use Rattle.std.specs.Char.{is_ascii_digit, is_ascii_graphic}
 use Rattle.std.proofs.lemmas.Bool.{ne_eqb}
 use Rattle.std.proofs.lemmas.List.Elements.{All-nil, All-cons, All-head, All-tail, All-append, All-weaker}
 use Rattle.std.proofs.lemmas.List.Splits.{slice_split_at, slice_split_none}
-use Rattle.acq_script.specs.Text.{lines_of, words_of, is_name}
-use Rattle.acq_script.specs.Line as said
-use Rattle.acq_script.specs.Line.{line_of, worded_plan, worded_list, is_passed}
+use Rattle.script_line.specs.Text.{lines_of, words_of, is_name}
+use Rattle.script_line.specs.Line as said
+use Rattle.script_line.specs.Line.{line_of, worded_plan, worded_list, is_passed}
 use Rattle.acq_script.specs.Spelled.{line_with, text_with}
 
 -- a byte of a word

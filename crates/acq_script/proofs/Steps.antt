@@ -2,7 +2,7 @@
 use Rattle.std.proofs.Common.{◌≡◌, sym, ap, ℕ, ◌+◌, false, List, [], ◌∷◌, refl}
 use Rattle.std.specs.Prelude.{Ok}
 use Rattle.std.proofs.lemmas.Bool.{false≢true}
-use Rattle.acq_script.specs.Text.{is_end}
+use Rattle.script_line.specs.Text.{is_end}
 use Rattle.acq_script.specs.Script.{after, read_from, ended, FaultIs, ◌>>=◌}
 use Rattle.acq_script.specs.declared.fault.ScriptFault.{ScriptFault}
 use Rattle.acq_script.specs.declared.fault.ScriptFault.TheVariants as faults

@@ -3,8 +3,8 @@ use Rattle.std.specs.Prelude.{ℕ, ◌+◌, ◌*◌, ◌/◌, ◌%◌, true, fal
 use Rattle.mdf_block.specs.declared.note.Note.TheVariants.{Nothing, Plain}
 use Rattle.mdf_group.specs.declared.row.ChannelRow.{ChannelRow}
 use Rattle.mdf_group.specs.declared.row.GroupRow.{GroupRow}
-use Rattle.acq_script.specs.declared.kind.ValueType.{ValueType}
-use Rattle.acq_script.specs.declared.line.ChannelForm.{ChannelForm}
+use Rattle.script_line.specs.declared.kind.ValueType.{ValueType}
+use Rattle.script_line.specs.declared.line.ChannelForm.{ChannelForm}
 use Rattle.acq_script.specs.declared.draft.Draft.{Draft}
 
 -- the first bit from this one on that begins a byte

@@ -1,9 +1,4 @@
-pub mod Text
-pub mod Number
-pub mod Kind
-pub mod Value
-pub mod Line
-pub mod View
+pub mod Done
 pub mod Tasks
 pub mod Draft
 pub mod Plan

@@ -1,8 +1,8 @@
 -- What a script says, or its first line that no rule admits.
 use Rattle.std.specs.Prelude.{ℕ, ◌≡◌, ◌+◌, List, [], ◌∷◌, Result, Ok, Err, None}
 use Rattle.std.specs.Option.{option_and_then, ok_or}
-use Rattle.acq_script.specs.Text.{lines_of}
-use Rattle.acq_script.specs.Line.{line_of}
+use Rattle.script_line.specs.Text.{lines_of}
+use Rattle.script_line.specs.Line.{line_of}
 use Rattle.acq_script.specs.Stage.{step}
 use Rattle.acq_script.specs.declared.fault.ScriptFault.{ScriptFault}
 use Rattle.acq_script.specs.declared.fault.ScriptFault.TheVariants as faults

@@ -6,7 +6,7 @@ use Rattle.mdf_group.specs.Recordable.{numbers_of, is_of_values, IsShortText, Is
 use Rattle.mdf_group.specs.declared.row.GroupRow.{GroupRow}
 use Rattle.acq_script.specs.Draft.{new_draft, with_channel, with_unit, group_row}
 use Rattle.acq_script.specs.Plan.{AreLimits, AreLaid, MOST_SOURCES, layout_of}
-use Rattle.acq_script.specs.declared.line.ChannelForm.{ChannelForm}
+use Rattle.script_line.specs.declared.line.ChannelForm.{ChannelForm}
 use Rattle.acq_script.specs.declared.draft.Draft.{Draft}
 use Rattle.acq_script.specs.declared.sketch.Limits.{Limits}
 use Rattle.acq_script.specs.declared.sketch.Counts.{Counts}

@@ -4,12 +4,12 @@ use Rattle.std.specs.List.{join_with_byte}
 use Rattle.mdf_group.specs.declared.row.ChannelRow.{ChannelRow}
 use Rattle.mdf_layout.specs.declared.sample.Value.{Value}
 use Rattle.mdf_layout.specs.declared.sample.Value.TheVariants as value
-use Rattle.acq_script.specs.Text.{is_name}
-use Rattle.acq_script.specs.Kind.{packed}
+use Rattle.script_line.specs.Text.{is_name}
+use Rattle.script_line.specs.Kind.{packed}
 use Rattle.acq_script.specs.Draft.{channel_row}
 use Rattle.acq_script.specs.Sketch.{limits_of, plan_with}
 use Rattle.acq_script.specs.Plan.{TaskFits}
-use Rattle.acq_script.specs.declared.line.ChannelForm.{ChannelForm}
+use Rattle.script_line.specs.declared.line.ChannelForm.{ChannelForm}
 use Rattle.acq_script.specs.declared.sketch.Limits.{Limits}
 use Rattle.acq_script.specs.declared.sketch.Sketch.{Sketch}
 use Rattle.acq_script.specs.declared.script.Plan.{Plan}

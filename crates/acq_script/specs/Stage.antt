@@ -5,8 +5,8 @@ use Rattle.std.specs.Option.{option_map, option_and_then}
 use Rattle.mdf_layout.specs.Layout.{Layout}
 use Rattle.mdf_layout.specs.Record.{encoded_size}
 use Rattle.mdf_layout.specs.declared.sample.Sample.{Sample}
-use Rattle.acq_script.specs.Line as said
-use Rattle.acq_script.specs.Value.{entries_of}
+use Rattle.script_line.specs.Line as said
+use Rattle.script_line.specs.Value.{entries_of}
 use Rattle.acq_script.specs.Plan.{IsPlan, TaskFits, IsTaskOf}
 use Rattle.acq_script.specs.Sketch.{IsSketch, limits_of, first_sketch, with_group, channel_in, unit_in, begun}
 use Rattle.acq_script.specs.declared.script.Script.{Script}

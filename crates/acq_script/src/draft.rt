@@ -1,13 +1,14 @@
 // A group whose channels are being named.
 ghost use Rattle.std.specs.Prelude.{◌≡◌, ◌≤◌, ◌*◌, ◌+◌, ◌<◌, ◌^◌, length, IfOk};
+ghost use Rattle.acq_script.specs.Done.{done_as};
 ghost use Rattle.acq_script.specs.Draft.{whole, start_of, free_behind, channel_kind, channel_row, group_row, new_draft, with_channel, with_unit, measured, set_unit};
 
-use crate::kind::ValueType;
-use crate::line::ChannelForm;
 use mdf_block::Note;
 use mdf_group::{ChannelRow, GroupRow};
 use mdf_num::{Bytes, Memory, Rows};
+use script_line::{ChannelForm, ValueType};
 use std::alloc::Global;
+use std::mem::replace;
 
 /// The most channels that a group can have.
 const MOST_CHANNELS: u64 = 256;
@@ -108,37 +109,33 @@ fn channel_row(name: Bytes, form: ChannelForm, start: u32, position: u32) -> Cha
     }
 }
 
-/// The group with one channel more, if it is admitted: there are at most 256, and at most one is the master.
-pub(crate) fn with_channel(
+/// Adds a channel to the group, and answers whether it is admitted: there are at most 256, and at most one is the master.
+pub(crate) fn add_channel(
     alloc: Global,
-    draft: Draft,
+    draft: &mut Draft,
     name: &[u8],
     form: ChannelForm,
-) -> Result<Option<Draft>, Memory>
-    requires free { draft.free ≤ 2048 * length draft.channels }
-    requires positions { draft.positions ≤ length draft.channels }
+) -> Result<bool, Memory>
+    requires free { draft.old.free ≤ 2048 * length draft.old.channels }
+    requires positions { draft.old.positions ≤ length draft.old.channels }
     requires bits { form.kind.bits ≤ 2040 }
-    ensures { IfOk result (λ found. found ≡ with_channel draft name.now form) }
+    ensures { IfOk result (λ done. with_channel draft.old name.now form ≡ done_as done draft.new) }
 {
     if draft.channels.len() >= MOST_CHANNELS || (draft.master && form.master) {
-        return Ok(None);
+        return Ok(false);
     }
     let name = Bytes::from_slice(alloc, name)?;
-    let row = channel_row(name, form, start_of(form.kind, draft.free), draft.positions);
-    let free = free_behind(form.kind, draft.free);
-    let positions = if form.inval {
-        draft.positions + 1
-    } else {
-        draft.positions
-    };
-    let master = draft.master || form.master;
-    let mut draft = draft;
-    draft.channels.push(row)?;
-    draft.free = free;
-    draft.positions = positions;
-    draft.master = master;
+    let start = start_of(form.kind, draft.free);
+    draft.free = free_behind(form.kind, draft.free);
+    draft
+        .channels
+        .push(channel_row(name, form, start, draft.positions))?;
+    if form.inval {
+        draft.positions += 1;
+    }
+    draft.master = draft.master || form.master;
     draft.unit = true;
-    Ok(Some(draft))
+    Ok(true)
 }
 
 /// The channel with this unit.
@@ -165,31 +162,18 @@ fn set_unit(channels: Rows<ChannelRow>, unit: Bytes) -> Result<Rows<ChannelRow>,
     }
 }
 
-/// The group with this unit of its last channel, if the last line was that of the channel.
-pub(crate) fn with_unit(alloc: Global, draft: Draft, unit: &[u8]) -> Result<Option<Draft>, Memory>
-    ensures { IfOk result (λ found. found ≡ with_unit draft unit.now) }
+/// Gives the last channel of the group this unit, and answers whether the last line was that of the channel.
+pub(crate) fn add_unit(alloc: Global, draft: &mut Draft, unit: &[u8]) -> Result<bool, Memory>
+    ensures { IfOk result (λ done. with_unit draft.old unit.now ≡ done_as done draft.new) }
 {
     if !draft.unit {
-        return Ok(None);
+        return Ok(false);
     }
     let unit = Bytes::from_slice(alloc, unit)?;
-    let Draft {
-        name,
-        channels,
-        free,
-        positions,
-        master,
-        unit: _,
-    } = draft;
-    let channels = set_unit(channels, unit)?;
-    Ok(Some(Draft {
-        name,
-        channels,
-        free,
-        positions,
-        master,
-        unit: false,
-    }))
+    let channels = replace(&mut draft.channels, Rows::empty(alloc));
+    draft.channels = set_unit(channels, unit)?;
+    draft.unit = false;
+    Ok(true)
 }
 
 /// The row of the group, which has all begun bytes.

@@ -7,18 +7,12 @@
 
 mod draft;
 mod fault;
-mod kind;
 mod law;
-mod line;
-mod number;
 mod read;
-mod sample;
 mod script;
 mod sketch;
 mod stage;
 mod task;
-mod text;
-mod value;
 
 pub use fault::ScriptFault;
 pub use law::spelled_is_read;

@@ -1,32 +1,31 @@
-ghost use Rattle.std.specs.Prelude.{◌≡◌, length, All, IfOk, IfSome};
+ghost use Rattle.std.specs.Prelude.{◌≡◌, length, All, Ok, IfOk, IfErr, IfSome, OnOk};
 ghost use Rattle.acq_script.specs.Plan.{IsPlan, TaskFits};
-ghost use Rattle.acq_script.specs.Line.{IsSaid};
-ghost use Rattle.acq_script.specs.View.{seen};
 ghost use Rattle.acq_script.specs.Stage.{IsScript, Sound};
-ghost use Rattle.acq_script.specs.Script.{GivesScript, after, ended, script_of};
+ghost use Rattle.acq_script.specs.Script.{GivesScript, FaultIs, after, ended, script_of};
 
 use crate::ScriptFault;
-use crate::line::{Line, line_of};
 use crate::script::Script;
 use crate::stage::{Stage, step};
-use crate::text::cut;
+use script_line::{cut, line_of};
 use std::alloc::Global;
 
-/// What a line makes of the lines before it.
+/// Makes of a stage what a line makes of it.
 ///
 /// # Errors
 /// `Line` exactly where no rule admits it there, with the number handed in; `Memory`.
-fn after(alloc: Global, stage: Stage, line: u64, text: &[u8]) -> Result<Stage, ScriptFault>
-    requires { Sound stage }
-    ensures found { GivesScript result (after stage line text.now) }
-    ensures sound { IfOk result Sound }
+fn after(alloc: Global, stage: &mut Stage, line: u64, text: &[u8]) -> Result<(), ScriptFault>
+    requires { Sound stage.old }
+    ensures found { OnOk result (after stage.old line text.now ≡ Ok stage.new) }
+    ensures sound { OnOk result (Sound stage.new) }
+    ensures fault { IfErr result (λ fault. FaultIs fault (after stage.old line text.now)) }
 {
     let Some(said) = line_of(text) else {
         return Err(ScriptFault::Line { line });
     };
-    match step(alloc, stage, said)? {
-        Some(stage) => Ok(stage),
-        None => Err(ScriptFault::Line { line }),
+    if step(alloc, stage, said)? {
+        Ok(())
+    } else {
+        Err(ScriptFault::Line { line })
     }
 }
 
@@ -57,7 +56,7 @@ fn script_of(alloc: Global, bytes: &[u8]) -> Result<Script, ScriptFault>
     let mut line = 1;
     let (mut text, mut rest) = cut(bytes, b'\n');
     while let Some(behind) = rest {
-        stage = after(alloc, stage, line, text)?;
+        after(alloc, &mut stage, line, text)?;
         line += 1;
         (text, rest) = cut(behind, b'\n');
     }

@@ -2,20 +2,22 @@
 ghost use Rattle.std.specs.Prelude.{◌≡◌, ◌≤◌, ◌<◌, All, length, map, replicate, [], IfOk};
 ghost use Rattle.mdf_group.specs.Recordable.{numbers_of};
 ghost use Rattle.mdf_layout.specs.Row.{field_row};
+ghost use Rattle.acq_script.specs.Done.{done_as};
 ghost use Rattle.acq_script.specs.Sketch.{IsSketch, limits_of, first_sketch, with_group, channel_in, unit_in, script_with, begun, more_sources, has_room, counted};
-ghost use Rattle.acq_script.specs.Line.{IsForm};
-ghost use Rattle.acq_script.specs.Text.{is_name};
+ghost use Rattle.script_line.specs.Line.{IsForm};
+ghost use Rattle.script_line.specs.Text.{is_name};
 ghost use Rattle.acq_script.specs.Plan.{layout_of, HasPlace};
 
-use crate::draft::{Draft, group_row, new_draft, with_channel, with_unit};
-use crate::line::ChannelForm;
+use crate::draft::{self, Draft, group_row, new_draft};
 use crate::script::{Plan, Script, Task};
 use mdf_group::{ChannelRow, GroupRow};
 use mdf_layout::{
     ChannelNumbers, FieldRow, Shape, ShapeFault, Shapes, field_row, rules_are_tested, shape_of,
 };
 use mdf_num::{Bytes, Memory, Rows};
+use script_line::ChannelForm;
 use std::alloc::Global;
+use std::mem::replace;
 
 /// The most groups that a plan can have.
 const MOST_GROUPS: u64 = 64;
@@ -115,46 +117,29 @@ fn more_sources(sources: u8, source: u8) -> u8
     }
 }
 
-/// The plan with the next group, of this source and name, if they are admitted: the last group has a channel, and there
-/// are at most 64.
-pub(crate) fn with_group(
+/// Adds the next group to the plan, of this source and name, and answers whether it is admitted: the last group has a
+/// channel, and there are at most 64.
+pub(crate) fn add_group(
     alloc: Global,
-    sketch: Sketch,
+    sketch: &mut Sketch,
     source: u64,
     name: &[u8],
-) -> Result<Option<Sketch>, Memory>
-    requires { IsSketch sketch }
-    ensures { IfOk result (λ found. found ≡ with_group sketch source name.now) }
+) -> Result<bool, Memory>
+    requires { IsSketch sketch.old }
+    ensures { IfOk result (λ done. with_group sketch.old source name.now ≡ done_as done sketch.new) }
 {
     if source >= MOST_SOURCES
         || sketch.draft.channels.len() == 0
         || sketch.rows.len() + 1 >= MOST_GROUPS
     {
-        return Ok(None);
+        return Ok(false);
     }
     let next = new_draft(alloc, name)?;
-    let Sketch {
-        limits,
-        counts,
-        owners,
-        rows,
-        draft,
-    } = sketch;
-    let mut owners = owners;
-    owners.push_slice(&[source as u8])?;
-    let mut rows = rows;
-    rows.push(group_row(draft))?;
-    Ok(Some(Sketch {
-        limits,
-        counts: Counts {
-            channels: counts.channels,
-            variable: counts.variable,
-            sources: more_sources(counts.sources, source as u8),
-        },
-        owners,
-        rows,
-        draft: next,
-    }))
+    let last = group_row(replace(&mut sketch.draft, next));
+    sketch.rows.push(last)?;
+    sketch.owners.push_slice(&[source as u8])?;
+    sketch.counts.sources = more_sources(sketch.counts.sources, source as u8);
+    Ok(true)
 }
 
 /// Whether the groups can have one channel more of this form.
@@ -181,60 +166,29 @@ fn counted(counts: Counts, form: ChannelForm) -> Counts
     }
 }
 
-/// The plan with one channel more in its last group, if it is admitted.
-pub(crate) fn channel_in(
+/// Adds a channel to the last group, and answers whether it is admitted.
+pub(crate) fn add_channel(
     alloc: Global,
-    sketch: Sketch,
+    sketch: &mut Sketch,
     name: &[u8],
     form: ChannelForm,
-) -> Result<Option<Sketch>, Memory>
-    requires sketch { IsSketch sketch }
+) -> Result<bool, Memory>
+    requires sketch { IsSketch sketch.old }
     requires form { IsForm form }
-    ensures { IfOk result (λ found. found ≡ channel_in sketch name.now form) }
+    ensures { IfOk result (λ done. channel_in sketch.old name.now form ≡ done_as done sketch.new) }
 {
     if !has_room(sketch.counts, form) {
-        return Ok(None);
+        return Ok(false);
     }
-    let Sketch {
-        limits,
-        counts,
-        owners,
-        rows,
-        draft,
-    } = sketch;
-    match with_channel(alloc, draft, name, form)? {
-        Some(draft) => Ok(Some(Sketch {
-            limits,
-            counts: counted(counts, form),
-            owners,
-            rows,
-            draft,
-        })),
-        None => Ok(None),
-    }
+    sketch.counts = counted(sketch.counts, form);
+    draft::add_channel(alloc, &mut sketch.draft, name, form)
 }
 
-/// The plan with this unit of the last channel, if it is admitted.
-pub(crate) fn unit_in(alloc: Global, sketch: Sketch, unit: &[u8]) -> Result<Option<Sketch>, Memory>
-    ensures { IfOk result (λ found. found ≡ unit_in sketch unit.now) }
+/// Gives the last channel this unit, and answers whether it is admitted.
+pub(crate) fn add_unit(alloc: Global, sketch: &mut Sketch, unit: &[u8]) -> Result<bool, Memory>
+    ensures { IfOk result (λ done. unit_in sketch.old unit.now ≡ done_as done sketch.new) }
 {
-    let Sketch {
-        limits,
-        counts,
-        owners,
-        rows,
-        draft,
-    } = sketch;
-    match with_unit(alloc, draft, unit)? {
-        Some(draft) => Ok(Some(Sketch {
-            limits,
-            counts,
-            owners,
-            rows,
-            draft,
-        })),
-        None => Ok(None),
-    }
+    draft::add_unit(alloc, &mut sketch.draft, unit)
 }
 
 /// The field of a channel.

@@ -1,18 +1,21 @@
 // The rules of a script: which line may stand behind which.
 ghost use Rattle.std.specs.Prelude.{◌≡◌, IfOk};
 ghost use Rattle.std.specs.Option.{option_map};
+ghost use Rattle.script_line.specs.Text.{words_left};
+ghost use Rattle.script_line.specs.Line as said;
+ghost use Rattle.script_line.specs.Line.{IsSaid, IsForm};
+ghost use Rattle.script_line.specs.View.{seen};
 ghost use Rattle.acq_script.specs.declared.stage.Stage.TheVariants.{Planned, Running};
-ghost use Rattle.acq_script.specs.Sketch.{IsSketch};
-ghost use Rattle.acq_script.specs.Stage.{IsScript, Sound, with_block, with_session, planned, running, empty, step};
-ghost use Rattle.acq_script.specs.Line.{IsSaid};
-ghost use Rattle.acq_script.specs.View.{seen};
+ghost use Rattle.acq_script.specs.Done.{done_as};
+ghost use Rattle.acq_script.specs.Stage.{Sound, with_block, with_session, step};
 
-use crate::line::Line;
 use crate::script::Script;
-use crate::sketch::{Sketch, begun, channel_in, first_sketch, limits_of, unit_in, with_group};
-use crate::task::{with_flush, with_sample};
+use crate::sketch::{Sketch, add_channel, add_group, add_unit, begun, first_sketch, limits_of};
+use crate::task::{add_flush, add_sample};
 use mdf_num::Memory;
+use script_line::{ChannelForm, Line};
 use std::alloc::Global;
+use std::mem::replace;
 
 /// How many data bytes the limit of a block can be at most.
 const MOST_BLOCK: u64 = 16_777_216;
@@ -88,71 +91,178 @@ fn running_by(found: Option<Script>) -> Option<Stage>
     }
 }
 
-/// What a line makes of the limits before it.
-fn empty(
-    alloc: Global,
-    block: Option<u32>,
-    session: Option<u64>,
-    line: Line<'_>,
-) -> Result<Option<Stage>, Memory>
-    ensures { IfOk result (λ found. found ≡ empty block session (seen line.entry)) }
+/// Puts a stage in the place of another, and answers whether there is one.
+fn put(stage: &mut Stage, found: Option<Stage>) -> bool
+    ensures { found ≡ done_as result stage.new }
 {
-    match line {
-        Line::Passed => Ok(Some(Stage::Empty { block, session })),
-        Line::Block { limit } => Ok(with_block(block, session, limit)),
-        Line::Session { limit } => Ok(with_session(block, session, limit)),
-        Line::Group { source, name } => Ok(planned_by(first_sketch(
-            alloc,
-            limits_of(block, session),
-            source,
-            name,
-        )?)),
-        _ => Ok(None),
+    match found {
+        Some(next) => {
+            *stage = next;
+            true
+        }
+        None => false,
     }
 }
 
-/// What a line makes of a plan.
-fn planned(alloc: Global, sketch: Sketch, line: Line<'_>) -> Result<Option<Stage>, Memory>
-    requires sketch { IsSketch sketch }
-    requires line { IsSaid (seen line) }
-    ensures { IfOk result (λ found. found ≡ planned sketch (seen line.entry)) }
+/// Takes a stage out of its place.
+fn taken(stage: &mut Stage) -> Stage
+    ensures { result ≡ stage.old }
 {
-    match line {
-        Line::Passed => Ok(Some(Stage::Planned { sketch })),
-        Line::Group { source, name } => Ok(planned_by(with_group(alloc, sketch, source, name)?)),
-        Line::Channel { name, form } => Ok(planned_by(channel_in(alloc, sketch, name, form)?)),
-        Line::Unit { name } => Ok(planned_by(unit_in(alloc, sketch, name)?)),
-        Line::Begin => Ok(running_by(begun(alloc, sketch)?)),
-        _ => Ok(None),
-    }
+    replace(
+        stage,
+        Stage::Empty {
+            block: None,
+            session: None,
+        },
+    )
 }
 
-/// What a line makes of a script.
-fn running(alloc: Global, script: Script, line: Line<'_>) -> Result<Option<Stage>, Memory>
-    requires { IsScript script }
-    ensures { IfOk result (λ found. found ≡ running script (seen line.entry)) }
-{
-    match line {
-        Line::Passed => Ok(Some(Stage::Running { script })),
-        Line::Sample { group, values } => Ok(running_by(with_sample(
-            alloc, script, group, values,
-        )?)),
-        Line::Flush { source } => Ok(running_by(with_flush(script, source)?)),
-        Line::End => Ok(Some(Stage::Ended { script })),
-        _ => Ok(None),
-    }
-}
-
-/// What a line makes of the lines before it. None where no rule admits it there.
-pub(crate) fn step(alloc: Global, stage: Stage, line: Line<'_>) -> Result<Option<Stage>, Memory>
-    requires stage { Sound stage }
-    requires line { IsSaid (seen line) }
-    ensures { IfOk result (λ found. found ≡ step stage (seen line.entry)) }
+/// Whether an empty line or a comment is admitted behind the lines so far.
+fn pass(stage: &Stage) -> bool
+    ensures { step stage.now said.Passed ≡ done_as result stage.now }
 {
     match stage {
-        Stage::Empty { block, session } => empty(alloc, block, session, line),
-        Stage::Planned { sketch } => planned(alloc, sketch, line),
-        Stage::Running { script } => running(alloc, script, line),
-        Stage::Ended { .. } => Ok(None),
+        Stage::Ended { .. } => false,
+        _ => true,
+    }
+}
+
+/// Makes of a stage what the line of a block's limit makes of it.
+fn limit_block(stage: &mut Stage, limit: u64) -> bool
+    ensures { step stage.old (said.Block limit) ≡ done_as result stage.new }
+{
+    let Stage::Empty { block, session } = stage else {
+        return false;
+    };
+    let found = with_block(*block, *session, limit);
+    put(stage, found)
+}
+
+/// Makes of a stage what the line of the limit of the samples' cost makes of it.
+fn limit_session(stage: &mut Stage, limit: u64) -> bool
+    ensures { step stage.old (said.Session limit) ≡ done_as result stage.new }
+{
+    let Stage::Empty { block, session } = stage else {
+        return false;
+    };
+    let found = with_session(*block, *session, limit);
+    put(stage, found)
+}
+
+/// Makes of a stage what the line of a group makes of it.
+fn begin_group(alloc: Global, stage: &mut Stage, source: u64, name: &[u8]) -> Result<bool, Memory>
+    requires { Sound stage.old }
+    ensures { IfOk result (λ done. step stage.old (said.Group source name.now) ≡ done_as done stage.new) }
+{
+    match stage {
+        Stage::Empty { block, session } => {
+            let limits = limits_of(*block, *session);
+            let found = first_sketch(alloc, limits, source, name)?;
+            Ok(put(stage, planned_by(found)))
+        }
+        Stage::Planned { sketch } => add_group(alloc, sketch, source, name),
+        _ => Ok(false),
+    }
+}
+
+/// Makes of a stage what the line of a channel makes of it.
+fn name_channel(
+    alloc: Global,
+    stage: &mut Stage,
+    name: &[u8],
+    form: ChannelForm,
+) -> Result<bool, Memory>
+    requires stage { Sound stage.old }
+    requires form { IsForm form }
+    ensures { IfOk result (λ done. step stage.old (said.Channel name.now form) ≡ done_as done stage.new) }
+{
+    match stage {
+        Stage::Planned { sketch } => add_channel(alloc, sketch, name, form),
+        _ => Ok(false),
+    }
+}
+
+/// Makes of a stage what the line of a unit makes of it.
+fn name_unit(alloc: Global, stage: &mut Stage, unit: &[u8]) -> Result<bool, Memory>
+    ensures { IfOk result (λ done. step stage.old (said.Measured unit.now) ≡ done_as done stage.new) }
+{
+    match stage {
+        Stage::Planned { sketch } => add_unit(alloc, sketch, unit),
+        _ => Ok(false),
+    }
+}
+
+/// Makes of a stage what the line `begin` makes of it.
+fn begin(alloc: Global, stage: &mut Stage) -> Result<bool, Memory>
+    requires { Sound stage.old }
+    ensures { IfOk result (λ done. step stage.old said.Begin ≡ done_as done stage.new) }
+{
+    match taken(stage) {
+        Stage::Planned { sketch } => {
+            let found = begun(alloc, sketch)?;
+            Ok(put(stage, running_by(found)))
+        }
+        _ => Ok(false),
+    }
+}
+
+/// Makes of a stage what the line of a sample makes of it: the sample is added to the script where that stands.
+fn hand_in(
+    alloc: Global,
+    stage: &mut Stage,
+    group: u64,
+    values: Option<&[u8]>,
+) -> Result<bool, Memory>
+    requires { Sound stage.old }
+    ensures { IfOk result (λ done. step stage.old (said.Sample group (words_left values.entry)) ≡ done_as done stage.new) }
+{
+    match stage {
+        Stage::Running { script } => add_sample(alloc, script, group, values),
+        _ => Ok(false),
+    }
+}
+
+/// Makes of a stage what the line of a flush makes of it.
+fn flush(alloc: Global, stage: &mut Stage, source: u64) -> Result<bool, Memory>
+    requires { Sound stage.old }
+    ensures { IfOk result (λ done. step stage.old (said.Flush source) ≡ done_as done stage.new) }
+{
+    match stage {
+        Stage::Running { script } => add_flush(alloc, script, source),
+        _ => Ok(false),
+    }
+}
+
+/// Makes of a stage what the line `end` makes of it.
+fn end(stage: &mut Stage) -> bool
+    ensures { step stage.old said.End ≡ done_as result stage.new }
+{
+    match taken(stage) {
+        Stage::Running { script } => {
+            *stage = Stage::Ended { script };
+            true
+        }
+        _ => false,
+    }
+}
+
+/// Makes of the lines before it, of which this stage was made, what the line makes of them, and answers whether a rule
+/// admits it there. A stage that a line is not admitted behind is of no further use.
+pub(crate) fn step(alloc: Global, stage: &mut Stage, line: Line<'_>) -> Result<bool, Memory>
+    requires stage { Sound stage.old }
+    requires line { IsSaid (seen line) }
+    ensures { IfOk result (λ done. step stage.old (seen line.entry) ≡ done_as done stage.new) }
+{
+    match line {
+        Line::Sample { group, values } => hand_in(alloc, stage, group, values),
+        Line::Passed => Ok(pass(stage)),
+        Line::Flush { source } => flush(alloc, stage, source),
+        Line::Block { limit } => Ok(limit_block(stage, limit)),
+        Line::Session { limit } => Ok(limit_session(stage, limit)),
+        Line::Group { source, name } => begin_group(alloc, stage, source, name),
+        Line::Channel { name, form } => name_channel(alloc, stage, name, form),
+        Line::Unit { name } => name_unit(alloc, stage, name),
+        Line::Begin => begin(alloc, stage),
+        Line::End => Ok(end(stage)),
     }
 }

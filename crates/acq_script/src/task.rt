@@ -1,14 +1,16 @@
 // What the sources do.
-ghost use Rattle.std.specs.Prelude.{◌≡◌, ◌≤◌, ◌<◌, length, IfOk, IfSome};
+ghost use Rattle.std.specs.Prelude.{◌≡◌, ◌≤◌, ◌<◌, length, IfOk, IfSome, OnOk};
 ghost use Rattle.mdf_layout.specs.Record.{SampleFits};
-ghost use Rattle.acq_script.specs.Text.{words_left};
+ghost use Rattle.script_line.specs.Text.{words_left};
+ghost use Rattle.acq_script.specs.Done.{done_as};
 ghost use Rattle.acq_script.specs.Stage.{IsScript, sample_of, list_with, with_task, with_sample, with_flush};
 
-use crate::sample::entries_of;
 use crate::script::{Script, Task};
 use mdf_layout::{Sample, Shapes};
 use mdf_num::{Memory, Rows};
+use script_line::entries_of;
 use std::alloc::Global;
+use std::mem::replace;
 
 /// The sample of this group of these values, if they are admitted.
 fn sample_of(
@@ -33,53 +35,60 @@ fn sample_of(
     }
 }
 
-/// The lists, that of this source with one task more.
-fn list_with(lists: Rows<Rows<Task>>, source: usize, task: Task) -> Result<Rows<Rows<Task>>, Memory>
-    requires { source < length lists }
-    ensures { IfOk result (λ new. new ≡ list_with lists source task) }
-{
-    let mut lists = lists.into_vec();
-    lists[source].push(task)?;
-    Ok(Rows::from_vec(lists))
-}
-
-/// The script with one task more of this source.
-fn with_task(script: Script, source: usize, task: Task) -> Result<Script, Memory>
-    requires { source < length script.lists }
-    ensures { IfOk result (λ new. new ≡ with_task script source task) }
-{
-    let Script { plan, lists } = script;
-    let lists = list_with(lists, source, task)?;
-    Ok(Script { plan, lists })
-}
-
-/// The script with this sample, if it is admitted: its records are no longer than a block.
-pub(crate) fn with_sample(
+/// Adds a task to the list of this source.
+fn add_to_list(
     alloc: Global,
-    script: Script,
+    lists: &mut Rows<Rows<Task>>,
+    source: usize,
+    task: Task,
+) -> Result<(), Memory>
+    requires { source < length lists.old }
+    ensures { OnOk result (lists.new ≡ list_with lists.old source task) }
+{
+    let mut items = replace(lists, Rows::empty(alloc)).into_vec();
+    items[source].push(task)?;
+    *lists = Rows::from_vec(items);
+    Ok(())
+}
+
+/// Adds a task of this source to the script.
+fn add_task(alloc: Global, script: &mut Script, source: usize, task: Task) -> Result<(), Memory>
+    requires { source < length script.old.lists }
+    ensures { OnOk result (script.new ≡ with_task script.old source task) }
+{
+    add_to_list(alloc, &mut script.lists, source, task)
+}
+
+/// Adds the sample of these values to the script, and answers whether it is admitted: its records are no longer than a
+/// block.
+pub(crate) fn add_sample(
+    alloc: Global,
+    script: &mut Script,
     group: u64,
     values: Option<&[u8]>,
-) -> Result<Option<Script>, Memory>
-    requires { IsScript script }
-    ensures { IfOk result (λ found. found ≡ with_sample script group (words_left values.entry)) }
+) -> Result<bool, Memory>
+    requires { IsScript script.old }
+    ensures { IfOk result (λ done. with_sample script.old group (words_left values.entry) ≡ done_as done script.new) }
 {
     let Some(sample) = sample_of(alloc, &script.plan.shapes, group, values)? else {
-        return Ok(None);
+        return Ok(false);
     };
     if script.plan.shapes.encoded_size(&sample) > script.plan.block as u64 {
-        return Ok(None);
+        return Ok(false);
     }
     let source = script.plan.owners.as_slice()[sample.group as usize];
-    Ok(Some(with_task(script, source as usize, Task::Sample(sample))?))
+    add_task(alloc, script, source as usize, Task::Sample(sample))?;
+    Ok(true)
 }
 
-/// The script with a flush of this source, if there is one.
-pub(crate) fn with_flush(script: Script, source: u64) -> Result<Option<Script>, Memory>
-    requires { IsScript script }
-    ensures { IfOk result (λ found. found ≡ with_flush script source) }
+/// Adds a flush of this source to the script, and answers whether there is such a source.
+pub(crate) fn add_flush(alloc: Global, script: &mut Script, source: u64) -> Result<bool, Memory>
+    requires { IsScript script.old }
+    ensures { IfOk result (λ done. with_flush script.old source ≡ done_as done script.new) }
 {
     if source >= script.plan.sources as u64 {
-        return Ok(None);
+        return Ok(false);
     }
-    Ok(Some(with_task(script, source as usize, Task::Flush)?))
+    add_task(alloc, script, source as usize, Task::Flush)?;
+    Ok(true)
 }

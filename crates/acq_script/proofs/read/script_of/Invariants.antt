@@ -1,5 +1,5 @@
 use Rattle.std.proofs.Common.{◌≡◌, ◌+◌, ◌≤◌, ◌∷◌, length}
-use Rattle.acq_script.specs.Text.{parts_left, bytes_left}
+use Rattle.script_line.specs.Text.{parts_left, bytes_left}
 use Rattle.acq_script.specs.Stage.{Sound}
 use Rattle.acq_script.specs.Script.{read_from, script_of}
 use Rattle.acq_script.proofs.read.script_of.Given as goal

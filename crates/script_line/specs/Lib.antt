@@ -1,0 +1,6 @@
+pub mod Text
+pub mod Number
+pub mod Kind
+pub mod Value
+pub mod Line
+pub mod View

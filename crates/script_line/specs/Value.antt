@@ -1,0 +1,101 @@
+-- The values of a sample.
+use Rattle.std.specs.Prelude.{ℕ, ◌≡◌, ◌≤◌, ◌+◌, ◌-◌, ◌*◌, ◌/◌, ◌^◌, Bool, true, false, ◌&&◌, ◌==◌, nat_le, nat_lt, if◌then◌else◌, List, [], ◌∷◌, length, take, drop, slice_index, Option, Some, None, is_some, pos, neg_ℤ}
+use Rattle.std.specs.Option.{option_map, option_and_then}
+use Rattle.mdf_layout.specs.declared.field.FieldKind.{FieldKind}
+use Rattle.mdf_layout.specs.declared.field.FieldKind.TheVariants as kinds
+use Rattle.mdf_layout.specs.declared.field.FieldRow.{FieldRow}
+use Rattle.mdf_layout.specs.declared.sample.Value.{Value}
+use Rattle.mdf_layout.specs.declared.sample.Value.TheVariants.{Unsigned, Signed, Bytes}
+use Rattle.mdf_layout.specs.declared.sample.Entry.{Entry}
+use Rattle.script_line.specs.Number.{number_of}
+
+-- the word begins with this byte; it ends with `?`
+abbrev pub begins_with : ℕ → List ℕ → Bool
+begins_with byte word = nat_lt 0 (length word) && slice_index word 0 == byte
+
+abbrev pub is_marked : List ℕ → Bool
+is_marked word = nat_lt 0 (length word) && slice_index word (length word - 1) == 63
+
+-- a number of so many bits
+abbrev pub held_in : ℕ → ℕ → Option Value
+held_in bits n = if nat_lt n (2 ^ bits) then Some (Unsigned n) else None
+
+unfoldable pub unsigned_value : ℕ → List ℕ → Option Value
+unsigned_value bits word = option_and_then (held_in bits) (number_of word)
+
+-- a number of so many bits in two's complement: from -2^(bits-1) to 2^(bits-1) - 1; behind a `-` stands no 0
+abbrev pub negative_in : ℕ → ℕ → Option Value
+negative_in bits n = if nat_le 1 n && nat_le n (2 ^ (bits - 1)) then Some (Signed (neg_ℤ (pos n))) else None
+
+abbrev pub positive_in : ℕ → ℕ → Option Value
+positive_in bits n = if nat_lt n (2 ^ (bits - 1)) then Some (Signed (pos n)) else None
+
+unfoldable pub signed_value : ℕ → List ℕ → Option Value
+signed_value bits word =
+    if begins_with 45 word then option_and_then (negative_in bits) (number_of (drop 1 word))
+    else option_and_then (positive_in bits) (number_of word)
+
+-- the digits of bytes: 0 to 9 and a to f
+abbrev pub digit_of : ℕ → Option ℕ
+digit_of c = if nat_le 48 c && nat_le c 57 then Some (c - 48) else (if nat_le 97 c && nat_le c 102 then Some (c - 97 + 10) else None)
+
+-- the byte of two digits, and in front of others
+abbrev pub byte_of : Option ℕ → Option ℕ → Option ℕ
+byte_of high low = option_and_then (λ h. option_map (λ l. 16 * h + l) low) high
+
+-- the bytes that pairs of digits are
+unfoldable pub pairs_of : List ℕ → Option (List ℕ)
+pairs_of [] = Some []
+pairs_of (high ∷ []) = None
+pairs_of (high ∷ low ∷ digits) =
+    option_and_then (λ byte. option_map (λ bytes. byte ∷ bytes) (pairs_of digits)) (byte_of (digit_of high) (digit_of low))
+
+-- `x` and two digits for each byte
+unfoldable pub bytes_of : List ℕ → Option (List ℕ)
+bytes_of word = if begins_with 120 word then pairs_of (drop 1 word) else None
+
+-- a value of so many bytes
+abbrev pub sized : ℕ → List ℕ → Option Value
+sized size bytes = if length bytes == size then Some (Bytes bytes) else None
+
+unfoldable pub fixed_value : ℕ → List ℕ → Option Value
+fixed_value size word = option_and_then (sized size) (bytes_of word)
+
+-- a value of variable length: at most 65,535 bytes
+abbrev pub short : List ℕ → Option Value
+short bytes = if nat_le (length bytes) 65535 then Some (Bytes bytes) else None
+
+unfoldable pub long_value : List ℕ → Option Value
+long_value word = option_and_then short (bytes_of word)
+
+-- a channel of signed numbers has 1 to 64 bits
+abbrev pub IsReadable : FieldRow → Type 0
+IsReadable row = row.kind ≡ kinds.Signed → (1 ≤ row.bits) × (row.bits ≤ 64)
+
+-- the value that a word is for a channel of this kind and so many bits
+abbrev pub value_as : FieldKind → ℕ → List ℕ → Option Value
+value_as kinds.Unsigned bits word = unsigned_value bits word
+value_as kinds.Signed bits word = signed_value bits word
+value_as kinds.Fixed bits word = fixed_value (bits / 8) word
+value_as kinds.Variable bits word = long_value word
+value_as kinds.Virtual bits word = None
+
+unfoldable pub value_of : FieldRow → List ℕ → Option Value
+value_of row word = value_as row.kind row.bits word
+
+-- the entry that it is: a `?` behind the value says that it is invalid, where the channel has an invalidation bit
+abbrev pub entry_with : Bool → Value → Entry
+entry_with valid value = record { value = value; valid = valid }
+
+unfoldable pub entry_of : FieldRow → List ℕ → Option Entry
+entry_of row word =
+    if is_marked word
+    then (if is_some row.inval then option_map (entry_with false) (value_of row (take (length word - 1) word)) else None)
+    else option_map (entry_with true) (value_of row word)
+
+-- the entries that words are, one for each channel
+unfoldable pub entries_of : List FieldRow → List (List ℕ) → Option (List Entry)
+entries_of [] [] = Some []
+entries_of (row ∷ rows) (word ∷ words) =
+    option_and_then (λ entry. option_map (λ entries. entry ∷ entries) (entries_of rows words)) (entry_of row word)
+entries_of _ _ = None

@@ -1,0 +1,182 @@
+// The values of a sample.
+ghost use Rattle.std.specs.Prelude.{◌≡◌, ◌<◌, ◌≤◌, ◌^◌, ◌+◌, ◌*◌, ◌↔◌, length, take, drop, IsTrue, IfOk, IfSome, Some, None};
+ghost use Rattle.std.specs.Option.{option_map};
+ghost use Rattle.script_line.specs.Value.{begins_with, is_marked, unsigned_value, negative_in, positive_in, signed_value, digit_of, pairs_of, bytes_of, fixed_value, long_value, value_of, entry_of, IsReadable};
+
+use crate::number::number_of;
+use mdf_layout::{Entry, FieldKind, FieldRow, Value};
+use mdf_num::{Bytes, Memory};
+use std::alloc::Global;
+
+/// Whether the word begins with this byte.
+fn begins_with(byte: u8, word: &[u8]) -> bool
+    ensures { result ≡ begins_with byte word.now }
+{
+    !word.is_empty() && word[0] == byte
+}
+
+/// Whether the word ends with `?`.
+fn is_marked(word: &[u8]) -> bool
+    ensures { result ≡ is_marked word.now }
+{
+    !word.is_empty() && word[word.len() - 1] == b'?'
+}
+
+/// Whether so many bits hold the number.
+pub(crate) fn is_held(number: u64, bits: u32) -> bool
+    ensures { IsTrue result ↔ (number < 2 ^ bits) }
+{
+    bits >= 64 || number < 1 << bits
+}
+
+/// The unsigned number of so many bits that a word is.
+#[tactic(auto, unfolding(crate::specs::Value::unsigned_value))]
+fn unsigned_value(bits: u32, word: &[u8]) -> Option<Value>
+    ensures { result ≡ unsigned_value bits word.now }
+{
+    let number = number_of(word)?;
+    if !is_held(number, bits) {
+        return None;
+    }
+    Some(Value::Unsigned(number))
+}
+
+/// The negative of this number, where that is not 0 and so many bits hold it in two's complement.
+fn negative_in(bits: u32, number: u64) -> Option<Value>
+    requires some { 1 ≤ bits }
+    requires few { bits ≤ 64 }
+    ensures { result ≡ negative_in bits number }
+{
+    if number < 1 || !is_held(number - 1, bits - 1) {
+        return None;
+    }
+    Some(Value::Signed(-1 - (number - 1) as i64))
+}
+
+/// This number, where so many bits hold it in two's complement.
+fn positive_in(bits: u32, number: u64) -> Option<Value>
+    requires some { 1 ≤ bits }
+    requires few { bits ≤ 64 }
+    ensures { result ≡ positive_in bits number }
+{
+    if !is_held(number, bits - 1) {
+        return None;
+    }
+    Some(Value::Signed(number as i64))
+}
+
+/// The signed number of so many bits that a word is: with a `-` and a number that is not 0, or without.
+#[tactic(auto, unfolding(crate::specs::Value::signed_value))]
+fn signed_value(bits: u32, word: &[u8]) -> Option<Value>
+    requires some { 1 ≤ bits }
+    requires few { bits ≤ 64 }
+    ensures { result ≡ signed_value bits word.now }
+{
+    if begins_with(b'-', word) {
+        let number = number_of(&word[1..])?;
+        return negative_in(bits, number);
+    }
+    let number = number_of(word)?;
+    positive_in(bits, number)
+}
+
+/// What a digit of a byte stands for: 0 to 9 and a to f.
+fn digit_of(digit: u8) -> Option<u8>
+    ensures digit { result ≡ digit_of digit }
+    ensures small { IfSome result (λ value. value ≤ 15) }
+{
+    match digit {
+        b'0'..=b'9' => Some(digit - b'0'),
+        b'a'..=b'f' => Some(digit - b'a' + 10),
+        _ => None,
+    }
+}
+
+/// The bytes that pairs of digits are.
+fn pairs_of(alloc: Global, digits: &[u8]) -> Result<Option<Bytes>, Memory>
+    ensures { IfOk result (λ bytes. bytes ≡ pairs_of digits.now) }
+{
+    if digits.len() % 2 != 0 {
+        return Ok(None);
+    }
+    let mut bytes = Vec::with_capacity(alloc, digits.len() / 2)?;
+    for i in 0..digits.len() / 2 {
+        let Some(high) = digit_of(digits[2 * i]) else {
+            return Ok(None);
+        };
+        let Some(low) = digit_of(digits[2 * i + 1]) else {
+            return Ok(None);
+        };
+        bytes.push(16 * high + low)?;
+    }
+    Ok(Some(Bytes::from_vec(bytes)))
+}
+
+/// The bytes that a word is: `x` and two digits for each byte.
+#[tactic(auto, unfolding(crate::specs::Value::bytes_of))]
+fn bytes_of(alloc: Global, word: &[u8]) -> Result<Option<Bytes>, Memory>
+    ensures { IfOk result (λ bytes. bytes ≡ bytes_of word.now) }
+{
+    if !begins_with(b'x', word) {
+        return Ok(None);
+    }
+    pairs_of(alloc, &word[1..])
+}
+
+/// The value of so many bytes that a word is.
+#[tactic(auto, unfolding(crate::specs::Value::fixed_value))]
+fn fixed_value(alloc: Global, size: u32, word: &[u8]) -> Result<Option<Value>, Memory>
+    ensures { IfOk result (λ value. value ≡ fixed_value size word.now) }
+{
+    match bytes_of(alloc, word)? {
+        Some(bytes) if bytes.as_slice().len() == size as usize => Ok(Some(Value::Bytes(bytes))),
+        _ => Ok(None),
+    }
+}
+
+/// The most bytes that a value of variable length can have.
+const MOST_BYTES: usize = 65_535;
+
+/// The value of variable length that a word is.
+#[tactic(auto, unfolding(crate::specs::Value::long_value))]
+fn long_value(alloc: Global, word: &[u8]) -> Result<Option<Value>, Memory>
+    ensures { IfOk result (λ value. value ≡ long_value word.now) }
+{
+    match bytes_of(alloc, word)? {
+        Some(bytes) if bytes.as_slice().len() <= MOST_BYTES => Ok(Some(Value::Bytes(bytes))),
+        _ => Ok(None),
+    }
+}
+
+/// The value that a word is for a channel.
+#[tactic(auto, unfolding(crate::specs::Value::value_of))]
+fn value_of(alloc: Global, row: FieldRow, word: &[u8]) -> Result<Option<Value>, Memory>
+    requires { IsReadable row }
+    ensures { IfOk result (λ value. value ≡ value_of row word.now) }
+{
+    match row.kind {
+        FieldKind::Unsigned => Ok(unsigned_value(row.bits, word)),
+        FieldKind::Signed => Ok(signed_value(row.bits, word)),
+        FieldKind::Fixed => fixed_value(alloc, row.bits / 8, word),
+        FieldKind::Variable => long_value(alloc, word),
+        FieldKind::Virtual => Ok(None),
+    }
+}
+
+/// The entry that a word is for a channel: its value, and behind it `?` where it is invalid, which only a channel with
+/// an invalidation bit can say.
+#[tactic(auto, unfolding(crate::specs::Value::entry_of))]
+pub(crate) fn entry_of(alloc: Global, row: FieldRow, word: &[u8]) -> Result<Option<Entry>, Memory>
+    requires { IsReadable row }
+    ensures { IfOk result (λ entry. entry ≡ entry_of row word.now) }
+{
+    let valid = !is_marked(word);
+    if !valid && row.inval.is_none() {
+        return Ok(None);
+    }
+    let word = if valid { word } else { &word[..word.len() - 1] };
+    match value_of(alloc, row, word)? {
+        Some(value) => Ok(Some(Entry { value, valid })),
+        None => Ok(None),
+    }
+}
