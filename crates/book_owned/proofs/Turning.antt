@@ -51,6 +51,16 @@ block_small layouts before [] bytes records some = absurd (some (none bytes reco
 block_small layouts before (sample ∷ samples) bytes records some =
     omega (arith, encodings-length layouts before bytes (sample ∷ samples) records, history_cost-least layouts (sample ∷ samples))
 
+-- where records are pending not all samples are durable
+pub some_pending : (layouts : List Layout) (history : List Sample) (through : ℕ) (bytes : List ℕ)
+    → AreEncodingsBehind layouts (take through history) bytes (drop through history) → bytes ≢ [] → through < length history
+some_pending layouts history through bytes records some =
+    below (drop through history) (omega (arith, block_small layouts (take through history) (drop through history) bytes records some)) (length-drop through history)
+  where
+    below : (samples : List Sample) → 96 ≤ history_cost layouts samples → length samples ≡ length history - through → through < length history
+    below [] big long = absurd (omega (arith, big))
+    below (sample ∷ samples) big long = omega (arith, long)
+
 -- with nothing pending all samples are durable
 pub all_durable : {V : Type 0} (from : ℕ) (failed : Bool) (front : InMemory V) → IsPending from failed front → failed ≡ false → front.block.bytes ≡ []
     → from ≡ length front.history.items
@@ -156,8 +166,7 @@ module _ {D V N : Type 0} (disk : DiskOf D) (view : ViewOf V N) (front : InMemor
         λ f left. let h = leaves (written.blocks ++ front.block.bytes ∷ []) rest f left in
         carries_opened layouts terms.head history history (written.blocks ++ front.block.bytes ∷ []) f h.0 h.1 whole (prefix_self history) in
         let small = block_small layouts (take through history) (drop through history) front.block.bytes (book.pending.records going) some in
-        let more : through < length history =
-        below (drop through history) (omega (arith, small)) (length-drop through history) in
+        let more = some_pending layouts history through front.block.bytes (book.pending.records going) some in
         let kept0 = kept_later terms (state_of disk file.disk) (state_of disk file'.disk) history front.marks.items adds later told book.back.kept in
         let kept1 = kept_marked terms (state_of disk file'.disk) (disk.moment file.disk) history front.marks.items mark kept0
         (moments_most layouts terms.head (disk.story file.disk) (disk.moment file.disk) history front.marks.items book.back.kept.marks_hold) at through_is more later strictly holds in
@@ -198,10 +207,6 @@ module _ {D V N : Type 0} (disk : DiskOf D) (view : ViewOf V N) (front : InMemor
                 (omega (arith, place, book.back.reach going, small, cost_parts layouts history through));
           };
         } where
-          below : (samples : List Sample) → 96 ≤ history_cost layouts samples → length samples ≡ length history - through → through < length history
-          below [] big long = absurd (omega (arith, big))
-          below (sample ∷ samples) big long = omega (arith, long)
-
           longer : (handed : List Sample) → IsPrefix handed (take through history) → IsPrefix handed history
           longer handed (rest, is) = (
             rest ++ drop through history,

@@ -36,6 +36,10 @@ abbrev pub FitsBlock : {D V : Type 0} → Account D V → Sample → Type 0
 FitsBlock book sample =
     history_size book.terms.layouts (drop (durable book.marks) book.history) + encoded_size book.terms.layouts sample ≤ book.terms.block_limit
 
+-- some of the accepted samples are not durable
+abbrev pub HasPending : {D V : Type 0} → Account D V → Type 0
+HasPending book = durable book.marks < length book.history
+
 -- the view shows so many samples, or it wanted memory and shows as many as before
 abbrev pub ShowsAll : {V N : Type 0} → ViewOf V N → V → V → ℕ → Type 0
 ShowsAll view old new through = (view.count new ≡ through) ⊎ (Wants view.may_want × (view.count new ≡ view.count old))
@@ -92,5 +96,5 @@ FlushAnswers disk view old new (flush.Done through shown note) =
     × (shown ≤ through) × MarksAll disk old new × ShowsAll view old.view new.view through
     × view.tells note old.terms.which (take shown old.history)
 FlushAnswers disk view old new (flush.DiskFault before after) =
-    IsFault disk old new before after × (new.marks ≡ old.marks) × (new.view ≡ old.view)
+    IsFault disk old new before after × (new.marks ≡ old.marks) × (new.view ≡ old.view) × HasPending old
 FlushAnswers disk view old new (flush.Stopped mark) = IsStopped old new mark

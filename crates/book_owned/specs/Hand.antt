@@ -6,7 +6,7 @@ use Rattle.mdf_layout.specs.declared.sample.Sample.{Sample}
 use Rattle.mdf_layout.specs.Record.{cost_of}
 use Rattle.mdf_gate.specs.Gated.{Gated}
 use Rattle.book_owned.specs.Members.{DiskOf, ViewOf}
-use Rattle.book_owned.specs.Marks.{last_mark}
+use Rattle.book_owned.specs.Marks.{last_mark, durable}
 use Rattle.book_owned.specs.Answers.{ShowsAll}
 use Rattle.book_owned.specs.Halves.{terms_of}
 use Rattle.book_owned.specs.declared.answer.Append.{Append}
@@ -44,12 +44,13 @@ MakesRoom disk view front file size front' file' =
     ⊎ ((front.block.limit < length front.block.bytes + size) × HasMarked disk front front' file'
     × ShowsAll view front.view front'.view (length front.history.items))
 
--- the disk failed
+-- there were records to be written, and the disk failed
 pub record IsHandFault {D V : Type 0} (disk : DiskOf D) (front : InMemory V) (file : Gated D) (front' : InMemory V) (file' : Gated D) (fault : Fault) : Type 0 where
   pub failed : file'.failed ≡ true
   pub before_is : fault.before ≡ disk.faults file.disk
   pub after_is : fault.after ≡ disk.faults file'.disk
   pub rose : Rose fault.before fault.after
+  pub pending : durable front.marks.items < length front.history.items
   pub marks : front'.marks ≡ front.marks
   pub view : front'.view ≡ front.view
 

@@ -1,6 +1,6 @@
 -- Records of values of variable length, one channel behind the other.
 use Rattle.std.proofs.Common.{◌≡◌, ◌<◌, ◌+◌, ℕ, suc, Bool, true, false, List, [], ◌∷◌, ◌++◌, length, get_or, set, take, drop, refl, sym, ◌∙◌, ap, arith}
-use Rattle.std.specs.Prelude.{if◌then◌else◌}
+use Rattle.std.specs.Prelude.{if◌then◌else◌, sum_by}
 use Rattle.std.proofs.Math.Seq.{take-add}
 use Rattle.std.proofs.lemmas.List.{append_assoc, append-nil, drop_more, length-set, take_more_set}
 use Rattle.std.proofs.lemmas.Slice.{take-put_mid}
@@ -9,7 +9,7 @@ use Rattle.mdf_format.specs.Number.{bytes_at}
 use Rattle.mdf_vlsd.specs.Value.{value_bytes}
 use Rattle.mdf_layout.specs.Rule.{is_variable}
 use Rattle.mdf_layout.specs.Values.{bytes_in}
-use Rattle.mdf_layout.specs.Record.{long_value, long_values}
+use Rattle.mdf_layout.specs.Record.{long_value, long_values, long_size}
 use Rattle.mdf_layout.specs.Behind.{variables, value_records}
 use Rattle.mdf_layout.specs.declared.field.FieldRow.{FieldRow}
 use Rattle.mdf_layout.specs.declared.sample.Entry.{Entry}
@@ -103,14 +103,14 @@ pub one_record : (front : List ℕ) (id : ℕ) (row : FieldRow) (entry : Entry) 
     → front ++ id ∷ value_bytes (bytes_in entry.value) ≡ front ++ value_records id (long_value row entry)
 one_record front id row entry is = record_step (is_variable row) front id (bytes_in entry.value) is
 
-none_step : (b : Bool) (front : List ℕ) (id : ℕ) (v : List ℕ) → b ≡ false → front ≡ front ++ value_records id (if b then v ∷ [] else [])
+no_record_step : (b : Bool) (front : List ℕ) (id : ℕ) (v : List ℕ) → b ≡ false → front ≡ front ++ value_records id (if b then v ∷ [] else [])
 unfolding value_records
-none_step true front id v is = let wrong : true ≡ false = is in cc
-none_step false front id v is = sym (append-nil front)
+no_record_step true front id v is = let wrong : true ≡ false = is in cc
+no_record_step false front id v is = sym (append-nil front)
 
 pub no_record : (front : List ℕ) (id : ℕ) (row : FieldRow) (entry : Entry) → is_variable row ≡ false
     → front ≡ front ++ value_records id (long_value row entry)
-no_record front id row entry is = none_step (is_variable row) front id (bytes_in entry.value) is
+no_record front id row entry is = no_record_step (is_variable row) front id (bytes_in entry.value) is
 
 -- the record of a group behind the records of values
 pub record_written : (out content front : List ℕ) (at count n id : ℕ) → at < length out → n ≡ at + 1 + length content → front ≡ take at out
@@ -120,3 +120,19 @@ record_written out content front at count n id within long front_is =
     ∙ ap (λ xs. xs ++ content) (take_more_set out at id within)
     ∙ append_assoc (take at out) (id ∷ []) content
     ∙ ap (λ xs. xs ++ id ∷ content) (sym front_is)
+
+-- where no channel is of variable length, none of the values is
+none_step : (b : Bool) (row : FieldRow) (rest : List FieldRow) (v : List ℕ) (vs : List (List ℕ)) → length (if b then row ∷ rest else rest) ≡ 0
+    → (length rest ≡ 0 → vs ≡ []) → (if b then v ∷ vs else vs) ≡ []
+none_step true row rest v vs none behind = absurd (omega (arith, none))
+none_step false row rest v vs none behind = behind none
+
+pub no_long_values : (rows : List FieldRow) (entries : List Entry) → length (variables rows) ≡ 0 → long_values rows entries ≡ []
+unfolding long_values
+no_long_values [] entries none = refl
+no_long_values (row ∷ rows) [] none = refl
+no_long_values (row ∷ rows) (entry ∷ entries) none =
+    none_step (is_variable row) row (variables rows) (bytes_in entry.value) (long_values rows entries) none (no_long_values rows entries)
+
+pub no_long_size : (rows : List FieldRow) (entries : List Entry) → length (variables rows) ≡ 0 → long_size rows entries ≡ 0
+no_long_size rows entries none = ap (sum_by (λ (value : List ℕ). 5 + length value)) (no_long_values rows entries none)

@@ -9,7 +9,7 @@ ghost use Rattle.mdf_layout.specs.Behind.{variables, value_records};
 use crate::reading::streams_with;
 use crate::rule::{is_variable, row_at};
 use crate::writing::put_bytes;
-use crate::{Entry, FieldRow, Value};
+use crate::{Entries, Entry, FieldRow, Shape, Value};
 
 /// Writes bytes behind the first `at`, and answers where they end.
 fn append(out: &mut [u8], at: usize, bytes: &[u8]) -> usize
@@ -63,7 +63,7 @@ fn put_channel(row: FieldRow, entry: &Entry, id: u8, out: &mut [u8], at: usize) 
 }
 
 /// Writes the records of the values of variable length, with ids from this one on, and answers where they end.
-pub(crate) fn put_long_values(rows: &[FieldRow], entries: &[Entry], id: u8, out: &mut [u8]) -> usize
+fn put_long_values(rows: &[FieldRow], entries: &[Entry], id: u8, out: &mut [u8]) -> usize
     requires fits { AreEntriesOf rows.now entries.now }
     requires ids { id + length (variables rows.now) ≤ 255 }
     requires room { long_size rows.now entries.now ≤ length out.old }
@@ -79,4 +79,20 @@ pub(crate) fn put_long_values(rows: &[FieldRow], entries: &[Entry], id: u8, out:
         next = streams_with(row, next);
     }
     at
+}
+
+/// The same for the values of a sample of a group with this layout. Where no channel is of variable length, none is looked
+/// at.
+pub(crate) fn put_long_in_group(shape: &Shape, values: &Entries, id: u8, out: &mut [u8]) -> usize
+    requires fits { AreEntriesOf shape.now.rows values.now }
+    requires ids { id + length (variables shape.now.rows) ≤ 255 }
+    requires room { long_size shape.now.rows values.now ≤ length out.old }
+    ensures end { result ≡ long_size shape.now.rows values.now }
+    ensures front { take result out.new ≡ value_records id (long_values shape.now.rows values.now) }
+    ensures size { length out.new ≡ length out.old }
+{
+    if shape.variable_count() == 0 {
+        return 0;
+    }
+    put_long_values(shape.fields().as_slice(), values.as_slice(), id, out)
 }

@@ -11,10 +11,10 @@ ghost use Rattle.mdf_layout.specs.Stored.{IsStored};
 ghost use Rattle.mdf_layout.specs.Next.{Next, next_behind, AreNext, added, value_sizes};
 ghost use Rattle.mdf_layout.specs.declared.sample.Sample.{Sample};
 
-use crate::long::{bytes_of, put_long_values};
+use crate::long::{bytes_of, put_long_in_group};
 use crate::reading::streams_with;
 use crate::rule::{is_variable, row_at};
-use crate::{Entry, FieldRow, Sample, Shape, Shapes};
+use crate::{Entries, Entry, FieldRow, Sample, Shape, Shapes};
 use mdf_num::Memory;
 use std::alloc::Global;
 use std::marker::Model;
@@ -51,25 +51,12 @@ impl Model for NextValues {
     ghost view = { λ next. next.groups.items };
 }
 
-/// How many channels are of variable length.
-fn count_variables(rows: &[FieldRow]) -> usize
-    requires few { length rows.now < 2 ^ 32 }
-    ensures { result ≡ length (variables rows.now) }
-{
-    let mut count = 0;
-    for channel in 0..rows.len() {
-        count = streams_with(row_at(rows, channel), count);
-    }
-    count
-}
-
-/// Where the first values of a group go.
-fn first_in_group(alloc: Global, id: u8, rows: &[FieldRow]) -> Result<NextInGroup, Memory>
-    requires few { length rows.now < 2 ^ 32 }
+/// Where the first values of a group with this layout go.
+fn first_in_group(alloc: Global, id: u8, shape: &Shape) -> Result<NextInGroup, Memory>
     ensures id { IfOk result (λ next. next.id ≡ id) }
-    ensures offsets { IfOk result (λ next. next.offsets ≡ offsets_behind rows.now []) }
+    ensures offsets { IfOk result (λ next. next.offsets ≡ offsets_behind shape.now.rows []) }
 {
-    let offsets = Vec::from_elem(alloc, 0, count_variables(rows))?;
+    let offsets = Vec::from_elem(alloc, 0, shape.variable_count() as usize)?;
     Ok(NextInGroup { id, offsets })
 }
 
@@ -88,7 +75,7 @@ fn encode_in_group(shape: &Shape, sample: &Sample, id: u8, offsets: &[u64], out:
         → IsEncodingBehind layouts before (take result out.new) sample.now }
     ensures length { length out.new ≡ length out.old }
 {
-    let at = put_long_values(shape.fields().as_slice(), sample.values.as_slice(), id, out);
+    let at = put_long_in_group(shape, &sample.values, id, out);
     let end = at + 1 + shape.record_size() as usize;
     out[at] = sample.group as u8 + 1;
     shape.encode(&sample.values, offsets, &mut out[at + 1..end]);
@@ -124,6 +111,19 @@ fn pass_values(rows: &[FieldRow], entries: &[Entry], offsets: &mut [u64])
     }
 }
 
+/// The same for a sample of a group with this layout. Where no channel is of variable length, none is looked at.
+fn pass_in_group(shape: &Shape, values: &Entries, offsets: &mut [u64])
+    requires count { length values.now ≡ length shape.now.rows }
+    requires offsets { length offsets.old ≡ length (variables shape.now.rows) }
+    requires small { All (λ offset. offset < 2 ^ 62) offsets.old }
+    ensures { offsets.new ≡ added offsets.old (value_sizes (long_values shape.now.rows values.now)) }
+{
+    if shape.variable_count() == 0 {
+        return;
+    }
+    pass_values(shape.fields().as_slice(), values.as_slice(), offsets);
+}
+
 impl NextValues {
     /// Where the first values go: offsets are 0, and the ids of values come behind those of the groups, in the order of
     /// groups and channels.
@@ -137,8 +137,7 @@ impl NextValues {
         let mut groups = Vec::new(alloc);
         let mut id = shapes.len() as usize + 1;
         for group in 0..shapes.len() {
-            let shape = shapes.at(group);
-            let next = first_in_group(alloc, id as u8, shape.fields().as_slice())?;
+            let next = first_in_group(alloc, id as u8, shapes.at(group))?;
             id += next.offsets.len();
             groups.push(next)?;
         }
@@ -171,10 +170,9 @@ impl NextValues {
         requires next { (before : List Sample) × AreNext shapes.now before self.old × (history_size shapes.now before < 2 ^ 62) }
         ensures { (before : List Sample) → AreNext shapes.now before self.old → AreNext shapes.now (before ++ sample.now ∷ []) self.new }
     {
-        let shape = shapes.at(sample.group as u64);
-        pass_values(
-            shape.fields().as_slice(),
-            sample.values.as_slice(),
+        pass_in_group(
+            shapes.at(sample.group as u64),
+            &sample.values,
             &mut self.groups[sample.group as usize].offsets,
         );
     }

@@ -2,10 +2,13 @@ ghost use Rattle.std.specs.Prelude.{◌≡◌, ℕ, ◌^◌, ◌<◌, ◌≤◌,
 ghost use Rattle.mdf_format.specs.Field.{bit_of};
 ghost use Rattle.mdf_vlsd.specs.Value.{value_at};
 ghost use Rattle.mdf_layout.specs.Values.{Finder, sample_by, sample_of};
-ghost use Rattle.mdf_layout.specs.Written.{AreApart, AreEntriesOf, OffsetsFit, AreFound, HoldValues, IsFree, IsFreePosition};
+ghost use Rattle.mdf_layout.specs.Written.{AreApart, AreEntriesOf, OffsetsFit, AreFound, HoldValues, HoldMarks, IsFree, IsFreePosition};
+ghost use Rattle.mdf_layout.specs.Behind.{variables};
 ghost use Rattle.mdf_layout.specs.Layout.{IsRuled, record_size};
 ghost use Rattle.mdf_layout.specs.Fault.{ShapeCause, DecodeCause};
 
+use crate::reading::streams_with;
+use crate::rule::row_at;
 use crate::{
     DecodeFault, Entries, FieldRow, Sample, are_apart, decode, encode, entries_fit, first_bad,
 };
@@ -22,16 +25,20 @@ pub struct Shape {
     rows: Rows<FieldRow>,
     data_bytes: u32,
     inval_bytes: u32,
+    variable_count: u32,
 }
 
 impl Model for Shape {
+    ghost use Rattle.std.specs.Prelude.{◌≡◌, length};
     ghost use Rattle.mdf_layout.specs.Layout.{Layout, IsRuled};
+    ghost use Rattle.mdf_layout.specs.Behind.{variables};
 
     ghost Value = { Layout };
 
     ghost view = { λ shape. record { rows = shape.rows; data_bytes = shape.data_bytes; inval_bytes = shape.inval_bytes } };
 
-    ghost invariant = { λ shape. IsRuled (record { rows = shape.rows; data_bytes = shape.data_bytes; inval_bytes = shape.inval_bytes }) };
+    ghost invariant = { λ shape. IsRuled (record { rows = shape.rows; data_bytes = shape.data_bytes; inval_bytes = shape.inval_bytes })
+        × (shape.variable_count ≡ length (variables shape.rows)) };
 }
 
 /// Why rows are no layout.
@@ -58,6 +65,19 @@ impl From<Memory> for ShapeFault {
 /// A layout has fewer channels than this, so that the length of its samples is a number of 64 bits.
 const MOST_CHANNELS: u64 = 1 << 31;
 
+/// How many channels are of variable length.
+fn count_variables(rows: &[FieldRow]) -> usize
+    requires few { length rows.now < 2 ^ 31 }
+    ensures count { result ≡ length (variables rows.now) }
+    ensures few { result ≤ length rows.now }
+{
+    let mut count = 0;
+    for channel in 0..rows.len() {
+        count = streams_with(row_at(rows, channel), count);
+    }
+    count
+}
+
 /// The layout of these channels in records of so many data bytes and invalidation bytes.
 ///
 /// # Errors
@@ -79,11 +99,13 @@ pub fn shape_of(
     if let Some(channel) = first_bad(rows.as_slice(), data_bytes, inval_bytes) {
         return Err(ShapeFault::Bad { channel });
     }
+    let variable_count = count_variables(rows.as_slice()) as u32;
     let rows = Rows::from_vec(copy_rows(alloc, rows.as_slice())?);
     Ok(Shape {
         rows,
         data_bytes,
         inval_bytes,
+        variable_count,
     })
 }
 
@@ -115,6 +137,13 @@ impl Shape {
         ensures { result ≡ self.now.inval_bytes }
     {
         self.inval_bytes
+    }
+
+    /// How many channels are of variable length.
+    pub fn variable_count(&self) -> u32
+        ensures { result ≡ length (variables self.now.rows) }
+    {
+        self.variable_count
     }
 
     /// How many bytes a record has, without its id.
@@ -153,6 +182,7 @@ impl Shape {
         ensures sample { (finders : List Finder) (index : ℕ) → AreFound self.now.rows values.now offsets.now finders index
             → sample_by self.now.rows (take self.now.data_bytes out.new) (drop self.now.data_bytes out.new) finders index ≡ Some values.now }
         ensures values { HoldValues self.now.rows values.now offsets.now (length self.now.rows) (take self.now.data_bytes out.new) }
+        ensures marks { HoldMarks self.now.rows values.now (length self.now.rows) (drop self.now.data_bytes out.new) }
         ensures unused { (p : ℕ) → IsFree self.now.rows p → bit_of (take self.now.data_bytes out.new) p ≡ 0 }
         ensures unused_positions { (p : ℕ) → IsFreePosition self.now.rows p → bit_of (drop self.now.data_bytes out.new) p ≡ 0 }
         ensures size { length out.new ≡ record_size self.now }

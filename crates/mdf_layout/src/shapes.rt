@@ -4,7 +4,7 @@ ghost use Rattle.mdf_layout.specs.Record.{SampleFits, value_record_size, long_si
 ghost use Rattle.mdf_layout.specs.Written.{AreEntriesOf};
 
 use crate::rule::{is_variable, row_at};
-use crate::{Entry, FieldRow, Sample, Shape, Value};
+use crate::{Entries, Entry, FieldRow, Sample, Shape, Value};
 use mdf_num::{Memory, Rows};
 use std::alloc::Global;
 use std::marker::Model;
@@ -57,6 +57,18 @@ fn long_size(rows: &[FieldRow], entries: &[Entry]) -> u64
     size
 }
 
+/// The same of a sample of a group with this layout. Where no channel is of variable length, none is looked at.
+fn long_size_in_group(shape: &Shape, values: &Entries) -> u64
+    requires fits { AreEntriesOf shape.now.rows values.now }
+    ensures size { result ≡ long_size shape.now.rows values.now }
+    ensures small { result < 2 ^ 63 + 2 ^ 33 }
+{
+    if shape.variable_count() == 0 {
+        return 0;
+    }
+    long_size(shape.fields().as_slice(), values.as_slice())
+}
+
 impl Shapes {
     /// The empty list. It takes no memory.
     pub fn empty(alloc: Global) -> Shapes
@@ -103,9 +115,7 @@ impl Shapes {
         ensures { result ≡ encoded_size self.now sample.now }
     {
         match self.get(sample.group as u64) {
-            Some(shape) => 1
-                + shape.record_size()
-                + long_size(shape.fields().as_slice(), sample.values.as_slice()),
+            Some(shape) => 1 + shape.record_size() + long_size_in_group(shape, &sample.values),
             None => 0,
         }
     }

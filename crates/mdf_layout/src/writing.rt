@@ -138,6 +138,22 @@ fn mark_all(rows: &[FieldRow], values: &[Entry], inval: &mut [u8])
     }
 }
 
+/// Writes the invalidation bytes of a record. Where it has none, no channel is looked at.
+fn put_marks(rows: &[FieldRow], values: &[Entry], inval: &mut [u8])
+    requires inside { All (λ row. IsInvalIn (length inval.old) row.inval) rows.now }
+    requires apart { AreApart rows.now }
+    requires count { length values.now ≡ length rows.now }
+    ensures marks { HoldMarks rows.now values.now (length rows.now) inval.new }
+    ensures others { (p : ℕ) → IsFreePosition rows.now p → bit_of inval.new p ≡ 0 }
+    ensures size { length inval.new ≡ length inval.old }
+{
+    if inval.is_empty() {
+        return;
+    }
+    clear(inval);
+    mark_all(rows, values, inval);
+}
+
 /// Writes a record of these values into its data bytes and its invalidation bytes, with the offset of each value of
 /// variable length in the field of its channel. Bits of no channel are 0. `decode` gives the values back where each
 /// offset meets its value and each index is that of the record. It takes no memory.
@@ -157,6 +173,7 @@ pub fn encode(
     ensures sample { (finders : List Finder) (index : ℕ) → AreFound rows.now values.now offsets.now finders index
         → sample_by rows.now content.new inval.new finders index ≡ Some values.now }
     ensures values { HoldValues rows.now values.now offsets.now (length rows.now) content.new }
+    ensures marks { HoldMarks rows.now values.now (length rows.now) inval.new }
     ensures unused { (p : ℕ) → IsFree rows.now p → bit_of content.new p ≡ 0 }
     ensures unused_positions { (p : ℕ) → IsFreePosition rows.now p → bit_of inval.new p ≡ 0 }
     ensures size { length content.new ≡ length content.old }
@@ -164,6 +181,5 @@ pub fn encode(
 {
     clear(content);
     put_values(rows, values, offsets, content);
-    clear(inval);
-    mark_all(rows, values, inval);
+    put_marks(rows, values, inval);
 }

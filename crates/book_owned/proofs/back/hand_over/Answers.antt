@@ -1,8 +1,8 @@
-use Rattle.std.proofs.Common.{subst, arith, rules}
+use Rattle.std.proofs.Common.{refl, subst, arith, rules}
 use Rattle.mdf_disk.specs.Crash.{HoldsSince}
 use Rattle.mdf_gate.specs.Images.{head_of, Opens}
 use Rattle.book_owned.specs.Marks.{durable}
-use Rattle.book_owned.proofs.Turning.{cost_parts, block_small, adds_carry, book_failed, book_marked, rises_told}
+use Rattle.book_owned.proofs.Turning.{cost_parts, block_small, some_pending, adds_carry, book_failed, book_marked, rises_told}
 use Rattle.book_owned.proofs.back.hand_over.Goals as goal
 
 pub append-requires-clause-short : goal.append-requires-clause-short
@@ -19,6 +19,19 @@ returns-in_default-clause-book g c =
     book_failed g.D.Disk g.V.Shown
     c.args.front.now c.args.file.now c.append.new.self c.append.new.block c.requires.book
     c.in_default.ensures.left c.append.ensures.limit c.in_default.ensures.failed (search rules) adds c.append.ensures.moment c.append.ensures.told
+
+pub returns-in_default-clause-fault : goal.returns-in_default-clause-fault
+returns-in_default-clause-fault g c =
+    let front = c.args.front.now in
+    record {
+      failed = search rules;
+      before_is = search rules;
+      after_is = search rules;
+      rose = search rules;
+      pending = some_pending front.shapes front.history.items (durable front.marks.items) front.block.bytes (c.requires.book.pending.records c.requires.going) c.requires.some;
+      marks = refl;
+      view = refl;
+    }
 
 pub returns-clause-book : goal.returns-clause-book
 returns-clause-book g c =

@@ -2,7 +2,7 @@ use Rattle.std.proofs.Common.{◌<◌, ◌^◌, ◌+◌, ◌∙◌, ◌∷◌, �
 use Rattle.mdf_layout.specs.History.{group_samples}
 use Rattle.mdf_layout.specs.Values.{streams_before}
 use Rattle.mdf_layout.specs.Written.{offset_of}
-use Rattle.mdf_layout.specs.Record.{long_values, long_size}
+use Rattle.mdf_layout.specs.Record.{long_values}
 use Rattle.mdf_layout.specs.Behind.{value_records}
 use Rattle.mdf_layout.proofs.Encoded.{encoding_behind}
 use Rattle.mdf_layout.proofs.Longs.{record_written}
@@ -24,15 +24,10 @@ returns-clause-record c = λ layouts before known next_is.
     let layout = c.args.shape.now in
     let offsets = c.args.offsets.now in
     let content = c.encode.new.out in
-    let rows_are = c.as_slice.ensures ∙ c.fields.ensures.rows in
-    let values_are = c.as_slice-2.ensures in
     let values = long_values layout.rows sample.values in
-    let end = c.put_long_values-at.ensures.end ∙ ap (λ rs. long_size rs c.as_slice-2.result.now) rows_are ∙ ap (long_size layout.rows) values_are in
-    let front = c.put_long_values-at.ensures.front ∙ ap (λ rs. value_records c.args.id (long_values rs c.as_slice-2.result.now)) rows_are
-    ∙ ap (λ es. value_records c.args.id (long_values layout.rows es)) values_are in
     let offsets_are = ap (λ n. n.offsets) next_is in
-    let written = record_written c.put_long_values-at.new.out content (value_records c.args.id values) c.put_long_values-at.result _ _ (sample.group + 1)
-    (omega (arith, c.requires.room, end, c.put_long_values-at.ensures.size)) (omega (arith, c.encode.ensures.size, c.record_size.ensures.size)) (sym front) in
+    let written = record_written c.put_long_in_group-at.new.out content (value_records c.args.id values) c.put_long_in_group-at.result _ _ (sample.group + 1)
+    (omega (arith, c.requires.room, c.put_long_in_group-at.ensures.end, c.put_long_in_group-at.ensures.size)) (omega (arith, c.encode.ensures.size, c.record_size.ensures.size)) (sym c.put_long_in_group-at.ensures.front) in
     encoding_behind layouts before _ sample layout content offsets known c.requires.fits (λ k row within. (c.requires.stored k row within).real) c.encode.ensures.size
     (written ∙ ap (λ n. value_records n values ++ (sample.group + 1) ∷ content) (ap (λ n. n.id) next_is))
     offsets_are (ap length offsets_are ∙ offsets-count layout.rows 0 (group_samples before sample.group))

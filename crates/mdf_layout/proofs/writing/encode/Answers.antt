@@ -3,5 +3,5 @@ use Rattle.mdf_layout.proofs.writing.encode.Goals as goal
 
 pub returns-clause-sample : goal.returns-clause-sample
 returns-clause-sample c = λ finders index found.
-    sample_read c.args.rows.now c.args.values.now c.args.offsets.now c.put_values.new.content c.mark_all.new.inval finders index
-    c.requires.fits c.requires.valid c.put_values.ensures.values c.mark_all.ensures.marks found
+    sample_read c.args.rows.now c.args.values.now c.args.offsets.now c.put_values.new.content c.put_marks.new.inval finders index
+    c.requires.fits c.requires.valid c.put_values.ensures.values c.put_marks.ensures.marks found

@@ -1,7 +1,7 @@
 use Rattle.std.proofs.Common.{◌∙◌, ◌∷◌, ap, arith, length, [], length-append}
 use Rattle.std.specs.Prelude.{slice_get}
 use Rattle.std.proofs.lemmas.Option.{slice_get_within}
-use Rattle.mdf_layout.specs.Behind.{first_id, offsets_behind}
+use Rattle.mdf_layout.specs.Behind.{first_id}
 use Rattle.mdf_layout.specs.Next.{Next}
 use Rattle.mdf_layout.proofs.Nexts.{first_more, first_id_more, offsets-count}
 use Rattle.mdf_layout.proofs.next.NextValues.first.Goals as goal
@@ -10,10 +10,10 @@ pub loop-group-preserved : goal.loop-group-preserved
 loop-group-preserved c =
     let layouts = c.args.shapes.now in
     let k = c.loop-group.group in
-    let layout = c.at-shape.result.now in
-    let known = c.at-shape.ensures in
+    let layout = c.at.result.now in
+    let known = c.at.ensures in
     let next = c.in_ok-next.next in
-    let offsets_are = c.in_ok-next.ensures.offsets ∙ ap (λ rs. offsets_behind rs []) (c.as_slice.ensures ∙ c.fields.ensures.rows) in
+    let offsets_are = c.in_ok-next.ensures.offsets in
     let is = ap {B = Next} (λ i. record { id = i; offsets = next.offsets }) (c.in_ok-next.ensures.id ∙ c.loop-group.invariant.id_is)
     ∙ ap {B = Next} (λ os. record { id = first_id layouts k; offsets = os }) offsets_are in
     let items = c.in_ok-push.ensures.items in

@@ -4,7 +4,7 @@ use Rattle.std.proofs.lemmas.List.{with_items_is}
 use Rattle.std.proofs.lemmas.Option.{slice_get_within}
 use Rattle.mdf_layout.specs.History.{group_samples}
 use Rattle.mdf_layout.specs.Record.{long_values}
-use Rattle.mdf_layout.specs.Behind.{variables, first_id, offsets_behind}
+use Rattle.mdf_layout.specs.Behind.{first_id}
 use Rattle.mdf_layout.specs.Next.{Next, AreNext, added, value_sizes}
 use Rattle.mdf_layout.proofs.Nexts.{entries_of, offsets-count, offsets_small, next_there, next_more}
 use Rattle.mdf_layout.proofs.next.NextValues.pass.Goals as goal
@@ -14,48 +14,45 @@ index_mut-requires c =
     let are = subst (AreNext c.args.shapes.now c.requires.next.0) (sym c.self.view_is) c.requires.next.1 in
     omega (
       arith,
-      slice_get_within c.self.inside.groups.items c.args.sample.now.group _ (are.each c.args.sample.now.group c.at-shape.result.now c.at-shape.ensures),
+      slice_get_within c.self.inside.groups.items c.args.sample.now.group _ (are.each c.args.sample.now.group c.at.result.now c.at.ensures),
       c.self.inside.groups.ok.0,
     )
 
-pub pass_values-requires-clause-offsets : goal.pass_values-requires-clause-offsets
-pass_values-requires-clause-offsets c =
+pub pass_in_group-requires-clause-offsets : goal.pass_in_group-requires-clause-offsets
+pass_in_group-requires-clause-offsets c =
     let layouts = c.args.shapes.now in
     let before = c.requires.next.0 in
     let group = c.args.sample.now.group in
-    let layout = c.at-shape.result.now in
+    let layout = c.at.result.now in
     let are = subst (AreNext layouts before) (sym c.self.view_is) c.requires.next.1 in
-    let mine = next_there layouts before group layout c.self.inside.groups.items c.index_mut.result.now c.at-shape.ensures are c.index_mut.ensures.value in
+    let mine = next_there layouts before group layout c.self.inside.groups.items c.index_mut.result.now c.at.ensures are c.index_mut.ensures.value in
     let offsets_are = c.deref_mut.ensures.value ∙ ap (λ n. n.offsets) (c.behind-self.view_is ∙ mine) in
-    ap length offsets_are ∙ offsets-count layout.rows 0 (group_samples before group) ∙ ap (λ rs. length (variables rs)) (sym (c.as_slice.ensures ∙ c.fields.ensures.rows))
+    ap length offsets_are ∙ offsets-count layout.rows 0 (group_samples before group)
 
-pub pass_values-requires-clause-small : goal.pass_values-requires-clause-small
-pass_values-requires-clause-small c =
+pub pass_in_group-requires-clause-small : goal.pass_in_group-requires-clause-small
+pass_in_group-requires-clause-small c =
     let layouts = c.args.shapes.now in
     let before = c.requires.next.0 in
     let group = c.args.sample.now.group in
-    let layout = c.at-shape.result.now in
+    let layout = c.at.result.now in
     let are = subst (AreNext layouts before) (sym c.self.view_is) c.requires.next.1 in
-    let mine = next_there layouts before group layout c.self.inside.groups.items c.index_mut.result.now c.at-shape.ensures are c.index_mut.ensures.value in
+    let mine = next_there layouts before group layout c.self.inside.groups.items c.index_mut.result.now c.at.ensures are c.index_mut.ensures.value in
     let offsets_are = c.deref_mut.ensures.value ∙ ap (λ n. n.offsets) (c.behind-self.view_is ∙ mine) in
-    subst (All (λ offset. offset < 2 ^ 62)) (sym offsets_are) (offsets_small layouts group layout before c.at-shape.ensures c.requires.next.2)
+    subst (All (λ offset. offset < 2 ^ 62)) (sym offsets_are) (offsets_small layouts group layout before c.at.ensures c.requires.next.2)
 
 pub returns : goal.returns
 returns c = λ before given.
     let layouts = c.args.shapes.now in
     let sample = c.args.sample.now in
     let group = sample.group in
-    let layout = c.at-shape.result.now in
+    let layout = c.at.result.now in
     let are = subst (AreNext layouts before) (sym c.self.view_is) given in
-    let mine = next_there layouts before group layout c.self.inside.groups.items c.index_mut.result.now c.at-shape.ensures are c.index_mut.ensures.value in
+    let mine = next_there layouts before group layout c.self.inside.groups.items c.index_mut.result.now c.at.ensures are c.index_mut.ensures.value in
     let next_is = c.behind-self.view_is ∙ mine in
-    let rows_are = c.as_slice.ensures ∙ c.fields.ensures.rows in
-    let passed = c.pass_values.ensures
-    ∙ ap (λ os. added os (value_sizes (long_values c.as_slice.result.now c.as_slice-2.result.now))) (c.deref_mut.ensures.value ∙ ap (λ n. n.offsets) next_is)
-    ∙ ap (λ rs. added (offsets_behind layout.rows (group_samples before group)) (value_sizes (long_values rs c.as_slice-2.result.now))) rows_are
-    ∙ ap (λ es. added (offsets_behind layout.rows (group_samples before group)) (value_sizes (long_values layout.rows es))) c.as_slice-2.ensures in
-    let long : length c.pass_values.new.offsets ≡ c.behind-self.inside.offsets.len = omega (arith, c.pass_values.auto.offsets, c.deref_mut.ensures.len) in
-    let is = ap {B = Next} (λ os. record { id = c.behind-self.inside.id; offsets = os }) (with_items_is c.behind-self.inside.offsets c.pass_values.new.offsets long)
-    ∙ ap {B = Next} (λ i. record { id = i; offsets = c.pass_values.new.offsets }) (ap (λ n. n.id) next_is)
+    let passed = c.pass_in_group.ensures
+    ∙ ap (λ os. added os (value_sizes (long_values layout.rows sample.values))) (c.deref_mut.ensures.value ∙ ap (λ n. n.offsets) next_is) in
+    let long : length c.pass_in_group.new.offsets ≡ c.behind-self.inside.offsets.len = omega (arith, c.pass_in_group.auto.offsets, c.deref_mut.ensures.len) in
+    let is = ap {B = Next} (λ os. record { id = c.behind-self.inside.id; offsets = os }) (with_items_is c.behind-self.inside.offsets c.pass_in_group.new.offsets long)
+    ∙ ap {B = Next} (λ i. record { id = i; offsets = c.pass_in_group.new.offsets }) (ap (λ n. n.id) next_is)
     ∙ ap {B = Next} (λ os. record { id = first_id layouts group; offsets = os }) passed in
-    next_more layouts before sample layout c.self.inside.groups.items _ c.at-shape.ensures (entries_of layouts sample layout c.at-shape.ensures c.requires.fits).count are is
+    next_more layouts before sample layout c.self.inside.groups.items _ c.at.ensures (entries_of layouts sample layout c.at.ensures c.requires.fits).count are is

@@ -3,7 +3,7 @@ use Rattle.std.proofs.lemmas.List.{take_all}
 use Rattle.mdf_layout.specs.Rule.{is_variable}
 use Rattle.mdf_layout.specs.Behind.{variables}
 use Rattle.mdf_layout.proofs.Samples.{streams_more, few_more}
-use Rattle.mdf_layout.proofs.next.count_variables.Goals as goal
+use Rattle.mdf_layout.proofs.shape.count_variables.Goals as goal
 
 pub loop-channel-preserved : goal.loop-channel-preserved
 loop-channel-preserved c =
@@ -14,6 +14,6 @@ loop-channel-preserved c =
       few = omega (arith, c.streams_with-count.ensures, few_more (is_variable row) c.loop-channel.count i c.loop-channel.invariant.few);
     }
 
-pub returns : goal.returns
-returns c =
+pub returns-clause-count : goal.returns-clause-count
+returns-clause-count c =
     c.loop-channel.invariant.before ∙ ap (λ rows. length (variables rows)) (take_all c.loop-channel.channel c.args.rows.now (omega (arith, c.loop-channel-test.false)))
