@@ -1,6 +1,6 @@
 -- What a book keeps, event by event, and over many.
-use Rattle.std.proofs.Common.{ℕ, ◌≡◌, ◌∙◌, sym, ap, subst, ◌+◌, ◌<◌, ◌≤◌, Bool, true, false, List, [], ◌∷◌, ◌++◌, length, refl, arith, append_assoc, append-nil, length-append}
-use Rattle.std.specs.Prelude.{not, ◌&&◌, nat_le, if◌then◌else◌, fold}
+use Rattle.std.proofs.Common.{ℕ, ◌≡◌, ◌∙◌, sym, ap, subst, ◌≤◌, true, List, [], ◌∷◌, ◌++◌, length, refl, arith, append_assoc, append-nil, length-append}
+use Rattle.std.specs.Prelude.{◌&&◌, nat_le}
 use mathlib.Core.List.{IsPrefix, prefix-append}
 use Rattle.std.proofs.lemmas.Bool.{cond_both, false≢true, leb-true, and_parts}
 use Rattle.std.proofs.lemmas.List.Sums.{fold-append}

@@ -1,5 +1,5 @@
 -- The book of a recording as a machine: how each event changes it.
-use Rattle.std.specs.Prelude.{ℕ, ◌≤◌, Bool, true, false, not, ◌&&◌, nat_le, if◌then◌else◌, List, [], ◌∷◌, ◌++◌, length, fold, sum_by}
+use Rattle.std.specs.Prelude.{ℕ, ◌≤◌, Bool, true, false, ◌&&◌, nat_le, if◌then◌else◌, List, [], ◌∷◌, ◌++◌, length, fold, sum_by}
 use Rattle.mdf_layout.specs.declared.sample.Sample.{Sample}
 use Rattle.book_core.specs.declared.event.Event.{Event}
 use Rattle.book_core.specs.declared.event.Event.TheVariants.{Accept, Refuse, FlushDone, FlushFailed, Publish}

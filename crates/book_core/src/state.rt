@@ -97,6 +97,7 @@ pub fn step(state: &mut State, event: Event)
 pub fn run_events(state: &mut State, events: Rows<Event>)
     requires room { accepted_in events ≤ state.old.spare }
     ensures book { state.new.book ≡ after_all state.old.book events }
+    ensures spare { state.old.spare ≤ state.new.spare + accepted_in events }
 {
     for event in events.into_vec() {
         step(state, event);

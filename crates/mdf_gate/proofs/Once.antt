@@ -2,7 +2,7 @@
 use Rattle.std.proofs.Common.{◌≡◌, ℕ, ◌+◌, List, [], ◌∷◌, get_or, drop, refl, sym, ◌∙◌, ap, subst, arith}
 use Rattle.std.proofs.lemmas.List.{get_or-take, get_or-drop}
 use Rattle.std.specs.List.{concat}
-use Rattle.mdf_format.specs.Recording.{IsOpenPlace, IsUnit, AreUnits, unit_data, next_place}
+use Rattle.mdf_format.specs.Recording.{IsOpenPlace, IsUnit, AreUnits, next_place}
 use Rattle.mdf_layout.specs.Layout.{Layout}
 use Rattle.mdf_layout.specs.Read.{AreRead}
 use Rattle.mdf_layout.specs.declared.sample.Sample.{Sample}

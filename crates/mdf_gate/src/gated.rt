@@ -48,6 +48,7 @@ fn write_head<D: Disk>(disk: &mut D, head: &[u8]) -> Result<(), Failed>
     ensures attached { D.attached disk.new ≡ D.attached disk.old }
     ensures moment { D.moment disk.old ≤ D.moment disk.new }
     ensures told { is_some (D.story disk.new) ≡ is_some (D.story disk.old) }
+    ensures told_content { is_some (D.content disk.new) ≡ is_some (D.content disk.old) }
 {
     let mut seal = Sealed::begin(disk)?;
     seal.give(disk, head)?;
@@ -81,6 +82,7 @@ impl<D: Disk> GatedFile<D> {
         ensures attached { D.attached (disk_of result) ≡ true }
         ensures moment { D.moment disk ≤ D.moment (disk_of result) }
         ensures told { is_some (D.story (disk_of result)) ≡ is_some (D.story disk) }
+        ensures told_content { is_some (D.content (disk_of result)) ≡ is_some (D.content disk) }
     {
         let start = disk.moment();
         let faults = disk.faults();

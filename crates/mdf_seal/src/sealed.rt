@@ -30,6 +30,7 @@ fn append<D: Disk>(disk: &mut D, at: u64, bytes: &[u8]) -> Result<(), Failed>
     ensures attached { D.attached disk.new ≡ D.attached disk.old }
     ensures moment { D.moment disk.old ≤ D.moment disk.new }
     ensures told { is_some (D.story disk.new) ≡ is_some (D.story disk.old) }
+    ensures told_content { is_some (D.content disk.new) ≡ is_some (D.content disk.old) }
 {
     if bytes.is_empty() {
         return Ok(());
@@ -54,6 +55,7 @@ impl Sealed {
         ensures attached { D.attached disk.new ≡ D.attached disk.old }
         ensures moment { D.moment disk.old ≤ D.moment disk.new }
         ensures told { is_some (D.story disk.new) ≡ is_some (D.story disk.old) }
+        ensures told_content { is_some (D.content disk.new) ≡ is_some (D.content disk.old) }
     {
         disk.write_at(0, &[0])?;
         disk.sync()?;
@@ -80,6 +82,7 @@ impl Sealed {
         ensures attached { D.attached disk.new ≡ D.attached disk.old }
         ensures moment { D.moment disk.old ≤ D.moment disk.new }
         ensures told { is_some (D.story disk.new) ≡ is_some (D.story disk.old) }
+        ensures told_content { is_some (D.content disk.new) ≡ is_some (D.content disk.old) }
     {
         let [first, rest @ ..] = bytes else {
             return Ok(());
@@ -111,6 +114,7 @@ impl Sealed {
         ensures attached { D.attached disk.new ≡ D.attached disk.old }
         ensures moment { D.moment disk.old ≤ D.moment disk.new }
         ensures told { is_some (D.story disk.new) ≡ is_some (D.story disk.old) }
+        ensures told_content { is_some (D.content disk.new) ≡ is_some (D.content disk.old) }
     {
         let Some(first) = self.first else {
             return Ok(());

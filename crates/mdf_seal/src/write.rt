@@ -24,6 +24,7 @@ pub fn write_sealed<D: Disk>(disk: &mut D, bytes: &[u8]) -> Result<(), Failed>
     ensures attached { D.attached disk.new ≡ D.attached disk.old }
     ensures moment { D.moment disk.old ≤ D.moment disk.new }
     ensures told { is_some (D.story disk.new) ≡ is_some (D.story disk.old) }
+    ensures told_content { is_some (D.content disk.new) ≡ is_some (D.content disk.old) }
 {
     let mut seal = Sealed::begin(disk)?;
     seal.give(disk, bytes)?;
