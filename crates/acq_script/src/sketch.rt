@@ -3,7 +3,7 @@ ghost use Rattle.std.specs.Prelude.{◌≡◌, ◌≤◌, ◌<◌, All, length, 
 ghost use Rattle.mdf_group.specs.Recordable.{numbers_of};
 ghost use Rattle.mdf_layout.specs.Row.{field_row};
 ghost use Rattle.acq_script.specs.Done.{done_as};
-ghost use Rattle.acq_script.specs.Sketch.{IsSketch, limits_of, first_sketch, with_group, channel_in, unit_in, script_with, begun, more_sources, has_room, counted};
+ghost use Rattle.acq_script.specs.Sketch.{IsSketch, limits_of, first_sketch, with_group, channel_in, unit_in, plan_with, begun, more_sources, has_room, counted};
 ghost use Rattle.script_line.specs.Line.{IsForm};
 ghost use Rattle.script_line.specs.Text.{is_name};
 ghost use Rattle.acq_script.specs.Plan.{layout_of, HasPlace};
@@ -254,14 +254,12 @@ fn new_lists(alloc: Global, sources: u8) -> Result<Rows<Rows<Task>>, Memory>
     Ok(lists)
 }
 
-/// The script of a plan that has ended, without tasks yet, if its last group has a channel.
-pub(crate) fn begun(alloc: Global, sketch: Sketch) -> Result<Option<Script>, Memory>
-    requires { IsSketch sketch }
-    ensures { IfOk result (λ found. found ≡ begun sketch) }
+/// The plan that has ended.
+fn plan_of(alloc: Global, sketch: Sketch) -> Result<Plan, Memory>
+    requires sketch { IsSketch sketch }
+    requires some { 1 ≤ length sketch.draft.channels }
+    ensures { IfOk result (λ plan. plan ≡ plan_with sketch) }
 {
-    if sketch.draft.channels.len() == 0 {
-        return Ok(None);
-    }
     let Sketch {
         limits,
         counts,
@@ -272,17 +270,26 @@ pub(crate) fn begun(alloc: Global, sketch: Sketch) -> Result<Option<Script>, Mem
     let mut rows = rows;
     rows.push(group_row(draft))?;
     let shapes = shapes_of(alloc, rows.as_slice())?;
-    let lists = new_lists(alloc, counts.sources)?;
-    Ok(Some(Script {
-        plan: Plan {
-            shapes,
-            rows,
-            owners,
-            sources: counts.sources,
-            block: limits.block,
-            session: limits.session,
-            live: false,
-        },
-        lists,
-    }))
+    Ok(Plan {
+        shapes,
+        rows,
+        owners,
+        sources: counts.sources,
+        block: limits.block,
+        session: limits.session,
+        live: false,
+    })
+}
+
+/// The script of a plan that has ended, without tasks yet, if its last group has a channel.
+pub(crate) fn begun(alloc: Global, sketch: Sketch) -> Result<Option<Script>, Memory>
+    requires { IsSketch sketch }
+    ensures { IfOk result (λ found. found ≡ begun sketch) }
+{
+    if sketch.draft.channels.len() == 0 {
+        return Ok(None);
+    }
+    let plan = plan_of(alloc, sketch)?;
+    let lists = new_lists(alloc, plan.sources)?;
+    Ok(Some(Script { plan, lists }))
 }

@@ -233,17 +233,22 @@ fn flush(alloc: Global, stage: &mut Stage, source: u64) -> Result<bool, Memory>
     }
 }
 
+/// The script of a running stage as one that has ended.
+fn ended_by(stage: Stage) -> Option<Stage>
+    ensures { result ≡ step stage said.End }
+{
+    match stage {
+        Stage::Running { script } => Some(Stage::Ended { script }),
+        _ => None,
+    }
+}
+
 /// Makes of a stage what the line `end` makes of it.
 fn end(stage: &mut Stage) -> bool
     ensures { step stage.old said.End ≡ done_as result stage.new }
 {
-    match taken(stage) {
-        Stage::Running { script } => {
-            *stage = Stage::Ended { script };
-            true
-        }
-        _ => false,
-    }
+    let found = ended_by(taken(stage));
+    put(stage, found)
 }
 
 /// Makes of the lines before it, of which this stage was made, what the line makes of them, and answers whether a rule
