@@ -5,3 +5,4 @@ mod Lasts
 mod Putting
 mod Showing
 mod Turning
+mod Happening

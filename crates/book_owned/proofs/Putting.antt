@@ -1,5 +1,5 @@
 -- The halves of a book when it begins, and when a sample was put into them.
-use Rattle.std.proofs.Common.{◌≡◌, ◌+◌, ◌<◌, ◌≤◌, ◌^◌, ℕ, Bool, zero, suc, List, [], ◌∷◌, ◌++◌, length, take, drop, get_or, refl, sym, ◌∙◌, ap, subst, arith, length-append}
+use Rattle.std.proofs.Common.{◌≡◌, ◌+◌, ◌<◌, ◌≤◌, ◌^◌, ℕ, Bool, zero, suc, List, [], ◌∷◌, ◌++◌, length, take, drop, get_or, refl, sym, ◌∙◌, ap, subst, arith, rules, length-append}
 use Rattle.std.proofs.lemmas.List.{drop-append-le, take-append-le}
 use Rattle.std.proofs.lemmas.List.Sums.{sum_by-cons}
 use Rattle.std.specs.Prelude.{is_some}
@@ -109,6 +109,12 @@ module _ {D V N : Type 0} (disk : DiskOf D) (view : ViewOf V N) where
           reach = λ going. subst (λ h. file.place ≤ 2 ^ 61 + history_cost old.shapes h) (sym same) (book.back.reach going);
         };
       })
+
+  -- room was found
+  pub book_reserved : (front reserved : InMemory V) (file : Gated D) → reserved ≡ record front { history = reserved.history; marks = reserved.marks }
+      → reserved.history.items ≡ front.history.items → reserved.marks.items ≡ front.marks.items → front.marks.spare ≤ reserved.marks.spare
+      → IsBook disk view front file → IsBook disk view reserved file
+  book_reserved front reserved file rest history marks spare book = search (rules, rest, history, marks, spare, book)
 
   -- a book that has just begun
   pub book_begun : (front : InMemory V) (file : Gated D) → IsNewFile disk file → IsAdmissible front.shapes front.block.limit front.session_limit

@@ -6,3 +6,4 @@ pub mod Answers
 pub mod Halves
 pub mod Begun
 pub mod Hand
+pub mod Events

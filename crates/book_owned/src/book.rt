@@ -1,4 +1,4 @@
-ghost use Rattle.std.specs.Prelude.{◌≡◌, ◌+◌, ◌≤◌, ◌<◌, ◌^◌, ℕ, List, [], ◌∷◌, ◌++◌, true, false, length, All, sum_by, drop, is_some, IfOk, IfErr, IfSome};
+ghost use Rattle.std.specs.Prelude.{◌≡◌, ◌+◌, ◌≤◌, ◌<◌, ◌^◌, ℕ, List, [], ◌∷◌, ◌++◌, true, false, length, All, sum_by, drop, is_some, IfOk, IfErr, IfSome, IfNone, MatchBool};
 ghost use Rattle.mdf_format.specs.Cause.{Rose};
 ghost use Rattle.mdf_disk.specs.Crash.{HoldsSince};
 ghost use Rattle.mdf_disk.specs.State.{state_of};
@@ -65,7 +65,8 @@ impl<D: Disk, V: Shown> Book<D, V> {
     ghost use Rattle.book_owned.specs.Account.{Account, Steps};
     ghost use Rattle.book_owned.specs.Kept.{HoldsDurable, IsKept, IsShowing};
     ghost use Rattle.book_owned.specs.Begun.{IsNewFile, IsAdmissible, HasBegun};
-    ghost use Rattle.book_owned.specs.Answers.{AppendAnswers, FlushAnswers, accepted_by};
+    ghost use Rattle.book_owned.specs.Answers.{AppendAnswers, FlushAnswers, HasRoom, PassesBlock, FitsBlock, accepted_by};
+    ghost use Rattle.book_owned.specs.Events.{AppendEvents, PutEvents, FlushEvents};
 
     /// Begins a book over a file that was just created. It makes the first mark, with no sample.
     ///
@@ -117,6 +118,7 @@ impl<D: Disk, V: Shown> Book<D, V> {
         requires size { encoded_size self.old.terms.layouts sample ≤ self.old.terms.block_limit }
         ensures steps { Steps self.old self.new (accepted_by result sample) }
         ensures answer { AppendAnswers D.Disk V.Shown self.old self.new sample result }
+        ensures events { AppendEvents V.count self.old self.new sample result }
         ensures kept { IsKept self.new.terms (state_of D.Disk self.new.disk) self.new.history self.new.marks }
         ensures shown { IsShowing V.Shown self.new.view self.new.history self.new.marks }
         ensures later { D.faults self.old.disk ≤ D.faults self.new.disk }
@@ -140,11 +142,56 @@ impl<D: Disk, V: Shown> Book<D, V> {
         Append::Accepted { place }
     }
 
+    /// Accepts a sample whose records have room in the block, without a call of the disk. It never answers `DiskFault`.
+    pub fn put(&mut self, sample: Sample) -> Append
+        requires fits { SampleFits self.old.terms.layouts sample }
+        requires size { encoded_size self.old.terms.layouts sample ≤ self.old.terms.block_limit }
+        requires room { FitsBlock self.old sample }
+        ensures steps { Steps self.old self.new (accepted_by result sample) }
+        ensures answer { AppendAnswers D.Disk V.Shown self.old self.new sample result }
+        ensures events { PutEvents V.count self.old self.new sample result }
+        ensures kept { IsKept self.new.terms (state_of D.Disk self.new.disk) self.new.history self.new.marks }
+        ensures shown { IsShowing V.Shown self.new.view self.new.history self.new.marks }
+    {
+        if let Some(refused) = self.refusal(&sample) {
+            return refused;
+        }
+        let place = self.history_len();
+        let Ok(()) = reserve(&mut self.front) else {
+            return Append::Memory;
+        };
+        accept(&mut self.front, sample);
+        Append::Accepted { place }
+    }
+
+    /// Why a sample would not be accepted, before room for it is looked for: the book is stopped, or the sample's cost has no
+    /// room in the session.
+    pub fn refusal(&self, sample: &Sample) -> Option<Append>
+        requires fits { SampleFits self.now.terms.layouts sample.now }
+        requires size { encoded_size self.now.terms.layouts sample.now ≤ self.now.terms.block_limit }
+        ensures none { IfNone result ((self.now.stopped ≡ false) × HasRoom self.now sample.now) }
+        ensures refused { IfSome result (λ answer. AppendAnswers D.Disk V.Shown self.now self.now sample.now answer × (accepted_by answer sample.now ≡ [])) }
+    {
+        let size = self.front.shapes.encoded_size(sample);
+        refusal(&self.front, self.file.failed(), sample, size)
+    }
+
+    /// Whether the pending records and those of the sample pass the block limit, so that an append of it hands over first.
+    pub fn passes_block(&self, sample: &Sample) -> bool
+        requires fits { SampleFits self.now.terms.layouts sample.now }
+        requires size { encoded_size self.now.terms.layouts sample.now ≤ self.now.terms.block_limit }
+        ensures { MatchBool result (PassesBlock self.now sample.now) (FitsBlock self.now sample.now) }
+    {
+        let size = self.front.shapes.encoded_size(sample);
+        self.pending() + size > self.front.block.limit() as u64
+    }
+
     /// Makes all accepted samples durable, and publishes them. With nothing pending it makes no call of the disk and no
     /// mark.
     pub fn flush<R: Threads + Wait + Sync>(&mut self, rt: &R) -> Flush<V::Note>
         ensures steps { Steps self.old self.new [] }
         ensures answer { FlushAnswers D.Disk V.Shown self.old self.new result }
+        ensures events { FlushEvents V.count self.old self.new result }
         ensures kept { IsKept self.new.terms (state_of D.Disk self.new.disk) self.new.history self.new.marks }
         ensures shown { IsShowing V.Shown self.new.view self.new.history self.new.marks }
         ensures later { D.faults self.old.disk ≤ D.faults self.new.disk }

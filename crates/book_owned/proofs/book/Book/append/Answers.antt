@@ -1,10 +1,12 @@
-use Rattle.std.proofs.Common.{◌+◌, ◌≤◌, ◌≡◌, ◌∙◌, ap, false, sym, subst, arith, rules}
+use Rattle.std.proofs.Common.{◌+◌, ◌≤◌, ◌≡◌, ◌∙◌, [], ◌∷◌, ◌++◌, ap, false, length, sym, subst, arith, rules}
+use Rattle.book_owned.specs.Marks.{durable}
 use Rattle.book_owned.specs.Answers.{PassesBlock, Turns}
 use Rattle.book_owned.specs.Halves.{account_of}
 use Rattle.mdf_layout.specs.Record.{cost_of, encoded_size}
 use Rattle.book_owned.specs.declared.in_memory.InMemory.{InMemory}
 use Rattle.book_owned.proofs.Putting.{book_put}
 use Rattle.book_owned.proofs.Flushing.{passes, turned}
+use Rattle.book_owned.proofs.Happening.{append_happens, fault_happens}
 use Rattle.book_owned.proofs.book.Book.append.Goals as goal
 
 pub invariant_of-self-2 : goal.invariant_of-self-2
@@ -49,3 +51,23 @@ returns-clause-answer g c =
           (c.self.invariant.pending.records going) measured c.make_room.new.front c.accept.new.front c.make_room.new.file
           c.reserve.ensures.history c.reserve.ensures.marks c.in_default-make_room.ensures.turns c.accept.ensures.put.rest),
     )
+
+pub returns-in-Err-clause-events : goal.returns-in-Err-clause-events
+returns-in-Err-clause-events g c =
+    let answer = returns-in-Err-clause-answer g c in
+    let new = account_of g.D.Disk g.V.Shown c.make_room.new.front c.make_room.new.file in
+    let history = ap (λ f. f.history.items) c.make_room.ensures.hands.rest ∙ c.reserve.ensures.history ∙ ap (λ a. a.history) c.self.view_is in (
+      answer.3,
+      fault_happens g.D.Disk g.V.Shown c.args.self.now new history answer.2 answer.4 answer.1.stopped,
+    )
+
+pub returns-clause-events : goal.returns-clause-events
+returns-clause-events g c =
+    let sample = c.args.sample in
+    let new = account_of g.D.Disk g.V.Shown c.accept.new.front c.make_room.new.file in
+    let same = ap (λ f. f.history.items) c.make_room.ensures.hands.rest ∙ c.reserve.ensures.history ∙ ap (λ a. a.history) c.self.view_is in
+    append_happens g.D.Disk g.V.Shown c.args.self.now new sample
+    (c.accept.ensures.put.history ∙ ap (λ h. h ++ sample ∷ []) same)
+    (subst (λ a. durable a.marks ≤ length a.history) c.self.view_is c.self.invariant.pending.through)
+    (subst (λ a. g.V.Shown.count a.view ≤ durable a.marks) c.self.view_is c.self.invariant.shown.most)
+    c.len-place.result (returns-clause-answer g c)

@@ -1,8 +1,10 @@
-use Rattle.std.proofs.Common.{◌∙◌, sym, subst}
+use Rattle.std.proofs.Common.{◌≤◌, ◌∙◌, ap, length, sym, subst}
+use Rattle.book_owned.specs.Marks.{durable}
 use Rattle.book_owned.specs.Answers.{FlushAnswers}
 use Rattle.book_owned.specs.Halves.{account_of}
 use Rattle.book_owned.specs.declared.answer.Flush.TheVariants as flush
 use Rattle.book_owned.proofs.Flushing.{flush_done}
+use Rattle.book_owned.proofs.Happening.{flush_happens}
 use Rattle.book_owned.proofs.book.Book.flush.Goals as goal
 
 pub returns-clause-answer : goal.returns-clause-answer
@@ -14,3 +16,12 @@ returns-clause-answer g c =
     (sym c.failed.ensures.failed ∙ c.if-failed.false) c.write_pending.ensures.hands c.in_default.ensures.written c.write_pending.ensures.book.pending
     c.write_pending.ensures.view c.publish.ensures.rest c.publish.ensures.which c.publish.ensures.shown c.publish.ensures.count
     c.len.ensures c.shown.ensures c.told.ensures.counted c.told.ensures.note)
+
+pub returns-clause-events : goal.returns-clause-events
+returns-clause-events g c =
+    let new = account_of g.D.Disk g.V.Shown (record c.publish.new.front { view = c.told.new.self }) c.write_pending.new.file in
+    flush_happens g.D.Disk g.V.Shown c.args.self.now new c.len.result c.shown.result c.told.result
+    (ap (λ f. f.history.items) c.publish.ensures.rest ∙ ap (λ f. f.history.items) c.write_pending.ensures.hands.rest ∙ ap (λ a. a.history) c.self.view_is)
+    (subst (λ a. durable a.marks ≤ length a.history) c.self.view_is c.self.invariant.pending.through)
+    (subst (λ a. g.V.Shown.count a.view ≤ durable a.marks) c.self.view_is c.self.invariant.shown.most)
+    (returns-clause-answer g c)

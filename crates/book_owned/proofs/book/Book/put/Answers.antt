@@ -1,0 +1,33 @@
+use Rattle.std.proofs.Common.{◌+◌, ◌≤◌, ◌≡◌, ◌∙◌, ap, false, sym, subst, arith, rules}
+use Rattle.mdf_layout.specs.Record.{cost_of, encoded_size}
+use Rattle.book_owned.specs.Marks.{durable}
+use Rattle.book_owned.specs.Answers.{FitsBlock}
+use Rattle.book_owned.proofs.Putting.{book_put, book_reserved, pending_size}
+use Rattle.book_owned.proofs.book.Book.put.Goals as goal
+
+pub accept-requires-clause-block : goal.accept-requires-clause-block
+accept-requires-clause-block g c =
+    let front = c.self.inside.front in
+    let sample = c.args.sample in
+    let going : c.self.inside.file.failed ≡ false = ap (λ a. a.stopped) c.self.view_is ∙ c.in_default.ensures.none.0 in
+    omega (
+      arith,
+      subst (λ a. FitsBlock a sample) (sym c.self.view_is) c.requires.room,
+      pending_size (durable front.marks.items) front c.reserve.new.front c.reserve.ensures.rest (c.self.invariant.pending.records going),
+      ap (λ f. encoded_size f.shapes sample) c.reserve.ensures.rest,
+      ap (λ f. f.block.limit) c.reserve.ensures.rest,
+    )
+
+pub invariant_of-self-2 : goal.invariant_of-self-2
+invariant_of-self-2 g c =
+    let front = c.reserve.new.front in
+    let room : front.held + cost_of front.shapes c.args.sample ≤ front.session_limit = search rules in
+    book_put g.D.Disk g.V.Shown front c.accept.new.front c.self.inside.file c.args.sample
+    (book_reserved g.D.Disk g.V.Shown c.self.inside.front front c.self.inside.file c.reserve.ensures.rest c.reserve.ensures.history c.reserve.ensures.marks c.reserve.ensures.spare c.self.invariant)
+    c.accept.ensures.put (omega (arith, c.in-Ok.ensures.room.1)) room
+
+pub returns-clause-kept : goal.returns-clause-kept
+returns-clause-kept g c = (invariant_of-self-2 g c).back.kept
+
+pub returns-clause-shown : goal.returns-clause-shown
+returns-clause-shown g c = (invariant_of-self-2 g c).shown
