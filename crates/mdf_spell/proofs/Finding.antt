@@ -16,11 +16,11 @@ use Rattle.mdf_group.specs.declared.row.GroupRow.{GroupRow}
 use Rattle.mdf_group.specs.declared.row.DataRow.{DataRow}
 use Rattle.mdf_group.specs.Recordable.{IsName, IsUnitName, IsRecordableChannel, IsRecordableGroup, AreRecordable}
 use Rattle.mdf_group.proofs.Reached.{IsPlainChannel, IsPlainGroup, channel_text, group_text, group_size, data_size, data_text, groups_reached}
-use Rattle.mdf_spell.specs.Text.{note_blocks}
-use Rattle.mdf_spell.specs.Group.{past_channel, value_link, values_behind, placed_channel, placed_channels, group_channels, past_group, group_values, group_values_behind, placed_group, placed_groups}
+use Rattle.mdf_tree.specs.Text.{note_blocks}
+use Rattle.mdf_tree.specs.Group.{past_channel, value_link, values_behind, placed_channel, placed_channels, group_channels, past_group, group_values, group_values_behind, placed_group, placed_groups}
 use Rattle.mdf_spell.specs.Recording.{numbered, values_rows, variable_count, value_links, recording_groups, recording_blocks, recorded_row, recorded_head, recorded_history, head_file, IsRecordingTree, FindsHead, FindsGroups}
-use Rattle.mdf_spell.specs.Head.{placed_history}
-use Rattle.mdf_spell.proofs.Writables.{all_append}
+use Rattle.mdf_tree.specs.Head.{placed_history}
+use Rattle.mdf_tree.proofs.Placing.{all_append}
 use Rattle.mdf_spell.proofs.HeadFinding.{head_reached}
 
 module _ (blocks : List Placed) where

@@ -6,9 +6,9 @@ use Rattle.mdf_block.specs.declared.note.Note.TheVariants as notes
 use Rattle.mdf_block.specs.Draft.{Placed}
 use Rattle.mdf_head.specs.declared.entry.History.{History}
 use Rattle.mdf_group.specs.declared.row.GroupRow.{GroupRow}
-use Rattle.mdf_spell.specs.Text.{note_blocks, note_link}
-use Rattle.mdf_spell.specs.Group.{groups_blocks, data_group_blocks}
-use Rattle.mdf_spell.specs.Head.{entry_block, past_history, history_blocks, header_block, head_blocks, entry_text, new_entry}
+use Rattle.mdf_tree.specs.Text.{note_blocks, note_link}
+use Rattle.mdf_tree.specs.Group.{groups_blocks, data_group_blocks}
+use Rattle.mdf_tree.specs.Head.{entry_block, past_history, history_blocks, header_block, head_blocks, entry_text, new_entry}
 use Rattle.mdf_spell.specs.Recording.{start_head, numbered, recording_groups, recording_data, value_links, recording_blocks}
 
 abbrev first_entry : ℕ → History

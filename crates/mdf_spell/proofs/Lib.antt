@@ -1,14 +1,12 @@
-pub mod Has
-pub mod Texts
-pub mod Numbers
-pub mod Convs
-pub mod Channels
-pub mod Groups
-pub mod Heads
 pub mod Trees
-mod Placing
 mod Fronts
-mod Counts
+mod Numbered
 mod Writables
 mod HeadFinding
 mod Finding
+mod Lists
+mod Links
+mod Counteds
+mod Histories
+mod Wholes
+mod SessionTrees

@@ -6,13 +6,13 @@ use Rattle.mdf_block.specs.declared.link.Link.TheVariants as links
 use Rattle.mdf_block.specs.Draft.{AllStand}
 use Rattle.mdf_group.specs.declared.row.GroupRow.{GroupRow}
 use Rattle.mdf_group.specs.Standing.{AreDistinct}
-use Rattle.mdf_spell.specs.Text.{note_blocks, IsText}
-use Rattle.mdf_spell.specs.Group.{data_group_blocks, IsDataGroupWritable}
-use Rattle.mdf_spell.specs.Head.{history_blocks, head_blocks, entry_text, new_entry}
+use Rattle.mdf_tree.specs.Text.{note_blocks, IsText}
+use Rattle.mdf_tree.specs.Group.{data_group_blocks, IsDataGroupWritable}
+use Rattle.mdf_tree.specs.Head.{history_blocks, head_blocks, entry_text, new_entry}
 use Rattle.mdf_spell.specs.Recording.{start_head, recording_row, value_links, recording_blocks, IsRecordingTree}
-use Rattle.mdf_spell.proofs.Has.{Has, has_left, has_right}
-use Rattle.mdf_spell.proofs.Heads.{head_stands}
-use Rattle.mdf_spell.proofs.Groups.{data_group_stands}
+use Rattle.mdf_tree.proofs.Has.{Has, has_left, has_right}
+use Rattle.mdf_tree.proofs.Heads.{head_stands}
+use Rattle.mdf_tree.proofs.Groups.{data_group_stands}
 use Rattle.std.proofs.lemmas.List.{append-nil}
 
 pub tree_stands : (file : List ℕ) (start : ℕ) (rows : List GroupRow) → start < 2 ^ 64 → IsDataGroupWritable (recording_row rows)

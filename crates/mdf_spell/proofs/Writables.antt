@@ -1,5 +1,5 @@
 -- The rows of a recording are read back as they are written.
-use Rattle.std.proofs.Common.{◌≡◌, ◌+◌, ◌^◌, ◌<◌, ◌≤◌, ℕ, zero, suc, false, List, [], ◌∷◌, ◌++◌, length, Option, refl, sym, subst, arith}
+use Rattle.std.proofs.Common.{◌≡◌, ◌+◌, ◌^◌, ◌<◌, ◌≤◌, ℕ, zero, suc, false, List, [], ◌∷◌, length, Option, refl, sym, subst, arith}
 use Rattle.std.specs.List.{AllByRecursion}
 use Rattle.mdf_block.specs.declared.note.Note.{Note}
 use Rattle.mdf_block.specs.declared.note.Note.TheVariants as notes
@@ -9,10 +9,11 @@ use Rattle.mdf_group.specs.declared.row.ChannelRow.{ChannelRow}
 use Rattle.mdf_group.specs.declared.row.GroupRow.{GroupRow}
 use Rattle.mdf_group.specs.Channel.{is_refused_kind}
 use Rattle.mdf_group.specs.Recordable.{IsName, IsUnitName, IsRecordableChannel, IsRecordableGroup, AreRecordable}
-use Rattle.mdf_spell.specs.Text.{IsWritable}
-use Rattle.mdf_spell.specs.Group.{IsSourcePart, IsConvPart, IsChannelSized, IsChannelWritable, IsGroupWritable, IsDataGroupWritable}
+use Rattle.mdf_tree.specs.Text.{IsWritable}
+use Rattle.mdf_tree.specs.Group.{IsSourcePart, IsConvPart, IsChannelSized, IsChannelWritable, IsGroupWritable, IsDataGroupWritable}
+use Rattle.mdf_tree.proofs.Placing.{all_append}
 use Rattle.mdf_spell.specs.Recording.{numbered, values_rows, variable_count, recording_row}
-use Rattle.mdf_spell.specs.Sized.{IsWholeSized}
+use Rattle.mdf_tree.specs.Sized.{IsWholeSized}
 
 read_kind : (kind : ℕ) → kind ≤ 2 → is_refused_kind kind ≡ false
 read_kind zero few = refl
@@ -89,10 +90,6 @@ values_writable id (suc count) few = (
   },
   values_writable (id + 1) count (omega (arith, few)),
 )
-
-pub all_append : {A : Type 0} (P : A → Type 0) (xs ys : List A) → AllByRecursion P xs → AllByRecursion P ys → AllByRecursion P (xs ++ ys)
-all_append P [] ys front back = back
-all_append P (x ∷ xs) ys front back = (front.0, all_append P xs ys front.1 back)
 
 pub recording_writable : (rows : List GroupRow) → AreRecordable rows → AllByRecursion IsWholeSized rows → IsDataGroupWritable (recording_row rows)
 recording_writable rows are sized = record {

@@ -1,8 +1,5 @@
-pub mod Text
-pub mod Conv
-pub mod Count
-pub mod Places
-pub mod Group
-pub mod Head
 pub mod Recording
-pub mod Sized
+pub mod Values
+pub mod Counts
+pub mod Session
+pub mod Standing

@@ -17,8 +17,8 @@ use Rattle.mdf_conv.specs.declared.limits.Budget.{Budget}
 use Rattle.mdf_group.specs.Group.{groups}
 use Rattle.mdf_group.specs.Recordable.{is_of_values}
 use Rattle.mdf_group.specs.Standing.{AreDataGroups}
-use Rattle.mdf_spell.specs.Group.{past_groups, groups_blocks, data_group_blocks, placed_data_group}
-use Rattle.mdf_spell.specs.Head.{head_blocks, placed_history, new_entry}
+use Rattle.mdf_tree.specs.Group.{past_groups, groups_blocks, data_group_blocks, placed_data_group}
+use Rattle.mdf_tree.specs.Head.{head_blocks, placed_history, new_entry}
 
 -- the identification: unfinalized, version 4.10, the standard flags 33 and the custom flag of a recording
 abbrev pub recording_ident : List ℕ

@@ -1,16 +1,15 @@
-//! Block trees of an MDF 4 file: the blocks of a head, a history and data groups, written in one stated order.
+//! The files that this program writes as block trees: the head of a recording, and the finalized file of one.
 #![tactic(auto)]
 
-mod channel;
-mod conv;
-mod count;
-mod group;
-mod head;
-mod number;
-mod places;
+mod data;
+mod finalized;
+mod groups;
+mod history;
+mod names;
 mod recording;
-mod source;
-mod text;
-mod value;
+mod recovered;
+mod variable;
 
+pub use finalized::finalized_file;
 pub use recording::recording_head;
+pub use recovered::Recovered;

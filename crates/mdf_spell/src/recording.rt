@@ -1,20 +1,20 @@
 ghost use Rattle.std.specs.Prelude.{ℕ, ◌≡◌, ◌<◌, ◌≤◌, ◌+◌, nat_lt, ◌||◌, [], ◌∷◌, ◌++◌, List, length, codes, IfOk, OnOk};
 ghost use Rattle.std.specs.List.{AllByRecursion};
 ghost use Rattle.mdf_group.specs.Recordable.{AreRecordable};
-ghost use Rattle.mdf_spell.specs.Group.{next_if, group_body, group_blocks, groups_blocks};
-ghost use Rattle.mdf_spell.specs.Head.{header_block, history_blocks, head_blocks, new_entry};
+ghost use Rattle.mdf_tree.specs.Group.{next_if, group_body, group_blocks, groups_blocks};
+ghost use Rattle.mdf_tree.specs.Head.{header_block, history_blocks, head_blocks, new_entry};
 ghost use Rattle.mdf_spell.specs.Recording.{start_head, values_row, values_rows, variable_count, value_links, recording_data, recording_groups, ArePlacedBefore, recording_blocks, head_file, IsRecordingTree, FindsHead, FindsGroups};
-ghost use Rattle.mdf_spell.specs.Sized.{IsWholeSized};
+ghost use Rattle.mdf_tree.specs.Sized.{IsWholeSized};
 
-use crate::group::{group_values_behind, past_groups, place_group};
-use crate::head::{place_entry, place_header};
-use crate::number::{next_number, plus};
-use crate::places::Counted;
-use crate::value::{block_links, next_if, variable_count};
+use crate::variable::{block_links, variable_count};
 use mdf_block::{Draft, Kind, Link, Note};
 use mdf_group::GroupRow;
 use mdf_head::{Head, History};
 use mdf_num::{Bytes, Memory, Rows};
+use mdf_tree::{
+    Counted, group_values_behind, next_if, next_number, past_groups, place_entry, place_group,
+    place_header, plus,
+};
 use std::alloc::Global;
 
 /// The identification of a recording: unfinalized, version 4.10, the standard flags 33 and the custom flag 1.
@@ -116,6 +116,8 @@ fn place_numbered(
         let counted = Counted {
             id: i as u64 + 1,
             cycles: 0,
+            data_bytes: row.data_bytes,
+            inval_bytes: row.inval_bytes,
         };
         place_group(
             alloc,
@@ -143,7 +145,7 @@ fn values_body(alloc: Global, id: u64) -> Result<Bytes, Memory>
 }
 
 /// Places a group of values. Where one more follows it is linked.
-#[tactic(auto, unfolding(crate::specs::Group::group_blocks))]
+#[tactic(auto, unfolding(mdf_tree::specs::Group::group_blocks))]
 fn place_value_group(alloc: Global, draft: &mut Draft, id: u64, more: bool) -> Result<(), Memory>
     ensures { OnOk result (draft.new ≡ draft.old ++ group_blocks (length draft.old) (next_if more (length draft.old + 1)) [] (values_row id)) }
 {

@@ -2,10 +2,11 @@ use Rattle.std.proofs.Common.{◌+◌, List, ◌++◌, length, drop, sym, ◌∙
 use Rattle.mdf_block.specs.Draft.{Placed}
 use Rattle.mdf_block.proofs.Everys.{rest_is}
 use Rattle.mdf_group.specs.declared.row.GroupRow.{GroupRow}
-use Rattle.mdf_spell.specs.Group.{past_group, groups_blocks}
+use Rattle.mdf_tree.specs.Group.{past_group, groups_blocks}
 use Rattle.mdf_spell.specs.Recording.{numbered, values_rows}
-use Rattle.mdf_spell.specs.Sized.{IsWholeSized}
-use Rattle.mdf_spell.proofs.Placing.{all_taken, groups_step, next_group, numbered_more, numbered_done, values_free}
+use Rattle.mdf_tree.specs.Sized.{IsWholeSized}
+use Rattle.mdf_tree.proofs.Placing.{all_taken, groups_step}
+use Rattle.mdf_spell.proofs.Numbered.{next_group, numbered_more, numbered_done, values_free}
 use Rattle.mdf_spell.proofs.recording.place_numbered.Goals as goal
 
 pub loop-i-preserved : goal.loop-i-preserved
@@ -18,6 +19,7 @@ loop-i-preserved c =
     let back = values_rows (length rows + 1) c.args.count in
     let cut = rest_is rows i row c.loop-i-test.true c.index-rows-i.is in
     let more = numbered_more (i + 1) rows i row cut in
+    let own = c.in_ok-place_group.ensures.sized in
     record {
       placed = rw c.group_values_behind-rest.ensures (
           groups_step w c.place_group.new.draft values (record row { id = i + 1; cycles = 0 }) (numbered (i + 1 + 1) (drop (i + 1) rows) ++ back) _
@@ -27,7 +29,10 @@ loop-i-preserved c =
           ∙ c.loop-i.invariant.placed
           );
       sized = all_taken IsWholeSized rows i row c.loop-i-test.true c.index-rows-i.is c.loop-i.invariant.sized
-          (record { own = c.in_ok-place_group.ensures.sized; channels = c.in_ok-place_group.ensures.channels });
+          (record {
+            own = record { flags = own.flags; separator = own.separator; data_bytes = own.data_bytes; inval_bytes = own.inval_bytes };
+            channels = c.in_ok-place_group.ensures.channels;
+          });
     }
 
 pub returns-clause-placed : goal.returns-clause-placed

@@ -1,8 +1,8 @@
 use Rattle.std.proofs.Common.{◌≡◌, ◌+◌, ◌-◌, ◌++◌, length, take, drop}
 use Rattle.std.specs.List.{AllByRecursion}
-use Rattle.mdf_spell.specs.Group.{groups_blocks}
+use Rattle.mdf_tree.specs.Group.{groups_blocks}
 use Rattle.mdf_spell.specs.Recording.{numbered, values_rows}
-use Rattle.mdf_spell.specs.Sized.{IsWholeSized}
+use Rattle.mdf_tree.specs.Sized.{IsWholeSized}
 use Rattle.mdf_spell.proofs.recording.place_numbered.Given as goal
 
 -- the blocks so far and those of what is left are all

@@ -4,9 +4,10 @@ use Rattle.mdf_format.specs.declared.kind.Kind.TheVariants.{Cg}
 use Rattle.mdf_block.specs.declared.link.Link.{Link}
 use Rattle.mdf_block.specs.declared.link.Link.TheVariants as links
 use Rattle.mdf_block.specs.Draft.{Placed}
-use Rattle.mdf_spell.specs.Group.{next_if, group_body}
+use Rattle.mdf_tree.specs.Group.{next_if, group_body}
 use Rattle.mdf_spell.specs.Recording.{values_row}
-use Rattle.mdf_spell.proofs.Placing.{linked_is, value_group_is}
+use Rattle.mdf_tree.proofs.Placing.{linked_is}
+use Rattle.mdf_spell.proofs.Numbered.{value_group_is}
 use Rattle.mdf_spell.proofs.recording.place_value_group.Goals as goal
 
 pub returns : goal.returns

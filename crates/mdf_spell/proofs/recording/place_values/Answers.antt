@@ -1,8 +1,9 @@
 use Rattle.std.proofs.Common.{◌+◌, ◌-◌, List, [], ◌++◌, length, sym, ◌∙◌, ap}
 use Rattle.mdf_group.specs.declared.row.GroupRow.{GroupRow}
-use Rattle.mdf_spell.specs.Group.{past_group, groups_blocks}
+use Rattle.mdf_tree.specs.Group.{past_group, groups_blocks}
 use Rattle.mdf_spell.specs.Recording.{values_row, values_rows}
-use Rattle.mdf_spell.proofs.Placing.{groups_step, next_values, past_value, values_more, values_done}
+use Rattle.mdf_tree.proofs.Placing.{groups_step}
+use Rattle.mdf_spell.proofs.Numbered.{next_values, past_value, values_more, values_done}
 use Rattle.mdf_spell.proofs.recording.place_values.Goals as goal
 
 pub loop-i-preserved : goal.loop-i-preserved

@@ -1,5 +1,5 @@
 use Rattle.std.proofs.Common.{[], ◌≡◌, ◌+◌, ◌-◌, ◌++◌, length}
-use Rattle.mdf_spell.specs.Group.{groups_blocks}
+use Rattle.mdf_tree.specs.Group.{groups_blocks}
 use Rattle.mdf_spell.specs.Recording.{values_rows}
 use Rattle.mdf_spell.proofs.recording.place_values.Given as goal
 

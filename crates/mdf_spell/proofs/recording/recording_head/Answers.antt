@@ -5,9 +5,9 @@ use Rattle.mdf_format.specs.declared.kind.Kind.TheVariants.{Fh}
 use Rattle.mdf_block.specs.Draft.{Placed, written, AllStand}
 use Rattle.mdf_block.proofs.Prefixes.{all_kept}
 use Rattle.mdf_group.specs.declared.row.GroupRow.{GroupRow}
-use Rattle.mdf_spell.specs.Group.{groups_blocks}
+use Rattle.mdf_tree.specs.Group.{groups_blocks}
 use Rattle.mdf_spell.specs.Recording.{recording_ident, recording_groups, value_links, recording_blocks, head_file, IsRecordingTree, FindsHead, FindsGroups}
-use Rattle.mdf_spell.specs.Sized.{IsWholeSized}
+use Rattle.mdf_tree.specs.Sized.{IsWholeSized}
 use Rattle.mdf_spell.proofs.Fronts.{whole_is}
 use Rattle.mdf_spell.proofs.Trees.{tree_stands}
 use Rattle.mdf_spell.proofs.Writables.{recording_writable}

@@ -1,0 +1,31 @@
+use Rattle.std.proofs.Common.{ℕ, ◌+◌, List, ◌++◌, length, map, ◌∙◌, ap}
+use Rattle.std.proofs.lemmas.Result.{on_ok_weaker}
+use Rattle.mdf_format.specs.declared.kind.Kind.TheVariants.{Sd}
+use Rattle.mdf_block.specs.declared.link.Link.{Link}
+use Rattle.mdf_block.specs.declared.link.Link.TheVariants as links
+use Rattle.mdf_tree.specs.Group.{data_group_blocks}
+use Rattle.mdf_spell.specs.Values.{with_streams, own_streams}
+use Rattle.mdf_spell.specs.Counts.{counted_data}
+use Rattle.mdf_spell.specs.Session.{data_block}
+use Rattle.mdf_spell.proofs.Wholes.{session_placed}
+use Rattle.mdf_spell.proofs.data.place_session.Goals as goal
+
+pub returns : goal.returns
+returns c =
+    let w0 = c.args.draft.now in
+    let recovered = c.args.recovered.now in
+    let records = c.in_ok-records.field-0.1 in
+    let names = c.in_ok-names.names.items in
+    let w2 = c.place_data.new.draft in
+    let linked = c.in_ok-values.ensures
+    ∙ ap (λ (n : ℕ). with_streams n c.as_slice.result.now) c.in_ok-plus.ensures.0
+    ∙ ap (λ (given : List Link). with_streams (records + 1) given) c.as_slice.ensures.value in
+    let row = c.in_ok-place_row.ensures
+    ∙ ap (λ (values : List Link). w0 ++ data_group_blocks (length w0) links.Nothing (links.Block records) values
+    (counted_data recovered.counts.now recovered.totals.now recovered.row.now)) c.as_slice-2.ensures.value in
+    on_ok_weaker c.place_streams.result
+    (λ placed. session_placed w0 c.place_row.new.draft w2 c.place_streams.new.draft recovered
+    c.in_ok-n.n records names c.in_ok-values.values.items
+    c.in_ok-n.ensures.0 c.in_ok-records.ensures.1 c.in_ok-names.ensures linked row c.in_ok-place_data.ensures
+    (placed ∙ ap (λ (given : List Link). w2 ++ map (data_block Sd) (own_streams given recovered.streams.now)) c.as_slice-3.ensures.value))
+    c.place_streams.ensures

@@ -1,0 +1,137 @@
+ghost use Rattle.std.specs.Prelude.{◌≡◌, ◌+◌, [], ◌∷◌, ◌++◌, length, map, IfOk, OnOk};
+ghost use Rattle.mdf_format.specs.declared.kind.Kind.TheVariants.{Sd};
+ghost use Rattle.mdf_tree.specs.Group.{data_groups, past_data_group, data_group_blocks};
+ghost use Rattle.mdf_spell.specs.Values.{own_stream, own_streams};
+ghost use Rattle.mdf_spell.specs.Counts.{counted_data, IsCounted};
+ghost use Rattle.mdf_spell.specs.Session.{data_block, data_own, session_names, session_data};
+
+use crate::groups::place_groups;
+use crate::names::{group_numbers, named_groups, with_streams};
+use crate::recovered::Recovered;
+use mdf_block::{Draft, Kind, Link};
+use mdf_group::DataRow;
+use mdf_num::{Bytes, Memory};
+use mdf_tree::{next_if, next_number, note_count, note_link, past_groups, place_note, plus};
+use mdf_vlsd::ValueStream;
+use std::alloc::Global;
+
+/// Places a block of data: of records (DT) or of values (SD).
+fn place_data(alloc: Global, draft: &mut Draft, kind: Kind, bytes: &[u8]) -> Result<(), Memory>
+    ensures { OnOk result (draft.new ≡ draft.old ++ data_block kind bytes.now ∷ []) }
+{
+    let body = Bytes::from_slice(alloc, bytes)?;
+    draft.place_linked(kind, Vec::new(alloc), body)
+}
+
+/// Places a block of values for a channel of variable length, if it names no group of values.
+fn place_stream(
+    alloc: Global,
+    draft: &mut Draft,
+    name: &Link,
+    stream: &ValueStream,
+) -> Result<(), Memory>
+    ensures { OnOk result (draft.new ≡ draft.old ++ map (data_block Sd) (own_stream name.now stream.now)) }
+{
+    match name {
+        Link::Nothing => place_data(alloc, draft, Kind::Sd, stream.bytes()),
+        Link::Block(_) | Link::End => Ok(()),
+    }
+}
+
+/// Places a block of values for each channel of variable length that names no group of values.
+fn place_streams(
+    alloc: Global,
+    draft: &mut Draft,
+    names: &[Link],
+    streams: &[ValueStream],
+) -> Result<(), Memory>
+    ensures { OnOk result (draft.new ≡ draft.old ++ map (data_block Sd) (own_streams names.now streams.now)) }
+{
+    let mut i = 0;
+    while i < names.len() && i < streams.len() {
+        place_stream(alloc, draft, &names[i], &streams[i])?;
+        i += 1;
+    }
+    Ok(())
+}
+
+/// The numbers of the first block behind the comment of the data group at block n, and of the block behind its channel
+/// groups.
+fn data_places(n: u32, row: &DataRow) -> Result<(u32, u32), Memory>
+    ensures { IfOk result (λ places. (places.0 ≡ data_groups n row.now) × (places.1 ≡ past_data_group n row.now)) }
+{
+    let first = plus(plus(n, 1)?, note_count(&row.comment))?;
+    let past = past_groups(first, row.groups.as_slice())?;
+    Ok((first, past))
+}
+
+/// The links of the channels of variable length of the data group at block n to groups of values, where they name such.
+fn session_names(alloc: Global, n: u32, row: &DataRow) -> Result<Vec<Link>, Memory>
+    ensures { IfOk result (λ names. names.items ≡ session_names n row.now) }
+{
+    let first = data_places(n, row)?.0;
+    let numbers = group_numbers(alloc, first, row.groups.as_slice())?;
+    named_groups(alloc, row.groups.as_slice(), numbers.as_slice())
+}
+
+/// Places the block of a data group alone, with a link to its data.
+fn place_own(alloc: Global, draft: &mut Draft, row: &DataRow, content: Link) -> Result<(), Memory>
+    ensures { OnOk result (draft.new ≡ draft.old ++ data_own (length draft.old) content row.now ∷ []) }
+{
+    let n = next_number(draft)?;
+    let first = data_places(n, row)?.0;
+    let links = vec![in alloc;
+        Link::Nothing,
+        next_if(!row.groups.is_empty(), first),
+        content,
+        note_link(n + 1, &row.comment),
+    ]?;
+    let body = Bytes::from_slice(alloc, &[row.id_size, 0, 0, 0, 0, 0, 0, 0])?;
+    draft.place_linked(Kind::Dg, links, body)
+}
+
+/// Places a data group with what is counted of its channel groups: DG, its comment, and the groups.
+fn place_row(
+    alloc: Global,
+    draft: &mut Draft,
+    row: &DataRow,
+    counts: &[u64],
+    totals: &[u64],
+    content: Link,
+    values: &[Link],
+) -> Result<(), Memory>
+    requires counts { length counts.now ≡ length row.now.groups }
+    requires totals { length totals.now ≡ length row.now.groups }
+    ensures { OnOk result (draft.new ≡ draft.old ++ data_group_blocks (length draft.old) Link.Nothing content values.now (counted_data counts.now totals.now row.now)) }
+{
+    place_own(alloc, draft, row, content)?;
+    place_note(alloc, draft, &row.comment)?;
+    place_groups(alloc, draft, row.groups.as_slice(), counts, totals, values)
+}
+
+/// Places the data group and its data: its tree, a block of the records (DT), and a block of values (SD) for each channel
+/// of variable length that names no group of values.
+pub(crate) fn place_session(
+    alloc: Global,
+    draft: &mut Draft,
+    recovered: &Recovered,
+) -> Result<(), Memory>
+    requires { IsCounted recovered.now }
+    ensures { OnOk result (draft.new ≡ draft.old ++ session_data (length draft.old) recovered.now) }
+{
+    let n = next_number(draft)?;
+    let records = data_places(n, recovered.row)?.1;
+    let names = session_names(alloc, n, recovered.row)?;
+    let values = with_streams(alloc, plus(records, 1)?, names.as_slice())?;
+    place_row(
+        alloc,
+        draft,
+        recovered.row,
+        recovered.counts,
+        recovered.totals,
+        Link::Block(records),
+        values.as_slice(),
+    )?;
+    place_data(alloc, draft, Kind::Dt, recovered.content)?;
+    place_streams(alloc, draft, names.as_slice(), recovered.streams)
+}

@@ -1,0 +1,7 @@
+pub mod Text
+pub mod Conv
+pub mod Count
+pub mod Places
+pub mod Group
+pub mod Head
+pub mod Sized

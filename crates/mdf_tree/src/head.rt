@@ -1,0 +1,76 @@
+ghost use Rattle.std.specs.Prelude.{◌≡◌, [], ◌∷◌, ◌++◌, length, IfOk, OnOk};
+ghost use Rattle.mdf_tree.specs.Text.{note_blocks};
+ghost use Rattle.mdf_tree.specs.Group.{next_if};
+ghost use Rattle.mdf_tree.specs.Head.{entry_body, entry_block, past_entry, head_body, header_block};
+
+use crate::number::{next_number, plus};
+use crate::text::{note_count, note_link, place_note};
+use crate::value::next_if;
+use mdf_block::{Draft, Kind, Link};
+use mdf_head::{Head, History};
+use mdf_num::{Bytes, Memory};
+use std::alloc::Global;
+
+/// The body of an entry of the history (FHBLOCK).
+fn entry_body(alloc: Global, entry: &History) -> Result<Bytes, Memory>
+    ensures { IfOk result (λ body. body ≡ entry_body entry.now) }
+{
+    let mut body = Bytes::from_slice(alloc, &entry.time.to_le_bytes())?;
+    body.push_slice(&entry.zone.to_le_bytes())?;
+    body.push_slice(&entry.daylight.to_le_bytes())?;
+    body.push_slice(&[entry.flags, 0, 0, 0])?;
+    Ok(body)
+}
+
+/// Places an entry of the history: FH, and then its comment. Where one more follows it is linked.
+pub fn place_entry(
+    alloc: Global,
+    draft: &mut Draft,
+    entry: &History,
+    more: bool,
+) -> Result<(), Memory>
+    ensures { OnOk result (draft.new ≡ draft.old ++ (entry_block (length draft.old) (next_if more (past_entry (length draft.old) entry.now)) entry.now ∷ note_blocks entry.now.comment)) }
+{
+    let comment = plus(next_number(draft)?, 1)?;
+    let past = plus(comment, note_count(&entry.comment))?;
+    let links = vec![in alloc; next_if(more, past), note_link(comment, &entry.comment)]?;
+    let body = entry_body(alloc, entry)?;
+    draft.place_linked(Kind::Fh, links, body)?;
+    place_note(alloc, draft, &entry.comment)
+}
+
+/// The body of a header (HDBLOCK).
+fn head_body(alloc: Global, head: &Head) -> Result<Bytes, Memory>
+    ensures { IfOk result (λ body. body ≡ head_body head.now) }
+{
+    let mut body = Bytes::from_slice(alloc, &head.start.to_le_bytes())?;
+    body.push_slice(&head.zone.to_le_bytes())?;
+    body.push_slice(&head.daylight.to_le_bytes())?;
+    body.push_slice(&[head.time_flags, head.time_class, head.flags, 0])?;
+    body.push_slice(&head.angle.to_le_bytes())?;
+    body.push_slice(&head.distance.to_le_bytes())?;
+    Ok(body)
+}
+
+/// Places a header alone, with its links to its comment, to the history and to the data groups.
+pub fn place_header(
+    alloc: Global,
+    draft: &mut Draft,
+    head: &Head,
+    comment: u32,
+    entries: Link,
+    groups: Link,
+) -> Result<(), Memory>
+    ensures { OnOk result (draft.new ≡ draft.old ++ header_block comment entries groups head.now ∷ []) }
+{
+    let links = vec![in alloc;
+        groups,
+        entries,
+        Link::Nothing,
+        Link::Nothing,
+        Link::Nothing,
+        note_link(comment, &head.comment),
+    ]?;
+    let body = head_body(alloc, head)?;
+    draft.place_linked(Kind::Hd, links, body)
+}
