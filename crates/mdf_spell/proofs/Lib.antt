@@ -4,9 +4,10 @@ mod Numbered
 mod Writables
 mod HeadFinding
 mod Finding
-mod Lists
+pub mod Lists
 mod Links
 mod Counteds
 mod Histories
 mod Wholes
 mod SessionTrees
+mod Cleans

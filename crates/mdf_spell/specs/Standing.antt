@@ -1,6 +1,6 @@
 -- The tree and the data of a finalized file as they stand in it: the head, the history with one entry more, and the data group
 -- that were read, but for addresses, for links to data and for what is counted.
-use Rattle.std.specs.Prelude.{ℕ, ◌≡◌, ◌+◌, List, [], ◌∷◌}
+use Rattle.std.specs.Prelude.{ℕ, ◌≡◌, ◌+◌, ◌<◌, List, [], ◌∷◌}
 use Rattle.std.specs.List.{AllByRecursion}
 use Rattle.mdf_format.specs.Block.{body_at, IsBlock}
 use Rattle.mdf_format.specs.declared.kind.Kind.{Kind}
@@ -9,7 +9,7 @@ use Rattle.mdf_block.specs.declared.link.Link.TheVariants as links
 use Rattle.mdf_block.specs.Draft.{Placed, address_of}
 use Rattle.mdf_head.specs.Head.{IsHead}
 use Rattle.mdf_group.specs.declared.row.DataRow.{DataRow}
-use Rattle.mdf_group.specs.Standing.{AreDataGroups}
+use Rattle.mdf_group.specs.Standing.{IsDataGroup, AreDataGroups}
 use Rattle.mdf_tree.specs.Group.{past_data_group, placed_data_group, IsDataGroupWritable}
 use Rattle.mdf_tree.specs.Head.{head_groups, placed_history, IsHeadWritable, IsEntryWritable}
 use Rattle.mdf_spell.specs.declared.recovered.Recovered.{Recovered}
@@ -40,11 +40,21 @@ finalized_row recovered now =
     (with_streams (records_number recovered now + 1) (session_names (data_number recovered now) recovered.row.now))
     (counted_data recovered.counts.now recovered.totals.now recovered.row.now)
 
+-- each is a byte
+abbrev pub AreBytes : List ℕ → Type 0
+AreBytes bytes = AllByRecursion (λ byte. byte < 256) bytes
+
 -- what was read is read back as it is written: texts without zero bytes, numbers that fit their fields, kinds that are read
 pub record IsRecoveredWritable (recovered : Recovered) : Type 0 where
   pub head : IsHeadWritable recovered.head.now
   pub history : AllByRecursion IsEntryWritable recovered.history.now
   pub row : IsDataGroupWritable (counted_data recovered.counts.now recovered.totals.now recovered.row.now)
+
+-- the head, the history and the data group stand in a file, from which they were read
+pub record IsRecoveredOf (file : List ℕ) (recovered : Recovered) : Type 0 where
+  pub bytes : AreBytes file
+  pub head : IsHead file recovered.head.now recovered.history.now
+  pub row : IsDataGroup file recovered.row.now
 
 -- the head, the history, the data group, its records and its values stand in the file
 pub record IsSessionTree (file : List ℕ) (recovered : Recovered) (now : ℕ) : Type 0 where

@@ -1,4 +1,5 @@
-ghost use Rattle.std.specs.Prelude.{◌≡◌, ◌+◌, [], ◌∷◌, ◌++◌, length, map, IfOk, OnOk};
+ghost use Rattle.std.specs.Prelude.{◌≡◌, ◌+◌, ◌^◌, ◌<◌, [], ◌∷◌, ◌++◌, length, map, IfOk, OnOk};
+ghost use Rattle.std.specs.List.{AllByRecursion};
 ghost use Rattle.mdf_format.specs.declared.kind.Kind.TheVariants.{Sd};
 ghost use Rattle.mdf_tree.specs.Group.{data_groups, past_data_group, data_group_blocks};
 ghost use Rattle.mdf_spell.specs.Values.{own_stream, own_streams};
@@ -102,7 +103,8 @@ fn place_row(
 ) -> Result<(), Memory>
     requires counts { length counts.now ≡ length row.now.groups }
     requires totals { length totals.now ≡ length row.now.groups }
-    ensures { OnOk result (draft.new ≡ draft.old ++ data_group_blocks (length draft.old) Link.Nothing content values.now (counted_data counts.now totals.now row.now)) }
+    ensures placed { OnOk result (draft.new ≡ draft.old ++ data_group_blocks (length draft.old) Link.Nothing content values.now (counted_data counts.now totals.now row.now)) }
+    ensures fit { OnOk result (AllByRecursion (λ count. count < 2 ^ 64) counts.now) }
 {
     place_own(alloc, draft, row, content)?;
     place_note(alloc, draft, &row.comment)?;
@@ -117,7 +119,8 @@ pub(crate) fn place_session(
     recovered: &Recovered,
 ) -> Result<(), Memory>
     requires { IsCounted recovered.now }
-    ensures { OnOk result (draft.new ≡ draft.old ++ session_data (length draft.old) recovered.now) }
+    ensures placed { OnOk result (draft.new ≡ draft.old ++ session_data (length draft.old) recovered.now) }
+    ensures fit { OnOk result (AllByRecursion (λ count. count < 2 ^ 64) recovered.now.counts.now) }
 {
     let n = next_number(draft)?;
     let records = data_places(n, recovered.row)?.1;

@@ -1,7 +1,7 @@
-ghost use Rattle.std.specs.Prelude.{◌≡◌, IfOk};
+ghost use Rattle.std.specs.Prelude.{ℕ, ◌≡◌, List, IfOk};
 ghost use Rattle.mdf_spell.specs.Counts.{IsCounted};
 ghost use Rattle.mdf_spell.specs.Session.{session_file};
-ghost use Rattle.mdf_spell.specs.Standing.{IsRecoveredWritable, IsSessionTree};
+ghost use Rattle.mdf_spell.specs.Standing.{IsRecoveredOf, IsSessionTree};
 
 use crate::data::place_session;
 use crate::history::{past_session, place_head};
@@ -29,7 +29,7 @@ const IDENT: [u8; 64] = [
 pub fn finalized_file(alloc: Global, recovered: &Recovered, now_ns: u64) -> Result<Bytes, Memory>
     requires { IsCounted recovered.now }
     ensures written { IfOk result (λ bytes. bytes ≡ session_file recovered.now now_ns) }
-    ensures tree { IsRecoveredWritable recovered.now → IfOk result (λ bytes. IsSessionTree bytes recovered.now now_ns) }
+    ensures keeps { (file : List ℕ) → IsRecoveredOf file recovered.now → IfOk result (λ bytes. IsSessionTree bytes recovered.now now_ns) }
 {
     let mut draft = Draft::new(alloc);
     let comment = past_session(alloc, recovered.history, now_ns)?;

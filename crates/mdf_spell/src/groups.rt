@@ -1,4 +1,5 @@
-ghost use Rattle.std.specs.Prelude.{◌≡◌, ◌++◌, length, OnOk};
+ghost use Rattle.std.specs.Prelude.{◌≡◌, ◌^◌, ◌<◌, ◌++◌, length, OnOk};
+ghost use Rattle.std.specs.List.{AllByRecursion};
 ghost use Rattle.mdf_tree.specs.Group.{groups_blocks};
 ghost use Rattle.mdf_tree.specs.Places.{counted_row};
 ghost use Rattle.mdf_spell.specs.Counts.{counted_group, counted_groups};
@@ -42,7 +43,8 @@ pub(crate) fn place_groups(
 ) -> Result<(), Memory>
     requires counts { length counts.now ≡ length rows.now }
     requires totals { length totals.now ≡ length rows.now }
-    ensures { OnOk result (draft.new ≡ draft.old ++ groups_blocks (length draft.old) values.now (counted_groups counts.now totals.now rows.now)) }
+    ensures placed { OnOk result (draft.new ≡ draft.old ++ groups_blocks (length draft.old) values.now (counted_groups counts.now totals.now rows.now)) }
+    ensures fit { OnOk result (AllByRecursion (λ count. count < 2 ^ 64) counts.now) }
 {
     let mut rest = values;
     let mut i = 0;

@@ -6,8 +6,8 @@ use Rattle.mdf_spell.specs.Counts.{counted_groups}
 use Rattle.mdf_spell.proofs.Counteds.{data_placed}
 use Rattle.mdf_spell.proofs.data.place_row.Goals as goal
 
-pub returns : goal.returns
-returns c =
+pub returns-clause-placed : goal.returns-clause-placed
+returns-clause-placed c =
     let w0 = c.args.draft.now in
     let row = c.args.row.now in
     let counts = c.args.counts.now in
@@ -18,4 +18,4 @@ returns c =
     (λ placed. data_placed w0 c.place_own.new.draft w2 c.place_groups.new.draft c.args.content values row counts totals
     c.requires.counts c.requires.totals c.in_ok-place_own.ensures c.in_ok-place_note.ensures
     (placed ∙ ap (λ (rows : List GroupRow). w2 ++ groups_blocks (length w2) values (counted_groups counts totals rows)) c.as_slice.ensures))
-    c.place_groups.ensures
+    c.place_groups.ensures.placed

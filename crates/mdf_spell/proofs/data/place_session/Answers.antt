@@ -10,8 +10,8 @@ use Rattle.mdf_spell.specs.Session.{data_block}
 use Rattle.mdf_spell.proofs.Wholes.{session_placed}
 use Rattle.mdf_spell.proofs.data.place_session.Goals as goal
 
-pub returns : goal.returns
-returns c =
+pub returns-clause-placed : goal.returns-clause-placed
+returns-clause-placed c =
     let w0 = c.args.draft.now in
     let recovered = c.args.recovered.now in
     let records = c.in_ok-records.field-0.1 in
@@ -20,7 +20,7 @@ returns c =
     let linked = c.in_ok-values.ensures
     ∙ ap (λ (n : ℕ). with_streams n c.as_slice.result.now) c.in_ok-plus.ensures.0
     ∙ ap (λ (given : List Link). with_streams (records + 1) given) c.as_slice.ensures.value in
-    let row = c.in_ok-place_row.ensures
+    let row = c.in_ok-place_row.ensures.placed
     ∙ ap (λ (values : List Link). w0 ++ data_group_blocks (length w0) links.Nothing (links.Block records) values
     (counted_data recovered.counts.now recovered.totals.now recovered.row.now)) c.as_slice-2.ensures.value in
     on_ok_weaker c.place_streams.result

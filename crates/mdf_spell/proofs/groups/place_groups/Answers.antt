@@ -5,7 +5,7 @@ use Rattle.mdf_group.specs.declared.row.GroupRow.{GroupRow}
 use Rattle.mdf_tree.specs.Group.{next_if, past_group, group_blocks, groups_blocks}
 use Rattle.mdf_tree.proofs.Placing.{next_less, groups_step}
 use Rattle.mdf_spell.specs.Counts.{counted_group, counted_groups}
-use Rattle.mdf_spell.proofs.Lists.{cut_at}
+use Rattle.mdf_spell.proofs.Lists.{cut_at, all_fit}
 use Rattle.mdf_spell.proofs.Counteds.{counted_more, counted_link, groups_none}
 use Rattle.mdf_spell.proofs.groups.place_groups.Goals as goal
 
@@ -41,6 +41,9 @@ loop-i-preserved c =
     ∙ c.loop-i.invariant
     )
 
-pub returns : goal.returns
-returns c =
+pub returns-clause-fit : goal.returns-clause-fit
+returns-clause-fit c = all_fit c.args.counts.now c.type_inv.counts
+
+pub returns-clause-placed : goal.returns-clause-placed
+returns-clause-placed c =
     groups_none c.loop-i.draft c.loop-i.rest.now c.args.counts.now c.args.totals.now c.args.rows.now c.loop-i.i c.loop-i-test.false ∙ c.loop-i.invariant
