@@ -1,0 +1,313 @@
+-- To cut a seat in two and to join two keep the rule, which holds at the start; and what it says at the end.
+use Rattle.std.proofs.Common.{◌≡◌, ℕ, zero, suc, ◌+◌, ◌%◌, ◌<◌, ◌≤◌, ◌≢◌, Bool, true, false, List, [], ◌∷◌, ◌++◌, length, set, refl, sym, ap, ◌∙◌, subst, ⊎_elim, arith}
+use Rattle.std.specs.Prelude.{◌||◌, nat_lt, nat_le, cond}
+use Rattle.std.specs.Prelude.{Option as Opt, Some}
+use mathlib.Core.Option.{some, some-injective, some-ne-none}
+use mathlib.Core.List.{IsPrefix}
+use lib.ListN.{get_elem?}
+use Rattle.std.proofs.lemmas.Bool.{cond_both, cond-true, cond-false, eq-eqb, ne_eqb, lt-ltb, le-ltb, leb-true, leb-false, cases_eq, cases_lt, false≢true}
+use Rattle.atomic_table.specs.Table.{State, Splits, Joins, opening, Final, Seen}
+use Rattle.atomic_table.proofs.Lists.{at_set, at_snoc, set_else}
+use Rattle.mdf_gate.proofs.Carrying.{prefix_self}
+use Rattle.mdf_layout.specs.declared.sample.Sample.{Sample}
+use Rattle.book_owned.specs.Account.{Account}
+use Rattle.book_owned.specs.declared.mark.Mark.{Mark}
+use Rattle.book_shared.specs.Basis.{Basis, Turn, idle, holding}
+use Rattle.book_shared.specs.Rule.{World, total, times_in, has, holds_turn, AreOwn, AreOld, Names, Knows, SeatsKnow, Runs}
+use Rattle.book_shared.specs.Parts.{first_part, other_parts, kept_part, split_part, longer, joined, spent}
+use Rattle.book_shared.specs.Fixed.{sources_from, first_view}
+use Rattle.book_shared.specs.Ends.{Ended}
+use Rattle.book_shared.specs.declared.view.View.{View}
+use Rattle.book_shared.proofs.Sums.{total-append, total-set, terms_le}
+use Rattle.book_shared.proofs.Lists.{counts_first, old_later, names_none, one_if}
+use Rattle.book_shared.proofs.Keeps.{once_most}
+
+-- the first source and the others
+times_parts : (n : ℕ) (mine : List (ℕ × List Sample)) → times_in n (first_part mine) + times_in n (other_parts mine) ≡ times_in n mine
+times_parts n [] = refl
+times_parts n (part ∷ parts) = omega arith
+
+own_first : (owners : List ℕ) (history : List Sample) (mine : List (ℕ × List Sample)) → AreOwn owners history mine → AreOwn owners history (first_part mine)
+own_first owners history [] own = tt
+own_first owners history (part ∷ parts) own = (own.0, tt)
+
+own_others : (owners : List ℕ) (history : List Sample) (mine : List (ℕ × List Sample)) → AreOwn owners history mine → AreOwn owners history (other_parts mine)
+own_others owners history [] own = tt
+own_others owners history (part ∷ parts) own = own.1
+
+some_first : (mine : List (ℕ × List Sample)) → 0 < length (first_part mine) → 0 < length mine
+some_first [] some_part = some_part
+some_first (part ∷ parts) some_part = omega arith
+
+some_others : (mine : List (ℕ × List Sample)) → 0 < length (other_parts mine) → 0 < length mine
+some_others [] some_part = some_part
+some_others (part ∷ parts) some_part = omega arith
+
+-- both parts know what the whole seat knew
+kept_knows : (basis : Basis) (w : World) (v : View) → v.turn ≡ idle → Knows basis w v → Knows basis w (kept_part v)
+kept_knows basis w v none_held know = record {
+  met = know.met;
+  seen = know.seen;
+  kept = know.kept;
+  knows = know.knows;
+  mine = own_first basis.owners w.history v.mine know.mine;
+  olds = know.olds;
+  turn = names_none w (kept_part v) v.turn (ap holds_turn none_held);
+  basis_is = λ some_part. know.basis_is (some_first v.mine some_part);
+}
+
+split_knows : (basis : Basis) (w : World) (v : View) → v.turn ≡ idle → Knows basis w v → Knows basis w (split_part v)
+split_knows basis w v none_held know = record {
+  met = know.met;
+  seen = know.seen;
+  kept = know.kept;
+  knows = know.knows;
+  mine = own_others basis.owners w.history v.mine know.mine;
+  olds = tt;
+  turn = names_none w (split_part v) v.turn (ap holds_turn none_held);
+  basis_is = λ some_part. know.basis_is (some_others v.mine some_part);
+}
+
+-- the sum over the seats after a cut
+split_total : (f : View → ℕ) (views : List View) (id : ℕ) (v a b : View) → get_elem? views id ≡ some v → f a + f b ≡ f v
+    → total f (set views id a ++ b ∷ []) ≡ total f views
+split_total f views id v a b at sum = omega (arith, total-append f (set views id a) (b ∷ []), total-set f views id v a at, sum)
+
+-- and after a join
+joined_total : (f : View → ℕ) (views : List View) (id other : ℕ) (v w a b : View) → get_elem? views id ≡ some v → get_elem? (set views id a) other ≡ some w
+    → f a + f b ≡ f v + f w → total f (set (set views id a) other b) ≡ total f views
+joined_total f views id other v w a b at there sum = omega (arith, total-set f (set views id a) other w b there, total-set f views id v a at, sum)
+
+module _ {D V : Type 0} where
+  pub splits : (basis : Basis) (id : ℕ) (v : View) → v.turn ≡ idle → Splits (Runs {D = D} {V = V} basis) id v (kept_part v) (split_part v)
+  splits basis id v none_held s run at =
+      let w = run.shared in
+      let know = run.seats.each id v at in
+      let a = kept_part v in
+      let b = split_part v in record {
+        shared = w;
+        words = run.words;
+        turns = record {
+          few = run.turns.few;
+          held = split_total (λ (x : View). holds_turn x.turn) s.views id v a b at (omega (arith, ap holds_turn none_held)) ∙ run.turns.held;
+          taken = omega (arith, split_total (λ (x : View). x.turns) s.views id v a b at (omega arith), run.turns.taken);
+        };
+        seats = record {
+          once = λ n. split_total (has n) s.views id v a b at (times_parts n v.mine) ∙ run.seats.once n;
+          each = λ k x there. ⊎_elim
+              (λ old. ⊎_elim (λ t. subst (Knows basis w) t.1 (kept_knows basis w v none_held know)) (λ t. run.seats.each k x t.1) (at_set s.views id k a x old))
+              (λ is. subst (Knows basis w) is (split_knows basis w v none_held know)) (at_snoc (set s.views id a) b x k there);
+        };
+        slot = run.slot;
+      }
+
+-- of two beginnings of one list the shorter begins the longer
+shorter : {A : Type 0} (xs ys rest more : List A) → xs ++ rest ≡ ys ++ more → length xs ≤ length ys → IsPrefix xs ys
+shorter [] ys rest more same less = (ys, refl)
+shorter (x ∷ xs) [] rest more same less = absurd (omega (arith, less))
+shorter (x ∷ xs) (y ∷ ys) rest more same less =
+    let heads : x ≡ y = cc in
+    let tails : xs ++ rest ≡ ys ++ more = cc in
+    let later = shorter xs ys rest more tails (omega (arith, less)) in
+    (later.0, ap (λ z. z ∷ (xs ++ later.0)) heads ∙ ap (λ zs. y ∷ zs) later.1)
+
+longer_of : {A : Type 0} (xs ys zs : List A) → IsPrefix xs zs → IsPrefix ys zs → IsPrefix (longer xs ys) zs
+longer_of xs ys zs first second = cond_both (nat_le (length xs) (length ys)) ys xs (λ l. IsPrefix l zs) (λ _. second) (λ _. first)
+
+longer_first : {A : Type 0} (xs ys zs : List A) → IsPrefix xs zs → IsPrefix ys zs → IsPrefix xs (longer xs ys)
+longer_first xs ys zs first second = cond_both (nat_le (length xs) (length ys)) ys xs (λ l. IsPrefix xs l)
+    (λ is. shorter xs ys first.0 second.0 (first.1 ∙ sym second.1) (leb-true (length xs) (length ys) is)) (λ _. prefix_self xs)
+
+longer_second : {A : Type 0} (xs ys zs : List A) → IsPrefix xs zs → IsPrefix ys zs → IsPrefix ys (longer xs ys)
+longer_second xs ys zs first second = cond_both (nat_le (length xs) (length ys)) ys xs (λ l. IsPrefix ys l)
+    (λ _. prefix_self ys) (λ is. shorter ys xs second.0 first.0 (second.1 ∙ sym first.1) (omega (arith, leb-false (length xs) (length ys) is)))
+
+pub times-append : (n : ℕ) (xs ys : List (ℕ × List Sample)) → times_in n (xs ++ ys) ≡ times_in n xs + times_in n ys
+times-append n [] ys = omega arith
+times-append n (x ∷ xs) ys = omega (arith, times-append n xs ys)
+
+own-append : (owners : List ℕ) (history : List Sample) (xs ys : List (ℕ × List Sample)) → AreOwn owners history xs → AreOwn owners history ys → AreOwn owners history (xs ++ ys)
+own-append owners history [] ys first second = second
+own-append owners history (x ∷ xs) ys first second = (first.0, own-append owners history xs ys first.1 second)
+
+old-append : (seen : List Sample) (kept : List Mark) (xs ys : List (List Sample × List Mark)) → AreOld seen kept xs → AreOld seen kept ys → AreOld seen kept (xs ++ ys)
+old-append seen kept [] ys first second = second
+old-append seen kept (x ∷ xs) ys first second = (first.0, old-append seen kept xs ys first.1 second)
+
+either_knows : (a b : Bool) (P : Type 0) → (a ≡ true → P) → (b ≡ true → P) → (a || b) ≡ true → P
+either_knows true b P first second is = first refl
+either_knows false b P first second is = second is
+
+-- the joined seat knows what both knew
+joined_knows : (basis : Basis) (w : World) (v x : View) → v.turn ≡ idle → 0 < length v.mine → Knows basis w v → Knows basis w x → Knows basis w (joined v x)
+joined_knows basis w v x none_held some_mine know other = record {
+  met = omega (arith, know.met, other.met);
+  seen = longer_of v.seen x.seen w.history know.seen other.seen;
+  kept = longer_of v.kept x.kept w.marks know.kept other.kept;
+  knows = either_knows v.knows x.knows (w.stopped ≡ true) know.knows other.knows;
+  mine = own-append basis.owners w.history v.mine x.mine know.mine other.mine;
+  olds = (
+    (longer_first v.seen x.seen w.history know.seen other.seen, longer_first v.kept x.kept w.marks know.kept other.kept),
+    (
+      (longer_second v.seen x.seen w.history know.seen other.seen, longer_second v.kept x.kept w.marks know.kept other.kept),
+      old-append (longer v.seen x.seen) (longer v.kept x.kept) v.olds x.olds
+          (old_later v.seen (longer v.seen x.seen) v.kept (longer v.kept x.kept) v.olds (longer_first v.seen x.seen w.history know.seen other.seen) (longer_first v.kept x.kept w.marks know.kept other.kept) know.olds)
+          (old_later x.seen (longer v.seen x.seen) x.kept (longer v.kept x.kept) x.olds (longer_second v.seen x.seen w.history know.seen other.seen) (longer_second v.kept x.kept w.marks know.kept other.kept) other.olds),
+    ),
+  );
+  turn = names_none w (joined v x) v.turn (ap holds_turn none_held);
+  basis_is = λ _. know.basis_is some_mine;
+}
+
+-- what is left knows nothing
+spent_knows : (basis : Basis) (w : World) → Knows basis w spent
+spent_knows basis w = record {
+  met = omega arith;
+  seen = (w.history, refl);
+  kept = (w.marks, refl);
+  knows = λ (is : false ≡ true). absurd (false≢true is);
+  mine = tt;
+  olds = tt;
+  turn = tt;
+  basis_is = λ some_part. absurd (omega (arith, some_part));
+}
+
+module _ {D V : Type 0} where
+  pub joins : (basis : Basis) (id : ℕ) (v : View) (other : ℕ) (x : View) → v.turn ≡ idle → x.turn ≡ idle → 0 < length v.mine
+      → Joins (Runs {D = D} {V = V} basis) id v other x (joined v x) spent
+  joins basis id v other x none_held none_there some_mine s run at apart there =
+      let w = run.shared in
+      let u = joined v x in
+      let x_at : get_elem? s.views other ≡ some x = sym (set_else s.views id other u apart) ∙ there in
+      record {
+        shared = w;
+        words = run.words;
+        turns = record {
+          few = run.turns.few;
+          held = joined_total (λ (y : View). holds_turn y.turn) s.views id other v x u spent at there (omega (arith, ap holds_turn none_there)) ∙ run.turns.held;
+          taken = omega (arith, joined_total (λ (y : View). y.turns) s.views id other v x u spent at there (omega arith), run.turns.taken);
+        };
+        seats = record {
+          once = λ n. joined_total (has n) s.views id other v x u spent at there (omega (arith, times-append n v.mine x.mine)) ∙ run.seats.once n;
+          each = λ k y y_at. ⊎_elim
+              (λ t. subst (Knows basis w) t.1 (spent_knows basis w))
+              (λ t. ⊎_elim (λ p. subst (Knows basis w) p.1 (joined_knows basis w v x none_held some_mine (run.seats.each id v at) (run.seats.each other x x_at))) (λ p. run.seats.each k y p.1)
+              (at_set s.views id k u y t.1))
+              (at_set (set s.views id u) other k spent y y_at);
+        };
+        slot = run.slot;
+      }
+
+-- how often a source stands among so many from one on
+times_below : (first count n : ℕ) → n < first → times_in n (sources_from first count) ≡ 0
+times_below first zero n less = refl
+times_below first (suc count) n less = omega (arith, ap one_if (ne_eqb first n (λ is. omega (arith, is, less))), times_below (suc first) count n (omega (arith, less)))
+
+times_within : (first count n : ℕ) → first ≤ n → n < first + count → times_in n (sources_from first count) ≡ 1
+times_within first zero n more less = absurd (omega (arith, more, less))
+times_within first (suc count) n more less = ⊎_elim
+    (λ is. omega (arith, ap one_if (eq-eqb first n is), times_below (suc first) count n (omega (arith, is))))
+    (λ differs. omega (arith, ap one_if (ne_eqb first n differs), times_within (suc first) count n (not_same first n more differs) (omega (arith, less)))) (cases_eq first n) where
+      not_same : (a b : ℕ) → a ≤ b → a ≢ b → suc a ≤ b
+      not_same a b at_most differs = ⊎_elim (λ h. omega (arith, h)) (λ h. absurd (differs (omega (arith, h, at_most)))) (cases_lt a b)
+
+times_above : (first count n : ℕ) → first + count ≤ n → times_in n (sources_from first count) ≡ 0
+times_above first zero n more = refl
+times_above first (suc count) n more = omega (arith, ap one_if (ne_eqb first n (λ is. omega (arith, is, more))), times_above (suc first) count n (omega (arith, more)))
+
+times_all : (count n : ℕ) → times_in n (sources_from 0 count) ≡ cond (nat_lt n count) 1 0
+times_all count n = ⊎_elim
+    (λ less. times_within 0 count n (omega arith) (omega (arith, less)) ∙ sym (cond-true (nat_lt n count) 1 0 (lt-ltb n count less)))
+    (λ more. times_above 0 count n (omega (arith, more)) ∙ sym (cond-false (nat_lt n count) 1 0 (le-ltb n count more))) (cases_lt n count)
+
+own_none : (owners : List ℕ) (first count : ℕ) → AreOwn owners [] (sources_from first count)
+own_none owners first zero = tt
+own_none owners first (suc count) = (refl, own_none owners (suc first) count)
+
+-- what the first seat knows at the start
+first_knows : (basis : Basis) (w : World) → w.history ≡ [] → Knows basis w (first_view basis)
+first_knows basis w none_yet = record {
+  met = omega arith;
+  seen = (w.history, refl);
+  kept = (w.marks, refl);
+  knows = λ (is : false ≡ true). absurd (false≢true is);
+  mine = subst (λ h. AreOwn basis.owners h (sources_from 0 basis.sources)) (sym none_yet) (own_none basis.owners 0 basis.sources);
+  olds = tt;
+  turn = tt;
+  basis_is = λ _. refl;
+}
+
+only_one : (P : View → Type 0) (v : View) → P v → (k : ℕ) (x : View) → get_elem? (v ∷ []) k ≡ some x → P x
+only_one P v is zero x there = subst P (some-injective v x there) is
+only_one P v is (suc k) x there = absurd (some-ne-none x (sym there))
+
+module _ {D V : Type 0} where
+  pub opens : (basis : Basis) (book : Account D V) → book.history ≡ [] → book.terms ≡ basis.terms
+      → Runs basis (opening (0 ∷ []) (Some book ∷ []) (first_view basis))
+  opens basis book none_yet terms =
+      let w : World = record { word = 0; history = book.history; marks = book.marks; stopped = book.stopped } in record {
+        shared = w;
+        words = refl;
+        turns = record { few = omega arith; held = refl; taken = refl };
+        seats = record {
+          once = λ n. omega (arith, times_all basis.sources n);
+          each = only_one (Knows basis w) (first_view basis) (first_knows basis w none_yet);
+        };
+        slot = record {
+          here = λ _. record { book = book; homes_are = refl; has_it = record { history = refl; marks = refl; stopped = refl; terms = terms } };
+          away = λ (is : 0 ≡ 1). absurd (omega (arith, is));
+        };
+      }
+
+-- where no term counts the sum is nothing
+total_none : (f : View → ℕ) (views : List View) → ((k : ℕ) (x : View) → get_elem? views k ≡ some x → f x ≡ 0) → total f views ≡ 0
+total_none f [] none_counts = refl
+total_none f (x ∷ xs) none_counts = omega (arith, none_counts 0 x refl, total_none f xs (λ k y at. none_counts (suc k) y at))
+
+-- a seat with a source
+source_of : (mine : List (ℕ × List Sample)) → 0 < length mine → (n : ℕ) × (0 < times_in n mine)
+source_of [] some_part = absurd (omega (arith, some_part))
+source_of (part ∷ parts) some_part = (part.0, counts_first part.0 part.1 parts)
+
+one_below : (n count : ℕ) → 0 < cond (nat_lt n count) 1 0 → n < count
+one_below n count counted = ⊎_elim (λ less. less) (λ more. absurd (omega (arith, counted, ap one_if (le-ltb n count more)))) (cases_lt n count)
+
+named_mine : (w : World) (x : View) (t : Turn) → Names w x t → (0 < length x.mine → ⊥) → holds_turn t ≡ 0
+named_mine w x idle names none_there = refl
+named_mine w x (holding history marks stopped) names none_there = absurd (none_there names.4)
+
+-- where one seat has all sources, the others have none
+others_none : (basis : Basis) (w : World) (views : List View) (know : SeatsKnow basis w views) (id k : ℕ) (v x : View) → k ≢ id → get_elem? views id ≡ some v
+    → get_elem? views k ≡ some x → ((n : ℕ) → n < basis.sources → 0 < times_in n v.mine) → 0 < length x.mine → ⊥
+others_none basis w views know id k v x apart at there all some_there =
+    let n = source_of x.mine some_there in
+    let both = terms_le (has n.0) views id k v x apart at there in
+    let mine = all n.0 (one_below n.0 basis.sources (omega (arith, both, know.once n.0, n.1))) in
+    omega (arith, both, mine, n.1, once_most (nat_lt n.0 basis.sources) (total (has n.0) views) (know.once n.0))
+
+module _ {D V : Type 0} where
+  -- the book is at home then
+  even_then : (basis : Basis) (s : State (Opt (Account D V)) View) (run : Runs basis s) (id : ℕ) (v : View) → get_elem? s.views id ≡ some v → v.turn ≡ idle
+      → ((n : ℕ) → n < basis.sources → 0 < times_in n v.mine) → run.shared.word % 2 ≡ 0
+  even_then basis s run id v at none_held all =
+      sym run.turns.held ∙ total_none (λ x. holds_turn x.turn) s.views
+      (λ k x there. ⊎_elim
+      (λ is. ap holds_turn (ap (λ (y : View). y.turn) (some-injective x v (sym there ∙ ap (get_elem? s.views) is ∙ at)) ∙ none_held))
+      (λ differs. named_mine run.shared x x.turn (run.seats.each k x there).turn (others_none basis run.shared s.views run.seats id k v x differs at there all)) (cases_eq k id))
+
+  pub ends : (basis : Basis) (id : ℕ) (v : View) (words : List ℕ) (slots : List (Opt (Account D V))) → v.turn ≡ idle
+      → ((n : ℕ) → n < basis.sources → 0 < times_in n v.mine) → Final (Seen (Runs basis) id v) words slots → Ended basis v slots
+  ends basis id v words slots none_held all (s, (run, at), words_are, long, left) =
+      let w = run.shared in
+      let know = run.seats.each id v at in
+      let home = run.slot.here (even_then basis s run id v at none_held all) in
+      let has_it = home.has_it in record {
+        book = home.book;
+        slot_is = left 0 (Some home.book) (ap (λ hs. get_elem? hs 0) home.homes_are);
+        seen = subst (λ h. IsPrefix v.seen h) (sym has_it.history) know.seen;
+        kept = subst (λ m. IsPrefix v.kept m) (sym has_it.marks) know.kept;
+        knows = λ is. has_it.stopped ∙ know.knows is;
+        mine = subst (λ h. AreOwn basis.owners h v.mine) (sym has_it.history) know.mine;
+        olds = know.olds;
+        terms = has_it.terms;
+      }

@@ -1,0 +1,8 @@
+mod Sums
+mod Lists
+mod Keeps
+mod Ends
+mod Serves
+mod Seats
+mod Covering
+mod Beginning

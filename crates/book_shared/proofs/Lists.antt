@@ -1,0 +1,66 @@
+-- The lists of a seat, and a history that goes on.
+use Rattle.std.proofs.Common.{◌≡◌, ℕ, ◌<◌, List, [], ◌∷◌, ◌++◌, refl, sym, ap, ◌∙◌, subst, arith, append-nil}
+use Rattle.std.specs.Prelude.{◌==◌, slice_index, cond, Bool}
+use Rattle.std.proofs.lemmas.Bool.{cond-false, eq-eqb, ne_eqb}
+use Rattle.std.proofs.lemmas.List.Elements.{filter-append}
+use mathlib.Core.List.{IsPrefix}
+use Rattle.mdf_gate.proofs.Carrying.{prefix_trans}
+use Rattle.mdf_layout.specs.History.{source_samples}
+use Rattle.mdf_layout.specs.declared.sample.Sample.{Sample}
+use Rattle.book_owned.specs.declared.mark.Mark.{Mark}
+use Rattle.book_shared.specs.Basis.{Turn, idle, holding}
+use Rattle.book_shared.specs.Rule.{World, times_in, holds_turn, AreOwn, AreOld, Names}
+use Rattle.book_shared.specs.Plays.{recount, AreFrom}
+use Rattle.book_shared.specs.declared.view.View.{View}
+
+abbrev pub one_if : Bool → ℕ
+one_if b = cond b 1 0
+
+-- a source stands where it is put first
+pub counts_first : (n : ℕ) (samples : List Sample) (parts : List (ℕ × List Sample)) → 0 < times_in n ((n, samples) ∷ parts)
+counts_first n samples parts = omega (arith, ap one_if (eq-eqb n n refl))
+
+-- a history with more samples has of a source the samples of both
+pub source_more : (owners : List ℕ) (history added : List Sample) (n : ℕ) → source_samples owners (history ++ added) n ≡ source_samples owners history n ++ source_samples owners added n
+source_more owners history added n = filter-append (λ (sample : Sample). slice_index owners sample.group == n) history added
+
+-- samples of sources that stand among these are of no other
+pub none_of : (owners : List ℕ) (mine : List (ℕ × List Sample)) (added : List Sample) (n : ℕ) → AreFrom owners mine added
+    → (0 < times_in n mine → ⊥) → source_samples owners added n ≡ []
+none_of owners mine [] n from none = refl
+none_of owners mine (sample ∷ added) n from none =
+    cond-false (slice_index owners sample.group == n) _ _
+    (ne_eqb (slice_index owners sample.group) n (λ is. none (subst (λ k. 0 < times_in k mine) is from.0)))
+    ∙ none_of owners mine added n from.1 none
+
+-- lists that stay all that the history has of their sources
+pub own_same : (owners : List ℕ) (history added : List Sample) (parts : List (ℕ × List Sample))
+    → ((n : ℕ) → 0 < times_in n parts → source_samples owners added n ≡ []) → AreOwn owners history parts → AreOwn owners (history ++ added) parts
+own_same owners history added [] none own = tt
+own_same owners history added (part ∷ parts) none own = (
+  own.0 ∙ sym (source_more owners history added part.0
+      ∙ ap (λ more. source_samples owners history part.0 ++ more) (none part.0 (counts_first part.0 part.1 parts))
+      ∙ append-nil (source_samples owners history part.0)),
+  own_same owners history added parts (λ n some. none n (omega (arith, some))) own.1,
+)
+
+-- lists that are counted anew
+pub own_recount : (owners : List ℕ) (history : List Sample) (mine : List (ℕ × List Sample)) → AreOwn owners history (recount owners history mine)
+own_recount owners history [] = tt
+own_recount owners history (part ∷ parts) = (refl, own_recount owners history parts)
+
+pub times_recount : (owners : List ℕ) (history : List Sample) (mine : List (ℕ × List Sample)) (n : ℕ) → times_in n (recount owners history mine) ≡ times_in n mine
+times_recount owners history [] n = refl
+times_recount owners history (part ∷ parts) n = omega (arith, times_recount owners history parts n)
+
+-- what was seen before begins what is seen later
+pub old_later : (seen seen' : List Sample) (kept kept' : List Mark) (olds : List (List Sample × List Mark)) → IsPrefix seen seen' → IsPrefix kept kept'
+    → AreOld seen kept olds → AreOld seen' kept' olds
+old_later seen seen' kept kept' [] s k are = tt
+old_later seen seen' kept kept' (old ∷ olds) s k are =
+    ((prefix_trans old.0 seen seen' are.0.0 s, prefix_trans old.1 kept kept' are.0.1 k), old_later seen seen' kept kept' olds s k are.1)
+
+-- a seat with no turn names nothing, and one with a turn may meet the word again
+pub names_none : (w : World) (v : View) (t : Turn) → holds_turn t ≡ 0 → Names w v t
+names_none w v idle none = tt
+names_none w v (holding history marks stopped) none = absurd (omega (arith, none))

@@ -1,0 +1,283 @@
+-- A turn, from the load to the store, and what the seat knows after it.
+use Rattle.std.proofs.Common.{◌≡◌, ℕ, ◌+◌, ◌%◌, ◌<◌, ◌≤◌, Bool, List, [], ◌∷◌, ◌++◌, length, take, drop, fold, refl, sym, ap, ◌∙◌, subst, ⊎_elim, arith, append-nil}
+use Rattle.std.specs.Prelude.{◌==◌, slice_index, slice_get, MatchBool, IsSomeAnd}
+use Rattle.std.specs.Prelude.{Option as Opt, Some, None}
+use mathlib.Core.Option.{none}
+use Rattle.std.proofs.lemmas.Bool.{eq-eqb, cond-true}
+use Rattle.std.proofs.lemmas.List.{take_at}
+use Rattle.atomic_table.specs.Table.{step, rest}
+use Rattle.mdf_gate.proofs.Carrying.{prefix_trans}
+use Rattle.mdf_disk.specs.declared.disk.Disk.{Ghosts as DiskOf}
+use Rattle.mdf_layout.specs.History.{source_samples}
+use Rattle.mdf_layout.specs.Record.{cost_of, encoded_size, history_cost, history_size}
+use Rattle.mdf_layout.specs.declared.sample.Sample.{Sample}
+use Rattle.book_owned.specs.Account.{Account, Steps, Terms}
+use Rattle.book_owned.specs.Answers.{AppendAnswers, FlushAnswers, MarksAll, accepted_by}
+use Rattle.book_owned.specs.Marks.{last_mark, durable, AreRising}
+use Rattle.book_owned.specs.declared.mark.Mark.{Mark}
+use Rattle.book_owned.specs.declared.view.Shown.{Ghosts as ViewOf}
+use Rattle.book_owned.specs.declared.answer.Append.{Append}
+use Rattle.book_owned.specs.declared.answer.Append.TheVariants.{Accepted, SessionFull, Stopped, DiskFault, Memory}
+use Rattle.book_owned.specs.declared.answer.Flush.{Flush}
+use Rattle.book_owned.specs.declared.answer.Flush.TheVariants as flush
+use Rattle.book_shared.specs.Basis.{holding}
+use Rattle.book_shared.specs.Rule.{times_in, AreOwn}
+use Rattle.book_shared.specs.Plays.{recount, looked, given, AreFrom, Holds, Wins, Takes, Gives}
+use Rattle.book_shared.specs.Place.{own_part, IsSingle}
+use Rattle.book_shared.specs.Turns.{Took, Served}
+use Rattle.book_shared.specs.Told.{Told, Appends, Tries, tried_by, Puts, HasMark, FlushTold, Flushes}
+use Rattle.book_shared.specs.declared.answer.Try.{Try}
+use Rattle.book_shared.specs.declared.answer.Try.TheVariants.{Busy, NeedsFlush, Answered}
+use Rattle.book_shared.specs.declared.view.View.{View}
+use Rattle.book_shared.proofs.Lists.{counts_first, source_more, own_recount}
+use Rattle.book_shared.proofs.Keeps.{Here, seat_of, holds_book, book_in}
+
+-- one slot is carried
+pub one_slot : {S : Type 0} (carried : List (ℕ × S)) (x : ℕ × S) → carried ≡ x ∷ [] → carried ≡ x ∷ rest carried
+one_slot carried x is = is ∙ ap (λ behind. x ∷ behind) (sym (ap (λ c. rest c) is))
+
+-- the samples that a seat's own source got in a turn
+own_of : (owners : List ℕ) (sample : Sample) (number : ℕ) → slice_index owners sample.group ≡ number → source_samples owners (sample ∷ []) number ≡ sample ∷ []
+own_of owners sample number owner = cond-true (slice_index owners sample.group == number) (sample ∷ []) [] (eq-eqb (slice_index owners sample.group) number owner)
+
+pub record Adds (owners : List ℕ) (mine : List (ℕ × List Sample)) (number : ℕ) (added : List Sample) : Type 0 where
+  pub one : length added ≤ 1
+  pub from : AreFrom owners mine added
+  pub own : source_samples owners added number ≡ added
+
+pub adds_none : (owners : List ℕ) (mine : List (ℕ × List Sample)) (number : ℕ) → Adds owners mine number []
+adds_none owners mine number = record { one = omega arith; from = tt; own = refl }
+
+adds_one : (owners : List ℕ) (mine : List (ℕ × List Sample)) (sample : Sample) → mine ≡ (slice_index owners sample.group, own_part mine) ∷ []
+    → Adds owners mine (slice_index owners sample.group) (sample ∷ [])
+adds_one owners mine sample single =
+    let number = slice_index owners sample.group in record {
+      one = omega arith;
+      from = (subst (λ parts. 0 < times_in number parts) (sym single) (counts_first number (own_part mine) []), tt);
+      own = own_of owners sample number refl;
+    }
+
+pub adds_by : (owners : List ℕ) (mine : List (ℕ × List Sample)) (sample : Sample) (answer : Append) → mine ≡ (slice_index owners sample.group, own_part mine) ∷ []
+    → Adds owners mine (slice_index owners sample.group) (accepted_by answer sample)
+adds_by owners mine sample (Accepted place) single = adds_one owners mine sample single
+adds_by owners mine sample (SessionFull held size limit) single = adds_none owners mine (slice_index owners sample.group)
+adds_by owners mine sample (Stopped mark) single = adds_none owners mine (slice_index owners sample.group)
+adds_by owners mine sample (DiskFault before after) single = adds_none owners mine (slice_index owners sample.group)
+adds_by owners mine sample Memory single = adds_none owners mine (slice_index owners sample.group)
+
+-- the number of the first source
+abbrev number_of : List (ℕ × List Sample) → ℕ
+number_of [] = 0
+number_of (part ∷ parts) = part.0
+
+-- a seat of one source, counted anew
+mine_grows : (owners : List ℕ) (history added : List Sample) (mine : List (ℕ × List Sample)) (number : ℕ) → mine ≡ (number, own_part mine) ∷ [] → AreOwn owners history mine
+    → source_samples owners added number ≡ added → own_part (recount owners (history ++ added) mine) ≡ own_part mine ++ added
+mine_grows owners history added [] number single own all = absurd (omega (arith, ap length single))
+mine_grows owners history added (part ∷ parts) number single own all =
+    let numbers : part.0 ≡ number = ap (λ ps. number_of ps) single in
+    source_more owners history added part.0 ∙ ap (λ samples. samples ++ source_samples owners added part.0) (sym own.0)
+    ∙ ap (λ samples. part.1 ++ samples) (ap (λ n. source_samples owners added n) numbers ∙ all)
+
+take_all : {A : Type 0} (xs : List A) → take (length xs) xs ≡ xs
+take_all xs = ap (λ ys. take (length xs) ys) (sym (append-nil xs)) ∙ take_at xs [] (length xs) refl
+
+module _ {D V : Type 0} where
+  pub took_now : (v : View) (carried : List (ℕ × Opt (Account D V))) (m n : Here D V) (word found : ℕ) → m ≡ seat_of (looked v word) carried → Takes (step 1 0 word (word + 1) none) m found n
+      → found ≡ word → word % 2 ≡ 0 → word < 18446744073709551614
+      → (word + 1 ≡ n.0.met) × ((book : Account D V) × (n.1 ≡ (0, Some book) ∷ []) × Took v n.0 book)
+  took_now v carried m n word found is takes same even low =
+      let both : Takes (step 1 0 word (word + 1) none) (seat_of (looked v word) carried) found n = subst (λ x. Takes (step 1 0 word (word + 1) none) x found n) is takes in
+      let won : Wins (looked v word) (word + 1) n = subst (λ b. MatchBool b (Wins (looked v word) (word + 1) n) (n ≡ seat_of (looked (looked v word) found) carried)) (eq-eqb found word same) both.2 in
+      let book = won.0 in
+      subst (λ (x : Here D V). (word + 1 ≡ x.0.met) × ((other : Account D V) × (x.1 ≡ (0, Some other) ∷ []) × Took v x.0 other)) (sym won.1) (
+        refl,
+        (
+          book,
+          refl,
+          record {
+            rest = refl;
+            meets = record { seen = won.2.seen; kept = won.2.kept; knows = won.2.knows; mine = won.2.mine; terms = won.2.terms };
+            odd = omega (arith, even);
+            low = omega (arith, low, even);
+          },
+        ),
+      )
+
+  -- the book that is taken out of the slot is the one that was taken
+  pub took_carried : (v u w : View) (carried : List (ℕ × Opt (Account D V))) (a b : Account D V) → carried ≡ holds_book a → carried ≡ holds_book b → w ≡ u → Took v u a → Took v w b
+  took_carried v u w carried a b first second same took =
+      subst (λ x. Took v x b) (sym same) (subst (Took v u) (ap (λ (c : List (ℕ × Opt (Account D V))). book_in c a) (sym first ∙ second)) took)
+
+  -- the book lies in the slot that the seat carries
+  pub put_back : (v : View) (carried : List (ℕ × Opt (Account D V))) (m : Here D V) (book : Account D V) → carried ≡ (0, None) ∷ [] → m ≡ seat_of v ((0, Some book) ∷ rest carried)
+      → m ≡ seat_of v (holds_book book)
+  put_back v carried m book empty is = is ∙ ap (λ (c : List (ℕ × Opt (Account D V))). seat_of v ((0, Some book) ∷ rest c)) empty
+
+  pub gave_now : (v : View) (m n : Here D V) (slots word : ℕ) (book : Account D V) → m ≡ seat_of v (holds_book book) → Gives (step slots 0 (word + 1) 0 none) m (word + 1) n
+      → n ≡ seat_of (given v (word + 1) book) []
+  gave_now v m n slots word book is gives =
+      gives book (ap (λ (x : Here D V). x.1) is) ∙ ap (λ (x : Here D V). seat_of (given x.0 (word + 1) book) []) is
+
+  -- the seat while it holds the turn
+  abbrev pub turning : View → View → Account D V → View
+  turning v u book = record v { met = u.met; prior = u.prior; steps = u.steps; turns = v.turns + 1; turn = holding book.history book.marks book.stopped }
+
+  -- the book may go back
+  pub holds_now : (v u : View) (old new : Account D V) (added : List Sample) (number : ℕ) → Took v u old → Steps old new added → Adds v.basis.owners v.mine number added → Holds u new
+  holds_now v u old new added number took steps adds = record {
+    history = old.history;
+    marks = old.marks;
+    stopped = old.stopped;
+    turn_is = ap (λ (y : View). y.turn) took.rest;
+    returns = record {
+      added = added;
+      history_is = steps.history;
+      one = adds.one;
+      own = subst (λ (y : View). AreFrom y.basis.owners y.mine added) (sym took.rest) adds.from;
+      marks_go_on = steps.marks;
+      stays = steps.stopped;
+      terms = steps.terms ∙ took.meets.terms ∙ ap (λ (y : View). y.basis.terms) (sym took.rest);
+    };
+  }
+
+  -- what is then so of the seat
+  served_given : (v u : View) (word : ℕ) (old new : Account D V) (added : List Sample) (number : ℕ) → Took v u old → Steps old new added → IsSingle v number
+      → Adds v.basis.owners v.mine number added → Served v (given (turning v u old) word new) old.history added
+  served_given v u word old new added number took steps single adds = record {
+    later = took.meets.seen;
+    seen = steps.history;
+    kept = prefix_trans v.kept old.marks new.marks took.meets.kept steps.marks;
+    knows = λ is. steps.stopped (took.meets.knows is);
+    mine = ap (λ h. own_part (recount v.basis.owners h v.mine)) steps.history ∙ mine_grows v.basis.owners old.history added v.mine number single took.meets.mine adds.own;
+    own = own_recount v.basis.owners new.history v.mine;
+    olds = refl;
+    basis_is = refl;
+    turns = refl;
+  }
+
+  -- the seat after a turn is given so
+  after_turn : (v u x : View) (word : ℕ) (old new : Account D V) → Took v u old → x ≡ given u word new → x ≡ given (turning v u old) word new
+  after_turn v u x word old new took is = is ∙ ap (λ (y : View). given y word new) took.rest
+
+  told_append : {N : Type 0} (disk : DiskOf D) (view : ViewOf V N) (v u : View) (word : ℕ) (old new : Account D V) (sample : Sample) (answer : Append) → old.terms ≡ v.basis.terms
+      → AppendAnswers disk view old new sample answer → Told (given (turning v u old) word new) old.history sample answer
+  told_append disk view v u word old new sample (Accepted place) terms is = (is.3, is.1)
+  told_append disk view v u word old new sample (SessionFull held size limit) terms is = (
+    is.2 ∙ ap (λ (t : Terms). history_cost t.layouts old.history) terms ∙ ap (λ (a : Account D V). history_cost v.basis.terms.layouts a.history) (sym is.1),
+    is.3 ∙ ap (λ (t : Terms). cost_of t.layouts sample) terms,
+    is.4 ∙ ap (λ (t : Terms). t.session_limit) terms,
+    is.5,
+    ap (λ (a : Account D V). a.stopped) is.1 ∙ is.0,
+  )
+  told_append disk view v u word old new sample (Stopped mark) terms is = (is.mark_is, ap (λ (a : Account D V). a.stopped) is.same ∙ is.stopped)
+  told_append disk view v u word old new sample (DiskFault before after) terms is = (is.1.rose, is.1.stopped)
+  told_append disk view v u word old new sample Memory terms is = ap (λ (a : Account D V). a.stopped) is.1 ∙ is.0
+
+  pub appends_now : {N : Type 0} (disk : DiskOf D) (view : ViewOf V N) (v u x : View) (word : ℕ) (old new : Account D V) (sample : Sample) (answer : Append) → Took v u old
+      → Steps old new (accepted_by answer sample) → IsSingle v (slice_index v.basis.owners sample.group) → AppendAnswers disk view old new sample answer
+      → x ≡ given u word new → Appends v x sample answer
+  appends_now disk view v u x word old new sample answer took steps single answers is =
+      subst (λ y. Appends v y sample answer) (sym (after_turn v u x word old new took is)) (
+        old.history,
+        served_given v u word old new (accepted_by answer sample) (slice_index v.basis.owners sample.group) took steps single (adds_by v.basis.owners v.mine sample answer single),
+        told_append disk view v u word old new sample answer took.meets.terms answers,
+      )
+
+-- what a try may have added
+adds_try : (owners : List ℕ) (mine : List (ℕ × List Sample)) (sample : Sample) (answer : Try) → mine ≡ (slice_index owners sample.group, own_part mine) ∷ []
+    → Adds owners mine (slice_index owners sample.group) (tried_by answer sample)
+adds_try owners mine sample (Busy word back) single = adds_none owners mine (slice_index owners sample.group)
+adds_try owners mine sample (NeedsFlush held size limit back) single = adds_none owners mine (slice_index owners sample.group)
+adds_try owners mine sample (Answered answer) single = adds_by owners mine sample answer single
+
+-- the sizes of a full block, by the terms that the seat knows
+full_sizes : (first second : Terms) (sample : Sample) (behind history : List Sample) (held size limit : ℕ) → first ≡ second
+    → (held ≡ history_size first.layouts behind) × (size ≡ encoded_size first.layouts sample) × (limit ≡ first.block_limit)
+    × (first.block_limit < history_size first.layouts behind + encoded_size first.layouts sample) × (history_cost first.layouts history + cost_of first.layouts sample ≤ first.session_limit)
+    → (held ≡ history_size second.layouts behind) × (size ≡ encoded_size second.layouts sample) × (limit ≡ second.block_limit)
+    × (limit < held + size) × (history_cost second.layouts history + cost_of second.layouts sample ≤ second.session_limit)
+full_sizes first second sample behind history held size limit same is =
+    let sum : limit < held + size = omega (arith, is.0, is.1, is.2, is.3) in
+    subst (λ (t : Terms). (held ≡ history_size t.layouts behind) × (size ≡ encoded_size t.layouts sample) × (limit ≡ t.block_limit) × (limit < held + size) × (history_cost t.layouts history + cost_of t.layouts sample ≤ t.session_limit)) same
+    (is.0, is.1, is.2, sum, is.4)
+
+module _ {D V : Type 0} where
+  -- the book of a try may go back
+  pub holds_try : (v u : View) (old new : Account D V) (sample : Sample) (answer : Try) → Took v u old → Steps old new (tried_by answer sample)
+      → IsSingle v (slice_index v.basis.owners sample.group) → Holds u new
+  holds_try v u old new sample answer took steps single =
+      holds_now v u old new (tried_by answer sample) (slice_index v.basis.owners sample.group) took steps (adds_try v.basis.owners v.mine sample answer single)
+
+module _ {D V N : Type 0} (disk : DiskOf D) (view : ViewOf V N) where
+  tries_given : (v u : View) (word : ℕ) (old new : Account D V) (sample : Sample) (answer : Try) → Took v u old → Steps old new (tried_by answer sample)
+      → IsSingle v (slice_index v.basis.owners sample.group) → Puts disk view old new sample answer → Tries v (given (turning v u old) word new) sample answer
+  tries_given v u word old new sample (Busy w back) took steps single puts = absurd puts
+  tries_given v u word old new sample (NeedsFlush held size limit back) took steps single puts =
+      let sizes = full_sizes old.terms v.basis.terms sample (drop (durable old.marks) old.history) old.history held size limit took.meets.terms (puts.3, puts.4, puts.5, puts.6, puts.1) in (
+        record {
+          history = old.history;
+          served = served_given v u word old new [] (slice_index v.basis.owners sample.group) took steps single (adds_none v.basis.owners v.mine (slice_index v.basis.owners sample.group));
+          held_is = sizes.0 ∙ ap (λ (a : Account D V). history_size v.basis.terms.layouts (drop (durable a.marks) a.history)) (sym puts.2);
+          size_is = sizes.1;
+          limit_is = sizes.2;
+          passes = sizes.3;
+          room = subst (λ (a : Account D V). history_cost v.basis.terms.layouts a.history + cost_of v.basis.terms.layouts sample ≤ v.basis.terms.session_limit) (sym puts.2) sizes.4;
+          going = ap (λ (a : Account D V). a.stopped) puts.2 ∙ puts.0;
+        },
+        puts.7,
+      )
+  tries_given v u word old new sample (Answered answer) took steps single puts = (
+    (
+      old.history,
+      served_given v u word old new (accepted_by answer sample) (slice_index v.basis.owners sample.group) took steps single (adds_by v.basis.owners v.mine sample answer single),
+      told_append disk view v u word old new sample answer took.meets.terms puts.0,
+    ),
+    puts.1,
+  )
+
+  pub tries_now : (v u x : View) (word : ℕ) (old new : Account D V) (sample : Sample) (answer : Try) → Took v u old → Steps old new (tried_by answer sample)
+      → IsSingle v (slice_index v.basis.owners sample.group) → Puts disk view old new sample answer → x ≡ given u word new → Tries v x sample answer
+  tries_now v u x word old new sample answer took steps single puts is =
+      subst (λ y. Tries v y sample answer) (sym (after_turn v u x word old new took is)) (tries_given v u word old new sample answer took steps single puts)
+
+-- the last of marks stands among them
+last_stands : (first : Mark) (marks : List Mark) → (before : List Mark) × (first ∷ marks ≡ before ++ fold (λ b mark. mark) first marks ∷ [])
+last_stands first [] = ([], refl)
+last_stands first (mark ∷ marks) = let behind = last_stands mark marks in (first ∷ behind.0, ap (λ ms. first ∷ ms) behind.1)
+
+has_last : (told : Bool) (marks : List Mark) → AreRising told marks → HasMark marks (durable marks)
+has_last told [] rising = absurd (nothing_there rising.first) where
+  nothing_there : IsSomeAnd (slice_get [] 0) (λ (mark : Mark). mark.through ≡ 0) → ⊥
+  nothing_there is = is
+has_last told (first ∷ marks) rising = let last = last_stands first marks in record { before = last.0; mark = last_mark (first ∷ marks); after = []; marks_are = last.1; through_is = refl }
+
+module _ {D V N : Type 0} (disk : DiskOf D) (view : ViewOf V N) (told : Bool) (v u : View) (word : ℕ) (old new : Account D V) where
+  has_mark : AreRising told new.marks → MarksAll disk old new → HasMark new.marks (length old.history)
+  has_mark rising marks = ⊎_elim
+      (λ same. subst (HasMark new.marks) (ap durable same.0 ∙ same.2) (has_last told new.marks rising))
+      (λ adds. record { before = old.marks; mark = adds.0; after = []; marks_are = adds.1; through_is = adds.2 }) marks
+
+  told_flush : AreRising told new.marks → new.history ≡ old.history → (answer : Flush N) → FlushAnswers disk view old new answer → FlushTold (given (turning v u old) word new) answer
+  told_flush rising same (flush.Done through shown note) is =
+      let all : through ≡ length new.history = is.2 ∙ ap length (sym same) in (
+        omega (arith, all),
+        subst (HasMark new.marks) (sym is.2) (has_mark rising is.5),
+        subst (λ h. AreOwn v.basis.owners h (recount v.basis.owners new.history v.mine)) (sym (ap (λ n. take n new.history) all ∙ take_all new.history)) (own_recount v.basis.owners new.history v.mine),
+        is.4,
+        is.1,
+      )
+  told_flush rising same (flush.DiskFault before after) is = (is.0.rose, is.0.stopped)
+  told_flush rising same (flush.Stopped mark) is = (is.mark_is, ap (λ (a : Account D V). a.stopped) is.same ∙ is.stopped)
+
+  module _ (x : View) (answer : Flush N) (took : Took v u old) (steps : Steps old new []) (answers : FlushAnswers disk view old new answer) (is : x ≡ given u word new) where
+    same_history : new.history ≡ old.history
+    same_history = steps.history ∙ append-nil old.history
+
+    pub flushes_now : (number : ℕ) → IsSingle v number → AreRising told new.marks → Flushes v x answer
+    flushes_now number single rising =
+        subst (λ y. Flushes v y answer) (sym (after_turn v u x word old new took is)) (
+          old.history,
+          served_given v u word old new [] number took steps single (adds_none v.basis.owners v.mine number),
+          told_flush rising same_history answer answers,
+        )

@@ -1,0 +1,7 @@
+use Rattle.std.proofs.Common.{rules}
+use Rattle.book_shared.specs.Fixed.{basis_of}
+use Rattle.book_shared.proofs.Keeps.{looks}
+use Rattle.book_shared.proofs.shared.SharedBook.look.Goals as goal
+
+pub load-requires : goal.load-requires
+load-requires g c = (search rules, search rules, looks (basis_of c.self.inside.table.shared.key) _ _ _)

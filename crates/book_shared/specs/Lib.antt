@@ -1,0 +1,11 @@
+pub mod Basis
+pub mod Rule
+pub mod Plays
+pub mod Parts
+pub mod Fixed
+pub mod Ends
+pub mod Place
+pub mod Turns
+pub mod Told
+pub mod Seats
+pub mod Covers

@@ -1,0 +1,37 @@
+-- What contracts see of a shared book and of a source's seat.
+use Rattle.std.specs.Prelude.{ℕ, ◌≡◌, List, [], ◌∷◌, length}
+use Rattle.atomic_table.specs.Seated.{TableId}
+use Rattle.mdf_layout.specs.declared.sample.Sample.{Sample}
+use Rattle.book_shared.specs.Basis.{Basis, idle}
+use Rattle.book_shared.specs.Parts.{spent}
+use Rattle.book_shared.specs.declared.view.View.{View}
+
+-- a shared book: which one it is, and what no call changes
+pub record Common : Type 0 where
+  pub table : TableId
+  pub basis : Basis
+
+-- a seat: at which book, of which source, and what it knows
+pub record Place : Type 0 where
+  pub table : TableId
+  pub number : ℕ
+  pub know : View
+
+-- the samples of the first source of a seat
+abbrev pub own_part : List (ℕ × List Sample) → List Sample
+own_part [] = []
+own_part (part ∷ parts) = part.1
+
+-- the seat has this one source
+abbrev pub IsSingle : View → ℕ → Type 0
+IsSingle v number = v.mine ≡ (number, own_part v.mine) ∷ []
+
+abbrev pub known : List View → View
+known [] = spent
+known (v ∷ vs) = v
+
+-- a seat of one source, with no turn
+abbrev pub IsSeat : List View → List ℕ → ℕ → Type 0
+IsSeat views owners number =
+    (views ≡ known views ∷ []) × ((known views).turn ≡ idle) × IsSingle (known views) number × (owners ≡ (known views).basis.owners)
+    × (length owners ≡ 64)

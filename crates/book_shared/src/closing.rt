@@ -1,0 +1,84 @@
+//! How a shared book is closed.
+ghost use Rattle.std.specs.Prelude.{ℕ, ◌≡◌, ◌<◌, [], length, Some};
+ghost use mathlib.Core.Option.{some};
+ghost use lib.ListN.{get_elem?};
+ghost use Rattle.std.specs.Mem.Slots.{slots_items, slots_len, IsFull};
+ghost use Rattle.book_owned.specs.Account.{Account};
+ghost use Rattle.book_shared.specs.Basis.{idle};
+ghost use Rattle.book_shared.specs.Covers.{AreCovered};
+ghost use Rattle.book_shared.specs.Place.{IsSingle};
+ghost use Rattle.book_shared.specs.Seats.{AreOf, HasNumber, Closes};
+
+use crate::rule::Both;
+use crate::seat::{Chair, SourceSeat};
+use crate::shared::SharedBook;
+use atomic_table::Closed;
+use book_owned::{Book, Shown};
+use mdf_disk::Disk;
+use std::alloc::Global;
+
+/// The seat at the table.
+fn chair_of<D: Disk, V: Shown>(seat: SourceSeat) -> Chair<D, V>
+    ensures table { result.table_id ≡ seat.table }
+    ensures know { result.me ≡ (seat.know, []) }
+    ensures calm { seat.know.turn ≡ idle }
+    ensures single { IsSingle seat.know seat.number }
+{
+    let SourceSeat {
+        badge,
+        number: _,
+        owners: _,
+    } = seat;
+    badge.into_seat()
+}
+
+/// Joins all seats into one.
+fn gather<D: Disk, V: Shown>(book: &SharedBook<D, V>, mut seats: Vec<SourceSeat>) -> Chair<D, V>
+    requires table { AreOf book.now.table seats.items }
+    requires some_seat { 0 < length seats.items }
+    ensures table { result.table_id ≡ book.now.table }
+    ensures free { result.me.1 ≡ [] }
+    ensures calm { result.me.0.turn ≡ idle }
+    ensures covers { AreCovered result.me.0 seats.items }
+{
+    let mut whole = match seats.pop() {
+        Some(seat) => chair_of(seat),
+        None => unreachable!(),
+    };
+    while let Some(seat) = seats.pop() {
+        book.table
+            .shared
+            .join_seat::<Both>(&mut whole, chair_of(seat));
+    }
+    whole
+}
+
+/// The book out of its slot.
+fn book_of<D: Disk, V: Shown>(mut closed: Closed<Option<Book<D, V>>, Global>) -> Book<D, V>
+    requires count { slots_len closed.slots ≡ 1 }
+    requires full { IsFull closed.slots }
+    requires book { (book : Account D V) × (get_elem? (slots_items closed.slots) 0 ≡ some (Some book)) }
+    ensures { get_elem? (slots_items closed.slots) 0 ≡ some (Some result) }
+{
+    match closed.take(0) {
+        Some(book) => {
+            closed.free();
+            book
+        }
+        None => unreachable!(),
+    }
+}
+
+impl<D: Disk, V: Shown> SharedBook<D, V> {
+    /// Takes all seats back, and hands out the book.
+    pub fn close(self, seats: Vec<SourceSeat>) -> Book<D, V>
+        requires table { AreOf self.table seats.items }
+        requires all { (number : ℕ) → number < self.basis.sources → HasNumber number seats.items }
+        ensures terms { result.terms ≡ self.basis.terms }
+        ensures seats { Closes self.basis result seats.items }
+    {
+        let whole = gather(&self, seats);
+        let SharedBook { table } = self;
+        book_of(table.close_with(whole))
+    }
+}

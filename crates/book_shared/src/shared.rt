@@ -1,0 +1,290 @@
+//! The calls of a shared book. Each takes the book out of the slot under the turn, calls it, and gives it back.
+ghost use Rattle.std.specs.Prelude.{ℕ, ◌≡◌, ◌+◌, ◌%◌, ◌<◌, ◌≤◌, [], ◌∷◌, ◌++◌, length, slice_index, Some, None, IfOk, IfErr};
+ghost use mathlib.Core.Option.{none};
+ghost use Rattle.atomic_table.specs.Table.{step};
+ghost use Rattle.mdf_layout.specs.Record.{SampleFits, encoded_size};
+ghost use Rattle.book_owned.specs.Account.{Account, Steps};
+ghost use Rattle.book_shared.specs.Basis.{idle};
+ghost use Rattle.book_shared.specs.Rule.{AreOld};
+ghost use Rattle.book_shared.specs.Plays.{looked, given, Holds, Takes};
+ghost use Rattle.book_shared.specs.Place.{IsSingle};
+ghost use Rattle.book_shared.specs.Turns.{Took, Waited, IsBusy, Rests};
+ghost use Rattle.book_shared.specs.Told.{Appends, Tries, Puts, tried_by, Flushes, FlushesAll, IsNoted};
+
+use crate::Try;
+use crate::fixed::Fixed;
+use crate::rule::{Give, Look, Running, Take};
+use crate::seat::{Chair, SourceSeat};
+use crate::view::View;
+use atomic_table::{Badge, Table};
+use book_owned::{Append, Book, Flush, Shown};
+use mdf_disk::Disk;
+use mdf_layout::Sample;
+use std::alloc::Global;
+use std::marker::Model;
+use std::mem;
+use std::sync::Wait;
+use std::thread::Threads;
+
+/// The greatest even turn word. From it no turn is taken any more.
+const LAST: u64 = 18446744073709551614;
+
+/// A book that the seats of several sources share. It lies in a slot; a seat that changes the turn word from an even number to
+/// the next odd one takes it out, and gives it back when it changes the word to the next even one.
+pub struct SharedBook<D: Disk, V: Shown> {
+    pub(crate) table: Table<Option<Book<D, V>>, View, Fixed<Book<D, V>>, Running, Global>,
+}
+
+impl<D: Disk, V: Shown> Model for SharedBook<D, V> {
+    ghost use Rattle.std.specs.Prelude.{◌≡◌, ◌<◌};
+    ghost use Rattle.book_shared.specs.Place.{Common};
+    ghost use Rattle.book_shared.specs.Fixed.{basis_of};
+
+    ghost Value = { Common };
+
+    ghost view = { λ book. record { table = book.table.shared.table_id; basis = basis_of book.table.shared.key } };
+
+    ghost invariant = { λ book. (book.table.shared.table_id.words ≡ 1) × (book.table.shared.table_id.slots ≡ 1) × (0 < book.table.shared.key.sources) };
+}
+
+/// Puts a sample into the book where that needs no call of the disk.
+fn put_in<D: Disk, V: Shown>(book: &mut Book<D, V>, sample: Sample) -> Try
+    requires fits { SampleFits book.old.terms.layouts sample }
+    requires size { encoded_size book.old.terms.layouts sample ≤ book.old.terms.block_limit }
+    ensures steps { Steps book.old book.new (tried_by result sample) }
+    ensures puts { Puts D.Disk V.Shown book.old book.new sample result }
+{
+    if let Some(answer) = book.refusal(&sample) {
+        return Try::Answered(answer);
+    }
+    if book.passes_block(&sample) {
+        return Try::NeedsFlush {
+            held: book.pending(),
+            size: book.size_of(&sample),
+            limit: book.block_limit(),
+            sample,
+        };
+    }
+    Try::Answered(book.put(sample))
+}
+
+impl<D: Disk, V: Shown> SharedBook<D, V> {
+    /// A load of the turn word.
+    fn look(&self, seat: &mut Chair<D, V>) -> u64
+        requires table { seat.old.table_id ≡ self.now.table }
+        ensures table { seat.new.table_id ≡ seat.old.table_id }
+        ensures looked { seat.new.me ≡ (looked seat.old.me.0 result, seat.old.me.1) }
+        ensures later { seat.old.me.0.met ≤ result }
+        ensures low { result < 18446744073709551615 }
+    {
+        self.table.shared.load::<Look>(seat, 0)
+    }
+
+    /// An exchange of an even turn word for the next odd one. Where it wins, the book is out with the seat.
+    fn take(&self, seat: &mut Chair<D, V>, word: u64) -> u64
+        requires table { seat.old.table_id ≡ self.now.table }
+        requires free { seat.old.me.1 ≡ [] }
+        requires even { word % 2 ≡ 0 }
+        requires low { word < 18446744073709551614 }
+        requires some_source { 0 < length seat.old.me.0.mine }
+        ensures table { seat.new.table_id ≡ seat.old.table_id }
+        ensures takes { Takes (step 1 0 word (word + 1) none) seat.old.me result seat.new.me }
+    {
+        self.table
+            .shared
+            .compare_exchange::<Take>(seat, 0, word, word + 1)
+    }
+
+    /// The book that is out with the seat.
+    fn carry(&self, seat: &mut Chair<D, V>) -> Book<D, V>
+        requires table { seat.old.table_id ≡ self.now.table }
+        requires book { (book : Account D V) × (seat.old.me.1 ≡ (0, Some book) ∷ []) }
+        ensures table { seat.new.table_id ≡ seat.old.table_id }
+        ensures book { seat.old.me.1 ≡ (0, Some result) ∷ [] }
+        ensures seat { seat.new.me ≡ (seat.old.me.0, (0, None) ∷ []) }
+    {
+        match self.table.shared.exchange(seat, 0, None) {
+            Some(book) => book,
+            None => unreachable!(),
+        }
+    }
+
+    /// Gives the book back, and wakes who waits for the turn.
+    fn give(&self, seat: &mut Chair<D, V>, word: u64, book: Book<D, V>)
+        requires table { seat.old.table_id ≡ self.now.table }
+        requires word { word ≡ seat.old.me.0.met }
+        requires low { word ≤ 18446744073709551613 }
+        requires returns { Holds seat.old.me.0 book }
+        requires seat { seat.old.me.1 ≡ (0, None) ∷ [] }
+        ensures table { seat.new.table_id ≡ seat.old.table_id }
+        ensures given { seat.new.me ≡ (given seat.old.me.0 (word + 1) book, []) }
+    {
+        match self.table.shared.exchange(seat, 0, Some(book)) {
+            None => {}
+            Some(_book) => unreachable!(),
+        }
+        self.table.shared.store::<Give>(seat, 0, word + 1);
+        self.table.shared.wake_all(0);
+    }
+
+    /// Takes the turn by one load and at most one exchange, and answers the word that it made. At `Err` the turn was not
+    /// taken, and this is the word that was met.
+    fn try_take(&self, seat: &mut Chair<D, V>) -> Result<u64, u64>
+        requires table { seat.old.table_id ≡ self.now.table }
+        requires free { seat.old.me.1 ≡ [] }
+        requires some_source { 0 < length seat.old.me.0.mine }
+        ensures table { seat.new.table_id ≡ seat.old.table_id }
+        ensures took { IfOk result (λ word. (word ≡ seat.new.me.0.met)
+            × ((book : Account D V) × (seat.new.me.1 ≡ (0, Some book) ∷ []) × Took seat.old.me.0 seat.new.me.0 book)) }
+        ensures busy { IfErr result (λ word. (seat.new.me.1 ≡ []) × IsBusy seat.old.me.0 seat.new.me.0 word) }
+    {
+        let word = self.look(seat);
+        if word % 2 == 1 || word == LAST {
+            return Err(word);
+        }
+        let found = self.take(seat, word);
+        if found != word {
+            return Err(found);
+        }
+        Ok(word + 1)
+    }
+
+    /// Takes the turn, and waits for it where another seat has it. Answers the word that it made, and the book.
+    fn seize<R: Wait>(&self, rt: &R, seat: &mut Chair<D, V>) -> (u64, Book<D, V>)
+        requires table { seat.old.table_id ≡ self.now.table }
+        requires free { seat.old.me.1 ≡ [] }
+        requires some_source { 0 < length seat.old.me.0.mine }
+        ensures table { seat.new.table_id ≡ seat.old.table_id }
+        ensures word { result.0 ≡ seat.new.me.0.met }
+        ensures seat { seat.new.me.1 ≡ (0, None) ∷ [] }
+        ensures took { Took seat.old.me.0 seat.new.me.0 result.1 }
+    {
+        for _ in rt.forever() {
+            match self.try_take(seat) {
+                Ok(word) => return (word, self.carry(seat)),
+                Err(word) if word % 2 == 1 => {
+                    self.table.shared.park(rt, 0, (word % 4294967296) as u32)
+                }
+                Err(_word) => {}
+            }
+        }
+        unreachable!()
+    }
+
+    /// `append`, over the seat at the table.
+    fn append_at<R: Threads + Wait + Sync>(
+        &self,
+        rt: &R,
+        seat: &mut Chair<D, V>,
+        sample: Sample,
+    ) -> Append
+        requires table { seat.old.table_id ≡ self.now.table }
+        requires free { seat.old.me.1 ≡ [] }
+        requires owns { IsSingle seat.old.me.0 (slice_index seat.old.me.0.basis.owners sample.group) }
+        requires fits { SampleFits seat.old.me.0.basis.terms.layouts sample }
+        requires size { encoded_size seat.old.me.0.basis.terms.layouts sample ≤ seat.old.me.0.basis.terms.block_limit }
+        ensures table { seat.new.table_id ≡ seat.old.table_id }
+        ensures free { seat.new.me.1 ≡ [] }
+        ensures rests { Rests seat.old.me.0 seat.new.me.0 }
+        ensures appends { Appends seat.old.me.0 seat.new.me.0 sample result }
+    {
+        let (word, mut book) = self.seize(rt, seat);
+        let answer = book.append(rt, sample);
+        self.give(seat, word, book);
+        answer
+    }
+
+    /// `flush`, over the seat at the table.
+    fn flush_at<R: Threads + Wait + Sync>(&self, rt: &R, seat: &mut Chair<D, V>) -> Flush<V::Note>
+        requires table { seat.old.table_id ≡ self.now.table }
+        requires free { seat.old.me.1 ≡ [] }
+        requires single { (number : ℕ) × IsSingle seat.old.me.0 number }
+        ensures table { seat.new.table_id ≡ seat.old.table_id }
+        ensures free { seat.new.me.1 ≡ [] }
+        ensures rests { Rests seat.old.me.0 seat.new.me.0 }
+        ensures flushes { Flushes seat.old.me.0 seat.new.me.0 result }
+        ensures all { FlushesAll seat.new.me.0 result }
+        ensures noted { IsNoted V.Shown seat.new.me.0 result }
+    {
+        let (word, mut book) = self.seize(rt, seat);
+        let answer = book.flush(rt);
+        self.give(seat, word, book);
+        answer
+    }
+
+    /// `try_append`, over the seat at the table.
+    fn try_at(&self, seat: &mut Chair<D, V>, sample: Sample) -> Try
+        requires table { seat.old.table_id ≡ self.now.table }
+        requires free { seat.old.me.1 ≡ [] }
+        requires calm { seat.old.me.0.turn ≡ idle }
+        requires owns { IsSingle seat.old.me.0 (slice_index seat.old.me.0.basis.owners sample.group) }
+        requires fits { SampleFits seat.old.me.0.basis.terms.layouts sample }
+        requires size { encoded_size seat.old.me.0.basis.terms.layouts sample ≤ seat.old.me.0.basis.terms.block_limit }
+        ensures table { seat.new.table_id ≡ seat.old.table_id }
+        ensures free { seat.new.me.1 ≡ [] }
+        ensures rests { Rests seat.old.me.0 seat.new.me.0 }
+        ensures tries { Tries seat.old.me.0 seat.new.me.0 sample result }
+    {
+        match self.try_take(seat) {
+            Ok(word) => {
+                let mut book = self.carry(seat);
+                let answer = put_in(&mut book, sample);
+                self.give(seat, word, book);
+                answer
+            }
+            Err(word) => Try::Busy { word, sample },
+        }
+    }
+
+    /// Accepts a sample of the seat's source, and waits for the turn where another seat has it. Where the sample's record
+    /// would pass the block limit, the pending ones are handed over first, as by `Book::append`.
+    pub fn append<R: Threads + Wait + Sync>(
+        &self,
+        rt: &R,
+        seat: &mut SourceSeat,
+        sample: Sample,
+    ) -> Append
+        requires table { seat.old.table ≡ self.now.table }
+        requires owns { slice_index seat.old.know.basis.owners sample.group ≡ seat.old.number }
+        requires fits { SampleFits seat.old.know.basis.terms.layouts sample }
+        requires size { encoded_size seat.old.know.basis.terms.layouts sample ≤ seat.old.know.basis.terms.block_limit }
+        ensures seat { (seat.new.table ≡ seat.old.table) × (seat.new.number ≡ seat.old.number) × (seat.new.know.basis ≡ seat.old.know.basis) × IsSingle seat.new.know seat.new.number }
+        ensures appends { Appends seat.old.know seat.new.know sample result }
+    {
+        let mut chair = mem::replace(&mut seat.badge, Badge::blank()).into_seat();
+        let answer = self.append_at(rt, &mut chair, sample);
+        seat.badge = chair.into_badge();
+        answer
+    }
+
+    /// Accepts a sample of the seat's source where that needs neither the turn of another seat nor a call of the disk. It
+    /// waits for nothing: it loads the turn word once and exchanges it at most once.
+    pub fn try_append(&self, seat: &mut SourceSeat, sample: Sample) -> Try
+        requires table { seat.old.table ≡ self.now.table }
+        requires owns { slice_index seat.old.know.basis.owners sample.group ≡ seat.old.number }
+        requires fits { SampleFits seat.old.know.basis.terms.layouts sample }
+        requires size { encoded_size seat.old.know.basis.terms.layouts sample ≤ seat.old.know.basis.terms.block_limit }
+        ensures seat { (seat.new.table ≡ seat.old.table) × (seat.new.number ≡ seat.old.number) × (seat.new.know.basis ≡ seat.old.know.basis) × IsSingle seat.new.know seat.new.number }
+        ensures tries { Tries seat.old.know seat.new.know sample result }
+    {
+        let mut chair = mem::replace(&mut seat.badge, Badge::blank()).into_seat();
+        let answer = self.try_at(&mut chair, sample);
+        seat.badge = chair.into_badge();
+        answer
+    }
+
+    /// Makes all accepted samples durable, those of the other sources too, and publishes them. It waits for the turn where
+    /// another seat has it.
+    pub fn flush<R: Threads + Wait + Sync>(&self, rt: &R, seat: &mut SourceSeat) -> Flush<V::Note>
+        requires table { seat.old.table ≡ self.now.table }
+        ensures seat { (seat.new.table ≡ seat.old.table) × (seat.new.number ≡ seat.old.number) × (seat.new.know.basis ≡ seat.old.know.basis) × IsSingle seat.new.know seat.new.number }
+        ensures flushes { Flushes seat.old.know seat.new.know result }
+        ensures all { FlushesAll seat.new.know result }
+        ensures noted { IsNoted V.Shown seat.new.know result }
+    {
+        let mut chair = mem::replace(&mut seat.badge, Badge::blank()).into_seat();
+        let answer = self.flush_at(rt, &mut chair);
+        seat.badge = chair.into_badge();
+        answer
+    }
+}
