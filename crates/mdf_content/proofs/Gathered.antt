@@ -1,12 +1,15 @@
 -- The loop over a list: what is read so far, with what the rest gives.
-use Rattle.std.proofs.Common.{◌≡◌, ◌+◌, ◌<◌, ◌≤◌, ℕ, List, [], ◌∷◌, ◌++◌, length, get_or, drop, Option, Ok, Err, refl, sym, ◌∙◌, ap, subst, append-nil, append_assoc}
+use Rattle.std.proofs.Common.{◌≡◌, ◌+◌, ◌<◌, ◌≤◌, ℕ, List, [], ◌∷◌, ◌++◌, length, get_or, drop, Option, Some, None, Ok, Err, refl, sym, ◌∙◌, ap, subst, append-nil, append_assoc}
 use Rattle.std.proofs.lemmas.List.{drop_all}
+use Rattle.std.specs.Option.{option_to_list}
+use Rattle.std.specs.Prelude.{IfSome}
+use Rattle.std.specs.List.{AllByRecursion}
 use Rattle.mdf_num.specs.declared.halt.Halt.{Halt}
 use Rattle.mdf_block.specs.Refusal.{Refusal, Read, ◌>>=◌, Halts}
 use Rattle.mdf_block.proofs.Refusals.{halts_then}
 use Rattle.mdf_block.proofs.Eachs.{with_front, with_none}
 use Rattle.mdf_block.proofs.Everys.{rest_is}
-use Rattle.mdf_content.specs.Visit.{items_of, gathered}
+use Rattle.mdf_content.specs.Visit.{gathered}
 
 front_joins : {A S : Type 0} (all ys : List A) (read : Read (List A × S))
     → with_front all (read >>= λ rest. Ok (ys ++ rest.0, rest.1)) ≡ with_front (all ++ ys) read
@@ -27,13 +30,13 @@ module _ {A B S : Type 0} (item : ℕ → A → S → Read (Option B × S)) (xs 
 
   -- one more was looked at
   pub goes_on : (all : List B) (k : ℕ) (left : S) (x : A) (y : Option B) (rest : S) → k < length xs → x ≡ get_or xs k x → item k x left ≡ Ok (y, rest)
-      → with_front all (gathered item k (drop k xs) left) ≡ with_front (all ++ items_of y) (gathered item (k + 1) (drop (k + 1) xs) rest)
+      → with_front all (gathered item k (drop k xs) left) ≡ with_front (all ++ option_to_list y) (gathered item (k + 1) (drop (k + 1) xs) rest)
   unfolding gathered
   goes_on all k left x y rest below is found =
       ap (λ (more : List A). with_front all (gathered item k more left)) (rest_is xs k x below is)
       ∙ ap (λ (read : Read (Option B × S)). with_front all
-      (read >>= λ found. gathered item (k + 1) (drop (k + 1) xs) found.1 >>= λ rest. Ok (items_of found.0 ++ rest.0, rest.1))) found
-      ∙ front_joins all (items_of y) (gathered item (k + 1) (drop (k + 1) xs) rest)
+      (read >>= λ found. gathered item (k + 1) (drop (k + 1) xs) found.1 >>= λ rest. Ok (option_to_list found.0 ++ rest.0, rest.1))) found
+      ∙ front_joins all (option_to_list y) (gathered item (k + 1) (drop (k + 1) xs) rest)
 
   -- the next one is refused
   pub ends : {E : Type 0} (refusal : E → Option Refusal) (halt : Halt E) (all : List B) (k : ℕ) (left : S) (x : A) → k < length xs
@@ -43,7 +46,14 @@ module _ {A B S : Type 0} (item : ℕ → A → S → Read (Option B × S)) (xs 
   ends refusal halt all k left x below is halted whole same =
       let first : Halts refusal halt (gathered item k (x ∷ drop (k + 1) xs) left) =
       halts_then refusal halt (item k x left)
-      (λ found. gathered item (k + 1) (drop (k + 1) xs) found.1 >>= λ rest. Ok (items_of found.0 ++ rest.0, rest.1)) halted in
+      (λ found. gathered item (k + 1) (drop (k + 1) xs) found.1 >>= λ rest. Ok (option_to_list found.0 ++ rest.0, rest.1)) halted in
       let second : Halts refusal halt (gathered item k (drop k xs) left) =
       subst (λ (more : List A). Halts refusal halt (gathered item k more left)) (sym (rest_is xs k x below is)) first in
       subst (Halts refusal halt) same (halts_then refusal halt (gathered item k (drop k xs) left) (λ rest. Ok (all ++ rest.0, rest.1)) second)
+
+-- one more item has the property, where there is one
+pub all_and : {A : Type 0} (P : A → Type 0) (xs : List A) (item : Option A) → AllByRecursion P xs → IfSome item P
+    → AllByRecursion P (xs ++ option_to_list item)
+all_and P [] None all one = tt
+all_and P [] (Some y) all one = (one, tt)
+all_and P (x ∷ xs) item all one = (all.0, all_and P xs item all.1 one)

@@ -1,5 +1,5 @@
 -- The first channel of a group that breaks a rule of its layout.
-use Rattle.std.proofs.Common.{◌≡◌, ◌+◌, ◌<◌, ℕ, zero, suc, true, false, Bool, List, [], ◌∷◌, length, get_or, map, Some, None, Ok, Err, refl, sym, ◌∙◌, ap, subst, arith}
+use Rattle.std.proofs.Common.{◌≡◌, ◌+◌, ◌<◌, ℕ, zero, suc, true, false, Bool, List, [], ◌∷◌, length, get_or, map, Option, Some, None, Ok, Err, refl, sym, ◌∙◌, ap, subst, arith}
 use Rattle.std.proofs.lemmas.List.{length-map, get_or-map}
 use Rattle.std.proofs.lemmas.Bool.{cond-true, cond-false}
 use Rattle.mdf_block.specs.Refusal as refusals
@@ -126,6 +126,15 @@ offsets_placed group other ruled =
     let same : placed_channels group ≡ group.channels = cond-false (is_variable group) [] group.channels other in
     offset_placed group.data_bytes group.inval_bytes group.channels
     (subst (λ (channels : List ChannelRow). All (IsRowPlaced group.data_bytes group.inval_bytes) (map field_of channels)) same ruled.placed)
+
+-- a group that is laid out has its layout
+shape_unless : (group : GroupRow) (channel : Option ChannelRow) (shape : Layout) → layout_unless group channel ≡ Ok shape → layout_of group ≡ shape
+shape_unless group None shape is = let same : ◌≡◌ {A = Read Layout} (Ok (layout_of group)) (Ok shape) = is in cc
+shape_unless group (Some channel) shape is = let wrong : ◌≡◌ {A = Read Layout} (Err (refusals.Layout channel.at)) (Ok shape) = is in cc
+
+pub laid_shape : (group : GroupRow) (shape : Layout) → layout group ≡ Ok shape → layout_of group ≡ shape
+unfolding layout
+laid_shape group shape is = shape_unless group (first_unplaced (layout_of group) 0 (placed_channels group)) shape is
 
 -- a layout of the fields of a group
 pub layout_is : (group : GroupRow) (shape : Layout) (fields : List FieldRow) (channels : List ChannelRow)

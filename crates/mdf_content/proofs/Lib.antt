@@ -6,3 +6,4 @@ pub mod Tables
 pub mod Takes
 pub mod Spots
 pub mod Strictness
+pub mod Samples

@@ -1,6 +1,6 @@
 -- What is read of a channel group and of a data group.
 use Rattle.std.specs.Prelude.{ℕ, ◌+◌, ◌*◌, Bool, true, ◌&&◌, ◌||◌, not, nat_eq, if◌then◌else◌, List, [], ◌∷◌, length, take, min, slice_index_or, Option, Some, None, Ok}
-use Rattle.std.specs.List.{flat_map, list_any}
+use Rattle.std.specs.List.{flat_map, list_any, AllByRecursion}
 use Rattle.mdf_format.specs.Number.{bytes_at}
 use Rattle.mdf_format.specs.declared.kind.Kind.TheVariants.{Dt}
 use Rattle.mdf_block.specs.Refusal.{Read, ◌>>=◌}
@@ -15,6 +15,7 @@ use Rattle.mdf_content.specs.declared.contents.DataContents.{DataContents}
 use Rattle.mdf_content.specs.Visit.{gathered}
 use Rattle.mdf_content.specs.Layouts.{layout, layouts}
 use Rattle.mdf_content.specs.Records.{record_size, places_of, counted}
+use Rattle.mdf_content.specs.Samples.{AreSamples}
 use Rattle.mdf_content.specs.Values.{DataStream, GroupRecords, streams}
 
 -- how many records of a group are looked at: as many as it says, where that is believed
@@ -92,3 +93,11 @@ data_of file row number = do
   next ← counted lists row.groups number
   found ← found_of file parts row lists
   Ok (found, next)
+
+-- what is read of a group has a sample for each record
+abbrev pub HaveSamples : Contents → Type 0
+HaveSamples found = AreSamples found.shape found.count found.content found.streams
+
+-- and so of each group of a data group
+abbrev pub AllHaveSamples : DataContents → Type 0
+AllHaveSamples found = AllByRecursion HaveSamples found.groups

@@ -3,4 +3,5 @@ pub mod Visit
 pub mod Layouts
 pub mod Records
 pub mod Values
+pub mod Samples
 pub mod Contents

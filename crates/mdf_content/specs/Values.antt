@@ -1,5 +1,5 @@
 -- The values of channels of variable length.
-use Rattle.std.specs.Prelude.{ℕ, ◌≡◌, ◌-◌, zero, suc, ◌+◌, Bool, ◌&&◌, nat_eq, nat_le, ◌<◌, ◌≤◌, if◌then◌else◌, List, [], ◌∷◌, map, slice_index_or, min, Option, Some, None, Ok, Err}
+use Rattle.std.specs.Prelude.{ℕ, ◌≡◌, ◌-◌, zero, suc, ◌+◌, Bool, ◌&&◌, nat_eq, nat_le, ◌<◌, ◌≤◌, if◌then◌else◌, List, [], ◌∷◌, length, map, slice_index_or, min, Option, Some, None, Ok, Err}
 use Rattle.std.specs.List.{flat_map}
 use Rattle.mdf_format.specs.Number.{le_number, bytes_at}
 use Rattle.mdf_format.specs.Field.{field_number}
@@ -13,6 +13,7 @@ use Rattle.mdf_stream.specs.Range.{parts_between}
 use Rattle.mdf_group.specs.declared.row.ChannelRow.{ChannelRow}
 use Rattle.mdf_group.specs.declared.row.GroupRow.{GroupRow}
 use Rattle.mdf_group.specs.Group.{is_variable}
+use Rattle.mdf_vlsd.specs.Value.{size_there}
 use Rattle.mdf_layout.specs.Rule.{spot_in}
 use Rattle.mdf_layout.specs.declared.field.FieldRow.{FieldRow}
 use Rattle.mdf_content.specs.Layouts.{field_of}
@@ -23,10 +24,10 @@ use Rattle.mdf_content.specs.declared.values.Records.{Records}
 use Rattle.std.specs.BTreeMap.{get}
 use Rattle.std.specs.Ordering.{nat_cmp}
 
--- whether a whole value, its length in 4 bytes and so many bytes, stands at the offset of a stream of so many bytes
-abbrev pub has_value : List ℕ → ℕ → ℕ → Bool
-has_value stream total offset =
-    nat_le (offset + 4) total && nat_le (offset + 4 + le_number (bytes_at 4 stream offset)) total
+-- whether a whole value, its length in 4 bytes and so many bytes, stands at the offset of a stream
+abbrev pub has_value : List ℕ → ℕ → Bool
+has_value stream offset =
+    nat_le (offset + 4) (length stream) && nat_le (offset + 4 + size_there stream offset) (length stream)
 
 -- the offset in the record at a place of the stream, which has so many data bytes
 abbrev pub offset_at : List ℕ → FieldRow → ℕ → ℕ → ℕ
@@ -106,7 +107,7 @@ offset_in stream records channel row = offset_at stream (field_of channel) recor
 unfoldable pub channel_stream : List ℕ → DataStream → GroupRecords → ChannelRow → ℕ → Read (List ℕ)
 channel_stream file held records channel c = do
   parts ← channel_values file held channel.values
-  _ ← offsets_met (has_value (stream_of file parts) (stream_size parts)) (offset_in (stream_of file held.parts) records channel) c 0 records.count
+  _ ← offsets_met (has_value (stream_of file parts)) (offset_in (stream_of file held.parts) records channel) c 0 records.count
   Ok (stream_of file parts)
 
 -- the channels of a group one after another: the streams of those of variable length

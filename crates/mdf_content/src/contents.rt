@@ -12,6 +12,8 @@ ghost use Rattle.mdf_content.specs.Fault.{read_refusal};
 ghost use Rattle.mdf_content.specs.Records.{known_of, record_size};
 ghost use Rattle.mdf_content.specs.Values.{IsHeld, held_of};
 ghost use Rattle.mdf_content.specs.Contents.{
+  AllHaveSamples,
+  HaveSamples,
   all_contents,
   are_ids_apart,
   are_said,
@@ -25,12 +27,12 @@ ghost use Rattle.mdf_content.specs.Contents.{
   taken,
 };
 
-use crate::ReadFault;
 use crate::layouts::{is_variable, layout_in, layouts_in};
 use crate::lower::view_of;
 use crate::records::{count_at, counted_in, record_size, records_in};
 use crate::values::{Held, Records, place_at, places_or, streams_in, values_table};
 use crate::visit::{Visit, gathered_in};
+use crate::{ReadFault, Room};
 use mdf_block::Kind;
 use mdf_data::{DataView, Places};
 use mdf_group::{DataRow, GroupRow};
@@ -107,6 +109,7 @@ fn content_in<P: Span>(
     size: u64,
     places: &Places,
     count: u64,
+    room: &mut Room,
 ) -> Result<Bytes, Stop>
     requires inside { ArePartsInside (P.size span.old) view.now }
     requires room { AllByRecursion (λ place. place + size ≤ stream_size view.now) places.now }
@@ -116,6 +119,9 @@ fn content_in<P: Span>(
     ensures size { P.size span.new ≡ P.size span.old }
     ensures cause { StopCause true (P.faults span.old) (P.faults span.new) result }
 {
+    if room.take(count.saturating_mul(size)).is_err() {
+        return Err(Stop::Memory);
+    }
     let Ok(mut buffer) = vec![in alloc; 0u8; size as usize] else {
         return Err(Stop::Memory);
     };
@@ -147,11 +153,13 @@ fn contents_in<P: Span>(
     believed: bool,
     group: &GroupRow,
     places: &Places,
+    room: &mut Room,
 ) -> Result<Contents, Halt<ReadFault>>
     requires held { IsHeld (P.size span.old) held.now }
     requires other { is_variable group.now ≡ false }
     requires room { AllByRecursion (λ place. place + record_size group.now ≤ stream_size held.now.view.now) places.now }
     ensures found { (f : List ℕ) → P.bytes span.old ≡ Some f → Gives read_refusal result (contents f (held_of held.now) believed group.now places.now) }
+    ensures samples { (f : List ℕ) → P.bytes span.old ≡ Some f → IfOk result HaveSamples }
     ensures plain { IfErr result (IsPlain read_refusal) }
     ensures same { P.bytes span.new ≡ P.bytes span.old }
     ensures size { P.size span.new ≡ P.size span.old }
@@ -164,8 +172,16 @@ fn contents_in<P: Span>(
         places,
         count,
     };
-    let streams = streams_in(alloc, span, held, &records, group.channels.as_slice())?;
-    let content = content_in(alloc, span, held.view, record_size(group), places, count)?;
+    let streams = streams_in(alloc, span, held, &records, group.channels.as_slice(), room)?;
+    let content = content_in(
+        alloc,
+        span,
+        held.view,
+        record_size(group),
+        places,
+        count,
+        room,
+    )?;
     Ok(Contents {
         shape,
         count,
@@ -185,7 +201,7 @@ impl Visit for Groups<'_> {
     ghost use Rattle.mdf_stream.specs.Parts.{stream_size};
     ghost use Rattle.mdf_content.specs.Records.{HasRoom};
     ghost use Rattle.mdf_content.specs.Values.{IsHeld, held_of};
-    ghost use Rattle.mdf_content.specs.Contents.{group_item};
+    ghost use Rattle.mdf_content.specs.Contents.{HaveSamples, group_item};
 
     type Item = GroupRow;
 
@@ -199,6 +215,8 @@ impl Visit for Groups<'_> {
 
     ghost admits = { λ groups. HasRoom (stream_size groups.held.now.view.now) groups.held.now.lists.now };
 
+    ghost gives = { λ _. HaveSamples };
+
     #[tactic(auto, unfolding(crate::specs::Contents::group_item))]
     fn item_in<P: Span>(
         &self,
@@ -207,13 +225,14 @@ impl Visit for Groups<'_> {
         k: usize,
         item: &GroupRow,
         state: (),
+        room: &mut Room,
     ) -> Result<(Option<Contents>, ()), Halt<ReadFault>> {
         if is_variable(item) {
             return Ok((None, state));
         }
         let none = Places::empty(alloc);
         let places = places_or(self.held.lists, k, &none);
-        let found = contents_in(alloc, span, self.held, self.believed, item, places)?;
+        let found = contents_in(alloc, span, self.held, self.believed, item, places, room)?;
         Ok((Some(found), state))
     }
 }
@@ -230,11 +249,13 @@ fn all_contents_in<P: Span>(
     groups: &[GroupRow],
     lists: &[Places],
     believed: bool,
+    room: &mut Room,
 ) -> Result<Rows<Contents>, Halt<ReadFault>>
     requires inside { ArePartsInside (P.size span.old) view.now }
     requires room { HaveRoom (stream_size view.now) (map known_of groups.now) lists.now }
     ensures found { (f : List ℕ) → P.bytes span.old ≡ Some f → Gives read_refusal result
         (all_contents f (record { parts = view.now; groups = groups.now; lists = lists.now }) believed) }
+    ensures samples { (f : List ℕ) → P.bytes span.old ≡ Some f → IfOk result (AllByRecursion HaveSamples) }
     ensures plain { IfErr result (IsPlain read_refusal) }
     ensures same { P.bytes span.new ≡ P.bytes span.old }
     ensures size { P.size span.new ≡ P.size span.old }
@@ -251,7 +272,7 @@ fn all_contents_in<P: Span>(
         held: &held,
         believed,
     };
-    let (found, _) = gathered_in(alloc, &visit, span, groups, ())?;
+    let (found, _) = gathered_in(alloc, &visit, span, groups, (), room)?;
     Ok(found)
 }
 
@@ -329,16 +350,18 @@ fn found_in<P: Span>(
     view: &DataView,
     row: &DataRow,
     lists: &[Places],
+    room: &mut Room,
 ) -> Result<DataContents, Halt<ReadFault>>
     requires inside { ArePartsInside (P.size span.old) view.now }
     requires room { HaveRoom (stream_size view.now) (map known_of row.now.groups) lists.now }
     ensures found { (f : List ℕ) → P.bytes span.old ≡ Some f → Gives read_refusal result (found_of f view.now row.now lists.now) }
+    ensures samples { (f : List ℕ) → P.bytes span.old ≡ Some f → IfOk result AllHaveSamples }
     ensures plain { IfErr result (IsPlain read_refusal) }
     ensures same { P.bytes span.new ≡ P.bytes span.old }
     ensures size { P.size span.new ≡ P.size span.old }
     ensures cause { HaltCause true (P.faults span.old) (P.faults span.new) result }
 {
-    let groups = all_contents_in(alloc, span, view, row.groups.as_slice(), lists, true)?;
+    let groups = all_contents_in(alloc, span, view, row.groups.as_slice(), lists, true, room)?;
     let strict = is_strict(alloc, row, view.len(), lists)?;
     Ok(DataContents { groups, strict })
 }
@@ -350,15 +373,18 @@ fn found_in<P: Span>(
 /// The first fault in this order: `Layout` of its id size; `Layout` of the first channel that breaks a rule; the fault of
 /// its link to data; that of its records, as `records_in`; `Cycles` of the first group that says to have more records than
 /// there are; and of the groups in order, of each channel of variable length the fault of its link to data, and `Offset`
-/// of the first record whose offset meets no value. The span's own; and want of memory.
+/// of the first record whose offset meets no value. The span's own; and want of memory, which is answered too where the
+/// room does not suffice for the records and the values.
 #[tactic(auto, unfolding(crate::specs::Contents::data_of))]
 pub fn data_in<P: Span>(
     alloc: Global,
     span: &mut P,
     row: &DataRow,
     number: u32,
+    room: &mut Room,
 ) -> Result<(DataContents, u32), Halt<ReadFault>>
     ensures found { (f : List ℕ) → P.bytes span.old ≡ Some f → Gives read_refusal result (data_of f row.now number) }
+    ensures samples { (f : List ℕ) → P.bytes span.old ≡ Some f → IfOk result (λ found. AllHaveSamples found.0) }
     ensures plain { IfErr result (IsPlain read_refusal) }
     ensures same { P.bytes span.new ≡ P.bytes span.old }
     ensures size { P.size span.new ≡ P.size span.old }
@@ -368,6 +394,6 @@ pub fn data_in<P: Span>(
     let view = view_of(alloc, span, row.content, Kind::Dt)?;
     let lists = records_in(alloc, span, &view, true, row)?;
     let next = counted_in(alloc, span, lists.as_slice(), row.groups.as_slice(), number)?;
-    let found = found_in(alloc, span, &view, row, lists.as_slice())?;
+    let found = found_in(alloc, span, &view, row, lists.as_slice(), room)?;
     Ok((found, next))
 }

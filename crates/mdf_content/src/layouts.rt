@@ -7,15 +7,15 @@ ghost use Rattle.mdf_content.specs.Fault.{read_refusal};
 ghost use Rattle.mdf_content.specs.Visit.{Each};
 ghost use Rattle.mdf_content.specs.Layouts.{HasOffset, field_of, placed_channels, layout, laid_group, has_id_size, layouts};
 
-use crate::ReadFault;
 use crate::visit::{Visit, gathered_in};
+use crate::{ReadFault, Room};
 use mdf_group::{ChannelRow, DataRow, GroupRow};
 use mdf_layout::{ChannelNumbers, FieldRow, Shape, ShapeFault, field_row, shape_of};
 use mdf_num::{Halt, Memory, Rows, Span};
 use std::alloc::Global;
 
 /// Whether the records of the group hold the values of a channel of variable length: bit 0 of `cg_flags`.
-pub(crate) fn is_variable(group: &GroupRow) -> bool
+pub fn is_variable(group: &GroupRow) -> bool
     ensures { result ≡ is_variable group.now }
 {
     group.flags % 2 == 1
@@ -113,6 +113,7 @@ impl Visit for Layouts {
         _k: usize,
         item: &GroupRow,
         _state: (),
+        _room: &mut Room,
     ) -> Result<(Option<()>, ()), Halt<ReadFault>> {
         layout_in(alloc, item)?;
         Ok((None, ()))
@@ -149,6 +150,13 @@ pub fn layouts_in<P: Span>(
     if !has_id_size(row) {
         return Err(Halt::Fault(ReadFault::Layout { at: row.at }));
     }
-    gathered_in(alloc, &Layouts, span, row.groups.as_slice(), ())?;
+    gathered_in(
+        alloc,
+        &Layouts,
+        span,
+        row.groups.as_slice(),
+        (),
+        &mut Room::none(),
+    )?;
     Ok(())
 }

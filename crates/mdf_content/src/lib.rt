@@ -9,12 +9,15 @@ mod fault;
 mod layouts;
 mod lower;
 mod records;
+mod room;
 mod values;
 mod visit;
 
 pub use contents::{Contents, DataContents, data_in};
 pub use fault::ReadFault;
-pub use layouts::{layout_in, layouts_in};
+pub use layouts::{is_variable, layout_in, layouts_in};
 pub use mdf_block::{Kind, What};
-pub use records::{counted_in, records_in};
+pub use records::{count_at, counted_in, record_size, records_in};
+pub use room::Room;
+pub use values::{Held, Records, place_at, places_or, streams_in, values_table};
 pub use visit::{Visit, gathered_in};

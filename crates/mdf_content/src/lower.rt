@@ -13,7 +13,8 @@ use mdf_data::{DataFault, DataView, Known, Places, SplitFault, places_in, view_d
 use mdf_num::{Halt, Rows, Span};
 use std::alloc::Global;
 
-/// What a data link leads to, with the faults of this crate.
+/// What a data link leads to, with the faults of this crate. A stream of more than twice as many bytes as the file has,
+/// which lists of the same blocks can make, counts as want of memory.
 pub(crate) fn view_of<P: Span>(
     alloc: Global,
     span: &mut P,
@@ -28,7 +29,12 @@ pub(crate) fn view_of<P: Span>(
     ensures cause { HaltCause true (P.faults span.old) (P.faults span.new) result }
 {
     match view_data_in(alloc, span, at, want) {
-        Ok(view) => Ok(view),
+        Ok(view) => {
+            if view.len() / 2 > span.len() {
+                return Err(Halt::Memory);
+            }
+            Ok(view)
+        }
         Err(Halt::Fault(DataFault::Bad { at, want })) => Err(Halt::Fault(ReadFault::Block {
             at,
             want,

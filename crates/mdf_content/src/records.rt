@@ -16,10 +16,10 @@ ghost use Rattle.mdf_content.specs.Records.{
   counted,
 };
 
-use crate::ReadFault;
 use crate::layouts::is_variable;
 use crate::lower::places_with;
 use crate::visit::{Visit, gathered_in};
+use crate::{ReadFault, Room};
 use mdf_block::What;
 use mdf_data::{DataView, Known, Places, Size, places_alone};
 use mdf_group::{DataRow, GroupRow};
@@ -30,7 +30,7 @@ use std::alloc::Global;
 const MOST_EMPTY: u64 = 268_435_456;
 
 /// How many data bytes and invalidation bytes a record of the group has.
-pub(crate) fn record_size(group: &GroupRow) -> u64
+pub fn record_size(group: &GroupRow) -> u64
     ensures size { result ≡ record_size group.now }
     ensures small { result < 2 ^ 33 }
 {
@@ -155,7 +155,7 @@ pub fn records_in<P: Span>(
 }
 
 /// How many places list `k` has; none past the end.
-pub(crate) fn count_at(lists: &[Places], k: usize) -> u64
+pub fn count_at(lists: &[Places], k: usize) -> u64
     ensures { result ≡ length (slice_index_or lists.now k []) }
 {
     if k < lists.len() { lists[k].len() } else { 0 }
@@ -189,6 +189,7 @@ impl Visit for Counts<'_> {
         k: usize,
         item: &GroupRow,
         number: u32,
+        _room: &mut Room,
     ) -> Result<(Option<()>, u32), Halt<ReadFault>> {
         if is_variable(item) {
             return Ok((None, number));
@@ -228,6 +229,13 @@ pub fn counted_in<P: Span>(
     ensures size { P.size span.new ≡ P.size span.old }
     ensures cause { HaltCause true (P.faults span.old) (P.faults span.new) result }
 {
-    let (_, next) = gathered_in(alloc, &Counts { lists }, span, groups, number)?;
+    let (_, next) = gathered_in(
+        alloc,
+        &Counts { lists },
+        span,
+        groups,
+        number,
+        &mut Room::none(),
+    )?;
     Ok(next)
 }

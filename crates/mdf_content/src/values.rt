@@ -32,10 +32,10 @@ ghost use Rattle.mdf_content.specs.Values.{
   values_group,
 };
 
-use crate::ReadFault;
 use crate::layouts::is_variable;
 use crate::lower::view_of;
 use crate::visit::{Visit, gathered_in};
+use crate::{ReadFault, Room};
 use mdf_bits::{Field, get};
 use mdf_block::Kind;
 use mdf_data::{DataView, Places};
@@ -48,25 +48,28 @@ use std::collections::BTreeMap;
 /// How many bytes a stream has fewer than.
 const LONGEST: u64 = 1 << 62;
 
-/// The stream of a data group (DGBLOCK), its channel groups, the places of their records in it, and the numbers of the
-/// groups that hold values, by their addresses.
+/// The stream of a data group (DGBLOCK), with its channel groups and the places of their records in it.
 #[derive(Drop)]
-pub(crate) struct Held<'a> {
-    pub(crate) view: &'a DataView,
-    pub(crate) groups: &'a [GroupRow],
-    pub(crate) lists: &'a [Places],
-    pub(crate) table: &'a BTreeMap<u64, u64>,
+pub struct Held<'a> {
+    /// The stream.
+    pub view: &'a DataView,
+    /// The channel groups (CGBLOCKs), in order.
+    pub groups: &'a [GroupRow],
+    /// The places of the bodies of their records in the stream, group by group.
+    pub lists: &'a [Places],
+    /// The numbers of the groups that hold values of variable length, by their addresses.
+    pub table: &'a BTreeMap<u64, u64>,
 }
 
-/// The records of a group that are records at.
+/// The records of a group that are looked at.
 #[derive(Drop)]
-pub(crate) struct Records<'a> {
+pub struct Records<'a> {
     /// How many data bytes they have.
-    pub(crate) data_bytes: u32,
-    /// Their places in the stream.
-    pub(crate) places: &'a Places,
-    /// How many they are.
-    pub(crate) count: u64,
+    pub data_bytes: u32,
+    /// The places of their bodies in the stream.
+    pub places: &'a Places,
+    /// How many they are: the first so many of these places.
+    pub count: u64,
 }
 
 /// Adds a group to a table of the groups that hold values, if it is one.
@@ -80,8 +83,11 @@ fn add_group(table: &mut BTreeMap<u64, u64>, group: &GroupRow, k: u64) -> Result
     Ok(())
 }
 
-/// The numbers of the groups that hold values, by their addresses; of those at one address the first.
-pub(crate) fn values_table(alloc: Global, groups: &[GroupRow]) -> Result<BTreeMap<u64, u64>, Memory>
+/// The numbers of the groups that hold values of variable length, by their addresses; of those at one address the first.
+///
+/// # Errors
+/// Want of memory.
+pub fn values_table(alloc: Global, groups: &[GroupRow]) -> Result<BTreeMap<u64, u64>, Memory>
     ensures { IfOk result (λ table. IsValuesTable groups.now (get nat_cmp table)) }
 {
     let mut table = BTreeMap::new(alloc);
@@ -94,7 +100,7 @@ pub(crate) fn values_table(alloc: Global, groups: &[GroupRow]) -> Result<BTreeMa
 }
 
 /// Place `row`; 0 past the end.
-pub(crate) fn place_at(places: &Places, row: u64) -> u64
+pub fn place_at(places: &Places, row: u64) -> u64
     ensures { result ≡ slice_index_or places.now row 0 }
 {
     places.get(row).unwrap_or(0)
@@ -160,7 +166,7 @@ fn values_group(held: &Held, at: u64) -> Option<u64>
 }
 
 /// List `k`; past the end the other one.
-pub(crate) fn places_or<'a>(lists: &'a [Places], k: usize, other: &'a Places) -> &'a Places
+pub fn places_or<'a>(lists: &'a [Places], k: usize, other: &'a Places) -> &'a Places
     ensures { result.now ≡ slice_index_or lists.now k other.now }
 {
     if k < lists.len() { &lists[k] } else { other }
@@ -199,7 +205,7 @@ fn channel_values_in<P: Span>(
 /// Whether a whole value stands at an offset of a stream.
 fn has_value_in<P: Span>(span: &mut P, values: &DataView, offset: u64) -> Result<bool, Stop>
     requires inside { ArePartsInside (P.size span.old) values.now }
-    ensures has { IfOk result (λ has. (f : List ℕ) → P.bytes span.old ≡ Some f → has ≡ has_value (stream_of f values.now) (stream_size values.now) offset) }
+    ensures has { IfOk result (λ has. (f : List ℕ) → P.bytes span.old ≡ Some f → has ≡ has_value (stream_of f values.now) offset) }
     ensures same { P.bytes span.new ≡ P.bytes span.old }
     ensures size { P.size span.new ≡ P.size span.old }
     ensures cause { StopCause P.may_want (P.faults span.old) (P.faults span.new) result }
@@ -296,7 +302,7 @@ fn offset_met_in<P: Span>(
     requires values { ArePartsInside (P.size span.old) values.now }
     requires within { slice_index_or records.now.places.now row 0 + records.now.data_bytes ≤ stream_size view.now }
     ensures found { (f : List ℕ) → P.bytes span.old ≡ Some f → Gives read_refusal result
-        (offset_met (has_value (stream_of f values.now) (stream_size values.now)) (offset_in (stream_of f view.now) (records_of records.now) channel.now) c row) }
+        (offset_met (has_value (stream_of f values.now)) (offset_in (stream_of f view.now) (records_of records.now) channel.now) c row) }
     ensures plain { IfErr result (IsPlain read_refusal) }
     ensures same { P.bytes span.new ≡ P.bytes span.old }
     ensures size { P.size span.new ≡ P.size span.old }
@@ -330,7 +336,7 @@ fn offsets_met_in<P: Span>(
     requires values { ArePartsInside (P.size span.old) values.now }
     requires within { AreWithin (stream_size view.now) (records_of records.now) }
     ensures found { (f : List ℕ) → P.bytes span.old ≡ Some f → Gives read_refusal result
-        (offsets_met (has_value (stream_of f values.now) (stream_size values.now)) (offset_in (stream_of f view.now) (records_of records.now) channel.now) c 0 records.now.count) }
+        (offsets_met (has_value (stream_of f values.now)) (offset_in (stream_of f view.now) (records_of records.now) channel.now) c 0 records.now.count) }
     ensures plain { IfErr result (IsPlain read_refusal) }
     ensures same { P.bytes span.new ≡ P.bytes span.old }
     ensures size { P.size span.new ≡ P.size span.old }
@@ -346,7 +352,13 @@ fn offsets_met_in<P: Span>(
 }
 
 /// So many bytes of a stream.
-fn bytes_in<P: Span>(alloc: Global, span: &mut P, view: &DataView, len: u64) -> Result<Bytes, Stop>
+fn bytes_in<P: Span>(
+    alloc: Global,
+    span: &mut P,
+    view: &DataView,
+    len: u64,
+    room: &mut Room,
+) -> Result<Bytes, Stop>
     requires inside { ArePartsInside (P.size span.old) view.now }
     requires within { len ≤ stream_size view.now }
     ensures bytes { IfOk result (λ bytes. (f : List ℕ) → P.bytes span.old ≡ Some f → bytes ≡ bytes_at len (stream_of f view.now) 0) }
@@ -354,6 +366,9 @@ fn bytes_in<P: Span>(alloc: Global, span: &mut P, view: &DataView, len: u64) -> 
     ensures size { P.size span.new ≡ P.size span.old }
     ensures cause { StopCause true (P.faults span.old) (P.faults span.new) result }
 {
+    if room.take(len).is_err() {
+        return Err(Stop::Memory);
+    }
     let Ok(mut items) = vec![in alloc; 0u8; len as usize] else {
         return Err(Stop::Memory);
     };
@@ -362,14 +377,19 @@ fn bytes_in<P: Span>(alloc: Global, span: &mut P, view: &DataView, len: u64) -> 
 }
 
 /// The bytes of a stream.
-fn stream_in<P: Span>(alloc: Global, span: &mut P, view: &DataView) -> Result<ValueStream, Stop>
+fn stream_in<P: Span>(
+    alloc: Global,
+    span: &mut P,
+    view: &DataView,
+    room: &mut Room,
+) -> Result<ValueStream, Stop>
     requires inside { ArePartsInside (P.size span.old) view.now }
     ensures stream { IfOk result (λ stream. (f : List ℕ) → P.bytes span.old ≡ Some f → stream ≡ stream_of f view.now) }
     ensures same { P.bytes span.new ≡ P.bytes span.old }
     ensures size { P.size span.new ≡ P.size span.old }
     ensures cause { StopCause true (P.faults span.old) (P.faults span.new) result }
 {
-    let bytes = bytes_in(alloc, span, view, view.len())?;
+    let bytes = bytes_in(alloc, span, view, view.len(), room)?;
     Ok(ValueStream::from_bytes(bytes))
 }
 
@@ -382,6 +402,7 @@ fn channel_stream_in<P: Span>(
     records: &Records,
     channel: &ChannelRow,
     c: u32,
+    room: &mut Room,
 ) -> Result<ValueStream, Halt<ReadFault>>
     requires kind { channel.now.kind ≡ 1 }
     requires placed { HasOffset records.now.data_bytes channel.now }
@@ -396,7 +417,7 @@ fn channel_stream_in<P: Span>(
 {
     let values = channel_values_in(alloc, span, held, channel.values)?;
     offsets_met_in(span, held.view, records, &values, channel, c)?;
-    let stream = stream_in(alloc, span, &values)?;
+    let stream = stream_in(alloc, span, &values, room)?;
     Ok(stream)
 }
 
@@ -432,6 +453,7 @@ impl Visit for Channels<'_> {
         k: usize,
         item: &ChannelRow,
         state: (),
+        room: &mut Room,
     ) -> Result<(Option<ValueStream>, ()), Halt<ReadFault>> {
         if item.kind != 1 {
             return Ok((None, state));
@@ -439,19 +461,26 @@ impl Visit for Channels<'_> {
         if k > u32::MAX as usize {
             return Err(Halt::Memory);
         }
-        let stream = channel_stream_in(alloc, span, self.held, self.records, item, k as u32)?;
+        let stream = channel_stream_in(alloc, span, self.held, self.records, item, k as u32, room)?;
         Ok((Some(stream), state))
     }
 }
 
-/// The streams of the channels of variable length of a group, in order, each with its values.
+/// The streams of the channels of variable length (`cn_type` 1) of a group, in order, each with its values: those of the
+/// group of values that the channel names, or those where its link to data leads.
+///
+/// # Errors
+/// Of each channel of variable length in order the fault of its link to data, and `Offset` exactly where the offset in a
+/// record that is looked at meets no value, with the first such record. The span's own; and want of memory, which is
+/// answered too where the room does not suffice for the streams.
 #[tactic(auto, unfolding(crate::specs::Values::streams))]
-pub(crate) fn streams_in<P: Span>(
+pub fn streams_in<P: Span>(
     alloc: Global,
     span: &mut P,
     held: &Held,
     records: &Records,
     channels: &[ChannelRow],
+    room: &mut Room,
 ) -> Result<Streams, Halt<ReadFault>>
     requires held { IsHeld (P.size span.old) held.now }
     requires within { AreWithin (stream_size held.now.view.now) (records_of records.now) }
@@ -462,6 +491,6 @@ pub(crate) fn streams_in<P: Span>(
     ensures size { P.size span.new ≡ P.size span.old }
     ensures cause { HaltCause true (P.faults span.old) (P.faults span.new) result }
 {
-    let (streams, _) = gathered_in(alloc, &Channels { held, records }, span, channels, ())?;
+    let (streams, _) = gathered_in(alloc, &Channels { held, records }, span, channels, (), room)?;
     Ok(streams)
 }

@@ -1,10 +1,12 @@
-ghost use Rattle.std.specs.Prelude.{◌≡◌, ◌≤◌, ◌++◌, ℕ, List, Option, Some, true, IfOk, IfErr, OnOk};
+ghost use Rattle.std.specs.Prelude.{◌≡◌, ◌≤◌, ◌++◌, ℕ, List, Option, Some, true, IfOk, IfErr, IfSome, OnOk};
+ghost use Rattle.std.specs.List.{AllByRecursion};
+ghost use Rattle.std.specs.Option.{option_to_list};
 ghost use Rattle.mdf_num.specs.Halt.{HaltCause};
 ghost use Rattle.mdf_block.specs.Refusal.{Read, Gives, IsPlain};
 ghost use Rattle.mdf_content.specs.Fault.{read_refusal};
-ghost use Rattle.mdf_content.specs.Visit.{items_of, gathered, Each};
+ghost use Rattle.mdf_content.specs.Visit.{gathered, Each};
 
-use crate::ReadFault;
+use crate::{ReadFault, Room};
 use mdf_num::{Halt, Memory, Rows, Span};
 use std::alloc::Global;
 
@@ -29,7 +31,10 @@ pub trait Visit {
     /// What an item with this number must have.
     ghost admits: { Self → ℕ → Self.Item → Type 0 };
 
-    /// What is read for item `k`, where something is, and what is carried on.
+    /// What is known of what is read of a file that is told.
+    ghost gives: { Self → Self.Found → Type 0 } = { λ _ _. Unit {0} };
+
+    /// What is read for item `k`, where something is, and what is carried on. What is kept of the file takes of the room.
     fn item_in<P: Span>(
         &self,
         alloc: Global,
@@ -37,10 +42,12 @@ pub trait Visit {
         k: usize,
         item: &Self::Item,
         state: Self::State,
+        room: &mut Room,
     ) -> Result<(Option<Self::Found>, Self::State), Halt<ReadFault>>
         requires needs { needs self.now (P.size span.old) }
         requires admitted { admits self.now k item.now }
         ensures found { (f : List ℕ) → P.bytes span.old ≡ Some f → Gives read_refusal result (read self.now f k item.now state) }
+        ensures given { (f : List ℕ) → P.bytes span.old ≡ Some f → IfOk result (λ found. IfSome found.0 (gives self.now)) }
         ensures plain { IfErr result (IsPlain read_refusal) }
         ensures same { P.bytes span.new ≡ P.bytes span.old }
         ensures size { P.size span.new ≡ P.size span.old }
@@ -49,7 +56,7 @@ pub trait Visit {
 
 /// Adds an item at the end of a list, where there is one.
 fn push_some<T: Drop>(all: &mut Rows<T>, item: Option<T>) -> Result<(), Memory>
-    ensures { OnOk result (all.new ≡ all.old ++ items_of item) }
+    ensures { OnOk result (all.new ≡ all.old ++ option_to_list item) }
 {
     match item {
         Some(item) => all.push(item),
@@ -67,10 +74,12 @@ pub fn gathered_in<V: Visit, P: Span>(
     span: &mut P,
     items: &[V::Item],
     start: V::State,
+    room: &mut Room,
 ) -> Result<(Rows<V::Found>, V::State), Halt<ReadFault>>
     requires needs { V.needs visit.now (P.size span.old) }
     requires admitted { Each (V.admits visit.now) items.now }
     ensures found { (f : List ℕ) → P.bytes span.old ≡ Some f → Gives read_refusal result (gathered (V.read visit.now f) 0 items.now start) }
+    ensures given { (f : List ℕ) → P.bytes span.old ≡ Some f → IfOk result (λ found. AllByRecursion (V.gives visit.now) found.0) }
     ensures plain { IfErr result (IsPlain read_refusal) }
     ensures same { P.bytes span.new ≡ P.bytes span.old }
     ensures size { P.size span.new ≡ P.size span.old }
@@ -80,7 +89,7 @@ pub fn gathered_in<V: Visit, P: Span>(
     let mut state = start;
     let mut k = 0;
     while k < items.len() {
-        let (found, next) = visit.item_in(alloc, span, k, &items[k], state)?;
+        let (found, next) = visit.item_in(alloc, span, k, &items[k], state, room)?;
         push_some(&mut all, found)?;
         state = next;
         k += 1;

@@ -1,5 +1,5 @@
 -- The measurement of a finalized file.
-use Rattle.std.specs.Prelude.{ℕ, Bool, ◌&&◌, not, nat_eq, List, [], ◌∷◌, filter, Ok}
+use Rattle.std.specs.Prelude.{ℕ, Bool, ◌&&◌, not, nat_eq, List, [], ◌∷◌, filter, slice_index_or, slice_set, Option, Ok}
 use Rattle.std.specs.List.{flat_map, list_all, zip}
 use Rattle.mdf_block.specs.declared.note.Note.{Note}
 use Rattle.mdf_block.specs.Refusal.{Read, ◌>>=◌}
@@ -8,6 +8,8 @@ use Rattle.mdf_head.specs.declared.entry.History.{History}
 use Rattle.mdf_group.specs.declared.row.GroupRow.{GroupRow}
 use Rattle.mdf_group.specs.declared.row.DataRow.{DataRow}
 use Rattle.mdf_group.specs.Group.{is_variable}
+use Rattle.mdf_layout.specs.declared.sample.Entry.{Entry}
+use Rattle.mdf_content.specs.Samples.{sample_at, AreSamples}
 use Rattle.mdf_content.specs.declared.contents.Contents.{Contents}
 use Rattle.mdf_content.specs.declared.contents.DataContents.{DataContents}
 use Rattle.mdf_model.specs.declared.part.Measure.{Measure}
@@ -43,6 +45,18 @@ pair_measures pair = data_measures pair.0 pair.1
 abbrev pub measures : List DataRow → List DataContents → List Measure
 measures rows found = flat_map pair_measures (zip rows found)
 
+-- each record of a group has a sample
+abbrev pub HasSamples : Measure → Type 0
+HasSamples m = AreSamples m.shape m.count m.part.content m.part.streams
+
+-- the sample of record i of a group; the index is that of the record
+abbrev pub sample_of : Measure → ℕ → Option (List Entry)
+sample_of m i = sample_at m.shape m.part.content m.part.streams i
+
+-- the group with other records
+abbrev pub with_content : Measure → ℕ → List ℕ → List (List ℕ) → Measure
+with_content m count content streams = record m { part = record m.part { content = content; streams = streams }; count = count }
+
 -- the parts of a measurement: the header, the history, the groups whose records are samples in the order of the links, how
 -- many links were passed over, and whether the file is as the standard has a finalized one
 pub record Measured : Type 0 where
@@ -65,6 +79,11 @@ measured all = record {
   dropped = all.tree.dropped;
   strict = is_strict all;
 }
+
+-- the measurement with other records of one of its groups, and all else as it is
+abbrev pub with_records : Measured → ℕ → ℕ → List ℕ → List (List ℕ) → Measure → Measured
+with_records m group count content streams d =
+    record m { groups = slice_set m.groups group (with_content (slice_index_or m.groups group d) count content streams) }
 
 -- the measurement of a file, or the first reason to refuse it
 unfoldable pub measurement : List ℕ → Read Measured

@@ -23,7 +23,10 @@ fn ident_of(front: &[u8]) -> Result<Ident, Halt<ReadFault>>
 }
 
 /// The identification of a file.
-fn identity_in<P: Span>(span: &mut P) -> Result<Ident, Halt<ReadFault>>
+///
+/// # Errors
+/// `NotMdf`, then `Version`, as `ident`; the span's own; and want of memory.
+pub fn identity_in<P: Span>(span: &mut P) -> Result<Ident, Halt<ReadFault>>
     ensures found { (f : List ℕ) → P.bytes span.old ≡ Some f → Gives read_refusal result (identify f) }
     ensures plain { IfErr result (IsPlain read_refusal) }
     ensures same { P.bytes span.new ≡ P.bytes span.old }

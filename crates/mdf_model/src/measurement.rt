@@ -1,17 +1,22 @@
-ghost use Rattle.std.specs.Prelude.{◌≡◌, ◌^◌, ◌<◌, ℕ, List, Some, length, slice_index_or, true, IfOk, IfErr};
-ghost use Rattle.std.specs.List.{list_all};
-ghost use Rattle.mdf_num.specs.Halt.{HaltCause};
+ghost use Rattle.std.specs.Prelude.{◌≡◌, ◌^◌, ◌<◌, Some, length, slice_index_or, IfOk};
+ghost use Rattle.std.specs.List.{AllByRecursion, list_all};
 ghost use Rattle.mdf_content.specs.declared.contents.DataContents.{DataContents};
-ghost use Rattle.mdf_block.specs.Refusal.{Gives, GivesOf, IsPlain};
+ghost use Rattle.mdf_block.specs.Refusal.{GivesOf};
+ghost use Rattle.mdf_layout.specs.Layout.{record_size};
+ghost use Rattle.mdf_content.specs.Contents.{AllHaveSamples};
 ghost use Rattle.mdf_content.specs.Fault.{read_refusal};
+ghost use Rattle.mdf_content.specs.Samples.{AreSamples, record_at};
 ghost use Rattle.mdf_model.specs.declared.part.Measure.{Measure};
-ghost use Rattle.mdf_model.specs.Measurement.{is_strict, measured, measurement};
+ghost use Rattle.mdf_model.specs.Measurement.{HasSamples, is_strict, measured, measurement, sample_of, with_records};
+ghost use Rattle.mdf_model.specs.Whole.{whole};
 
 use crate::part::{GroupPart, Measure, measures_of};
 use crate::whole::{Whole, whole_in};
 use mdf_content::{DataContents, ReadFault};
 use mdf_head::{Head, History};
-use mdf_num::{Halt, Memory, Rows, SliceSpan, Span};
+use mdf_layout::{DecodeFault, Entries, Shape};
+use mdf_num::{Bytes, Halt, Memory, Rows, SliceSpan};
+use mdf_vlsd::Streams;
 use std::alloc::Global;
 use std::marker::Model;
 
@@ -27,7 +32,8 @@ pub struct Measurement {
 
 impl Model for Measurement {
     ghost use Rattle.std.specs.Prelude.{length, ◌<◌, ◌^◌};
-    ghost use Rattle.mdf_model.specs.Measurement.{Measured};
+    ghost use Rattle.std.specs.List.{AllByRecursion};
+    ghost use Rattle.mdf_model.specs.Measurement.{HasSamples, Measured};
     ghost use Rattle.std.specs.Coded.{codes};
     ghost use Rattle.mdf_conv.specs.contracts.row.Ref as refs;
 
@@ -37,7 +43,7 @@ impl Model for Measurement {
 
     ghost view = { λ m. record { head = m.head; history = m.history; groups = m.groups.items; dropped = m.dropped; strict = m.strict } };
 
-    ghost invariant = { λ m. length m.groups.items < 2 ^ 32 };
+    ghost invariant = { λ m. (length m.groups.items < 2 ^ 32) × AllByRecursion HasSamples m.groups.items };
 }
 
 /// Whether each data group is as the standard has it.
@@ -63,6 +69,7 @@ fn is_strict(all: &Whole) -> bool
 
 /// The measurement of what is read of a file. 2^32 groups and more count as want of memory.
 fn measured_of(alloc: Global, all: Whole) -> Result<Measurement, Memory>
+    requires samples { AllByRecursion AllHaveSamples all.contents }
     ensures { IfOk result (λ m. m ≡ measured all) }
 {
     let strict = is_strict(&all);
@@ -78,6 +85,44 @@ fn measured_of(alloc: Global, all: Whole) -> Result<Measurement, Memory>
         dropped: tree.dropped,
         strict,
     })
+}
+
+/// How many bytes these are.
+fn length_of(bytes: &[u8]) -> usize
+    ensures { result ≡ length bytes.now }
+{
+    bytes.len()
+}
+
+/// The bytes of record `i` of a group.
+fn record_of(measure: &Measure, i: u64) -> &[u8]
+    requires samples { HasSamples measure.now }
+    requires index { i < measure.now.count }
+    ensures bytes { result.now ≡ record_at measure.now.shape measure.now.part.content i }
+    ensures long { length result.now ≡ record_size measure.now.shape }
+{
+    let size = measure.shape.record_size() as usize;
+    let content = measure.part.content.as_slice();
+    let _long = length_of(content);
+    let start = i as usize * size;
+    &content[start..start + size]
+}
+
+/// The sample of record `i` of a group.
+fn sample_of(alloc: Global, measure: &Measure, i: u64) -> Result<Entries, Memory>
+    requires samples { HasSamples measure.now }
+    requires index { i < measure.now.count }
+    ensures { IfOk result (λ entries. sample_of measure.now i ≡ Some entries) }
+{
+    let record = record_of(measure, i);
+    match measure
+        .shape
+        .decode(alloc, record, &measure.part.streams, i)
+    {
+        Ok(entries) => Ok(entries),
+        Err(DecodeFault::Offset { .. }) => unreachable!(),
+        Err(DecodeFault::Memory) => Err(Memory),
+    }
 }
 
 impl Measurement {
@@ -131,23 +176,53 @@ impl Measurement {
     {
         &self.groups[group as usize].part
     }
+
+    /// The layout of the records of a group.
+    pub fn shape(&self, group: u32) -> &Shape
+        requires { group < length self.now.groups }
+        ensures { (d : Measure) → result.now ≡ (slice_index_or self.now.groups group d).shape }
+    {
+        &self.groups[group as usize].shape
+    }
+
+    /// Sample `i` of a group, counted from 0: an entry for each of its channels. A virtual channel's value is `i`.
+    ///
+    /// # Errors
+    /// Want of memory.
+    pub fn sample(&self, alloc: Global, group: u32, i: u64) -> Result<Entries, Memory>
+        requires group { group < length self.now.groups }
+        requires index { (d : Measure) → i < (slice_index_or self.now.groups group d).count }
+        ensures { (d : Measure) → IfOk result (λ entries. sample_of (slice_index_or self.now.groups group d) i ≡ Some entries) }
+    {
+        sample_of(alloc, &self.groups[group as usize], i)
+    }
+
+    /// Gives a group other records: how many, their data bytes and invalidation bytes, one record behind the other, and
+    /// the streams of its channels of variable length, in order. Its row stays, and so does its cycle count, and all else.
+    /// It takes no memory.
+    pub fn replace(&mut self, group: u32, count: u64, content: Bytes, streams: Streams)
+        requires group { group < length self.old.groups }
+        requires samples { (d : Measure) → AreSamples (slice_index_or self.old.groups group d).shape count content streams }
+        ensures { (d : Measure) → self.new ≡ with_records self.old group count content streams d }
+    {
+        let measure = &mut self.groups[group as usize];
+        measure.part.content = content;
+        measure.part.streams = streams;
+        measure.count = count;
+    }
 }
 
-/// The measurement of a finalized file, read through a span.
-///
-/// # Errors
-/// As `read_measurement`, and the span's own.
-#[tactic(auto, unfolding(crate::specs::Measurement::measurement))]
-pub fn measurement_in<P: Span>(alloc: Global, span: &mut P) -> Result<Measurement, Halt<ReadFault>>
-    ensures found { (f : List ℕ) → P.bytes span.old ≡ Some f → Gives read_refusal result (measurement f) }
-    ensures plain { IfErr result (IsPlain read_refusal) }
-    ensures same { P.bytes span.new ≡ P.bytes span.old }
-    ensures size { P.size span.new ≡ P.size span.old }
-    ensures cause { HaltCause true (P.faults span.old) (P.faults span.new) result }
+/// All that is read of a finalized file in memory.
+fn whole_of(alloc: Global, bytes: &[u8]) -> Result<Whole, ReadFault>
+    ensures exact { GivesOf read_refusal result (whole bytes.now) }
+    ensures samples { IfOk result (λ all. AllByRecursion AllHaveSamples all.contents) }
 {
-    let all = whole_in(alloc, span)?;
-    let measurement = measured_of(alloc, all)?;
-    Ok(measurement)
+    match whole_in(alloc, &mut SliceSpan::new(bytes)) {
+        Ok(all) => Ok(all),
+        Err(Halt::Fault(fault)) => Err(fault),
+        Err(Halt::Failed) => unreachable!(),
+        Err(Halt::Memory) => Err(ReadFault::Memory),
+    }
 }
 
 /// The measurement of a finalized file.
@@ -156,14 +231,15 @@ pub fn measurement_in<P: Span>(alloc: Global, span: &mut P) -> Result<Measuremen
 /// The first fault in this order: of the identification (`NotMdf`, `Version`, `Unfinalized`); of the header, its comment and
 /// the file history; of the data groups along their links; and then of each data group in order its id size, its layouts,
 /// its data blocks, its records, its cycle counts, and of each channel of variable length its data blocks and its offsets.
-/// `Memory` may come at any place.
+/// `Memory` may come at any place; it comes where records and values that several groups and channels name would take more
+/// than twice as many bytes as the file has.
+#[tactic(auto, unfolding(crate::specs::Measurement::measurement))]
 pub fn read_measurement(alloc: Global, bytes: &[u8]) -> Result<Measurement, ReadFault>
     ensures exact { GivesOf read_refusal result (measurement bytes.now) }
 {
-    match measurement_in(alloc, &mut SliceSpan::new(bytes)) {
+    let all = whole_of(alloc, bytes)?;
+    match measured_of(alloc, all) {
         Ok(measurement) => Ok(measurement),
-        Err(Halt::Fault(fault)) => Err(fault),
-        Err(Halt::Failed) => unreachable!(),
-        Err(Halt::Memory) => Err(ReadFault::Memory),
+        Err(Memory) => Err(ReadFault::Memory),
     }
 }

@@ -1,13 +1,15 @@
-ghost use Rattle.std.specs.Prelude.{◌≡◌, ℕ, List, Some, true, IfErr};
+ghost use Rattle.std.specs.Prelude.{◌≡◌, ℕ, List, Some, true, IfOk, IfErr};
+ghost use Rattle.std.specs.List.{AllByRecursion};
 ghost use Rattle.mdf_num.specs.Halt.{HaltCause};
 ghost use Rattle.mdf_block.specs.Refusal.{Gives, IsPlain};
 ghost use Rattle.mdf_content.specs.Fault.{read_refusal};
+ghost use Rattle.mdf_content.specs.Contents.{AllHaveSamples};
 ghost use Rattle.mdf_model.specs.Whole.{all_data, whole};
 
 use crate::Tree;
 use crate::identity::finalized_in;
 use crate::tree::tree_in;
-use mdf_content::{DataContents, ReadFault, Visit, data_in, gathered_in};
+use mdf_content::{DataContents, ReadFault, Room, Visit, data_in, gathered_in};
 use mdf_group::DataRow;
 use mdf_head::Ident;
 use mdf_num::{Halt, Rows, Span};
@@ -28,6 +30,7 @@ pub struct Whole {
 struct DataGroups;
 
 impl Visit for DataGroups {
+    ghost use Rattle.mdf_content.specs.Contents.{AllHaveSamples};
     ghost use Rattle.mdf_model.specs.Whole.{data_item};
 
     type Item = DataRow;
@@ -42,6 +45,8 @@ impl Visit for DataGroups {
 
     ghost admits = { λ _ _ _. Unit {0} };
 
+    ghost gives = { λ _. AllHaveSamples };
+
     fn item_in<P: Span>(
         &self,
         alloc: Global,
@@ -49,8 +54,9 @@ impl Visit for DataGroups {
         _k: usize,
         item: &DataRow,
         number: u32,
+        room: &mut Room,
     ) -> Result<(Option<DataContents>, u32), Halt<ReadFault>> {
-        let (found, next) = data_in(alloc, span, item, number)?;
+        let (found, next) = data_in(alloc, span, item, number, room)?;
         Ok((Some(found), next))
     }
 }
@@ -63,12 +69,14 @@ fn all_data_in<P: Span>(
     rows: &[DataRow],
 ) -> Result<Rows<DataContents>, Halt<ReadFault>>
     ensures found { (f : List ℕ) → P.bytes span.old ≡ Some f → Gives read_refusal result (all_data f rows.now) }
+    ensures samples { (f : List ℕ) → P.bytes span.old ≡ Some f → IfOk result (AllByRecursion AllHaveSamples) }
     ensures plain { IfErr result (IsPlain read_refusal) }
     ensures same { P.bytes span.new ≡ P.bytes span.old }
     ensures size { P.size span.new ≡ P.size span.old }
     ensures cause { HaltCause true (P.faults span.old) (P.faults span.new) result }
 {
-    let (contents, _) = gathered_in(alloc, &DataGroups, span, rows, 0)?;
+    let mut room = Room::of_file(span);
+    let (contents, _) = gathered_in(alloc, &DataGroups, span, rows, 0, &mut room)?;
     Ok(contents)
 }
 
@@ -76,10 +84,12 @@ fn all_data_in<P: Span>(
 ///
 /// # Errors
 /// The first fault in this order: of the identification; of the tree, as `tree_in`; and of the data groups in order, as
-/// `data_in`. The span's own; and want of memory.
+/// `data_in`. The span's own; and want of memory, which is answered too where the records and the values that are read have
+/// more than twice as many bytes as the file.
 #[tactic(auto, unfolding(crate::specs::Whole::whole))]
 pub fn whole_in<P: Span>(alloc: Global, span: &mut P) -> Result<Whole, Halt<ReadFault>>
     ensures found { (f : List ℕ) → P.bytes span.old ≡ Some f → Gives read_refusal result (whole f) }
+    ensures samples { (f : List ℕ) → P.bytes span.old ≡ Some f → IfOk result (λ all. AllByRecursion AllHaveSamples all.contents) }
     ensures plain { IfErr result (IsPlain read_refusal) }
     ensures same { P.bytes span.new ≡ P.bytes span.old }
     ensures size { P.size span.new ≡ P.size span.old }

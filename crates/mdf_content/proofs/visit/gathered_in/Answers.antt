@@ -1,7 +1,7 @@
 use Rattle.std.proofs.Common.{sym, ◌∙◌, arith}
 use Rattle.std.proofs.lemmas.Result.{err_from_is_err_and}
 use Rattle.mdf_content.specs.Fault.{read_refusal}
-use Rattle.mdf_content.proofs.Gathered.{is_done, goes_on, ends}
+use Rattle.mdf_content.proofs.Gathered.{is_done, goes_on, ends, all_and}
 use Rattle.mdf_content.proofs.visit.gathered_in.Goals as goal
 
 pub returns-in_err-found-clause-found : goal.returns-in_err-found-clause-found
@@ -26,6 +26,10 @@ loop-k-preserved g c = record {
       sym (goes_on (g.V.Visit.read visit f) c.args.items.now loop.all loop.k loop.state one.result c.in_ok-found.found c.in_ok-found.next
       c.loop-k-test.true one.is read)
       ∙ loop.invariant.found f told
+      );
+  given = λ f told. rw c.in_ok-push_some.ensures (
+      all_and (g.V.Visit.gives c.args.visit.now) c.loop-k.all c.in_ok-found.found (c.loop-k.invariant.given f told)
+      (c.in_ok-found.ensures.given f (c.loop-k.invariant.same ∙ told))
       );
   same = c.in_ok-found.ensures.same ∙ c.loop-k.invariant.same;
   size = c.in_ok-found.ensures.size ∙ c.loop-k.invariant.size;

@@ -1,4 +1,5 @@
 use Rattle.std.proofs.Common.{◌≡◌, ◌-◌, ◌≤◌, ℕ, List, Some, length, drop}
+use Rattle.std.specs.List.{AllByRecursion}
 use Rattle.mdf_block.proofs.Eachs.{with_front}
 use Rattle.mdf_content.specs.Visit.{gathered}
 use Rattle.mdf_content.proofs.visit.gathered_in.Given as goal
@@ -7,6 +8,7 @@ abbrev pub invariant-loop-k : goal.invariant-loop-k
 invariant-loop-k g l = record {
   found : (f : List ℕ) → g.P.Span.bytes l.initial.span ≡ Some f
       → with_front l.all (gathered (g.V.Visit.read l.visit f) l.k (drop l.k l.items) l.state) ≡ gathered (g.V.Visit.read l.visit f) 0 l.items l.fn.start;
+  given : (f : List ℕ) → g.P.Span.bytes l.initial.span ≡ Some f → AllByRecursion (g.V.Visit.gives l.visit) l.all;
   same : g.P.Span.bytes l.span ≡ g.P.Span.bytes l.initial.span;
   size : g.P.Span.size l.span ≡ g.P.Span.size l.initial.span;
   later : g.P.Span.faults l.initial.span ≤ g.P.Span.faults l.span;
