@@ -1,5 +1,5 @@
 -- Numbers in front of a text.
-use Rattle.std.proofs.Common.{◌≡◌, ◌∙◌, sym, ap, ℕ, ◌+◌, ◌-◌, ◌^◌, ◌<◌, ◌≤◌, Bool, true, false, cond, Some, None, List, [], ◌∷◌, length, get_or, take, drop, refl, arith}
+use Rattle.std.proofs.Common.{◌≡◌, ◌∙◌, sym, ap, ℕ, suc, ◌+◌, ◌-◌, ◌^◌, ◌<◌, ◌≤◌, Bool, true, false, cond, Some, None, List, [], ◌∷◌, length, get_or, take, drop, refl, arith}
 use Rattle.std.specs.Prelude.{◌==◌, ◌&&◌, ◌||◌, nat_lt, is_some, codes}
 use Rattle.std.specs.Option.{option_map, option_and_then}
 use Rattle.std.specs.List.{list_all, onto_first}
@@ -9,16 +9,17 @@ use Rattle.std.specs.Str.Parse.{digits_value}
 use Rattle.std.proofs.lemmas.Bool.{lt-ltb, ne_eqb, eq-eqb}
 use Rattle.std.proofs.lemmas.List.{length-take-le, get_or-take, take_all}
 use Rattle.std.proofs.lemmas.Str.Parse.{digits_value_short}
-use Rattle.mdf_layout.specs.declared.field.FieldKind.TheVariants.{Unsigned}
+use Rattle.mdf_layout.specs.declared.field.FieldKind.TheVariants.{Unsigned, Signed}
 use Rattle.mdf_layout.specs.declared.field.FieldRow.{FieldRow}
+use Rattle.mdf_layout.specs.declared.sample.Value.{Value}
 use Rattle.mdf_layout.specs.declared.sample.Value.TheVariants as value
 use Rattle.script_line.specs.Text.{parts_of, words_of, Begins}
 use Rattle.script_line.specs.Number.{number_of}
-use Rattle.script_line.specs.Value.{is_marked, held_in, unsigned_value, value_as, value_of, entry_with, entry_of}
+use Rattle.script_line.specs.Value.{begins_with, is_marked, held_in, unsigned_value, negative_in, positive_in, signed_value, value_as, value_of, entry_with, entry_of}
 use Rattle.script_line.specs.Line as said
 use Rattle.script_line.specs.Line.{line_of, is_passed, worded, worded_plan, worded_list}
 use Rattle.script_line.proofs.Parts.{first_part, only_part}
-use Rattle.script_line.proofs.Numerals.{digits_of_number, numeral_of, digits_model, its_value, small_enough, digit_at}
+use Rattle.script_line.proofs.Numerals.{IsDigits, digits_of_number, numeral_of, digits_model, its_value, small_enough, digit_at}
 
 -- digits of which there are at most 18 are a number below 10 ^ 18
 pub few_digits : (text : List ℕ) (i value : ℕ) → i ≤ 18 → i ≤ length text → list_all is_ascii_digit (take i text) ≡ true → value ≡ digits_value 10 (take i text) → value < 10 ^ 18
@@ -86,6 +87,60 @@ begins_entry row text n words kind held begins = record {
   first = begins.first;
   is = number_entry_is row begins.word n kind held begins.is;
 }
+
+-- and the entry that one is, with or without a `-`, for a channel of signed numbers
+no_sign : (word : List ℕ) → IsDigits word → begins_with 45 word ≡ false
+no_sign word digits =
+    let digit = digit_at word 0 digits.all digits.some in
+    no_mark (nat_lt 0 (length word)) (get_or word 0 0 == 45) (ne_eqb (get_or word 0 0) 45 (λ is. absurd (omega (arith, is, digit.0))))
+
+positive_entry_is : (row : FieldRow) (word : List ℕ) (n : ℕ) (v : Value) → row.kind ≡ Signed → positive_in row.bits n ≡ Some v → number_of word ≡ Some n → entry_of row word ≡ Some (record { value = v; valid = true })
+unfolding entry_of value_of signed_value
+positive_entry_is row word n v kind is number =
+    let digits = digits_of_number word n number in
+    ap (λ b. cond b (cond (is_some row.inval) (option_map (entry_with false) (value_of row (take (length word - 1) word))) None) (option_map (entry_with true) (value_of row word))) (not_marked word digits.all)
+    ∙ ap (λ k. option_map (entry_with true) (value_as k row.bits word)) kind
+    ∙ ap (λ b. option_map (entry_with true) (cond b (option_and_then (negative_in row.bits) (number_of (drop 1 word))) (option_and_then (positive_in row.bits) (number_of word)))) (no_sign word digits)
+    ∙ ap (λ o. option_map (entry_with true) (option_and_then (positive_in row.bits) o)) number
+    ∙ ap (option_map (entry_with true)) is
+
+pub begins_positive : (row : FieldRow) (text : List ℕ) (n : ℕ) (v : Value) (words : List (List ℕ)) → row.kind ≡ Signed → positive_in row.bits n ≡ Some v → Begins number_of text n words → Begins (entry_of row) text (record { value = v; valid = true }) words
+begins_positive row text n v words kind is begins = record {
+  word = begins.word;
+  first = begins.first;
+  is = positive_entry_is row begins.word n v kind is begins.is;
+}
+
+sign_not_marked : (word : List ℕ) → IsDigits word → is_marked (45 ∷ word) ≡ false
+sign_not_marked [] digits = absurd (omega (arith, digits.some))
+sign_not_marked (first ∷ word) digits =
+    let k = length (first ∷ word) - 1 in
+    let digit = digit_at (first ∷ word) k digits.all (omega arith) in
+    let at : length (45 ∷ first ∷ word) - 1 ≡ suc k = omega arith in
+    let last : get_or (45 ∷ first ∷ word) (length (45 ∷ first ∷ word) - 1) 0 ≡ get_or (first ∷ word) k 0 = ap (λ i. get_or (45 ∷ first ∷ word) i 0) at in
+    no_mark (nat_lt 0 (length (45 ∷ first ∷ word))) (get_or (45 ∷ first ∷ word) (length (45 ∷ first ∷ word) - 1) 0 == 63)
+    (ne_eqb (get_or (45 ∷ first ∷ word) (length (45 ∷ first ∷ word) - 1) 0) 63 (λ is. absurd (omega (arith, is, last, digit.1))))
+
+negative_entry_is : (row : FieldRow) (word : List ℕ) (n : ℕ) (v : Value) → row.kind ≡ Signed → negative_in row.bits n ≡ Some v → number_of word ≡ Some n → entry_of row (45 ∷ word) ≡ Some (record { value = v; valid = true })
+unfolding entry_of value_of signed_value
+negative_entry_is row word n v kind is number =
+    let digits = digits_of_number word n number in
+    ap (λ b. cond b (cond (is_some row.inval) (option_map (entry_with false) (value_of row (take (length (45 ∷ word) - 1) (45 ∷ word)))) None) (option_map (entry_with true) (value_of row (45 ∷ word)))) (sign_not_marked word digits)
+    ∙ ap (λ k. option_map (entry_with true) (value_as k row.bits (45 ∷ word))) kind
+    ∙ ap (λ b. option_map (entry_with true) (cond (b && true) (option_and_then (negative_in row.bits) (number_of word)) (option_and_then (positive_in row.bits) (number_of (45 ∷ word))))) (lt-ltb 0 (length (45 ∷ word)) (omega arith))
+    ∙ ap (λ o. option_map (entry_with true) (option_and_then (negative_in row.bits) o)) number
+    ∙ ap (option_map (entry_with true)) is
+
+pub begins_negative : (row : FieldRow) (text : List ℕ) (n : ℕ) (v : Value) (words : List (List ℕ)) → row.kind ≡ Signed → get_or text 0 0 ≡ 45 → negative_in row.bits n ≡ Some v → Begins number_of (take (length text - 1) (drop 1 text)) n words → Begins (entry_of row) text (record { value = v; valid = true }) words
+begins_negative row [] n v words kind sign is begins = absurd (omega (arith, sign))
+begins_negative row (b ∷ text) n v words kind sign is begins =
+    let whole : take (length (b ∷ text) - 1) text ≡ text = take_all _ text (omega arith) in
+    let first : words_of text ≡ begins.word ∷ words = ap words_of (sym whole) ∙ begins.first in
+    record {
+      word = 45 ∷ begins.word;
+      first = ap (λ c. words_of (c ∷ text)) sign ∙ ap (onto_first 45) first;
+      is = negative_entry_is row begins.word n v kind is begins.is;
+    }
 
 -- the first byte of a text is that of its first word
 first_byte : (b : ℕ) (parts : List (List ℕ)) (word : List ℕ) (words : List (List ℕ)) → onto_first b parts ≡ word ∷ words → get_or word 0 0 ≡ b

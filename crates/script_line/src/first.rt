@@ -1,11 +1,12 @@
 // The first value of a sample's words.
-ghost use Rattle.std.specs.Prelude.{◌≡◌, IfOk, IfSome, MatchOption};
+ghost use Rattle.std.specs.Prelude.{◌≡◌, true, IfOk, IfSome, MatchOption};
 ghost use Rattle.script_line.specs.Text.{Begins, Refuses, words_left};
-ghost use Rattle.script_line.specs.Value.{IsReadable, entry_of};
+ghost use Rattle.mdf_layout.specs.declared.field.FieldKind.TheVariants.{Unsigned, Signed};
+ghost use Rattle.script_line.specs.Value.{IsReadable, entry_with, entry_of};
 
 use crate::front::leading_number;
 use crate::text::cut;
-use crate::value::{entry_of, is_held};
+use crate::value::{entry_of, is_held, negative_in, positive_in};
 use mdf_layout::{Entry, FieldKind, FieldRow, Value};
 use mdf_num::Memory;
 use std::alloc::Global;
@@ -17,24 +18,67 @@ pub(crate) struct FirstEntry<'a> {
     pub behind: Option<&'a [u8]>,
 }
 
+/// An entry that is valid.
+fn valid_entry(value: Value, behind: Option<&[u8]>) -> FirstEntry<'_>
+    ensures entry { result.entry ≡ entry_with true value }
+    ensures behind { words_left result.behind ≡ words_left behind.entry }
+{
+    FirstEntry {
+        entry: Entry { value, valid: true },
+        behind,
+    }
+}
+
 /// The entry of a channel of unsigned numbers, if the word is one of at most 19 digits.
-fn number_entry<'a>(row: FieldRow, text: &'a [u8]) -> Option<FirstEntry<'a>>
+fn unsigned_entry<'a>(row: FieldRow, text: &'a [u8]) -> Option<FirstEntry<'a>>
+    requires { row.kind ≡ Unsigned }
     ensures { IfSome result (λ first. Begins (entry_of row) text.now first.entry (words_left first.behind)) }
 {
-    let FieldKind::Unsigned = row.kind else {
-        return None;
-    };
     let found = leading_number(text)?;
     if !is_held(found.number, row.bits) {
         return None;
     }
-    Some(FirstEntry {
-        entry: Entry {
-            value: Value::Unsigned(found.number),
-            valid: true,
+    Some(valid_entry(Value::Unsigned(found.number), found.behind))
+}
+
+/// The entry of a channel of signed numbers, if the word is one of at most 19 digits without a `-`.
+fn positive_entry<'a>(row: FieldRow, text: &'a [u8]) -> Option<FirstEntry<'a>>
+    requires kind { row.kind ≡ Signed }
+    requires row { IsReadable row }
+    ensures { IfSome result (λ first. Begins (entry_of row) text.now first.entry (words_left first.behind)) }
+{
+    let found = leading_number(text)?;
+    let value = positive_in(row.bits, found.number)?;
+    Some(valid_entry(value, found.behind))
+}
+
+/// The entry of a channel of signed numbers, if the word is a `-` and a number of at most 19 digits.
+fn negative_entry<'a>(row: FieldRow, text: &'a [u8]) -> Option<FirstEntry<'a>>
+    requires kind { row.kind ≡ Signed }
+    requires row { IsReadable row }
+    ensures { IfSome result (λ first. Begins (entry_of row) text.now first.entry (words_left first.behind)) }
+{
+    if text.is_empty() || text[0] != b'-' {
+        return None;
+    }
+    let found = leading_number(&text[1..])?;
+    let value = negative_in(row.bits, found.number)?;
+    Some(valid_entry(value, found.behind))
+}
+
+/// The entry of a channel of numbers, if the word is one of at most 19 digits that it can have.
+fn number_entry<'a>(row: FieldRow, text: &'a [u8]) -> Option<FirstEntry<'a>>
+    requires { IsReadable row }
+    ensures { IfSome result (λ first. Begins (entry_of row) text.now first.entry (words_left first.behind)) }
+{
+    match row.kind {
+        FieldKind::Unsigned => unsigned_entry(row, text),
+        FieldKind::Signed => match negative_entry(row, text) {
+            Some(first) => Some(first),
+            None => positive_entry(row, text),
         },
-        behind: found.behind,
-    })
+        _ => None,
+    }
 }
 
 /// The entry of any channel.

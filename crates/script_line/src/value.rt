@@ -42,7 +42,7 @@ fn unsigned_value(bits: u32, word: &[u8]) -> Option<Value>
 }
 
 /// The negative of this number, where that is not 0 and so many bits hold it in two's complement.
-fn negative_in(bits: u32, number: u64) -> Option<Value>
+pub(crate) fn negative_in(bits: u32, number: u64) -> Option<Value>
     requires some { 1 ≤ bits }
     requires few { bits ≤ 64 }
     ensures { result ≡ negative_in bits number }
@@ -54,7 +54,7 @@ fn negative_in(bits: u32, number: u64) -> Option<Value>
 }
 
 /// This number, where so many bits hold it in two's complement.
-fn positive_in(bits: u32, number: u64) -> Option<Value>
+pub(crate) fn positive_in(bits: u32, number: u64) -> Option<Value>
     requires some { 1 ≤ bits }
     requires few { bits ≤ 64 }
     ensures { result ≡ positive_in bits number }

@@ -1,9 +1,0 @@
-use Rattle.std.proofs.Common.{refl}
-use Rattle.script_line.specs.Text.{words_left}
-use Rattle.script_line.proofs.Fronts.{begins_entry}
-use Rattle.script_line.proofs.first.number_entry.Goals as goal
-
-pub returns : goal.returns
-returns c =
-    let found = c.in_ok-found.found in
-    begins_entry c.args.row c.args.text.now found.number (words_left found.behind) c.in-Unsigned.is (c.if-not-is_held.ensures.0 refl) c.in_ok-found.ensures
