@@ -1,0 +1,5 @@
+pub mod Bodies
+pub mod Contents
+pub mod Measurement
+pub mod Truth
+pub mod Same

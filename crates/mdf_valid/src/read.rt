@@ -1,0 +1,23 @@
+ghost use Rattle.std.specs.Prelude.{◌≡◌, ◌↔◌, IsTrue, IfOk, IfErr, IfSome};
+ghost use Rattle.mdf_block.specs.Refusal.{GivesOf};
+ghost use Rattle.mdf_content.specs.Fault.{read_refusal};
+ghost use Rattle.mdf_model.specs.Measurement.{measurement};
+ghost use Rattle.mdf_valid.specs.Measurement.{IsMeasurement, IsValidFile};
+ghost use Rattle.mdf_valid.specs.Truth.{IsTrueOfFile};
+
+use mdf_model::{Measurement, ReadFault, read_measurement};
+use std::alloc::Global;
+
+/// The measurement of a finalized file, as `read_measurement` of `mdf_model`, with what it is in the standard's words: it
+/// is strict exactly where the file is valid, and a refusal is true of the file.
+///
+/// # Errors
+/// As `read_measurement`.
+pub fn read_file(alloc: Global, bytes: &[u8]) -> Result<Measurement, ReadFault>
+    ensures exact { GivesOf read_refusal result (measurement bytes.now) }
+    ensures measurement { IfOk result (λ m. IsMeasurement bytes.now m.head m.history m.groups) }
+    ensures strict { IfOk result (λ m. IsTrue m.strict ↔ IsValidFile bytes.now) }
+    ensures refused { IfErr result (λ fault. IfSome (read_refusal fault) (IsTrueOfFile bytes.now)) }
+{
+    read_measurement(alloc, bytes)
+}
