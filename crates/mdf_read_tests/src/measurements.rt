@@ -1,6 +1,6 @@
 use crate::files::{Piece, file_of, put, put_number};
 use mdf_model::{Measurement, read_measurement};
-use mdf_num::Memory;
+use mdf_num::{Bytes, Memory, Rows};
 use std::alloc::Global;
 use std::test::Fail;
 
@@ -123,12 +123,18 @@ fn parts_told(alloc: Global, m: &Measurement) -> Result<String, Memory> {
     Ok(text)
 }
 
-fn told(alloc: Global, changes: &[(usize, u64)]) -> Result<String, Memory> {
+/// The file with other numbers.
+fn changed(alloc: Global, changes: &[(usize, u64)]) -> Result<Vec<u8>, Memory> {
     let mut file = file_of(alloc, 1016, &FILE)?;
     put(file.as_mut_slice(), 0, &IDENT);
     for (at, number) in changes {
         put_number(file.as_mut_slice(), *at, *number);
     }
+    Ok(file)
+}
+
+fn told(alloc: Global, changes: &[(usize, u64)]) -> Result<String, Memory> {
+    let file = changed(alloc, changes)?;
     match read_measurement(alloc, file.as_slice()) {
         Ok(m) => parts_told(alloc, &m),
         Err(fault) => Ok(format!(in alloc; "{fault:?}")?),
@@ -139,6 +145,82 @@ fn told(alloc: Global, changes: &[(usize, u64)]) -> Result<String, Memory> {
 fn measurements_are_told(rt: HostRuntime) -> Result<(), Fail> {
     for (changes, want) in TOLD {
         assert_eq!(rt; told(rt.alloc(), changes)?.as_str(), want);
+    }
+    Ok(())
+}
+
+// The group, the sample, and its entries. The values of variable length are abc and nothing.
+const SAMPLES: [(u32, u64, &str); 5] = [
+    (0, 0, "[Entry { value: Unsigned(7), valid: true }]"),
+    (0, 1, "[Entry { value: Unsigned(8), valid: true }]"),
+    (
+        1,
+        0,
+        "[Entry { value: Bytes(Bytes { items: [97, 98, 99] }), valid: true }]",
+    ),
+    (
+        1,
+        1,
+        "[Entry { value: Bytes(Bytes { items: [] }), valid: true }]",
+    ),
+    (1, 2, "no sample"),
+];
+
+fn sample_told(alloc: Global, m: &Measurement, group: u32, i: u64) -> Result<String, Memory> {
+    if group >= m.groups() || i >= m.samples(group) {
+        return Ok(format!(in alloc; "no sample")?);
+    }
+    let entries = m.sample(alloc, group, i)?;
+    let entries = entries.as_slice();
+    Ok(format!(in alloc; "{entries:?}")?)
+}
+
+fn sample_of(alloc: Global, group: u32, i: u64) -> Result<String, Memory> {
+    let file = changed(alloc, &[])?;
+    match read_measurement(alloc, file.as_slice()) {
+        Ok(m) => sample_told(alloc, &m, group, i),
+        Err(fault) => Ok(format!(in alloc; "{fault:?}")?),
+    }
+}
+
+#[test]
+fn samples_are_told(rt: HostRuntime) -> Result<(), Fail> {
+    for (group, i, want) in SAMPLES {
+        assert_eq!(rt; sample_of(rt.alloc(), group, i)?.as_str(), want);
+    }
+    Ok(())
+}
+
+// The group whose records are taken away, and what is told then; a group with values of variable length needs streams.
+const EMPTIED: [(u32, &str); 2] = [
+    (
+        0,
+        "2 0 true 0 [] 0 [] 2 [0, 0, 0, 0, 0, 0, 0, 0, 7, 0, 0, 0, 0, 0, 0, 0] 1 [3, 0, 0, 0, 97, 98, 99, 0, 0, 0, 0]",
+    ),
+    (1, "streams are wanted"),
+];
+
+fn emptied(alloc: Global, measurement: Measurement, group: u32) -> Result<String, Memory> {
+    let mut m = measurement;
+    if group >= m.groups() || m.shape(group).variable_count() > 0 {
+        return Ok(format!(in alloc; "streams are wanted")?);
+    }
+    m.replace(group, 0, Bytes::empty(alloc), Rows::empty(alloc));
+    parts_told(alloc, &m)
+}
+
+fn emptied_of(alloc: Global, group: u32) -> Result<String, Memory> {
+    let file = changed(alloc, &[])?;
+    match read_measurement(alloc, file.as_slice()) {
+        Ok(m) => emptied(alloc, m, group),
+        Err(fault) => Ok(format!(in alloc; "{fault:?}")?),
+    }
+}
+
+#[test]
+fn a_group_is_replaced(rt: HostRuntime) -> Result<(), Fail> {
+    for (group, want) in EMPTIED {
+        assert_eq!(rt; emptied_of(rt.alloc(), group)?.as_str(), want);
     }
     Ok(())
 }
