@@ -1,6 +1,7 @@
 use crate::files::{Piece, file_of, put, put_number};
-use mdf_model::{Measurement, read_measurement};
+use mdf_model::Measurement;
 use mdf_num::{Bytes, Memory, Rows};
+use mdf_valid::read_file;
 use std::alloc::Global;
 use std::test::Fail;
 
@@ -135,7 +136,7 @@ fn changed(alloc: Global, changes: &[(usize, u64)]) -> Result<Vec<u8>, Memory> {
 
 fn told(alloc: Global, changes: &[(usize, u64)]) -> Result<String, Memory> {
     let file = changed(alloc, changes)?;
-    match read_measurement(alloc, file.as_slice()) {
+    match read_file(alloc, file.as_slice()) {
         Ok(m) => parts_told(alloc, &m),
         Err(fault) => Ok(format!(in alloc; "{fault:?}")?),
     }
@@ -177,7 +178,7 @@ fn sample_told(alloc: Global, m: &Measurement, group: u32, i: u64) -> Result<Str
 
 fn sample_of(alloc: Global, group: u32, i: u64) -> Result<String, Memory> {
     let file = changed(alloc, &[])?;
-    match read_measurement(alloc, file.as_slice()) {
+    match read_file(alloc, file.as_slice()) {
         Ok(m) => sample_told(alloc, &m, group, i),
         Err(fault) => Ok(format!(in alloc; "{fault:?}")?),
     }
@@ -211,7 +212,7 @@ fn emptied(alloc: Global, measurement: Measurement, group: u32) -> Result<String
 
 fn emptied_of(alloc: Global, group: u32) -> Result<String, Memory> {
     let file = changed(alloc, &[])?;
-    match read_measurement(alloc, file.as_slice()) {
+    match read_file(alloc, file.as_slice()) {
         Ok(m) => emptied(alloc, m, group),
         Err(fault) => Ok(format!(in alloc; "{fault:?}")?),
     }
