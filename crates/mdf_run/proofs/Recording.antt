@@ -1,11 +1,11 @@
 -- A book that was driven, flushed and closed says how the recording ended.
-use Rattle.std.proofs.Common.{◌≡◌, ◌≤◌, inr, ⊎_elim, ℕ, List, [], ◌∷◌, ◌++◌, length, Option, Some, None, Result, Ok, Err, true≢false, get_or, take, refl, sym, ◌∙◌, ap, subst, arith, length-append}
+use Rattle.std.proofs.Common.{◌≡◌, ◌≤◌, inl, inr, ⊎_elim, ℕ, List, [], ◌∷◌, ◌++◌, length, Option, Some, None, Result, Ok, Err, true≢false, get_or, take, refl, sym, ◌∙◌, ap, subst, arith, length-append}
 use Rattle.std.specs.Prelude.{slice_get, is_some, IsOk, IfSome}
-use Rattle.std.proofs.lemmas.Option.{slice_get_cases, same_Some}
+use Rattle.std.proofs.lemmas.Option.{slice_get_cases}
 use Rattle.std.proofs.Math.Seq.{get_or-append_seam}
 use Rattle.std.proofs.lemmas.List.{take_all}
 use Rattle.mdf_disk.specs.Story.{Story, Agrees, IsFresh, LeftSince}
-use Rattle.mdf_disk.specs.Crash.{HoldsSince}
+use Rattle.mdf_disk.specs.Crash.{Adds, HoldsSince}
 use Rattle.mdf_disk.proofs.Crash.{adds_none}
 use Rattle.mdf_disk.specs.declared.role.Role.TheVariants.{Create}
 use Rattle.book_owned.specs.Members.{DiskOf}
@@ -28,9 +28,9 @@ use Rattle.book_owned.specs.declared.view.NoView.{NoView}
 use Rattle.acq_script.specs.Tasks.{samples_of}
 use Rattle.acq_script.specs.declared.script.Script.{Script}
 use Rattle.acq_script.specs.declared.script.Task.{Task}
-use Rattle.mdf_run.specs.Sources.{AllRan, IsOverAt, RanAll, SourceEnds}
-use Rattle.mdf_run.specs.Finish.{FileFaultComes, Finishes, FinishEnds, IsAllDurable}
-use Rattle.mdf_run.specs.Record.{AreAccepted, CloseComes, IsComplete, IsFull, IsRecorded, IsSaved, Outcome, outcome}
+use Rattle.mdf_run.specs.Sources.{AllRan, HasNext, Ran, RanAll}
+use Rattle.mdf_run.specs.Finish.{FileFaultComes, Finishes, FinishEnds, IsAllDurable, IsUnmade}
+use Rattle.mdf_run.specs.Record.{AreAccepted, AreEnds, CloseComes, IsComplete, IsFull, IsNext, IsRecorded, IsSaved, IsShort, Outcome, SourceComes, outcome}
 use Rattle.mdf_run.specs.Head.{script_head}
 use Rattle.mdf_run.specs.Script.{SaysScript}
 use Rattle.mdf_run.specs.Recorded.{Closes, HasRun, RunComes, RecordComes}
@@ -42,7 +42,7 @@ use Rattle.mdf_run.specs.declared.record.Recorded.{Recorded}
 use Rattle.mdf_run.specs.declared.record.RecordEnd.{RecordEnd}
 use Rattle.mdf_run.specs.declared.record.RecordEnd.TheVariants.{Refused, Closed}
 use Rattle.mdf_run.proofs.Marking.{samples_of-append}
-use Rattle.mdf_run.proofs.Runs.{RanAt, accepted-length, all_later, each_done, has_list, own_begins, own_flushes, ran_of, worst_err}
+use Rattle.mdf_run.proofs.Runs.{RanAt, accepted-length, all_later, all_room, each_done, first_full, hows-length, own_begins, own_flushes, ran_of, whole_ran, worst_err}
 
 -- the element at a seam
 at_seam : {A : Type 0} (xs : List A) (y : A) (ys : List A) → slice_get (xs ++ y ∷ ys) (length xs) ≡ Some y
@@ -118,42 +118,59 @@ module _ {D N : Type 0} (tells : DiskOf D) (shows : ViewOf NoView N)
 
   -- all tasks were done
   completes : (r : Result Unit End) → result ≡ r → IsOk r → IsAllDurable flushed → IsComplete script left
-  completes (Ok u) is ok durable_all =
-      let each = each_done owners flushed script.lists accepted.items ran.hows u (sym is ∙ ran.told) all in
-      record {
-        history_is = λ s tasks there. (each s tasks there).0;
-        flush_lines = λ s tasks there. (each s tasks there).1;
-        cost = subst (λ (t : Terms). history_cost t.layouts flushed.history ≤ t.session_limit) terms_are closes.within;
-        saved = saved durable_all;
-      }
+  completes (Ok u) is ok durable_all = record {
+    whole = λ s tasks there.
+        let at = at_source s tasks there in
+        let ran_all = whole_ran owners flushed s tasks at.n at.how (each_done ran.hows u (sym is ∙ ran.told) s at.how at.how_is) at.ran in
+        record { history_is = ran_all.0; flush_lines = ran_all.1 };
+    cost = subst (λ (t : Terms). history_cost t.layouts flushed.history ≤ t.session_limit) terms_are closes.within;
+    saved = saved durable_all;
+  }
   completes (Err e) is ok durable_all = absurd (true≢false (sym ok))
 
-  -- the next sample of a source had no room
+  -- how a source ended, where the disk did not fail
+  next_there : (s : ℕ) (tasks : List Task) (n : ℕ) (how : Result Unit End) (r : Ran owners flushed s tasks n how) (sample : Sample) → HasNext r.rest sample → IsNext script left s tasks sample
+  next_there s tasks n how r sample next =
+      ap (λ own. slice_get (samples_of tasks) (length own)) r.own
+      ∙ ap (λ ss. slice_get ss (length (samples_of r.done)))
+      (ap samples_of (sym r.parts) ∙ samples_of-append r.done r.rest ∙ ap (λ ts. samples_of r.done ++ samples_of ts) next.rest_is)
+      ∙ at_seam (samples_of r.done) sample (samples_of next.later)
+
+  source_comes : IsAllDurable flushed → (s : ℕ) (tasks : List Task) (n : ℕ) (how : Result Unit End) → Ran owners flushed s tasks n how → SourceComes script left s tasks how
+  source_comes durable_all s tasks n (Ok u) r = let whole = whole_ran owners flushed s tasks n (Ok u) tt r in record { history_is = whole.0; flush_lines = whole.1 }
+  source_comes durable_all s tasks n (Err (end_.SessionFull held size limit)) r = record {
+    sample = r.ends.sample;
+    next = next_there s tasks n (Err (end_.SessionFull held size limit)) r r.ends.sample r.ends.next;
+    before = r.before;
+    begins = r.begins;
+    all_own = r.all_own;
+    held_is = r.ends.held_is ∙ ap (λ (t : Terms). history_cost t.layouts r.before) terms_are;
+    size_is = r.ends.size_is ∙ ap (λ (t : Terms). cost_of t.layouts r.ends.sample) terms_are;
+    limit_is = r.ends.limit_is ∙ ap (λ (t : Terms). t.session_limit) terms_are;
+    over = r.ends.over;
+  }
+  source_comes durable_all s tasks n (Err end_.Stopped) r = absurd (true≢false (sym r.ends ∙ durable_all.0))
+  source_comes durable_all s tasks n (Err end_.Memory) r = (r.ends.0, next_there s tasks n (Err end_.Memory) r r.ends.0 r.ends.1)
+
+  ends_are : IsAllDurable flushed → AreEnds script left ran.hows
+  ends_are durable_all = record {
+    count = hows-length owners flushed 0 script.lists accepted.items ran.hows all;
+    each = λ s tasks there. let at = at_source s tasks there in
+        subst (λ found. IfSome found (SourceComes script left s tasks)) (sym at.how_is) (source_comes durable_all s tasks at.n at.how at.ran);
+    saved = saved durable_all;
+  }
+
+  -- the first source that had no room
   fills : (held size limit : ℕ) → result ≡ Err (end_.SessionFull held size limit) → IsAllDurable flushed → IsFull script left held size limit
   fills held size limit is durable_all =
-      let worst_is = worst_err ran.hows (end_.SessionFull held size limit) (sym ran.told ∙ is) in
-      let s = worst_is.0 in
-      let there = has_list owners flushed 0 script.lists accepted.items ran.hows all s (Err (end_.SessionFull held size limit)) worst_is.1 in
-      let at = at_source s there.0 there.1 in
-      let how_is : at.how ≡ Err (end_.SessionFull held size limit) = same_Some at.how (Err (end_.SessionFull held size limit)) (sym at.how_is ∙ worst_is.1) in
-      let over : IsOverAt flushed at.ran.rest held size limit = subst (SourceEnds flushed at.ran.rest) how_is at.ran.ends in
-      record {
-        source = s;
-        tasks = there.0;
-        there = there.1;
-        sample = over.sample;
-        next = ap (λ own. slice_get (samples_of there.0) (length own)) at.ran.own
-            ∙ ap (λ ss. slice_get ss (length (samples_of at.ran.done)))
-            (ap samples_of (sym at.ran.parts) ∙ samples_of-append at.ran.done at.ran.rest ∙ ap (λ ts. samples_of at.ran.done ++ samples_of ts) over.rest_is)
-            ∙ at_seam (samples_of at.ran.done) over.sample (samples_of over.later);
-        before = over.before;
-        begins = over.begins;
-        held_is = over.held_is ∙ ap (λ (t : Terms). history_cost t.layouts over.before) terms_are;
-        size_is = over.size_is ∙ ap (λ (t : Terms). cost_of t.layouts over.sample) terms_are;
-        limit_is = over.limit_is ∙ ap (λ (t : Terms). t.session_limit) terms_are;
-        over = over.over;
-        saved = saved durable_all;
-      }
+      let found = first_full ran.hows held size limit (sym ran.told ∙ is) in
+      record { ends = ran.hows; are = ends_are durable_all; source = found.source; told = found.told; first = found.first }
+
+  -- a source for whose sample memory was wanted
+  wants : result ≡ Err end_.Memory → IsAllDurable flushed → IsShort script left
+  wants is durable_all =
+      let found = worst_err ran.hows end_.Memory (sym ran.told ∙ is) in
+      record { ends = ran.hows; are = ends_are durable_all; source = found.0; wanted = found.1; room = all_room ran.hows (sym ran.told ∙ is) }
 
   ended : (problem' : Option Fault) → FinishEnds flushed result problem' → CloseComes script file.faults left problem'
   ended None ends = completes result refl ends.0 ends.1
@@ -163,7 +180,7 @@ module _ {D N : Type 0} (tells : DiskOf D) (shows : ViewOf NoView N)
   ended (Some (fault.InputOver size limit)) ends = absurd ends
   ended (Some (fault.ScriptOver limit)) ends = absurd ends
   ended (Some (fault.SessionFull held size limit)) ends = fills held size limit ends.0 ends.1
-  ended (Some fault.Memory) ends = saved ends.1
+  ended (Some fault.Memory) ends = wants ends.0 ends.1
   ended (Some (fault.Script number)) ends = absurd ends
   ended (Some (fault.Read refused)) ends = absurd ends
 
@@ -251,7 +268,19 @@ record_comes tells source source' name now out script file left end says asked_i
 pub was_asked : {X : Type 0} (asked : Option X) (x : X) → asked ≡ Some x → ¬ (asked ≡ None)
 was_asked asked x is none = cc
 
+-- what a crash leaves of a disk that was asked for nothing, and then was attached
+pub begun_since : (head : List ℕ) (story attached now : Option Story) (content : Option (List ℕ)) (clock : ℕ) → Agrees story content clock → IsFresh story
+    → attached ≡ story → Adds attached now (IsBegun head) → HoldsSince now clock (IsBegun head)
+begun_since head story attached now content clock agrees fresh same adds =
+    begun_holds head story now content clock agrees fresh (subst (λ s. Adds s now (IsBegun head)) same adds)
+
 -- of a disk that was asked for nothing a crash leaves no MDF file
 pub fresh_begun : (head : List ℕ) (story : Option Story) (content : Option (List ℕ)) (clock : ℕ) → Agrees story content clock → IsFresh story
     → HoldsSince story clock (IsBegun head)
-fresh_begun head story content clock agrees fresh = begun_holds head story story content clock agrees fresh (adds_none story (IsBegun head))
+fresh_begun head story content clock agrees fresh = begun_since head story story story content clock agrees fresh refl (adds_none story (IsBegun head))
+
+-- on a disk that was asked for nothing no file was made, for want of memory
+pub unmade : {C : Type 0} (tells : DiskOf C) (name head : List ℕ) (out : C) → tells.asked out ≡ None → Agrees (tells.story out) (tells.content out) (tells.moment out)
+    → IsFresh (tells.story out) → IsUnmade name head (state_of tells out) (state_of tells out) fault.Memory
+unmade tells name head out asked agrees fresh =
+    record { asked_is = inl asked; begun = fresh_begun head (tells.story out) (tells.content out) (tells.moment out) agrees fresh; comes = tt }

@@ -8,7 +8,6 @@ use Rattle.std.proofs.lemmas.Option.{same_Some}
 use mathlib.Core.List.{IsPrefix}
 use Rattle.mdf_gate.proofs.Carrying.{prefix_self, prefix_trans}
 use Rattle.mdf_layout.specs.History.{source_samples}
-use Rattle.mdf_layout.specs.Record.{cost_of, history_cost}
 use Rattle.mdf_layout.specs.declared.sample.Sample.{Sample}
 use Rattle.book_owned.specs.Account.{Account, Steps, Terms}
 use Rattle.book_owned.specs.declared.mark.Mark.{Mark}
@@ -17,8 +16,8 @@ use Rattle.acq_script.specs.Tasks.{samples_of}
 use Rattle.acq_script.specs.declared.script.Plan.{Plan}
 use Rattle.acq_script.specs.declared.script.Task.{Task}
 use Rattle.acq_script.specs.declared.script.Task.TheVariants as task
-use Rattle.mdf_run.specs.Drive.{AreMarked, Drives, Ends, IsOver}
-use Rattle.mdf_run.specs.Sources.{AreOwnMarked, IsOverAt, SourceEnds, Ran, AllRan, HasDriven, RanAll, AreRun, worse, worst}
+use Rattle.mdf_run.specs.Drive.{AreMarked, Drives, Ends, IsOver, IsSample}
+use Rattle.mdf_run.specs.Sources.{AreOwnMarked, HadRoom, HasNext, IsOverAt, SourceEnds, Ran, AllRan, HasDriven, RanAll, AreRun, worse, worst}
 use Rattle.mdf_run.specs.declared.drive.End.{End}
 use Rattle.mdf_run.specs.declared.drive.End.TheVariants.{SessionFull, Stopped, Memory}
 use Rattle.mdf_run.proofs.Marking.{mark_stays, samples_of-append}
@@ -93,24 +92,11 @@ own_marks_stay owners source counts history more longer marks later before (task
 
 -- A source that ran has run in a book with more samples of other sources too.
 module _ {D V : Type 0} (old new : Account D V) (more : List Sample) (steps : Steps old new more) where
-  over_later : (rest : List Task) (held size limit : ℕ) → IsOverAt old rest held size limit → IsOverAt new rest held size limit
-  over_later rest held size limit over = record {
-    sample = over.sample;
-    later = over.later;
-    rest_is = over.rest_is;
-    before = over.before;
-    begins = prefix_trans over.before old.history new.history over.begins (more, sym steps.history);
-    held_is = over.held_is ∙ ap (λ (t : Terms). history_cost t.layouts over.before) (sym steps.terms);
-    size_is = over.size_is ∙ ap (λ (t : Terms). cost_of t.layouts over.sample) (sym steps.terms);
-    limit_is = over.limit_is ∙ ap (λ (t : Terms). t.session_limit) (sym steps.terms);
-    over = over.over;
-  }
-
-  ends_later : (rest : List Task) (how : Result Unit End) → SourceEnds old rest how → SourceEnds new rest how
-  ends_later rest (Ok u) ends = ends
-  ends_later rest (Err (SessionFull held size limit)) ends = over_later rest held size limit ends
-  ends_later rest (Err Stopped) ends = steps.stopped ends
-  ends_later rest (Err Memory) ends = ends
+  ends_later : (history : List Sample) (rest : List Task) (how : Result Unit End) → SourceEnds old history rest how → SourceEnds new history rest how
+  ends_later history rest (Ok u) ends = ends
+  ends_later history rest (Err (SessionFull held size limit)) ends = subst (λ (t : Terms). IsOverAt t history rest held size limit) (sym steps.terms) ends
+  ends_later history rest (Err Stopped) ends = steps.stopped ends
+  ends_later history rest (Err Memory) ends = ends
 
   ran_later : (owners : List ℕ) (source : ℕ) (tasks : List Task) (n : ℕ) (how : Result Unit End) → source_samples owners more source ≡ []
       → Ran owners old source tasks n how → Ran owners new source tasks n how
@@ -118,12 +104,17 @@ module _ {D V : Type 0} (old new : Account D V) (more : List Sample) (steps : St
     done = ran.done;
     rest = ran.rest;
     parts = ran.parts;
-    own = ap (λ h. source_samples owners h source) steps.history ∙ filter-append (λ (s : Sample). slice_index owners s.group == source) old.history more
-        ∙ ap (λ ss. source_samples owners old.history source ++ ss) none ∙ append-nil (source_samples owners old.history source) ∙ ran.own;
+    own = same ∙ ran.own;
     marked = own_marks_stay owners source (λ k. Unit {0}) old.history more new.history old.marks new.marks [] ran.done steps.history steps.marks ran.marked;
     counted = ran.counted;
-    ends = ends_later ran.rest how ran.ends;
-  }
+    before = ran.before;
+    begins = prefix_trans ran.before old.history new.history ran.begins (more, sym steps.history);
+    all_own = ran.all_own ∙ sym same;
+    ends = ends_later ran.before ran.rest how ran.ends;
+  } where
+    same : source_samples owners new.history source ≡ source_samples owners old.history source
+    same = ap (λ h. source_samples owners h source) steps.history ∙ filter-append (λ (s : Sample). slice_index owners s.group == source) old.history more
+        ∙ ap (λ ss. source_samples owners old.history source ++ ss) none ∙ append-nil (source_samples owners old.history source)
 
   pub all_later : (owners : List ℕ) (source : ℕ) (lists : List (List Task)) (accepted : List ℕ) (hows : List (Result Unit End))
       → ((s : ℕ) → source ≤ s → s < source + length lists → source_samples owners more s ≡ [])
@@ -171,6 +162,9 @@ ran_there plan old new source tasks n how driven all none =
           (driven.steps.history ∙ ap (λ h. h ++ samples_of driven.done) (sym front) ∙ ap (λ ss. (old.history ++ []) ++ ss) (sym (append-nil (samples_of driven.done))))
           (ap length (sym front)) (ap (λ h. source_samples plan.owners h source) front ∙ none) mine driven.marked;
       counted = driven.counted;
+      before = new.history;
+      begins = prefix_self new.history;
+      all_own = refl;
       ends = driven.ends;
     }
 
@@ -202,19 +196,19 @@ run_none plan book fresh = record {
 }
 
 -- a source that was driven from a book that is not stopped, or that was not driven
-ends_there : {D V : Type 0} (book : Account D V) (rest : List Task) (how : Result Unit End) → Ends book rest how → SourceEnds book rest how
+ends_there : {D V : Type 0} (book : Account D V) (rest : List Task) (how : Result Unit End) → Ends book rest how → SourceEnds book book.history rest how
 ends_there book rest (Ok u) ends = ends.0
 ends_there book rest (Err Stopped) ends = ends.comes
-ends_there book rest (Err Memory) ends = tt
+ends_there book rest (Err Memory) ends = of_next ends.next ends.tasks_are ends.comes.1 where
+  of_next : (next : Task) → rest ≡ next ∷ ends.later → IsSample next → (sample : Sample) × HasNext rest sample
+  of_next task.Flush is sample = absurd sample
+  of_next (task.Sample sample) is _ = (sample, record { later = ends.later; rest_is = is })
 ends_there book rest (Err (SessionFull held size limit)) ends = of_next ends.next ends.tasks_are ends.comes.1 where
-  of_next : (next : Task) → rest ≡ next ∷ ends.later → IsOver book next held size limit → IsOverAt book rest held size limit
+  of_next : (next : Task) → rest ≡ next ∷ ends.later → IsOver book next held size limit → IsOverAt book.terms book.history rest held size limit
   of_next task.Flush is over = absurd over
   of_next (task.Sample sample) is over = record {
     sample = sample;
-    later = ends.later;
-    rest_is = is;
-    before = book.history;
-    begins = prefix_self book.history;
+    next = record { later = ends.later; rest_is = is };
     held_is = over.0;
     size_is = over.1;
     limit_is = over.2;
@@ -313,6 +307,15 @@ accepted-length owners book source [] (n ∷ accepted) hows all = absurd all
 accepted-length owners book source (tasks ∷ lists) [] hows all = absurd all
 accepted-length owners book source (tasks ∷ lists) (n ∷ accepted) [] all = absurd all
 
+pub hows-length : {D V : Type 0} (owners : List ℕ) (book : Account D V) (source : ℕ) (lists : List (List Task)) (accepted : List ℕ) (hows : List (Result Unit End))
+    → AllRan owners book source lists accepted hows → length hows ≡ length lists
+hows-length owners book source [] [] [] all = refl
+hows-length owners book source (tasks ∷ lists) (n ∷ accepted) (how ∷ hows) all = omega (arith, hows-length owners book (source + 1) lists accepted hows all.1)
+hows-length owners book source [] [] (how ∷ hows) all = absurd all
+hows-length owners book source [] (n ∷ accepted) hows all = absurd all
+hows-length owners book source (tasks ∷ lists) [] hows all = absurd all
+hows-length owners book source (tasks ∷ lists) (n ∷ accepted) [] all = absurd all
+
 -- the end that is told is one of them, or all have done all
 worse_err : (first next : Result Unit End) (e : End) → worse first next ≡ Err e → (first ≡ Err e) ⊎ (next ≡ Err e)
 worse_err (Ok u) next e is = inr is
@@ -336,7 +339,7 @@ worst_err hows e is = elim (fold_err (Ok tt) hows e is) [
   not_err : ◌≡◌ {A = Result Unit End} (Ok tt) (Err e) → ⊥
   not_err wrong = cc
 
-abbrev IsDone : Result Unit End → Type 0
+abbrev pub IsDone : Result Unit End → Type 0
 IsDone (Ok u) = Unit {0}
 IsDone (Err e) = ⊥
 
@@ -360,19 +363,110 @@ fold_ok first (how ∷ hows) done =
       each zero h there mine later = let same : how ≡ h = cc in subst IsDone same mine
       each (suc s) h there mine later = later s h there
 
--- a source that has done all
-all_done : {D V : Type 0} (book : Account D V) (rest : List Task) (how : Result Unit End) → IsDone how → SourceEnds book rest how → rest ≡ []
-all_done book rest (Ok u) done ends = ends
-all_done book rest (Err e) done ends = absurd done
+-- where all have done all, each has
+pub each_done : (hows : List (Result Unit End)) (u : Unit {0}) → Ok u ≡ worst hows → (s : ℕ) (how : Result Unit End) → slice_get hows s ≡ Some how → IsDone how
+each_done hows u told = (fold_ok (Ok tt) hows (subst IsDone told tt)).1
 
-pub each_done : {D V : Type 0} (owners : List ℕ) (book : Account D V) (lists : List (List Task)) (accepted : List ℕ) (hows : List (Result Unit End)) (u : Unit {0}) → Ok u ≡ worst hows
-    → AllRan owners book 0 lists accepted hows → (s : ℕ) (tasks : List Task) → slice_get lists s ≡ Some tasks
-    → (source_samples owners book.history s ≡ samples_of tasks) × AreOwnMarked owners s book.history book.marks (λ n. Unit {0}) [] tasks
-each_done owners book lists accepted hows u told all s tasks there =
-    let at = ran_of owners book lists accepted hows all s tasks there in
-    let done = (fold_ok (Ok tt) hows (subst IsDone told tt)).1 s at.how at.how_is in
-    let whole : at.ran.done ≡ tasks = sym (append-nil at.ran.done) ∙ ap (λ rest. at.ran.done ++ rest) (sym (all_done book at.ran.rest at.how done at.ran.ends)) ∙ at.ran.parts in
-    (at.ran.own ∙ ap samples_of whole, subst (AreOwnMarked owners s book.history book.marks (λ n. Unit {0}) []) whole at.ran.marked)
+-- a source that has done all
+all_done : {D V : Type 0} (book : Account D V) (history : List Sample) (rest : List Task) (how : Result Unit End) → IsDone how → SourceEnds book history rest how → rest ≡ []
+all_done book history rest (Ok u) done ends = ends
+all_done book history rest (Err e) done ends = absurd done
+
+pub whole_ran : {D V : Type 0} (owners : List ℕ) (book : Account D V) (source : ℕ) (tasks : List Task) (n : ℕ) (how : Result Unit End) → IsDone how → Ran owners book source tasks n how
+    → (source_samples owners book.history source ≡ samples_of tasks) × AreOwnMarked owners source book.history book.marks (λ k. Unit {0}) [] tasks
+whole_ran owners book source tasks n how done ran =
+    let whole : ran.done ≡ tasks = sym (append-nil ran.done) ∙ ap (λ rest. ran.done ++ rest) (sym (all_done book ran.before ran.rest how done ran.ends)) ∙ ran.parts in
+    (ran.own ∙ ap samples_of whole, subst (AreOwnMarked owners source book.history book.marks (λ k. Unit {0}) []) whole ran.marked)
+
+-- the first end for want of room is told, whatever memory was wanted
+abbrev IsMild : Result Unit End → Type 0
+IsMild (Ok u) = Unit {0}
+IsMild (Err (SessionFull held size limit)) = ⊥
+IsMild (Err Stopped) = ⊥
+IsMild (Err Memory) = Unit {0}
+
+full_stays : (held size limit : ℕ) (hows : List (Result Unit End)) → fold worse (Err (SessionFull held size limit)) hows ≡ Err (SessionFull held size limit)
+full_stays held size limit [] = refl
+full_stays held size limit (how ∷ hows) = full_stays held size limit hows
+
+stopped_stays : (hows : List (Result Unit End)) → fold worse (Err Stopped) hows ≡ Err Stopped
+stopped_stays [] = refl
+stopped_stays (how ∷ hows) = stopped_stays hows
+
+room_none : All HadRoom []
+room_none k d within = absurd (omega (arith, within))
+
+room_more : (how : Result Unit End) (hows : List (Result Unit End)) → HadRoom how → All HadRoom hows → All HadRoom (how ∷ hows)
+room_more how hows one rest zero d within = one
+room_more how hows one rest (suc k) d within = rest k d (omega (arith, within))
+
+pub record FirstFull (hows : List (Result Unit End)) (held size limit : ℕ) : Type 0 where
+  pub source : ℕ
+  pub told : slice_get hows source ≡ Some (Err (SessionFull held size limit))
+  pub first : All HadRoom (take source hows)
+
+full_later : (how : Result Unit End) (hows : List (Result Unit End)) (held size limit : ℕ) → HadRoom how → FirstFull hows held size limit → FirstFull (how ∷ hows) held size limit
+full_later how hows held size limit room found = record { source = suc found.source; told = found.told; first = room_more how (take found.source hows) room found.first }
+
+-- of this end, which others follow
+full_here : (hows : List (Result Unit End)) (a b c held size limit : ℕ) → fold worse (Err (SessionFull a b c)) hows ≡ Err (SessionFull held size limit)
+    → FirstFull (Err (SessionFull a b c) ∷ hows) held size limit
+full_here hows a b c held size limit is = record { source = 0; told = ap Some (sym (full_stays a b c hows) ∙ is); first = room_none }
+
+full_from : (first : Result Unit End) (hows : List (Result Unit End)) (held size limit : ℕ) → IsMild first → fold worse first hows ≡ Err (SessionFull held size limit) → FirstFull hows held size limit
+full_from (Ok u) [] held size limit mild is = absurd (not_full is) where
+  not_full : ◌≡◌ {A = Result Unit End} (Ok u) (Err (SessionFull held size limit)) → ⊥
+  not_full wrong = cc
+full_from (Err Memory) [] held size limit mild is = absurd (not_full is) where
+  not_full : ◌≡◌ {A = Result Unit End} (Err Memory) (Err (SessionFull held size limit)) → ⊥
+  not_full wrong = cc
+full_from (Err Stopped) hows held size limit mild is = absurd mild
+full_from (Err (SessionFull a b c)) hows held size limit mild is = absurd mild
+full_from (Ok u) (Ok v ∷ hows) held size limit mild is = full_later (Ok v) hows held size limit tt (full_from (Ok v) hows held size limit tt is)
+full_from (Ok u) (Err Memory ∷ hows) held size limit mild is = full_later (Err Memory) hows held size limit tt (full_from (Err Memory) hows held size limit tt is)
+full_from (Ok u) (Err Stopped ∷ hows) held size limit mild is = full_later (Err Stopped) hows held size limit tt (absurd (not_stopped (sym (stopped_stays hows) ∙ is))) where
+  not_stopped : ◌≡◌ {A = Result Unit End} (Err Stopped) (Err (SessionFull held size limit)) → ⊥
+  not_stopped wrong = cc
+full_from (Ok u) (Err (SessionFull a b c) ∷ hows) held size limit mild is = full_here hows a b c held size limit is
+full_from (Err Memory) (Ok v ∷ hows) held size limit mild is = full_later (Ok v) hows held size limit tt (full_from (Err Memory) hows held size limit tt is)
+full_from (Err Memory) (Err Memory ∷ hows) held size limit mild is = full_later (Err Memory) hows held size limit tt (full_from (Err Memory) hows held size limit tt is)
+full_from (Err Memory) (Err Stopped ∷ hows) held size limit mild is = full_later (Err Stopped) hows held size limit tt (absurd (not_stopped (sym (stopped_stays hows) ∙ is))) where
+  not_stopped : ◌≡◌ {A = Result Unit End} (Err Stopped) (Err (SessionFull held size limit)) → ⊥
+  not_stopped wrong = cc
+full_from (Err Memory) (Err (SessionFull a b c) ∷ hows) held size limit mild is = full_here hows a b c held size limit is
+
+pub first_full : (hows : List (Result Unit End)) (held size limit : ℕ) → worst hows ≡ Err (SessionFull held size limit) → FirstFull hows held size limit
+first_full hows held size limit is = full_from (Ok tt) hows held size limit tt is
+
+-- want of memory is told only where all had room
+room_step : (first how : Result Unit End) (hows : List (Result Unit End)) → IsMild first → fold worse (worse first how) hows ≡ Err Memory → HadRoom how × IsMild (worse first how)
+room_step (Ok u) (Ok v) hows mild is = (tt, tt)
+room_step (Ok u) (Err Memory) hows mild is = (tt, tt)
+room_step (Ok u) (Err Stopped) hows mild is = absurd (not_stopped (sym (stopped_stays hows) ∙ is)) where
+  not_stopped : ◌≡◌ {A = Result Unit End} (Err Stopped) (Err Memory) → ⊥
+  not_stopped wrong = cc
+room_step (Ok u) (Err (SessionFull a b c)) hows mild is = absurd (not_full (sym (full_stays a b c hows) ∙ is)) where
+  not_full : ◌≡◌ {A = Result Unit End} (Err (SessionFull a b c)) (Err Memory) → ⊥
+  not_full wrong = cc
+room_step (Err Memory) (Ok v) hows mild is = (tt, tt)
+room_step (Err Memory) (Err Memory) hows mild is = (tt, tt)
+room_step (Err Memory) (Err Stopped) hows mild is = absurd (not_stopped (sym (stopped_stays hows) ∙ is)) where
+  not_stopped : ◌≡◌ {A = Result Unit End} (Err Stopped) (Err Memory) → ⊥
+  not_stopped wrong = cc
+room_step (Err Memory) (Err (SessionFull a b c)) hows mild is = absurd (not_full (sym (full_stays a b c hows) ∙ is)) where
+  not_full : ◌≡◌ {A = Result Unit End} (Err (SessionFull a b c)) (Err Memory) → ⊥
+  not_full wrong = cc
+room_step (Err Stopped) how hows mild is = absurd mild
+room_step (Err (SessionFull a b c)) how hows mild is = absurd mild
+
+room_from : (first : Result Unit End) (hows : List (Result Unit End)) → IsMild first → fold worse first hows ≡ Err Memory → All HadRoom hows
+room_from first [] mild is = room_none
+room_from first (how ∷ hows) mild is =
+    let step = room_step first how hows mild is in
+    room_more how hows step.0 (room_from (worse first how) hows step.1 is)
+
+pub all_room : (hows : List (Result Unit End)) → worst hows ≡ Err Memory → All HadRoom hows
+all_room hows is = room_from (Ok tt) hows tt is
 
 -- a source's samples begin its list, and its flushes before one of them have their marks
 fewer_own : (owners : List ℕ) (source : ℕ) (history : List Sample) (marks : List Mark) (counts : ℕ → Type 0) (before : List Sample) (tasks : List Task)
@@ -423,4 +517,4 @@ stopped_told owners book lists accepted (Err e) ran = λ is.
     let there = has_list owners book 0 lists accepted ran.hows ran.each found.0 (Err e) found.1 in
     let at = ran_of owners book lists accepted ran.hows ran.each found.0 there.0 there.1 in
     let how_is : at.how ≡ Err Stopped = same_Some at.how (Err e) (sym at.how_is ∙ found.1) ∙ ap Err is in
-    subst (SourceEnds book at.ran.rest) how_is at.ran.ends
+    subst (SourceEnds book at.ran.before at.ran.rest) how_is at.ran.ends

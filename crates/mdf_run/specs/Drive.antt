@@ -50,11 +50,16 @@ IsOver book (task.Sample sample) held size limit =
     × (limit ≡ book.terms.session_limit) × (limit < held + size)
 IsOver book task.Flush held size limit = ⊥
 
+-- the task is to record a sample
+abbrev pub IsSample : Task → Type 0
+IsSample (task.Sample sample) = Unit {0}
+IsSample task.Flush = ⊥
+
 -- why a task was not done
 abbrev pub EndComes : {D V : Type 0} → Account D V → Task → End → Type 0
 EndComes book task (SessionFull held size limit) = (book.stopped ≡ false) × IsOver book task held size limit
 EndComes book task Stopped = book.stopped ≡ true
-EndComes book task Memory = book.stopped ≡ false
+EndComes book task Memory = (book.stopped ≡ false) × IsSample task
 
 -- The first of the tasks was not done, for this reason.
 pub record StopsAt {D V : Type 0} (book : Account D V) (tasks : List Task) (end : End) : Type 0 where

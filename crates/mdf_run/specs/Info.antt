@@ -1,15 +1,13 @@
 -- The command `info IN`.
-use Rattle.std.specs.Prelude.{ℕ, List, [], ◌∷◌, ◌++◌, length, codes, Result, Ok, Err}
+use Rattle.std.specs.Prelude.{ℕ, List, [], ◌∷◌, ◌++◌, length, codes}
 use Rattle.std.specs.List.{sum_by}
 use Rattle.std.specs.Fmt.{decimal}
 use Rattle.mdf_disk.specs.State.{DiskState}
 use Rattle.mdf_port.specs.State.{SinkState}
 use Rattle.mdf_model.specs.Measurement.{Measured}
 use Rattle.mdf_model.specs.declared.part.Measure.{Measure}
-use Rattle.mdf_run.specs.Texts.{line, numbered, shown_text, text_of, Prints}
-use Rattle.mdf_run.specs.Faults.{fault_line}
-use Rattle.mdf_run.specs.Reading.{ReadingComes, reading_status}
-use Rattle.mdf_run.specs.declared.fault.Fault.{Fault}
+use Rattle.mdf_run.specs.Texts.{line, numbered, shown_text, text_of}
+use Rattle.mdf_run.specs.Reading.{EndsReading}
 use Rattle.mdf_run.specs.declared.reading.Reading.{Reading}
 
 abbrev pub version_line : ℕ → List ℕ
@@ -31,15 +29,10 @@ total_line found =
     line (codes "groups " ∷ decimal (length found.groups) ∷ codes " samples " ∷ decimal (total found.groups) ∷ codes " dropped " ∷ decimal found.dropped ∷ [])
 
 -- the lines of a file: its version, each group, and all groups
-abbrev pub reading_text : Reading → List ℕ
-reading_text found =
+abbrev pub contents_text : Reading → List ℕ
+contents_text found =
     version_line found.version ++ (numbered group_line 0 found.measurement.groups ++ total_line found.measurement)
 
-abbrev pub info_text : Result Reading Fault → List ℕ
-info_text (Ok found) = reading_text found
-info_text (Err fault) = fault_line fault
-
--- How the command ends, by what the disk of the input and the sink tell before and after.
+-- How the command ends.
 abbrev pub EndsInfo : DiskState → DiskState → SinkState → SinkState → ℕ → Type 0
-EndsInfo disk disk' sink sink' status =
-    (end : Result Reading Fault) × ReadingComes disk disk' end × Prints (info_text end) (reading_status end) sink sink' status
+EndsInfo = EndsReading contents_text

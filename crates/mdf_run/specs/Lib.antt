@@ -6,6 +6,7 @@ pub mod Opened
 pub mod Reading
 pub mod Check
 pub mod Info
+pub mod Question
 pub mod Head
 pub mod Drive
 pub mod Sources

@@ -6,7 +6,9 @@ use Rattle.mdf_head.specs.Ident.{identify}
 use Rattle.mdf_content.specs.Fault.{read_refusal}
 use Rattle.mdf_model.specs.Measurement.{measurement}
 use Rattle.mdf_disk.specs.State.{DiskState}
-use Rattle.mdf_run.specs.Faults.{INPUT_LIMIT, fault_status}
+use Rattle.mdf_port.specs.State.{SinkState}
+use Rattle.mdf_run.specs.Texts.{Prints}
+use Rattle.mdf_run.specs.Faults.{INPUT_LIMIT, fault_line, fault_status}
 use Rattle.mdf_run.specs.declared.fault.Fault.{Fault}
 use Rattle.mdf_run.specs.declared.fault.Fault.TheVariants as fault
 use Rattle.mdf_run.specs.declared.reading.Reading.{Reading}
@@ -40,3 +42,13 @@ ReadingComes old new (Err fault) = ReadingFaultComes old new fault
 abbrev pub reading_status : Result Reading Fault → ℕ
 reading_status (Ok found) = 0
 reading_status (Err fault) = fault_status fault
+
+-- what a command prints: this text of a file that was read, or why it was not
+abbrev pub answer_text : (Reading → List ℕ) → Result Reading Fault → List ℕ
+answer_text text (Ok found) = text found
+answer_text text (Err fault) = fault_line fault
+
+-- How a command that prints this text of a file ends, by what the disk of the input and the sink tell before and after.
+abbrev pub EndsReading : (Reading → List ℕ) → DiskState → DiskState → SinkState → SinkState → ℕ → Type 0
+EndsReading text disk disk' sink sink' status =
+    (end : Result Reading Fault) × ReadingComes disk disk' end × Prints (answer_text text end) (reading_status end) sink sink' status

@@ -1,5 +1,5 @@
 -- The command `record OUT`.
-use Rattle.std.specs.Prelude.{ℕ, ◌≡◌, ◌+◌, ◌≤◌, ◌<◌, List, [], ◌∷◌, ◌++◌, length, codes, slice_get, Option, Some, None, IfSome, is_some}
+use Rattle.std.specs.Prelude.{ℕ, ◌≡◌, ◌+◌, ◌≤◌, ◌<◌, List, [], ◌∷◌, ◌++◌, length, codes, slice_get, take, All, Option, Some, None, IfSome, is_some, Result, Ok, Err}
 use Rattle.std.specs.Fmt.{decimal}
 use mathlib.Core.List.{IsPrefix}
 use Rattle.mdf_format.specs.Cause.{Rose}
@@ -18,7 +18,9 @@ use Rattle.acq_script.specs.declared.script.Script.{Script}
 use Rattle.acq_script.specs.declared.script.Task.{Task}
 use Rattle.mdf_run.specs.Texts.{line, numbered}
 use Rattle.mdf_run.specs.Faults.{fault_line, fault_status}
-use Rattle.mdf_run.specs.Sources.{AreOwnMarked}
+use Rattle.mdf_run.specs.Sources.{AreOwnMarked, HadRoom}
+use Rattle.mdf_run.specs.declared.drive.End.{End}
+use Rattle.mdf_run.specs.declared.drive.End.TheVariants as end_
 use Rattle.mdf_run.specs.declared.fault.Fault.{Fault}
 use Rattle.mdf_run.specs.declared.fault.Fault.TheVariants as fault
 use Rattle.mdf_run.specs.declared.record.RecordEnd.{RecordEnd}
@@ -74,28 +76,63 @@ pub record AreAccepted (script : Script) (left : Outcome) (accepted : List ℕ) 
   pub count : length accepted ≡ length script.lists
   pub each : OfSources script (λ source tasks. slice_get accepted source ≡ Some (length (source_samples script.plan.owners left.history source)))
 
+-- all of a source's samples were accepted, and each of its flushes has its mark
+pub record IsWhole (script : Script) (left : Outcome) (source : ℕ) (tasks : List Task) : Type 0 where
+  pub history_is : source_samples script.plan.owners left.history source ≡ samples_of tasks
+  pub flush_lines : AreOwnMarked script.plan.owners source left.history left.marks (λ n. Unit {0}) [] tasks
+
 -- The whole script was recorded and saved, each flush has its mark, and the samples cost no more than the session limit.
 pub record IsComplete (script : Script) (left : Outcome) : Type 0 where
-  pub history_is : OfSources script (λ source tasks. source_samples script.plan.owners left.history source ≡ samples_of tasks)
-  pub flush_lines : OfSources script (λ source tasks. AreOwnMarked script.plan.owners source left.history left.marks (λ n. Unit {0}) [] tasks)
+  pub whole : OfSources script (λ source tasks. IsWhole script left source tasks)
   pub cost : history_cost script.plan.shapes left.history ≤ script.plan.session
   pub saved : IsSaved script.plan left
 
--- The next sample of a source would have passed the session limit, when the history was this beginning of it; and all that
--- was accepted is saved.
-pub record IsFull (script : Script) (left : Outcome) (held size limit : ℕ) : Type 0 where
-  pub source : ℕ
-  pub tasks : List Task
-  pub there : slice_get script.lists source ≡ Some tasks
+-- the first sample of a source that was not accepted
+abbrev pub IsNext : Script → Outcome → ℕ → List Task → Sample → Type 0
+IsNext script left source tasks sample =
+    slice_get (samples_of tasks) (length (source_samples script.plan.owners left.history source)) ≡ Some sample
+
+-- The next sample of a source would have passed the session limit, behind a beginning of the history that has all of the
+-- source's own samples.
+pub record LackedRoom (script : Script) (left : Outcome) (source : ℕ) (tasks : List Task) (held size limit : ℕ) : Type 0 where
   pub sample : Sample
-  pub next : slice_get (samples_of tasks) (length (source_samples script.plan.owners left.history source)) ≡ Some sample
+  pub next : IsNext script left source tasks sample
   pub before : List Sample
   pub begins : IsPrefix before left.history
+  pub all_own : source_samples script.plan.owners before source ≡ source_samples script.plan.owners left.history source
   pub held_is : held ≡ history_cost script.plan.shapes before
   pub size_is : size ≡ cost_of script.plan.shapes sample
   pub limit_is : limit ≡ script.plan.session
   pub over : limit < held + size
+
+-- How a source ends where the disk did not fail: all was done, its next sample had no room, or memory was wanted for it.
+abbrev pub SourceComes : Script → Outcome → ℕ → List Task → Result Unit End → Type 0
+SourceComes script left source tasks (Ok done) = IsWhole script left source tasks
+SourceComes script left source tasks (Err (end_.SessionFull held size limit)) = LackedRoom script left source tasks held size limit
+SourceComes script left source tasks (Err end_.Stopped) = ⊥
+SourceComes script left source tasks (Err end_.Memory) = (sample : Sample) × IsNext script left source tasks sample
+
+-- these are the ends of the sources, in the order of their numbers, and all that was accepted is saved
+pub record AreEnds (script : Script) (left : Outcome) (ends : List (Result Unit End)) : Type 0 where
+  pub count : length ends ≡ length script.lists
+  pub each : OfSources script (λ source tasks. IfSome (slice_get ends source) (SourceComes script left source tasks))
   pub saved : IsSaved script.plan left
+
+-- The numbers are those of the first source that had no room.
+pub record IsFull (script : Script) (left : Outcome) (held size limit : ℕ) : Type 0 where
+  pub ends : List (Result Unit End)
+  pub are : AreEnds script left ends
+  pub source : ℕ
+  pub told : slice_get ends source ≡ Some (Err (end_.SessionFull held size limit))
+  pub first : All HadRoom (take source ends)
+
+-- All sources had room, but memory was wanted for the next sample of one.
+pub record IsShort (script : Script) (left : Outcome) : Type 0 where
+  pub ends : List (Result Unit End)
+  pub are : AreEnds script left ends
+  pub source : ℕ
+  pub wanted : slice_get ends source ≡ Some (Err end_.Memory)
+  pub room : All HadRoom ends
 
 -- How a recording that was begun ends, where the disk's count of faults was `faults` before: all was done, the disk failed,
 -- the session is full, or memory was wanted. All that was accepted is saved but where the disk failed.
@@ -107,7 +144,7 @@ CloseComes script faults left (Some fault.Device) = Rose faults left.disk.faults
 CloseComes script faults left (Some (fault.InputOver size limit)) = ⊥
 CloseComes script faults left (Some (fault.ScriptOver limit)) = ⊥
 CloseComes script faults left (Some (fault.SessionFull held size limit)) = IsFull script left held size limit
-CloseComes script faults left (Some fault.Memory) = IsSaved script.plan left
+CloseComes script faults left (Some fault.Memory) = IsShort script left
 CloseComes script faults left (Some (fault.Script number)) = ⊥
 CloseComes script faults left (Some (fault.Read refused)) = ⊥
 

@@ -5,7 +5,7 @@ use mathlib.Core.List.{IsPrefix}
 use Rattle.mdf_layout.specs.History.{source_samples}
 use Rattle.mdf_layout.specs.Record.{cost_of, history_cost}
 use Rattle.mdf_layout.specs.declared.sample.Sample.{Sample}
-use Rattle.book_owned.specs.Account.{Account, Steps}
+use Rattle.book_owned.specs.Account.{Account, Steps, Terms}
 use Rattle.book_owned.specs.declared.mark.Mark.{Mark}
 use Rattle.acq_script.specs.Plan.{TaskFits, IsTaskOf}
 use Rattle.acq_script.specs.Tasks.{samples_of}
@@ -32,26 +32,29 @@ AreOwnMarked owners source history marks counts before (task.Sample sample ∷ t
 AreOwnMarked owners source history marks counts before (task.Flush ∷ tasks) =
     (counts (length before) → HasOwnMark owners source history marks before) × AreOwnMarked owners source history marks counts before tasks
 
--- the next sample of a source would have passed the session limit, when the history was this beginning of it
-pub record IsOverAt {D V : Type 0} (book : Account D V) (rest : List Task) (held size limit : ℕ) : Type 0 where
-  pub sample : Sample
+-- a source's next task is to record this sample
+pub record HasNext (rest : List Task) (sample : Sample) : Type 0 where
   pub later : List Task
   pub rest_is : rest ≡ task.Sample sample ∷ later
-  pub before : List Sample
-  pub begins : IsPrefix before book.history
-  pub held_is : held ≡ history_cost book.terms.layouts before
-  pub size_is : size ≡ cost_of book.terms.layouts sample
-  pub limit_is : limit ≡ book.terms.session_limit
+
+-- behind this history the next sample of a source would have passed the session limit
+pub record IsOverAt (terms : Terms) (history : List Sample) (rest : List Task) (held size limit : ℕ) : Type 0 where
+  pub sample : Sample
+  pub next : HasNext rest sample
+  pub held_is : held ≡ history_cost terms.layouts history
+  pub size_is : size ≡ cost_of terms.layouts sample
+  pub limit_is : limit ≡ terms.session_limit
   pub over : limit < held + size
 
--- what is left of a source's tasks, and why
-abbrev pub SourceEnds : {D V : Type 0} → Account D V → List Task → Result Unit End → Type 0
-SourceEnds book rest (Ok done) = rest ≡ []
-SourceEnds book rest (Err (SessionFull held size limit)) = IsOverAt book rest held size limit
-SourceEnds book rest (Err Stopped) = book.stopped ≡ true
-SourceEnds book rest (Err Memory) = Unit {0}
+-- what is left of a source's tasks behind this history, and why
+abbrev pub SourceEnds : {D V : Type 0} → Account D V → List Sample → List Task → Result Unit End → Type 0
+SourceEnds book history rest (Ok done) = rest ≡ []
+SourceEnds book history rest (Err (SessionFull held size limit)) = IsOverAt book.terms history rest held size limit
+SourceEnds book history rest (Err Stopped) = book.stopped ≡ true
+SourceEnds book history rest (Err Memory) = (sample : Sample) × HasNext rest sample
 
--- A source has run: some of its tasks were done, and just their samples are its own in the history.
+-- A source has run: some of its tasks were done, and just their samples are its own in the history. It ended behind a
+-- beginning of the history that has all of them.
 pub record Ran {D V : Type 0} (owners : List ℕ) (book : Account D V) (source : ℕ) (tasks : List Task) (accepted : ℕ) (how : Result Unit End) : Type 0 where
   pub done : List Task
   pub rest : List Task
@@ -59,7 +62,10 @@ pub record Ran {D V : Type 0} (owners : List ℕ) (book : Account D V) (source :
   pub own : source_samples owners book.history source ≡ samples_of done
   pub marked : AreOwnMarked owners source book.history book.marks (λ n. Unit {0}) [] done
   pub counted : accepted ≡ length (samples_of done)
-  pub ends : SourceEnds book rest how
+  pub before : List Sample
+  pub begins : IsPrefix before book.history
+  pub all_own : source_samples owners before source ≡ source_samples owners book.history source
+  pub ends : SourceEnds book before rest how
 
 -- so have all from this source on
 abbrev pub AllRan : {D V : Type 0} → List ℕ → Account D V → ℕ → List (List Task) → List ℕ → List (Result Unit End) → Type 0
@@ -79,6 +85,13 @@ worse (Err Memory) (Err end) = Err end
 abbrev pub worst : List (Result Unit End) → Result Unit End
 worst hows = fold worse (Ok tt) hows
 
+-- a source did not end for want of room
+abbrev pub HadRoom : Result Unit End → Type 0
+HadRoom (Ok done) = Unit {0}
+HadRoom (Err (SessionFull held size limit)) = ⊥
+HadRoom (Err Stopped) = Unit {0}
+HadRoom (Err Memory) = Unit {0}
+
 -- Tasks of a source led from one book to another: some of them were done, and so many samples accepted.
 pub record HasDriven {D V : Type 0} (old new : Account D V) (tasks : List Task) (accepted : ℕ) (how : Result Unit End) : Type 0 where
   pub done : List Task
@@ -87,7 +100,7 @@ pub record HasDriven {D V : Type 0} (old new : Account D V) (tasks : List Task) 
   pub steps : Steps old new (samples_of done)
   pub marked : AreMarked (λ n. Unit {0}) done (length old.history) new.marks
   pub counted : accepted ≡ length (samples_of done)
-  pub ends : SourceEnds new rest how
+  pub ends : SourceEnds new new.history rest how
 
 -- all sources ran, and this is the end that is told
 pub record RanAll {D V : Type 0} (owners : List ℕ) (book : Account D V) (lists : List (List Task)) (accepted : List ℕ) (result : Result Unit End) : Type 0 where

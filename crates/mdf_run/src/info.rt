@@ -1,21 +1,16 @@
-ghost use Rattle.std.specs.Prelude.{◌≡◌, ◌⊎◌, ◌<◌, ◌≤◌, Some, None, length, slice_index_or};
-ghost use Rattle.mdf_disk.specs.State.{state_of};
-ghost use Rattle.mdf_disk.specs.declared.role.Role.TheVariants.{Read};
+ghost use Rattle.std.specs.Prelude.{◌≡◌, ◌<◌, ◌≤◌, length, slice_index_or};
 ghost use Rattle.mdf_model.specs.declared.part.Measure.{Measure};
 ghost use Rattle.mdf_port.specs.State.{sink_state};
 ghost use Rattle.mdf_run.specs.Texts.{Gives, numbered, text_of};
-ghost use Rattle.mdf_run.specs.Info.{EndsInfo, group_line, info_text, reading_text, total, total_line, version_line};
+ghost use Rattle.mdf_run.specs.Info.{contents_text, group_line, total, total_line, version_line};
 
-use crate::fault::Fault;
-use crate::reading::{Reading, read_input, status};
+use crate::reading::Reading;
 use crate::report::Piece::{Name, Number, Sum, Text};
-use crate::report::{give_line, status_after};
+use crate::report::give_line;
 use mdf_block::Note;
-use mdf_disk::Disk;
 use mdf_model::Measurement;
-use mdf_num::{Bytes, Failed};
+use mdf_num::Failed;
 use mdf_port::Sink;
-use std::alloc::Global;
 
 /// The text of a name, which is empty where there is none.
 fn text_of(name: &Note) -> &[u8]
@@ -104,35 +99,11 @@ fn give_version<K: Sink>(sink: &mut K, version: u16) -> Result<(), Failed>
     give_line(sink, &[Text(b"version "), Number(u64::from(version))])
 }
 
-/// Gives the lines of a file.
-fn give_reading<K: Sink>(sink: &mut K, found: &Reading) -> Result<(), Failed>
-    ensures { Gives (reading_text found.now) (sink_state K.Sink sink.old) (sink_state K.Sink sink.new) result }
+/// Gives the lines on what a file holds.
+pub fn give_contents<K: Sink>(sink: &mut K, found: &Reading) -> Result<(), Failed>
+    ensures { Gives (contents_text found.now) (sink_state K.Sink sink.old) (sink_state K.Sink sink.new) result }
 {
     give_version(sink, found.version)?;
     give_groups(sink, &found.measurement)?;
     give_total(sink, &found.measurement)
-}
-
-/// Gives the lines with which the command ends.
-fn give_end<K: Sink>(sink: &mut K, end: &Result<Reading, Fault>) -> Result<(), Failed>
-    ensures { Gives (info_text end.now) (sink_state K.Sink sink.old) (sink_state K.Sink sink.new) result }
-{
-    match end {
-        Ok(found) => give_reading(sink, found),
-        Err(fault) => fault.give(sink),
-    }
-}
-
-/// `info IN`: prints the version of the file, its groups and how many samples they have, or why it is not read.
-pub fn run_info<K: Sink, A: Disk>(alloc: Global, input: &Bytes, sink: &mut K, first: &mut A) -> u8
-    requires { A.asked first.old ≡ None }
-    ensures ends { EndsInfo (state_of A.Disk first.old) (state_of A.Disk first.new)
-        (sink_state K.Sink sink.old) (sink_state K.Sink sink.new) result }
-    ensures asked { (A.asked first.new ≡ None) ⊎ (A.asked first.new ≡ Some (input.now, Read)) }
-    ensures content { A.content first.new ≡ A.content first.old }
-    ensures untouched { A.asked first.new ≡ None → first.new ≡ first.old }
-{
-    let end = read_input(alloc, input, first);
-    let given = give_end(sink, &end);
-    status_after(given, status(&end))
 }

@@ -5,6 +5,7 @@
 //! and a test those over memory.
 #![tactic(auto)]
 
+mod answer;
 mod check;
 mod command;
 mod drive;

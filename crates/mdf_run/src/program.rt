@@ -18,10 +18,9 @@ ghost use Rattle.mdf_run.specs.Record.{IsComplete, OfSources, outcome};
 ghost use Rattle.mdf_run.specs.Recorded.{EndsRecord};
 ghost use Rattle.mdf_run.specs.Kept.{OfRecording, IsDone};
 
-use crate::check::run_check;
+use crate::answer::{Question, run_reading};
 use crate::command::{Command, command_of};
 use crate::gate::Gate;
-use crate::info::run_info;
 use crate::opened::run_opened;
 use crate::record::{Recorded, run_record};
 use crate::report::Piece::Text;
@@ -181,12 +180,12 @@ where
         }
         Some(Command::Check { input }) => {
             let mut first = first;
-            let status = run_check(alloc, input, sink, &mut first);
+            let status = run_reading(alloc, Question::Verdict, input, sink, &mut first);
             without_recording(alloc, status, first, out)
         }
         Some(Command::Info { input }) => {
             let mut first = first;
-            let status = run_info(alloc, input, sink, &mut first);
+            let status = run_reading(alloc, Question::Contents, input, sink, &mut first);
             without_recording(alloc, status, first, out)
         }
         None => {

@@ -304,6 +304,11 @@ const TWO_SAMPLES: &str =
 const TWO_SOURCES: &str =
     "group 0 a\nchannel x u8\ngroup 1 b\nchannel y u8\nbegin\n0 1\n0 2\n1 7\n1 8\nend\n";
 
+// The first source has no room for its third sample, since each costs 145, but the second has room for its one, which costs
+// 138 and has a record of 2 bytes behind two of 9.
+const FIRST_FULL: &str =
+    "session 430\ngroup 0 a\nchannel x u64\ngroup 1 b\nchannel y u8\nbegin\n0 1\n0 2\n0 3\n1 7\nend\n";
+
 // A channel of variable length, whose group of values adds 104 bytes to the head. Each sample has 9 bytes, and 5 and the
 // length of its value.
 const THREE_TEXTS: &str = "group 0 g\nchannel v var\nbegin\n0 x\n0 x6162\n0 x63\nend\n";
@@ -315,7 +320,7 @@ const FULL_BLOCK: &str =
 // A script; which calls of the source, of the disk and of the sink fail; the status and what is printed, with what is
 // left. The head and its closed gate are 769 bytes. A block adds 24 bytes and its data, up to the next multiple of 8.
 // Making the file takes the calls 0 to 7 of the disk, and each block four.
-const RECORDED: [(&str, &[u64], &[u64], &[u64], &str); 21] = [
+const RECORDED: [(&str, &[u64], &[u64], &[u64], &str); 22] = [
     (
         COUNTING,
         &[],
@@ -386,6 +391,13 @@ const RECORDED: [(&str, &[u64], &[u64], &[u64], &str); 21] = [
         &[],
         &[],
         "5 source 0 accepted 2\nsamples 2 durable 2\nsession full 290 145 290\nfile 817 history 2 marks [0, 2]",
+    ),
+    (
+        FIRST_FULL,
+        &[],
+        &[],
+        &[],
+        "5 source 0 accepted 2\nsource 1 accepted 1\nsamples 3 durable 3\nsession full 290 145 430\nfile 1145 history 3 marks [0, 3]",
     ),
     (
         SHORT_SESSION,

@@ -3,7 +3,7 @@ use Rattle.std.proofs.lemmas.Result.{err_from_is_err_and}
 use Rattle.mdf_run.specs.Texts.{numbered}
 use Rattle.mdf_run.specs.Info.{group_line, total_line, version_line}
 use Rattle.mdf_run.proofs.Pieces.{gives_behind, gives_failed}
-use Rattle.mdf_run.proofs.info.give_reading.Goals as goal
+use Rattle.mdf_run.proofs.info.give_contents.Goals as goal
 
 pub returns-in_err-give_version : goal.returns-in_err-give_version
 returns-in_err-give_version g c =
