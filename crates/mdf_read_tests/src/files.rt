@@ -19,8 +19,8 @@ pub(crate) fn put_number(file: &mut [u8], at: usize, number: u64) {
     put(file, at, &number.to_le_bytes());
 }
 
-// Copies a block to its place, with its size and the number of its links.
-fn put_block(file: &mut [u8], piece: &Piece) {
+/// Copies a block to its place, with its size and the number of its links.
+pub(crate) fn put_block(file: &mut [u8], piece: &Piece) {
     let (at, name, links, body) = *piece;
     if at > MOST || links.len() > MOST || body.len() > MOST {
         return;

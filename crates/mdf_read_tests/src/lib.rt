@@ -13,6 +13,8 @@ mod fields;
 #[cfg(test)]
 mod files;
 #[cfg(test)]
+mod finalized;
+#[cfg(test)]
 mod groups;
 #[cfg(test)]
 mod heads;
@@ -22,5 +24,7 @@ mod measurements;
 mod recorded;
 #[cfg(test)]
 mod span;
+#[cfg(test)]
+mod spelled;
 #[cfg(test)]
 mod values;

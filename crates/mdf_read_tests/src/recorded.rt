@@ -18,21 +18,21 @@ const IDENT: [u8; 64] = [
 ];
 
 // The start time is 0x0807060504030201 ns, in the header and in the entry of the history.
-const HD: Piece = (
+pub(crate) const HD: Piece = (
     64,
     b"##HD",
     &[376, 168, 0, 0, 0, 0],
     b"\x01\x02\x03\x04\x05\x06\x07\x08\0\0\0\0\0\0\0\0\0\0\0\0\0\0\0\0\0\0\0\0\0\0\0\0",
 );
 
-const FH: Piece = (
+pub(crate) const FH: Piece = (
     168,
     b"##FH",
     &[0, 224],
     b"\x01\x02\x03\x04\x05\x06\x07\x08\0\0\0\0\0\0\0\0",
 );
 
-const MD: Piece = (
+pub(crate) const MD: Piece = (
     224,
     b"##MD",
     &[],
@@ -62,7 +62,8 @@ const CN: Piece = (
 
 const CHANNEL_NAME: Piece = (736, b"##TX", &[], b"t\0\0\0\0\0\0\0");
 
-const BLOCKS: &[Piece] = &[HD, FH, MD, DG, CG, GROUP_NAME, CN, CHANNEL_NAME];
+/// The blocks of the head of a recording of one group of one master.
+pub(crate) const BLOCKS: &[Piece] = &[HD, FH, MD, DG, CG, GROUP_NAME, CN, CHANNEL_NAME];
 
 // The bytes of the head, worked out from the tables of the blocks.
 fn expected(alloc: Global) -> Result<Vec<u8>, Memory> {
