@@ -1,0 +1,117 @@
+"""Makes a finalized file of about so many bytes to try `check` on.
+
+usage: make.py SHAPE BYTES OUT
+
+Its records lie in data blocks (DTBLOCK) of 4,000,000 bytes, the last a shorter one, which a chain of lists (DLBLOCK) of at most
+50 names, so some records lie across two blocks. SHAPE is one of
+
+sorted    one channel group without record ids: a time (a float of 64 bits) and four numbers of 16 bits
+unsorted  ids of 1 byte and three channel groups: a time and values of 8 and of 12 bytes in turns, these values, and a time
+          and four numbers of 16 bits
+"""
+
+import itertools
+import struct
+import sys
+
+PART = 4_000_000
+LISTED = 50
+
+shape, size, out = sys.argv[1], int(sys.argv[2]), open(sys.argv[3], "wb")
+head = bytearray(b"MDF     4.10    example " + bytes(4) + struct.pack("<H", 410) + bytes(34))
+
+
+def block(name, links, body):
+    return b"##" + name + struct.pack(f"<4xQQ{len(links)}Q", 24 + 8 * len(links) + len(body), len(links), *links) + body
+
+
+def place(name, links, body):
+    """Puts a block behind the others, and answers its address."""
+    at = len(head)
+    made = block(name, links, body)
+    head.extend(made + bytes(-len(made) % 8))
+    return at
+
+
+def text(words):
+    return place(b"TX", [], words.encode() + bytes(8 - len(words) % 8))
+
+
+def channel(after, name, kind, data_type, byte, bits, values=0):
+    body = struct.pack("<BBBBIIII", kind, kind == 2, data_type, 0, byte, bits, 0, 0) + bytes(52)
+    return place(b"CN", [after, 0, text(name), 0, 0, values, 0, 0], body)
+
+
+def timed(first):
+    return channel(first, "t", 2, 4, 0, 64)
+
+
+def numbers():
+    """The first of four channels behind the time."""
+    first = 0
+    for k in reversed(range(4)):
+        first = channel(first, f"n{k}", 0, 0, 8 + 2 * k, 16)
+    return first
+
+
+def group(after, first, name, number, count, flags, length):
+    body = struct.pack("<QQHHIII", number, count, flags, 0, 0, length, 0)
+    return place(b"CG", [after, first, text(name), 0, 0, 0], body)
+
+
+def plain(k):
+    return struct.pack("<d4H", k / 100, k % 5000, k % 7, k % 65536, 1)
+
+
+def both(k):
+    """Two samples with their values, and two records of numbers."""
+    made = b"\2\x08\0\0\0%08d\1" % (k % 10**8) + struct.pack("<dQ", k / 50, 28 * k)
+    made += b"\2\x0c\0\0\0%012d\1" % k + struct.pack("<dQ", k / 50 + 0.01, 28 * k + 12)
+    return made + b"\3" + plain(2 * k) + b"\3" + plain(2 * k + 1)
+
+
+place(b"HD", [0, 0, 0, 0, 0, 0], bytes(32))
+comment = place(b"MD", [], b"<FHcomment><TX>example</TX></FHcomment>\0")
+entry = place(b"FH", [0, comment], bytes(16))
+
+# The groups, and the bytes of their records.
+if shape == "sorted":
+    id_size, count = 0, size // 16
+    first = group(0, timed(numbers()), "numbers", 0, count, 0, 16)
+    total, records = 16 * count, map(plain, range(count))
+elif shape == "unsorted":
+    id_size, count = 1, size // 98
+    first = group(0, timed(numbers()), "numbers", 3, 2 * count, 0, 16)
+    first = values = group(first, 0, "values", 2, 2 * count, 1, 0)
+    first = group(first, timed(channel(0, "v", 1, 10, 8, 64, values)), "timed", 1, 2 * count, 0, 16)
+    total, records = 98 * count, map(both, range(count))
+else:
+    sys.exit(__doc__)
+
+data_group = place(b"DG", [0, first, len(head) + 64, 0], struct.pack("<B7x", id_size))
+struct.pack_into("<QQ", head, 64 + 24, data_group, entry)
+out.write(head)
+
+made = bytearray()
+
+
+def taken(length):
+    """The next bytes of the records."""
+    while len(made) < length:
+        made.extend(b"".join(itertools.islice(records, 65536)))
+    part = bytes(made[:length])
+    del made[:length]
+    return part
+
+
+at = len(head)
+lengths = [min(PART, total - place) for place in range(0, total, PART)]
+for k in range(0, len(lengths), LISTED):
+    listed = lengths[k : k + LISTED]
+    behind = at + 24 + 8 * (1 + len(listed)) + 8 + 8 * len(listed)
+    places = list(itertools.accumulate((24 + length + -length % 8 for length in listed), initial=behind))
+    body = struct.pack(f"<II{len(listed)}Q", 0, len(listed), *(PART * (k + n) for n in range(len(listed))))
+    at = places.pop()
+    out.write(block(b"DL", [at if k + LISTED < len(lengths) else 0, *places], body))
+    for length in listed:
+        out.write(block(b"DT", [], taken(length)) + bytes(-length % 8))
