@@ -1,10 +1,11 @@
 -- What the commands `check IN` and `info IN` read of a file.
-use Rattle.std.specs.Prelude.{ℕ, ◌≡◌, ◌<◌, ◌≤◌, List, length, IfSome, Result, Ok, Err}
+use Rattle.std.specs.Prelude.{ℕ, ◌≡◌, ◌<◌, ◌≤◌, ◌↔◌, List, length, IsTrue, IfSome, Result, Ok, Err}
 use Rattle.mdf_format.specs.Cause.{Rose}
 use Rattle.mdf_block.specs.Refusal.{Read, ◌>>=◌, Fails}
 use Rattle.mdf_head.specs.Ident.{identify}
 use Rattle.mdf_content.specs.Fault.{read_refusal}
 use Rattle.mdf_model.specs.Measurement.{measurement}
+use Rattle.mdf_valid.specs.Measurement.{IsMeasurement, IsValidFile}
 use Rattle.mdf_disk.specs.State.{DiskState}
 use Rattle.mdf_port.specs.State.{SinkState}
 use Rattle.mdf_run.specs.Texts.{Prints}
@@ -34,9 +35,16 @@ ReadingFaultComes old new (fault.Script number) = ⊥
 ReadingFaultComes old new (fault.Read refused) =
     IfSome old.content (λ file. Fails (read_refusal refused) (reading file) × (length file ≤ INPUT_LIMIT))
 
+-- What is read of a file is its measurement, and it is strict exactly where the file is valid.
+pub record IsReading (found : Reading) (file : List ℕ) : Type 0 where
+  pub is_read : reading file ≡ Ok found
+  pub measured : IsMeasurement file found.measurement.head found.measurement.history found.measurement.groups
+  pub valid : IsTrue found.measurement.strict ↔ IsValidFile file
+  pub short : length file ≤ INPUT_LIMIT
+
 -- This was read, or the file could not be read, only where the disk of the input says so before and after.
 abbrev pub ReadingComes : DiskState → DiskState → Result Reading Fault → Type 0
-ReadingComes old new (Ok found) = IfSome old.content (λ file. (reading file ≡ Ok found) × (length file ≤ INPUT_LIMIT))
+ReadingComes old new (Ok found) = IfSome old.content (IsReading found)
 ReadingComes old new (Err fault) = ReadingFaultComes old new fault
 
 abbrev pub reading_status : Result Reading Fault → ℕ

@@ -1,6 +1,7 @@
-ghost use Rattle.std.specs.Prelude.{◌≡◌, ◌⊎◌, Some, None};
+ghost use Rattle.std.specs.Prelude.{◌≡◌, ◌⊎◌, ◌↔◌, IsTrue, IfOk, Some, None};
 ghost use Rattle.mdf_block.specs.Refusal.{GivesOf};
 ghost use Rattle.mdf_head.specs.Ident.{identify};
+ghost use Rattle.mdf_valid.specs.Measurement.{IsMeasurement, IsValidFile};
 ghost use Rattle.mdf_content.specs.Fault.{read_refusal};
 ghost use Rattle.mdf_disk.specs.State.{state_of};
 ghost use Rattle.mdf_disk.specs.declared.role.Role.TheVariants.{Read};
@@ -10,8 +11,9 @@ use crate::fault::Fault;
 use mdf_content::ReadFault;
 use mdf_disk::{Disk, Role, read_whole};
 use mdf_head::{Ident, IdentFault, ident};
-use mdf_model::{Measurement, read_measurement};
+use mdf_model::Measurement;
 use mdf_num::Bytes;
+use mdf_valid::read_file;
 use std::alloc::Global;
 
 /// How many bytes an input file has at most.
@@ -39,10 +41,12 @@ fn ident_of(bytes: &[u8]) -> Result<Ident, ReadFault>
 /// What is read of these bytes.
 #[tactic(auto, unfolding(crate::specs::Reading::reading))]
 fn reading_of(alloc: Global, bytes: &[u8]) -> Result<Reading, ReadFault>
-    ensures { GivesOf read_refusal result (reading bytes.now) }
+    ensures exact { GivesOf read_refusal result (reading bytes.now) }
+    ensures measured { IfOk result (λ found. IsMeasurement bytes.now found.measurement.head found.measurement.history found.measurement.groups) }
+    ensures valid { IfOk result (λ found. IsTrue found.measurement.strict ↔ IsValidFile bytes.now) }
 {
     let id = ident_of(bytes)?;
-    let measurement = read_measurement(alloc, bytes)?;
+    let measurement = read_file(alloc, bytes)?;
     Ok(Reading {
         version: id.ver,
         measurement,
