@@ -2,6 +2,8 @@
 #![tactic(auto)]
 
 #[cfg(test)]
+mod foreign;
+#[cfg(test)]
 mod kinds;
 #[cfg(test)]
 mod readings;
