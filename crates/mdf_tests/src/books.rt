@@ -1,5 +1,6 @@
 ghost use Rattle.std.specs.Prelude.{◌≡◌, ◌≤◌, true, None, [], ◌∷◌, All, IfOk, length};
 ghost use Rattle.mdf_layout.specs.Layout.{Layout};
+ghost use Rattle.mdf_layout.specs.Record.{SampleFits, encoded_size};
 ghost use Rattle.mdf_layout.specs.Written.{AreApart};
 ghost use Rattle.mdf_layout.specs.Stored.{IsStored};
 ghost use Rattle.mdf_gate.specs.Gated.{IsRecordingHead};
@@ -10,7 +11,7 @@ use crate::layouts::{sample, word_row};
 use book_owned::{Book, Marks, NoView, Shown};
 use mdf_disk::{Disk, MemoryDisk, Role};
 use mdf_gate::{GateFault, GatedFile, Opened, opened};
-use mdf_layout::{FieldRow, Shape, ShapeFault, Shapes, shape_of};
+use mdf_layout::{FieldRow, Sample, Shape, ShapeFault, Shapes, shape_of};
 use mdf_num::{Memory, Numbers, Rows};
 use std::alloc::Global;
 use std::process::Abort;
@@ -156,6 +157,24 @@ pub fn begun<R: AllocGlobal + Abort>(
     }
 }
 
+/// A sample of this number, whose record has room in a block.
+fn sample_of<R: AllocGlobal + Abort>(
+    rt: &R,
+    shape: &Shape,
+    book: &Book<MemoryDisk, NoView>,
+    number: u64,
+) -> Result<Sample, Fail>
+    requires { book.now.terms.layouts ≡ shape.now ∷ [] }
+    ensures fits { IfOk result (λ sample. SampleFits book.now.terms.layouts sample) }
+    ensures size { IfOk result (λ sample. encoded_size book.now.terms.layouts sample ≤ book.now.terms.block_limit) }
+{
+    let sample = sample(rt.alloc(), &[number])?;
+    assert!(rt; sample.group == 0);
+    assert!(rt; shape.fits(&sample));
+    assert!(rt; book.size_of(&sample) <= book.block_limit());
+    Ok(sample)
+}
+
 /// Appends a sample of this number, or flushes, and tells the answer.
 fn step<R>(
     rt: &R,
@@ -172,10 +191,7 @@ where
         let answer = book.flush(rt);
         return Ok(format!(in rt.alloc(); "{answer:?}")?);
     };
-    let sample = sample(rt.alloc(), &[number])?;
-    assert!(rt; sample.group == 0);
-    assert!(rt; shape.fits(&sample));
-    assert!(rt; book.size_of(&sample) <= book.block_limit());
+    let sample = sample_of(rt, shape, book, number)?;
     let answer = book.append(rt, sample);
     Ok(format!(in rt.alloc(); "{answer:?}")?)
 }
@@ -219,15 +235,8 @@ struct Ended {
     shown: u64,
 }
 
-fn record<R>(rt: &R, recording: &Recording) -> Result<Ended, Fail>
-where
-    R: AllocGlobal + Abort + Threads + Wait + Sync,
-{
-    let rows = one_row(rt.alloc())?;
-    let (shape, shapes) = shapes_of(rt, &rows, 8)?;
-    let file = file_failing_at(rt, recording.failing)?;
-    let mut book = begun(rt, file, shapes, recording.block, recording.session)?;
-    let answers = feed(rt, &shape, &mut book, recording.tasks);
+/// Closes a book that gave these answers.
+fn closed(answers: Result<String, Fail>, book: Book<MemoryDisk, NoView>) -> Result<Ended, Fail> {
     let pending = book.pending();
     let (disk, _, marks, view) = book.close();
     Ok(Ended {
@@ -237,6 +246,18 @@ where
         marks,
         shown: view.shown(),
     })
+}
+
+fn record<R>(rt: &R, recording: &Recording) -> Result<Ended, Fail>
+where
+    R: AllocGlobal + Abort + Threads + Wait + Sync,
+{
+    let rows = one_row(rt.alloc())?;
+    let (shape, shapes) = shapes_of(rt, &rows, 8)?;
+    let file = file_failing_at(rt, recording.failing)?;
+    let mut book = begun(rt, file, shapes, recording.block, recording.session)?;
+    let answers = feed(rt, &shape, &mut book, recording.tasks);
+    closed(answers, book)
 }
 
 /// What a session costs at most.
@@ -445,5 +466,52 @@ fn left_of<R: AllocGlobal + Abort>(rt: &R, disk: &MemoryDisk) -> Result<String, 
 fn crash_in_each_call(rt: HostRuntime) -> Result<(), Fail> {
     let ended = record(&rt, &TWO_BLOCKS)?;
     assert_eq!(rt; left_of(&rt, &ended.disk)?.as_str(), LEFT);
+    Ok(())
+}
+
+/// Puts a sample of this number where its record has room in the block, and tells the answer, or that it has none.
+fn put<R: AllocGlobal + Abort>(
+    rt: &R,
+    shape: &Shape,
+    book: &mut Book<MemoryDisk, NoView>,
+    number: u64,
+) -> Result<String, Fail>
+    requires { book.old.terms.layouts ≡ shape.now ∷ [] }
+    ensures { book.new.terms ≡ book.old.terms }
+{
+    let sample = sample_of(rt, shape, book, number)?;
+    assert!(rt; book.refusal(&sample).is_none());
+    if book.passes_block(&sample) {
+        return Ok(String::from_str(rt.alloc(), "no room")?);
+    }
+    let answer = book.put(sample);
+    Ok(format!(in rt.alloc(); "{answer:?}")?)
+}
+
+/// Puts the numbers 7 and 8, and tells both answers.
+fn put_two<R: AllocGlobal + Abort>(
+    rt: &R,
+    shape: &Shape,
+    book: &mut Book<MemoryDisk, NoView>,
+) -> Result<String, Fail>
+    requires { book.old.terms.layouts ≡ shape.now ∷ [] }
+{
+    let first = put(rt, shape, book, 7)?;
+    let second = put(rt, shape, book, 8)?;
+    Ok(format!(in rt.alloc(); "{first}, {second}")?)
+}
+
+// A record has 9 bytes, as the block has. The calls of the disk are the 8 of a new file.
+#[test]
+fn a_sample_is_put_where_it_has_room(rt: HostRuntime) -> Result<(), Fail> {
+    let rows = one_row(rt.alloc())?;
+    let (shape, shapes) = shapes_of(&rt, &rows, 8)?;
+    let file = file_failing_at(&rt, &[])?;
+    let mut book = begun(&rt, file, shapes, 9, SESSION)?;
+    let answers = put_two(&rt, &shape, &mut book);
+    let ended = closed(answers, book)?;
+    assert_eq!(rt; ended.answers.as_str(), "Accepted { place: 0 }, no room");
+    assert_eq!(rt; ended.pending, 9);
+    assert_eq!(rt; ended.disk.calls(), 8);
     Ok(())
 }
