@@ -10,7 +10,7 @@ use std::alloc::Global;
 use std::test::Fail;
 
 // The identification: finalized, version 4.10, no flags.
-const IDENT: &[u8; 64] =
+pub(crate) const IDENT: &[u8; 64] =
     b"MDF     4.10    mdf4rec \0\0\0\0\x9a\x01\0\0\0\0\0\0\0\0\0\0\0\0\0\0\0\0\0\0\0\0\0\0\0\0\0\0\0\0\0\0\0\0\0\0";
 
 // The bodies of the second entry of the history, whose time is 0x0102030405060708 ns, of the header, and of the first entry.
@@ -53,7 +53,7 @@ const VALUE: &[u8; 32] =
     b"\x02\0\0\0\0\0\0\0\x01\0\0\0\0\0\0\0\x01\0\0\0\0\0\0\0\x03\0\0\0\0\0\0\0";
 
 // A recording's head of another tool, whose second channel names no group of values.
-const VARIABLE: &[Piece] = &[
+pub(crate) const VARIABLE: &[Piece] = &[
     HD,
     FH,
     MD,

@@ -23,6 +23,8 @@ mod measurements;
 #[cfg(test)]
 mod recorded;
 #[cfg(test)]
+mod sessions;
+#[cfg(test)]
 mod span;
 #[cfg(test)]
 mod spelled;

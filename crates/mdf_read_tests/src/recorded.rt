@@ -11,7 +11,7 @@ use std::alloc::Global;
 use std::test::Fail;
 
 // The identification: unfinalized, version 4.10, the standard flags 33 and the custom flag 1.
-const IDENT: [u8; 64] = [
+pub(crate) const IDENT: [u8; 64] = [
     85, 110, 70, 105, 110, 77, 70, 32, 52, 46, 49, 48, 32, 32, 32, 32, 109, 100, 102, 52, 114, 101,
     99, 32, 0, 0, 0, 0, 154, 1, 0, 0, 0, 0, 0, 0, 0, 0, 0, 0, 0, 0, 0, 0, 0, 0, 0, 0, 0, 0, 0, 0,
     0, 0, 0, 0, 0, 0, 0, 0, 33, 0, 1, 0,

@@ -1,0 +1,18 @@
+use Rattle.std.proofs.Common.{◌≡◌, ◌-◌, ◌≤◌, ℕ, List, Some, length}
+use Rattle.mdf_stream.specs.Parts.{ArePartsInside, stream_size}
+use Rattle.mdf_session.specs.Opened.{opened_from}
+use Rattle.mdf_session.proofs.Units.{Opens}
+use Rattle.mdf_session.proofs.opened.units_in.Given as goal
+
+abbrev pub invariant-loop-view : goal.invariant-loop-view
+invariant-loop-view g l = record {
+  found : (f : List ℕ) → g.P.Span.bytes l.initial.span ≡ Some f → Opens f l.view l.place (opened_from f (length f) l.first);
+  inside : ArePartsInside (g.P.Span.size l.initial.span) l.view;
+  below : stream_size l.view ≤ l.place;
+  same : g.P.Span.bytes l.span ≡ g.P.Span.bytes l.initial.span;
+  size : g.P.Span.size l.span ≡ g.P.Span.size l.initial.span;
+  later : g.P.Span.faults l.initial.span ≤ g.P.Span.faults l.span;
+}
+
+abbrev pub decreases-loop-view : goal.decreases-loop-view
+decreases-loop-view g l = g.P.Span.size l.span - l.place

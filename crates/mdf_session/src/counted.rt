@@ -1,0 +1,248 @@
+ghost use Rattle.std.specs.Prelude.{◌≡◌, ◌+◌, ◌^◌, ◌≤◌, ◌<◌, ◌++◌, ◌∷◌, [], ℕ, List, Some, length, map, reverse, slice_index_or, false, true, IfOk, IfErr, OnOk};
+ghost use Rattle.std.specs.List.{AllByRecursion};
+ghost use Rattle.mdf_format.specs.Number.{le_number, bytes_at};
+ghost use Rattle.mdf_num.specs.Halt.{HaltCause, StopCause};
+ghost use Rattle.mdf_block.specs.Refusal.{Gives, IsPlain};
+ghost use Rattle.mdf_stream.specs.Parts.{ArePartsInside, stream_of, stream_size};
+ghost use Rattle.mdf_data.specs.Places.{HaveRoom};
+ghost use Rattle.mdf_content.specs.Fault.{read_refusal};
+ghost use Rattle.mdf_content.specs.Records.{known_of, size_of};
+ghost use Rattle.mdf_data.specs.Record.{least_size};
+ghost use Rattle.mdf_session.specs.Counted.{all_streams, counts_from, joined, totals_from, total_of, values_total};
+
+use mdf_content::{
+    Held, ReadFault, Records, Room, Visit, count_at, gathered_in, is_variable, layout_in, place_at,
+    places_or, streams_in, values_table,
+};
+use mdf_data::Places;
+use mdf_group::GroupRow;
+use mdf_num::{Halt, Memory, Rows, Span, Stop};
+use mdf_stream::DataView;
+use mdf_vlsd::{Streams, ValueStream};
+use std::alloc::Global;
+
+/// The channel groups of a recording, with its stream.
+#[derive(Drop)]
+struct Groups<'a> {
+    held: &'a Held<'a>,
+}
+
+impl Visit for Groups<'_> {
+    ghost use Rattle.mdf_stream.specs.Parts.{stream_size};
+    ghost use Rattle.mdf_content.specs.Records.{HasRoom};
+    ghost use Rattle.mdf_content.specs.Values.{IsHeld, held_of};
+    ghost use Rattle.mdf_session.specs.Counted.{group_streams};
+
+    type Item = GroupRow;
+
+    type Found = Streams;
+
+    type State = ();
+
+    ghost read = { λ groups file. group_streams file (held_of groups.held.now) };
+
+    ghost needs = { λ groups size. IsHeld size groups.held.now };
+
+    ghost admits = { λ groups. HasRoom (stream_size groups.held.now.view.now) groups.held.now.lists.now };
+
+    #[tactic(auto, unfolding(crate::specs::Counted::group_streams))]
+    fn item_in<P: Span>(
+        &self,
+        alloc: Global,
+        span: &mut P,
+        k: usize,
+        item: &GroupRow,
+        state: (),
+        room: &mut Room,
+    ) -> Result<(Option<Streams>, ()), Halt<ReadFault>> {
+        if is_variable(item) {
+            return Ok((None, state));
+        }
+        let none = Places::empty(alloc);
+        let places = places_or(self.held.lists, k, &none);
+        layout_in(alloc, item)?;
+        let records = Records {
+            data_bytes: item.data_bytes,
+            places,
+            count: places.len(),
+        };
+        let found = streams_in(
+            alloc,
+            span,
+            self.held,
+            &records,
+            item.channels.as_slice(),
+            room,
+        )?;
+        Ok((Some(found), state))
+    }
+}
+
+/// Adds the streams of lists, which stand with the last list first.
+fn add_streams(all: &mut Vec<ValueStream>, lists: Vec<Streams>) -> Result<(), Memory>
+    ensures { OnOk result (all.new.items ≡ all.old.items ++ joined (reverse lists.items)) }
+{
+    let mut lists = lists;
+    'lists: while let Some(list) = lists.pop() {
+        let mut items = list.into_vec();
+        all.append(&mut items)?;
+    }
+    Ok(())
+}
+
+/// The streams of lists, one behind the other.
+fn joined_of(alloc: Global, lists: Rows<Streams>) -> Result<Streams, Memory>
+    ensures { IfOk result (λ all. all ≡ joined lists) }
+{
+    let mut lists = lists.into_vec();
+    lists.reverse();
+    let mut all = Vec::new(alloc);
+    add_streams(&mut all, lists)?;
+    Ok(Rows::from_vec(all))
+}
+
+/// The streams of all channels of variable length of the groups, over all of their records.
+///
+/// # Errors
+/// Of each group that holds no values, in order, those of `streams_in`; the span's own; and want of memory.
+#[tactic(auto, unfolding(crate::specs::Counted::all_streams))]
+pub(crate) fn all_streams_in<P: Span>(
+    alloc: Global,
+    span: &mut P,
+    view: &DataView,
+    groups: &[GroupRow],
+    lists: &[Places],
+) -> Result<Streams, Halt<ReadFault>>
+    requires inside { ArePartsInside (P.size span.old) view.now }
+    requires room { HaveRoom (stream_size view.now) (map known_of groups.now) lists.now }
+    ensures found { (f : List ℕ) → P.bytes span.old ≡ Some f → Gives read_refusal result
+        (all_streams f (record { parts = view.now; groups = groups.now; lists = lists.now })) }
+    ensures plain { IfErr result (IsPlain read_refusal) }
+    ensures same { P.bytes span.new ≡ P.bytes span.old }
+    ensures size { P.size span.new ≡ P.size span.old }
+    ensures cause { HaltCause true (P.faults span.old) (P.faults span.new) result }
+{
+    let table = values_table(alloc, groups)?;
+    let held = Held {
+        view,
+        groups,
+        lists,
+        table: &table,
+    };
+    let mut room = Room::of_file(span);
+    let (found, _) = gathered_in(alloc, &Groups { held: &held }, span, groups, (), &mut room)?;
+    let all = joined_of(alloc, found)?;
+    Ok(all)
+}
+
+/// How many records each group has.
+pub(crate) fn counts_of(
+    alloc: Global,
+    groups: &[GroupRow],
+    lists: &[Places],
+) -> Result<Rows<u64>, Memory>
+    ensures counts { IfOk result (λ counts. counts ≡ counts_from lists.now 0 groups.now) }
+    ensures count { IfOk result (λ counts. length counts ≡ length groups.now) }
+{
+    let mut counts = Rows::empty(alloc);
+    let mut k = 0;
+    while k < groups.len() {
+        counts.push(count_at(lists, k))?;
+        k += 1;
+    }
+    Ok(counts)
+}
+
+/// How many bytes the values in the records at these places have. A sum past the last u64 counts as want of memory.
+fn values_total_in<P: Span>(span: &mut P, view: &DataView, places: &Places) -> Result<u64, Stop>
+    requires inside { ArePartsInside (P.size span.old) view.now }
+    requires room { AllByRecursion (λ place. place + 4 ≤ stream_size view.now) places.now }
+    ensures total { IfOk result (λ total. (f : List ℕ) → P.bytes span.old ≡ Some f → total ≡ values_total (stream_of f view.now) places.now) }
+    ensures same { P.bytes span.new ≡ P.bytes span.old }
+    ensures size { P.size span.new ≡ P.size span.old }
+    ensures cause { StopCause true (P.faults span.old) (P.faults span.new) result }
+{
+    let mut total = 0u64;
+    let mut row = 0;
+    while row < places.len() {
+        let len = view.u32_in(span, place_at(places, row))? as u64;
+        let Some(sum) = total.checked_add(len) else {
+            return Err(Stop::Memory);
+        };
+        total = sum;
+        row += 1;
+    }
+    Ok(total)
+}
+
+/// How many bytes the values of a group have; 0 where it holds none.
+fn total_in<P: Span>(
+    span: &mut P,
+    view: &DataView,
+    group: &GroupRow,
+    places: &Places,
+) -> Result<u64, Stop>
+    requires inside { ArePartsInside (P.size span.old) view.now }
+    requires room { AllByRecursion (λ place. place + least_size (size_of group.now) ≤ stream_size view.now) places.now }
+    ensures total { IfOk result (λ total. (f : List ℕ) → P.bytes span.old ≡ Some f → total ≡ total_of (stream_of f view.now) group.now places.now) }
+    ensures same { P.bytes span.new ≡ P.bytes span.old }
+    ensures size { P.size span.new ≡ P.size span.old }
+    ensures cause { StopCause true (P.faults span.old) (P.faults span.new) result }
+{
+    if is_variable(group) {
+        values_total_in(span, view, places)
+    } else {
+        Ok(0)
+    }
+}
+
+/// Adds how many bytes the values of a group have at the end.
+fn add_total<P: Span>(
+    span: &mut P,
+    view: &DataView,
+    group: &GroupRow,
+    places: &Places,
+    totals: &mut Rows<u64>,
+) -> Result<(), Stop>
+    requires inside { ArePartsInside (P.size span.old) view.now }
+    requires room { AllByRecursion (λ place. place + least_size (size_of group.now) ≤ stream_size view.now) places.now }
+    ensures added { OnOk result ((f : List ℕ) → P.bytes span.old ≡ Some f →
+        totals.new ≡ totals.old ++ total_of (stream_of f view.now) group.now places.now ∷ []) }
+    ensures longer { OnOk result (length totals.new ≡ length totals.old + 1) }
+    ensures same { P.bytes span.new ≡ P.bytes span.old }
+    ensures size { P.size span.new ≡ P.size span.old }
+    ensures cause { StopCause true (P.faults span.old) (P.faults span.new) result }
+{
+    let total = total_in(span, view, group, places)?;
+    match totals.push(total) {
+        Ok(()) => Ok(()),
+        Err(_) => Err(Stop::Memory),
+    }
+}
+
+/// How many bytes the values of each group have.
+pub(crate) fn totals_in<P: Span>(
+    alloc: Global,
+    span: &mut P,
+    view: &DataView,
+    groups: &[GroupRow],
+    lists: &[Places],
+) -> Result<Rows<u64>, Stop>
+    requires inside { ArePartsInside (P.size span.old) view.now }
+    requires room { HaveRoom (stream_size view.now) (map known_of groups.now) lists.now }
+    ensures totals { IfOk result (λ totals. (f : List ℕ) → P.bytes span.old ≡ Some f → totals ≡ totals_from (stream_of f view.now) lists.now 0 groups.now) }
+    ensures count { IfOk result (λ totals. length totals ≡ length groups.now) }
+    ensures same { P.bytes span.new ≡ P.bytes span.old }
+    ensures size { P.size span.new ≡ P.size span.old }
+    ensures cause { StopCause true (P.faults span.old) (P.faults span.new) result }
+{
+    let none = Places::empty(alloc);
+    let mut totals = Rows::empty(alloc);
+    let mut k = 0;
+    while k < groups.len() {
+        let places = places_or(lists, k, &none);
+        add_total(span, view, &groups[k], places, &mut totals)?;
+        k += 1;
+    }
+    Ok(totals)
+}
