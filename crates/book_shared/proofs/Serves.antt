@@ -25,7 +25,7 @@ use Rattle.book_shared.specs.Rule.{times_in, AreOwn}
 use Rattle.book_shared.specs.Plays.{recount, looked, given, AreFrom, Holds, Wins, Takes, Gives}
 use Rattle.book_shared.specs.Place.{own_part, IsSingle}
 use Rattle.book_shared.specs.Turns.{Took, Served}
-use Rattle.book_shared.specs.Told.{Told, Appends, Tries, tried_by, Puts, HasMark, FlushTold, Flushes}
+use Rattle.book_shared.specs.Told.{Told, Appends, Tries, tried_by, Puts, HasMark, FlushTold, Flushes, Turned, TriesBook}
 use Rattle.book_shared.specs.declared.answer.Try.{Try}
 use Rattle.book_shared.specs.declared.answer.Try.TheVariants.{Busy, NeedsFlush, Answered}
 use Rattle.book_shared.specs.declared.view.View.{View}
@@ -121,7 +121,7 @@ module _ {D V : Type 0} where
 
   -- the seat while it holds the turn
   abbrev pub turning : View → View → Account D V → View
-  turning v u book = record v { met = u.met; prior = u.prior; steps = u.steps; turns = v.turns + 1; turn = holding book.history book.marks book.stopped }
+  turning v u book = record v { met = u.met; prior = u.prior; steps = u.steps; turns = v.turns + 1; turn = holding book.history book.marks book.stopped; last = holding book.history book.marks book.stopped }
 
   -- the book may go back
   pub holds_now : (v u : View) (old new : Account D V) (added : List Sample) (number : ℕ) → Took v u old → Steps old new added → Adds v.basis.owners v.mine number added → Holds u new
@@ -159,6 +159,11 @@ module _ {D V : Type 0} where
   -- the seat after a turn is given so
   after_turn : (v u x : View) (word : ℕ) (old new : Account D V) → Took v u old → x ≡ given u word new → x ≡ given (turning v u old) word new
   after_turn v u x word old new took is = is ∙ ap (λ (y : View). given y word new) took.rest
+
+  -- the turn found the book so, and gave it back so
+  pub turned_now : (v u x : View) (word : ℕ) (old new : Account D V) → Took v u old → x ≡ given u word new → Turned x old new
+  turned_now v u x word old new took is =
+      subst (λ y. Turned y old new) (sym (after_turn v u x word old new took is)) (record { found = refl; terms = took.meets.terms; history = refl; marks = refl; stopped = refl })
 
   told_append : {N : Type 0} (disk : DiskOf D) (view : ViewOf V N) (v u : View) (word : ℕ) (old new : Account D V) (sample : Sample) (answer : Append) → old.terms ≡ v.basis.terms
       → AppendAnswers disk view old new sample answer → Told (given (turning v u old) word new) old.history sample answer
@@ -240,6 +245,12 @@ module _ {D V N : Type 0} (disk : DiskOf D) (view : ViewOf V N) where
       → IsSingle v (slice_index v.basis.owners sample.group) → Puts disk view old new sample answer → x ≡ given u word new → Tries v x sample answer
   tries_now v u x word old new sample answer took steps single puts is =
       subst (λ y. Tries v y sample answer) (sym (after_turn v u x word old new took is)) (tries_given v u word old new sample answer took steps single puts)
+
+  pub tries_book : (v u x : View) (word : ℕ) (old new : Account D V) (sample : Sample) (answer : Try) → Took v u old → Puts disk view old new sample answer
+      → x ≡ given u word new → TriesBook disk view x sample answer
+  tries_book v u x word old new sample (Busy w back) took puts is = tt
+  tries_book v u x word old new sample (NeedsFlush held size limit back) took puts is = (old, new, turned_now v u x word old new took is, puts)
+  tries_book v u x word old new sample (Answered answer) took puts is = (old, new, turned_now v u x word old new took is, puts)
 
 -- the last of marks stands among them
 last_stands : (first : Mark) (marks : List Mark) → (before : List Mark) × (first ∷ marks ≡ before ++ fold (λ b mark. mark) first marks ∷ [])

@@ -38,6 +38,7 @@ joined v w = record {
   olds = (v.seen, v.kept) ∷ (w.seen, w.kept) ∷ (v.olds ++ w.olds);
   mine = v.mine ++ w.mine;
   turn = v.turn;
+  last = v.last;
   basis = v.basis;
 }
 

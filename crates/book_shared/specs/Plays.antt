@@ -27,6 +27,7 @@ taking v word book = record v {
   steps = v.steps + 1;
   turns = v.turns + 1;
   turn = holding book.history book.marks book.stopped;
+  last = holding book.history book.marks book.stopped;
 }
 
 -- after one that gave the book back, and made the word this one
@@ -102,5 +103,6 @@ fresh basis mine = record {
   olds = [];
   mine = mine;
   turn = idle;
+  last = idle;
   basis = basis;
 }

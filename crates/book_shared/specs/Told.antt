@@ -6,13 +6,14 @@ use Rattle.mdf_layout.specs.Record.{cost_of, encoded_size, history_cost, history
 use Rattle.mdf_layout.specs.declared.sample.Sample.{Sample}
 use Rattle.book_owned.specs.Marks.{last_mark, durable}
 use Rattle.book_owned.specs.Account.{Account}
-use Rattle.book_owned.specs.Answers.{AppendAnswers, HasRoom, PassesBlock, accepted_by}
+use Rattle.book_owned.specs.Answers.{AppendAnswers, FlushAnswers, HasRoom, PassesBlock, accepted_by}
 use Rattle.book_owned.specs.declared.view.Shown.{Ghosts as ViewOf}
 use Rattle.book_owned.specs.declared.mark.Mark.{Mark}
 use Rattle.book_owned.specs.declared.answer.Append.{Append}
 use Rattle.book_owned.specs.declared.answer.Append.TheVariants.{Accepted, SessionFull, Stopped, DiskFault, Memory}
 use Rattle.book_owned.specs.declared.answer.Flush.{Flush}
 use Rattle.book_owned.specs.declared.answer.Flush.TheVariants as flush
+use Rattle.book_shared.specs.Basis.{holding}
 use Rattle.book_shared.specs.Rule.{AreOwn}
 use Rattle.book_shared.specs.Turns.{Served, IsBusy}
 use Rattle.book_shared.specs.declared.answer.Try.{Try}
@@ -108,3 +109,26 @@ abbrev pub IsNoted : {V N : Type 0} → ViewOf V N → View → Flush N → Type
 IsNoted view u (flush.Done through shown note) = view.tells note u.basis.terms.which (take shown u.seen)
 IsNoted view u (flush.DiskFault before after) = Unit {0}
 IsNoted view u (flush.Stopped mark) = Unit {0}
+
+-- the seat's last turn found the book so, and gave it back so
+pub record Turned {D V : Type 0} (u : View) (old new : Account D V) : Type 0 where
+  pub found : u.last ≡ holding old.history old.marks old.stopped
+  pub terms : old.terms ≡ u.basis.terms
+  pub history : new.history ≡ u.seen
+  pub marks : new.marks ≡ u.kept
+  pub stopped : new.stopped ≡ u.knows
+
+-- the turn was one append of the book, with the causes of that
+abbrev pub AppendsBook : {D V N : Type 0} → DiskOf D → ViewOf V N → View → Sample → Append → Type 0
+AppendsBook {D = D} {V = V} disk view u sample answer = (old new : Account D V) × Turned u old new × AppendAnswers disk view old new sample answer
+
+-- the turn was one flush of the book, with the causes of that
+abbrev pub FlushesBook : {D V N : Type 0} → DiskOf D → ViewOf V N → View → Flush N → Type 0
+FlushesBook {D = D} {V = V} disk view u answer = (old new : Account D V) × Turned u old new × FlushAnswers disk view old new answer
+
+-- where the seat had a turn, it was one try of the book, with the causes of that
+abbrev pub TriesBook : {D V N : Type 0} → DiskOf D → ViewOf V N → View → Sample → Try → Type 0
+TriesBook disk view u sample (Busy word back) = Unit {0}
+TriesBook {D = D} {V = V} disk view u sample (NeedsFlush held size limit back) =
+    (old new : Account D V) × Turned u old new × Puts disk view old new sample (NeedsFlush held size limit back)
+TriesBook {D = D} {V = V} disk view u sample (Answered answer) = (old new : Account D V) × Turned u old new × Puts disk view old new sample (Answered answer)

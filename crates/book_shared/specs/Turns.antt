@@ -16,7 +16,7 @@ pub record Waited (v u : View) : Type 0 where
 
 -- the turn was taken, and this is the book
 pub record Took {D V : Type 0} (v u : View) (book : Account D V) : Type 0 where
-  pub rest : u ≡ record v { met = u.met; prior = u.prior; steps = u.steps; turns = v.turns + 1; turn = holding book.history book.marks book.stopped }
+  pub rest : u ≡ record v { met = u.met; prior = u.prior; steps = u.steps; turns = v.turns + 1; turn = holding book.history book.marks book.stopped; last = holding book.history book.marks book.stopped }
   pub meets : Meets v book
   pub odd : u.met % 2 ≡ 1
   pub low : u.met ≤ 18446744073709551613

@@ -9,7 +9,7 @@ ghost use Rattle.book_shared.specs.Rule.{AreOld};
 ghost use Rattle.book_shared.specs.Plays.{looked, given, Holds, Takes};
 ghost use Rattle.book_shared.specs.Place.{IsSingle};
 ghost use Rattle.book_shared.specs.Turns.{Took, Waited, IsBusy, Rests};
-ghost use Rattle.book_shared.specs.Told.{Appends, Tries, Puts, tried_by, Flushes, FlushesAll, IsNoted};
+ghost use Rattle.book_shared.specs.Told.{Appends, Tries, Puts, tried_by, Flushes, FlushesAll, IsNoted, AppendsBook, TriesBook, FlushesBook};
 
 use crate::Try;
 use crate::fixed::Fixed;
@@ -187,6 +187,7 @@ impl<D: Disk, V: Shown> SharedBook<D, V> {
         ensures free { seat.new.me.1 ≡ [] }
         ensures rests { Rests seat.old.me.0 seat.new.me.0 }
         ensures appends { Appends seat.old.me.0 seat.new.me.0 sample result }
+        ensures book { AppendsBook D.Disk V.Shown seat.new.me.0 sample result }
     {
         let (word, mut book) = self.seize(rt, seat);
         let answer = book.append(rt, sample);
@@ -205,6 +206,7 @@ impl<D: Disk, V: Shown> SharedBook<D, V> {
         ensures flushes { Flushes seat.old.me.0 seat.new.me.0 result }
         ensures all { FlushesAll seat.new.me.0 result }
         ensures noted { IsNoted V.Shown seat.new.me.0 result }
+        ensures book { FlushesBook D.Disk V.Shown seat.new.me.0 result }
     {
         let (word, mut book) = self.seize(rt, seat);
         let answer = book.flush(rt);
@@ -224,6 +226,7 @@ impl<D: Disk, V: Shown> SharedBook<D, V> {
         ensures free { seat.new.me.1 ≡ [] }
         ensures rests { Rests seat.old.me.0 seat.new.me.0 }
         ensures tries { Tries seat.old.me.0 seat.new.me.0 sample result }
+        ensures book { TriesBook D.Disk V.Shown seat.new.me.0 sample result }
     {
         match self.try_take(seat) {
             Ok(word) => {
@@ -250,6 +253,7 @@ impl<D: Disk, V: Shown> SharedBook<D, V> {
         requires size { encoded_size seat.old.know.basis.terms.layouts sample ≤ seat.old.know.basis.terms.block_limit }
         ensures seat { (seat.new.table ≡ seat.old.table) × (seat.new.number ≡ seat.old.number) × (seat.new.know.basis ≡ seat.old.know.basis) × IsSingle seat.new.know seat.new.number }
         ensures appends { Appends seat.old.know seat.new.know sample result }
+        ensures book { AppendsBook D.Disk V.Shown seat.new.know sample result }
     {
         let mut chair = mem::replace(&mut seat.badge, Badge::blank()).into_seat();
         let answer = self.append_at(rt, &mut chair, sample);
@@ -266,6 +270,7 @@ impl<D: Disk, V: Shown> SharedBook<D, V> {
         requires size { encoded_size seat.old.know.basis.terms.layouts sample ≤ seat.old.know.basis.terms.block_limit }
         ensures seat { (seat.new.table ≡ seat.old.table) × (seat.new.number ≡ seat.old.number) × (seat.new.know.basis ≡ seat.old.know.basis) × IsSingle seat.new.know seat.new.number }
         ensures tries { Tries seat.old.know seat.new.know sample result }
+        ensures book { TriesBook D.Disk V.Shown seat.new.know sample result }
     {
         let mut chair = mem::replace(&mut seat.badge, Badge::blank()).into_seat();
         let answer = self.try_at(&mut chair, sample);
@@ -281,6 +286,7 @@ impl<D: Disk, V: Shown> SharedBook<D, V> {
         ensures flushes { Flushes seat.old.know seat.new.know result }
         ensures all { FlushesAll seat.new.know result }
         ensures noted { IsNoted V.Shown seat.new.know result }
+        ensures book { FlushesBook D.Disk V.Shown seat.new.know result }
     {
         let mut chair = mem::replace(&mut seat.badge, Badge::blank()).into_seat();
         let answer = self.flush_at(rt, &mut chair);

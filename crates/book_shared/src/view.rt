@@ -29,6 +29,8 @@ pub struct View {
     pub ghost mine: { List (ℕ × List Sample) },
     /// What the seat holds.
     pub ghost turn: { Turn },
+    /// What the seat held in its last turn: the book as that turn found it.
+    pub ghost last: { Turn },
     /// What no call changes.
     pub ghost basis: { Basis },
 }

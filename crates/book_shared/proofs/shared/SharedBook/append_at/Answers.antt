@@ -2,7 +2,7 @@ use Rattle.std.proofs.Common.{◌+◌, ap}
 use Rattle.std.specs.Prelude.{slice_index}
 use Rattle.book_owned.specs.Answers.{accepted_by}
 use Rattle.book_shared.proofs.Keeps.{Here}
-use Rattle.book_shared.proofs.Serves.{adds_by, holds_now, appends_now}
+use Rattle.book_shared.proofs.Serves.{adds_by, holds_now, appends_now, turned_now}
 use Rattle.book_shared.proofs.shared.SharedBook.append_at.Goals as goal
 
 pub give-requires-clause-returns : goal.give-requires-clause-returns
@@ -20,3 +20,12 @@ returns-clause-appends g c =
     c.seize-word.result.1 c.append-answer.new.self c.args.sample c.append-answer.result c.seize-word.ensures.took
     c.append-answer.ensures.steps c.requires.owns c.append-answer.ensures.answer
     (ap (λ (seat : Here g.row.D.Denot g.row.V.Denot). seat.0) c.give.ensures.given)
+
+pub returns-clause-book : goal.returns-clause-book
+returns-clause-book g c = (
+  c.seize-word.result.1,
+  c.append-answer.new.self,
+  turned_now c.args.seat.now.me.0 c.seize-word.new.seat.me.0 c.give.new.seat.me.0 (c.seize-word.result.0 + 1) c.seize-word.result.1 c.append-answer.new.self
+      c.seize-word.ensures.took (ap (λ (seat : Here g.row.D.Denot g.row.V.Denot). seat.0) c.give.ensures.given),
+  c.append-answer.ensures.answer,
+)

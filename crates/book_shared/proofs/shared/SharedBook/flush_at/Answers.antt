@@ -1,6 +1,6 @@
 use Rattle.std.proofs.Common.{◌+◌, ap, []}
 use Rattle.book_shared.proofs.Keeps.{Here}
-use Rattle.book_shared.proofs.Serves.{adds_none, holds_now, flushes_now}
+use Rattle.book_shared.proofs.Serves.{adds_none, holds_now, flushes_now, turned_now}
 use Rattle.book_shared.proofs.shared.SharedBook.flush_at.Goals as goal
 
 pub give-requires-clause-returns : goal.give-requires-clause-returns
@@ -15,3 +15,12 @@ returns-clause-flushes g c =
     c.flush-answer.new.self c.give.new.seat.me.0 c.flush-answer.result c.seize-word.ensures.took c.flush-answer.ensures.steps
     c.flush-answer.ensures.answer (ap (λ (seat : Here g.row.D.Denot g.row.V.Denot). seat.0) c.give.ensures.given)
     c.requires.single.0 c.requires.single.1 c.flush-answer.ensures.kept.marks_rise
+
+pub returns-clause-book : goal.returns-clause-book
+returns-clause-book g c = (
+  c.seize-word.result.1,
+  c.flush-answer.new.self,
+  turned_now c.args.seat.now.me.0 c.seize-word.new.seat.me.0 c.give.new.seat.me.0 (c.seize-word.result.0 + 1) c.seize-word.result.1 c.flush-answer.new.self
+      c.seize-word.ensures.took (ap (λ (seat : Here g.row.D.Denot g.row.V.Denot). seat.0) c.give.ensures.given),
+  c.flush-answer.ensures.answer,
+)

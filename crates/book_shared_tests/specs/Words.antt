@@ -1,0 +1,22 @@
+-- The layouts of the book of the tests.
+use Rattle.std.specs.Prelude.{◌≡◌, ◌≤◌, List, [], ◌∷◌, All, length}
+use Rattle.mdf_layout.specs.Layout.{Layout}
+use Rattle.mdf_layout.specs.Stored.{IsStored}
+use Rattle.mdf_layout.specs.Written.{AreApart}
+use Rattle.mdf_layout.specs.declared.field.FieldRow.{FieldRow}
+
+-- these channels, in records of 8 bytes
+abbrev pub word_layout : List FieldRow → Layout
+word_layout rows = record { rows = rows; data_bytes = 8; inval_bytes = 0 }
+
+-- just that layout
+abbrev pub word_layouts : List FieldRow → List Layout
+word_layouts rows = word_layout rows ∷ []
+
+-- one layout alone, whose channels are few, share no bit and are stored
+pub record IsOneGroup (layouts : List Layout) : Type 0 where
+  pub layout : Layout
+  pub layouts_are : layouts ≡ layout ∷ []
+  pub few : length layout.rows ≤ 128
+  pub apart : AreApart layout.rows
+  pub stored : All IsStored layout.rows

@@ -1,0 +1,154 @@
+//! A book of one group, whose records have 8 bytes behind the id, so that a block of 9 bytes holds one.
+ghost use Rattle.std.specs.Prelude.{◌≡◌, ◌≤◌, true, [], All, IfOk, length};
+ghost use Rattle.mdf_layout.specs.Stored.{IsStored};
+ghost use Rattle.mdf_layout.specs.Written.{AreApart};
+ghost use Rattle.mdf_layout.specs.Record.{SampleFits, encoded_size};
+ghost use Rattle.mdf_gate.specs.Gated.{IsRecordingHead};
+ghost use Rattle.book_owned.specs.Begun.{IsNewFile};
+ghost use Rattle.book_shared_tests.specs.Words.{word_layout, word_layouts, IsOneGroup};
+
+use crate::gates::{Gate, Slow};
+use book_owned::Book;
+use mdf_disk::{Disk, MemoryDisk, Role};
+use mdf_gate::{GatedFile, opened};
+use mdf_layout::{Entry, FieldKind, FieldRow, Sample, Shape, Shapes, Value, shape_of};
+use mdf_num::{Bytes, Memory, Rows};
+use std::alloc::Global;
+use std::process::Abort;
+use std::sync::Arc;
+use std::test::Fail;
+
+// A head without history: the header at 64, the data group at 168, and the first place at 232. All other bytes are 0.
+const HEAD: [(usize, &[u8]); 13] = [
+    (0, b"UnFinMF 4.10    mdf4rec "),
+    (28, b"\x9A\x01"),
+    (60, b"\x21\x00\x01\x00"),
+    (64, b"##HD"),
+    (72, b"\x68"),
+    (80, b"\x06"),
+    (88, b"\xA8"),
+    (136, b"\x15\xCD\x5B\x07"),
+    (168, b"##DG"),
+    (176, b"\x40"),
+    (184, b"\x04"),
+    (208, b"\xE8"),
+    (224, b"\x01"),
+];
+
+fn head() -> [u8; 232] {
+    let mut head = [0; 232];
+    for (at, part) in HEAD {
+        if at <= 232 && part.len() <= 232 - at {
+            head[at..at + part.len()].copy_from_slice(part);
+        }
+    }
+    head
+}
+
+/// Whether it is a recording that ends at its first place.
+fn is_head(bytes: &[u8]) -> bool
+    requires { length bytes.now ≤ 1000 }
+    ensures { result ≡ true → IsRecordingHead bytes.now }
+{
+    match opened(bytes) {
+        Ok(count) => count.first == bytes.len() as u64,
+        Err(_) => false,
+    }
+}
+
+/// A recording of that head.
+fn recording<R: AllocGlobal + Abort>(rt: &R) -> Result<GatedFile<MemoryDisk>, Fail>
+    ensures { IfOk result (λ file. IsNewFile ⟦<MemoryDisk as Disk>⟧ file) }
+{
+    let head = head();
+    assert!(rt; is_head(&head));
+    let mut disk = MemoryDisk::new(rt.alloc());
+    disk.attach(Bytes::from_slice(rt.alloc(), b"file")?, Role::Create)?;
+    match GatedFile::create(disk, &head) {
+        Ok(file) => Ok(file),
+        Err((failed, _)) => Err(failed.into()),
+    }
+}
+
+/// A channel of 64-bit unsigned numbers.
+pub fn word(alloc: Global) -> Result<Rows<FieldRow>, Memory>
+    ensures stored { IfOk result (λ rows. All IsStored rows) }
+    ensures few { IfOk result (λ rows. length rows ≤ 128) }
+{
+    let mut rows = Rows::empty(alloc);
+    rows.push(FieldRow {
+        kind: FieldKind::Unsigned,
+        big: false,
+        byte: 0,
+        bit: 0,
+        bits: 64,
+        inval: None,
+        all_invalid: false,
+    })?;
+    Ok(rows)
+}
+
+/// The layout of these channels, which share no bit, in records of 8 bytes.
+fn shape<R: AllocGlobal + Abort>(rt: &R, rows: &Rows<FieldRow>) -> Result<Shape, Fail>
+    requires few { length rows.now ≤ 128 }
+    ensures is { IfOk result (λ shape. shape ≡ word_layout rows.now) }
+    ensures apart { IfOk result (λ shape. AreApart shape.rows) }
+{
+    let shape = shape_of(rt.alloc(), rows, 8, 0)?;
+    assert!(rt; shape.disjoint());
+    Ok(shape)
+}
+
+/// The list of just this layout.
+pub fn shapes<R: AllocGlobal + Abort>(rt: &R, rows: &Rows<FieldRow>) -> Result<Shapes, Fail>
+    requires stored { All IsStored rows.now }
+    requires few { length rows.now ≤ 128 }
+    ensures is { IfOk result (λ shapes. shapes ≡ word_layouts rows.now) }
+    ensures one { IfOk result IsOneGroup }
+{
+    let mut shapes = Shapes::empty(rt.alloc());
+    shapes.push(shape(rt, rows)?)?;
+    Ok(shapes)
+}
+
+/// A book over a new file, whose view waits at the gate.
+pub fn book<R: AllocGlobal + Abort>(
+    rt: &R,
+    shapes: Shapes,
+    gate: Arc<Gate>,
+) -> Result<Book<MemoryDisk, Slow>, Fail>
+    requires { IsOneGroup shapes }
+    ensures layouts { IfOk result (λ book. book.terms.layouts ≡ shapes) }
+    ensures limit { IfOk result (λ book. book.terms.block_limit ≡ 9) }
+    ensures empty { IfOk result (λ book. book.history ≡ []) }
+{
+    let file = recording(rt)?;
+    match Book::begin(rt.alloc(), file, shapes, 9, 4096, Slow::new(gate)) {
+        Ok(book) => Ok(book),
+        Err((memory, file, _)) => {
+            drop(file.into_disk());
+            Err(memory.into())
+        }
+    }
+}
+
+/// A sample of this number.
+pub fn sample(alloc: Global, number: u64) -> Result<Sample, Memory> {
+    let mut values = Rows::empty(alloc);
+    values.push(Entry {
+        value: Value::Unsigned(number),
+        valid: true,
+    })?;
+    Ok(Sample { group: 0, values })
+}
+
+/// Whether the sample is one of these layouts, and its record has room in an empty block.
+pub fn fits(shapes: &Shapes, sample: &Sample) -> bool
+    ensures fits { result ≡ true → SampleFits shapes.now sample.now }
+    ensures size { result ≡ true → encoded_size shapes.now sample.now ≤ 9 }
+{
+    let Some(shape) = shapes.get(sample.group as u64) else {
+        return false;
+    };
+    shape.fits(sample) && shapes.encoded_size(sample) <= 9
+}
