@@ -7,3 +7,4 @@ mod Told
 mod Totals
 mod Begins
 mod Runs
+mod Making

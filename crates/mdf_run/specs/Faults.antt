@@ -18,6 +18,8 @@ use Rattle.mdf_disk.specs.declared.load.LoadFault.TheVariants as load
 use Rattle.mdf_port.specs.declared.source.TakeFault.{TakeFault}
 use Rattle.mdf_port.specs.declared.source.TakeFault.TheVariants as take
 use Rattle.acq_script.specs.declared.fault.ScriptFault.{ScriptFault}
+use Rattle.mdf_tool.specs.declared.fault.ToolFault.{ToolFault}
+use Rattle.mdf_tool.specs.declared.fault.ToolFault.TheVariants as tool
 use Rattle.acq_script.specs.declared.fault.ScriptFault.TheVariants as script
 use Rattle.mdf_run.specs.Texts.{line}
 use Rattle.mdf_run.specs.declared.fault.Fault.{Fault}
@@ -136,3 +138,9 @@ fault_of_take take.Memory = Memory
 abbrev pub fault_of_script : ScriptFault → Fault
 fault_of_script (script.Line number) = Script number
 fault_of_script script.Memory = Memory
+
+-- the fault of a tool that made no file
+abbrev pub fault_of_tool : ToolFault → Fault
+fault_of_tool (tool.Read refused) = Read refused
+fault_of_tool tool.Failed = Device
+fault_of_tool tool.Memory = Memory

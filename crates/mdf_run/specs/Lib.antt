@@ -7,6 +7,7 @@ pub mod Reading
 pub mod Check
 pub mod Info
 pub mod Question
+pub mod Finalize
 pub mod Head
 pub mod Drive
 pub mod Sources

@@ -9,6 +9,7 @@ use Rattle.mdf_run.specs.declared.command.Name.TheVariants as name
 pub data Request : Type 0 where
   opened : (input : List ℕ) → Request
   recorded : (output : List ℕ) → Request
+  finalized : (input output : List ℕ) → Request
   checked : (input : List ℕ) → Request
   described : (input : List ℕ) → Request
 
@@ -16,6 +17,7 @@ pub data Request : Type 0 where
 abbrev pub name_text : Name → List ℕ
 name_text name.Opened = codes "opened"
 name_text name.Record = codes "record"
+name_text name.Finalize = codes "finalize"
 name_text name.Check = codes "check"
 name_text name.Info = codes "info"
 
@@ -30,12 +32,14 @@ NamesNothing word = (name : Name) → ¬ Names word name
 abbrev pub name_of : Request → Name
 name_of (opened input) = name.Opened
 name_of (recorded output) = name.Record
+name_of (finalized input output) = name.Finalize
 name_of (checked input) = name.Check
 name_of (described input) = name.Info
 
 abbrev pub arguments_of : Request → List (List ℕ)
 arguments_of (opened input) = input ∷ []
 arguments_of (recorded output) = output ∷ []
+arguments_of (finalized input output) = input ∷ output ∷ []
 arguments_of (checked input) = input ∷ []
 arguments_of (described input) = input ∷ []
 
@@ -55,6 +59,10 @@ AsksOpened words input = Asks words (opened input)
 abbrev pub AsksRecord : List (List ℕ) → List ℕ → Type 0
 AsksRecord words output = Asks words (recorded output)
 
+-- `finalize IN OUT`
+abbrev pub AsksFinalize : List (List ℕ) → List ℕ → List ℕ → Type 0
+AsksFinalize words input output = Asks words (finalized input output)
+
 -- `check IN`
 abbrev pub AsksCheck : List (List ℕ) → List ℕ → Type 0
 AsksCheck words input = Asks words (checked input)
@@ -67,14 +75,20 @@ AsksInfo words input = Asks words (described input)
 abbrev pub input_of : Request → Option (List ℕ)
 input_of (opened input) = Some input
 input_of (recorded output) = None
+input_of (finalized input output) = Some input
 input_of (checked input) = Some input
 input_of (described input) = Some input
 
 abbrev pub output_of : Request → Option (List ℕ)
 output_of (opened input) = None
 output_of (recorded output) = Some output
+output_of (finalized input output) = Some output
 output_of (checked input) = None
 output_of (described input) = None
+
+-- the words ask for a file to be made
+abbrev pub AsksToMake : List (List ℕ) → List ℕ → Type 0
+AsksToMake words output = (request : Request) × Asks words request × (output_of request ≡ Some output)
 
 -- the input disk was asked for nothing, or for the input that the words name, to be read
 abbrev pub AsksInput : List (List ℕ) → Option (List ℕ × Role) → Type 0

@@ -9,6 +9,7 @@ use mdf_num::{Bytes, Rows};
 pub enum Name {
     Opened,
     Record,
+    Finalize,
     Check,
     Info,
 }
@@ -23,6 +24,9 @@ impl Name {
         }
         if word == b"record".as_slice() {
             return Some(Name::Record);
+        }
+        if word == b"finalize".as_slice() {
+            return Some(Name::Finalize);
         }
         if word == b"check".as_slice() {
             return Some(Name::Check);
@@ -41,6 +45,8 @@ pub enum Command<'a> {
     Opened { input: &'a Bytes },
     /// `record OUT`
     Record { output: &'a Bytes },
+    /// `finalize IN OUT`
+    Finalize { input: &'a Bytes, output: &'a Bytes },
     /// `check IN`
     Check { input: &'a Bytes },
     /// `info IN`
@@ -57,6 +63,7 @@ pub fn command_of(words: &Rows<Bytes>) -> Option<Command<'_>>
     match (Name::of(first.as_slice())?, arguments) {
         (Name::Opened, [input]) => Some(Command::Opened { input }),
         (Name::Record, [output]) => Some(Command::Record { output }),
+        (Name::Finalize, [input, output]) => Some(Command::Finalize { input, output }),
         (Name::Check, [input]) => Some(Command::Check { input }),
         (Name::Info, [input]) => Some(Command::Info { input }),
         _ => None,

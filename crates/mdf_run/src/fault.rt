@@ -1,6 +1,6 @@
 ghost use Rattle.std.specs.Prelude.{◌≡◌};
 ghost use Rattle.mdf_run.specs.declared.fault.Fault.TheVariants.{Gate, Device, Read, Memory as NoMemory};
-ghost use Rattle.mdf_run.specs.Faults.{fault_of_load, fault_of_script, fault_of_take, gate_line, read_line, refusal_line, text_line, texts_line, what_text};
+ghost use Rattle.mdf_run.specs.Faults.{fault_of_load, fault_of_script, fault_of_take, fault_of_tool, gate_line, read_line, refusal_line, text_line, texts_line, what_text};
 ghost use Rattle.mdf_content.specs.Fault.{read_refusal};
 ghost use Rattle.mdf_block.specs.Refusal.{Bad, Cycles, Offset, TooMany};
 ghost use Rattle.mdf_format.specs.Block.{name_of};
@@ -17,6 +17,7 @@ use mdf_format::Kind;
 use mdf_gate::GateFault;
 use mdf_num::{Failed, Memory};
 use mdf_port::{Sink, TakeFault};
+use tool_final::ToolFault;
 
 /// Why a command ends with a status other than 0.
 #[derive(Clone, Copy, Debug, PartialEq, Eq)]
@@ -357,6 +358,18 @@ impl From<ScriptFault> for Fault {
         match fault {
             ScriptFault::Line { line } => Fault::Script { line },
             ScriptFault::Memory => Fault::Memory,
+        }
+    }
+}
+
+impl From<ToolFault> for Fault {
+    ghost from_gives = { λ tool fault. fault ≡ fault_of_tool tool };
+
+    fn from(fault: ToolFault) -> Self {
+        match fault {
+            ToolFault::Read(fault) => Fault::Read(fault),
+            ToolFault::Failed => Fault::Device,
+            ToolFault::Memory => Fault::Memory,
         }
     }
 }

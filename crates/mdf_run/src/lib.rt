@@ -10,6 +10,7 @@ mod check;
 mod command;
 mod drive;
 mod fault;
+mod finalize;
 mod gate;
 mod head;
 mod info;

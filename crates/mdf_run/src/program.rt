@@ -1,4 +1,4 @@
-ghost use Rattle.std.specs.Prelude.{◌≡◌, ◌↔◌, ◌⊎◌, ◌<◌, List, ℕ, [], length, None, is_some};
+ghost use Rattle.std.specs.Prelude.{◌≡◌, ◌↔◌, ◌⊎◌, ◌<◌, List, ℕ, [], length, None, is_some, IfSome};
 ghost use mathlib.Core.List.{IsPrefix};
 ghost use Rattle.mdf_format.specs.Cause.{Rose};
 ghost use Rattle.mdf_port.specs.State.{sink_state, source_state};
@@ -6,9 +6,12 @@ ghost use Rattle.mdf_disk.specs.State.{state_of};
 ghost use Rattle.book_owned.specs.Kept.{MarksHold, StartHolds};
 ghost use Rattle.book_owned.specs.Marks.{AreRising};
 ghost use Rattle.acq_script.specs.Tasks.{samples_of};
-ghost use Rattle.mdf_run.specs.Words.{AsksCheck, AsksInfo, AsksOpened, AsksRecord, AsksInput, AsksOutput, IsUsage};
+ghost use Rattle.mdf_run.specs.Words.{AsksCheck, AsksFinalize, AsksInfo, AsksOpened, AsksRecord, AsksInput, AsksOutput, AsksToMake, IsUsage};
 ghost use Rattle.mdf_run.specs.Texts.{Prints, usage_line};
 ghost use Rattle.mdf_run.specs.Opened.{EndsOpened};
+ghost use Rattle.mdf_disk.specs.Crash.{HoldsSince};
+ghost use Rattle.tool_final.specs.Finalize.{IsFinalizeImage};
+ghost use Rattle.mdf_run.specs.Finalize.{EndsFinalize};
 ghost use Rattle.mdf_run.specs.Check.{EndsCheck};
 ghost use Rattle.mdf_run.specs.Info.{EndsInfo};
 ghost use Rattle.mdf_run.specs.Sources.{AreOwnMarked};
@@ -20,6 +23,7 @@ ghost use Rattle.mdf_run.specs.Kept.{OfRecording, IsDone};
 
 use crate::answer::{Question, run_reading};
 use crate::command::{Command, command_of};
+use crate::finalize::run_finalize;
 use crate::gate::Gate;
 use crate::opened::run_opened;
 use crate::record::{Recorded, run_record};
@@ -109,6 +113,9 @@ where
     ensures opened { (input : List ℕ) → AsksOpened words.now input
         → EndsOpened (state_of A.Disk first) (state_of A.Disk result.first)
         (sink_state K.Sink sink.old) (sink_state K.Sink sink.new) result.status }
+    ensures finalize { (input output : List ℕ) → AsksFinalize words.now input output
+        → EndsFinalize now_ns (state_of A.Disk first) (state_of A.Disk result.first) (state_of C.Disk out) (state_of C.Disk result.out)
+        (sink_state K.Sink sink.old) (sink_state K.Sink sink.new) result.status }
     ensures check { (input : List ℕ) → AsksCheck words.now input
         → EndsCheck (state_of A.Disk first) (state_of A.Disk result.first)
         (sink_state K.Sink sink.old) (sink_state K.Sink sink.new) result.status }
@@ -136,6 +143,10 @@ where
     ensures complete { OfRecording words.now (S.left source.old) (λ script. IsDone result.status
         → IsComplete script (outcome C.Disk result.out result.history.items result.marks.items)) }
 
+    // What may be left of the output of `finalize` at any moment: no MDF, or the finalized session of the input.
+    ensures finalize_leaves { (input output : List ℕ) → AsksFinalize words.now input output
+        → IfSome (A.content first) (λ file. HoldsSince (C.story result.out) (C.moment out) (IsFinalizeImage file now_ns)) }
+
     // Another command has no history and no marks, and takes nothing from the source.
     ensures no_history { ((name : List ℕ) → ¬ AsksRecord words.now name) → result.history.items ≡ [] }
     ensures no_marks { ((name : List ℕ) → ¬ AsksRecord words.now name) → result.marks.items ≡ [] }
@@ -154,7 +165,7 @@ where
     ensures second { _second.new ≡ _second.old }
     ensures output { AsksOutput words.now (C.asked result.out) }
     ensures output_untouched { C.asked result.out ≡ None → result.out ≡ out }
-    ensures out { ((name : List ℕ) → ¬ AsksRecord words.now name) → result.out ≡ out }
+    ensures out { ((output : List ℕ) → ¬ AsksToMake words.now output) → result.out ≡ out }
 {
     match command_of(words) {
         Some(Command::Opened { input }) => {
@@ -177,6 +188,12 @@ where
                 history,
                 marks,
             }
+        }
+        Some(Command::Finalize { input, output }) => {
+            let mut first = first;
+            let mut out = out;
+            let status = run_finalize(alloc, input, output, now_ns, sink, &mut first, &mut out);
+            without_recording(alloc, status, first, out)
         }
         Some(Command::Check { input }) => {
             let mut first = first;

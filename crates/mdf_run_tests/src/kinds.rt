@@ -110,7 +110,7 @@ fn groups_of_values_stand_behind_the_groups(rt: HostRuntime) -> Result<(), Fail>
 }
 
 // One group with one channel, and no samples.
-const EMPTY: &str = "group 0 g\nchannel t u64 master\nbegin\nend\n";
+pub const EMPTY: &str = "group 0 g\nchannel t u64 master\nbegin\nend\n";
 
 #[test]
 fn an_empty_recording_is_a_head_and_a_closed_place(rt: HostRuntime) -> Result<(), Fail> {

@@ -2,6 +2,8 @@
 #![tactic(auto)]
 
 #[cfg(test)]
+mod finalizing;
+#[cfg(test)]
 mod foreign;
 #[cfg(test)]
 mod kinds;

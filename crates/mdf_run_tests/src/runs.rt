@@ -115,6 +115,24 @@ where
     line(alloc, &ended)
 }
 
+/// What is printed, and the bytes of the file that was made.
+pub fn made<R>(
+    rt: &R,
+    given: Given,
+    first: MemoryDisk,
+    out: MemoryDisk,
+) -> Result<(String, Bytes), Fail>
+where
+    R: AllocGlobal + Threads + Wait + Sync,
+    requires first { ⟦<MemoryDisk as Disk>⟧.asked first ≡ None }
+    requires out { ⟦<MemoryDisk as Disk>⟧.asked out ≡ None }
+{
+    let alloc = rt.alloc();
+    let ended = ran(rt, given, first, out)?;
+    let file = Bytes::from_slice(alloc, ended.finished.out.bytes())?;
+    Ok((line(alloc, &ended)?, file))
+}
+
 fn record_told<R>(rt: &R, given: Given, out: MemoryDisk) -> Result<String, Fail>
 where
     R: AllocGlobal + Threads + Wait + Sync,
@@ -192,13 +210,14 @@ const USAGE: &str =
     "1 usage: opened IN | record OUT | finalize IN OUT | check IN | info IN | sort IN OUT | cut IN OUT FROM TO | concat A B OUT | export IN GROUP | gen N OUT\n";
 
 // Words that are no command.
-const WRONG: [&[&str]; 8] = [
+const WRONG: [&[&str]; 9] = [
     &[],
     &["frob"],
     &["opened"],
     &["opened", "a", "b"],
     &["record"],
     &["record", "a", "b"],
+    &["finalize", "a"],
     &["Record", "a"],
     &["", "a"],
 ];
@@ -465,7 +484,7 @@ const RECORDED: [(&str, &[u64], &[u64], &[u64], &str); 22] = [
     ),
 ];
 
-fn failing_disk(alloc: Global, failing: &[u64]) -> Result<MemoryDisk, Fail>
+pub fn failing_disk(alloc: Global, failing: &[u64]) -> Result<MemoryDisk, Fail>
     ensures { IfOk result (λ disk. ⟦<MemoryDisk as Disk>⟧.asked disk ≡ None) }
 {
     let failing = numbers(alloc, failing)?;

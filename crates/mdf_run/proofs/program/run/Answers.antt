@@ -1,6 +1,10 @@
+use Rattle.std.proofs.Common.{◌≡◌, ℕ, List, refl, subst}
 use Rattle.mdf_port.specs.State.{sink_state, source_state}
 use Rattle.mdf_disk.specs.State.{state_of}
-use Rattle.mdf_run.specs.Words.{opened, recorded, checked, described}
+use Rattle.mdf_run.specs.Words.{Asks, opened, recorded, finalized, checked, described}
+use Rattle.mdf_run.specs.Commands.{request_of}
+use Rattle.mdf_run.specs.declared.command.Command.{Command}
+use Rattle.mdf_run.specs.declared.command.Command.TheVariants.{Record, Finalize}
 use Rattle.mdf_run.proofs.Keeps.{recording_keeps}
 use Rattle.mdf_run.proofs.program.run.Goals as goal
 
@@ -60,3 +64,32 @@ returns-in-None-clause-check g c = λ input asks. absurd (c.in-None.ensures (che
 
 pub returns-in-None-clause-info : goal.returns-in-None-clause-info
 returns-in-None-clause-info g c = λ input asks. absurd (c.in-None.ensures (described input) asks)
+
+pub returns-in-None-clause-finalize : goal.returns-in-None-clause-finalize
+returns-in-None-clause-finalize g c = λ input output asks. absurd (c.in-None.ensures (finalized input output) asks)
+
+pub returns-in-None-clause-finalize_leaves : goal.returns-in-None-clause-finalize_leaves
+returns-in-None-clause-finalize_leaves g c = λ input output asks. absurd (c.in-None.ensures (finalized input output) asks)
+
+-- the words ask for this command
+asked : (words : List (List ℕ)) (command known : Command) → command ≡ known → Asks words (request_of command) → Asks words (request_of known)
+asked words command known is asks = subst (λ (c : Command). Asks words (request_of c)) is asks
+
+-- a recording, and a finished file, is a file that is made
+pub returns-in-Some-Record-clause-out : goal.returns-in-Some-Record-clause-out
+returns-in-Some-Record-clause-out g c = λ none.
+    let m = c.in-Some-Record in
+    absurd (none m.output.now (recorded m.output.now, asked c.args.words.now m.field-0 (Record m.output) m.field-0-is m.ensures, refl))
+
+pub returns-in-Some-Finalize-clause-out : goal.returns-in-Some-Finalize-clause-out
+returns-in-Some-Finalize-clause-out g c = λ none.
+    let m = c.in-Some-Finalize in
+    absurd (none m.output.now (
+      finalized m.input.now m.output.now,
+      asked c.args.words.now m.field-0 (Finalize m.input m.output) m.field-0-is m.ensures,
+      refl,
+    ))
+
+pub returns-in-Some-Finalize-clause-finalize_leaves : goal.returns-in-Some-Finalize-clause-finalize_leaves
+returns-in-Some-Finalize-clause-finalize_leaves g c = λ input output asks.
+    rw c.without_recording-in-Some-Finalize.ensures.out c.run_finalize-status.ensures.any_moment

@@ -1,0 +1,56 @@
+-- What a crash may leave while a finalized file is written under a seal.
+use Rattle.std.proofs.Common.{◌≡◌, inl, inr, ⊎_elim, ℕ, ◌≤◌, ◌<◌, List, [], ◌∷◌, length, drop, get_or, codes, sym, ◌∙◌, ap, arith}
+use Rattle.std.proofs.lemmas.List.{drop_more, get_or-take, get_or-drop}
+use Rattle.std.proofs.lemmas.Bool.{cases_eq}
+use Rattle.mdf_format.specs.Identification.{IsFinalized}
+use Rattle.mdf_format.specs.Number.{bytes_at}
+use Rattle.mdf_seal.specs.Images.{IsClosed, IsSealedImage, IsWholeButFirst}
+use Rattle.mdf_tool.specs.Tool.{IsToolImage}
+
+-- a byte of the mark
+in_mark : (file mark : List ℕ) (place : ℕ) → place < 8 → bytes_at 8 file 0 ≡ mark → get_or file place 0 ≡ get_or mark place 0
+in_mark file mark place below is = sym (get_or-take 8 file place 0 below) ∙ ap (λ (bytes : List ℕ). get_or bytes place 0) is
+
+-- a file with a byte other than 0 in front has one
+some_first : (bytes : List ℕ) → get_or bytes 0 0 ≡ 77 → 1 ≤ length bytes
+some_first [] is = absurd (cc is)
+some_first (byte ∷ bytes) is = omega arith
+
+pub some_bytes : (bytes : List ℕ) → IsFinalized bytes → 1 ≤ length bytes
+some_bytes bytes marked = some_first bytes (in_mark bytes (codes "MDF     ") 0 (omega arith) marked)
+
+module _ (bytes : List ℕ) (marked : IsFinalized bytes) where
+  first : get_or bytes 0 0 ≡ 77
+  first = in_mark bytes (codes "MDF     ") 0 (omega arith) marked
+
+  second : (file : List ℕ) → IsWholeButFirst bytes file → get_or file 1 0 ≡ 68
+  second file all =
+      sym (get_or-drop 1 file 0 0) ∙ ap (λ (rest : List ℕ). get_or rest 0 0) all.rest ∙ get_or-drop 1 bytes 0 0
+      ∙ in_mark bytes (codes "MDF     ") 1 (omega arith) marked
+
+  is_whole : (file : List ℕ) → IsWholeButFirst bytes file → get_or file 0 0 ≡ 77 → file ≡ bytes
+  is_whole file all is =
+      drop_more file 0 0 (omega (arith, all.long, some_bytes bytes marked))
+      ∙ ap (λ (byte : ℕ). byte ∷ drop 1 file) (is ∙ sym first)
+      ∙ ap (λ (rest : List ℕ). get_or bytes 0 0 ∷ rest) all.rest
+      ∙ sym (drop_more bytes 0 0 (some_bytes bytes marked))
+
+  whole_image : (file : List ℕ) → IsWholeButFirst bytes file → IsToolImage bytes file
+  whole_image file all = ⊎_elim
+      (λ is. inr (is_whole file all is))
+      (λ other. inl (λ mdf. ⊎_elim
+      (λ finalized. other (in_mark file (codes "MDF     ") 0 (omega arith) finalized))
+      (λ unfinalized. absurd (omega (arith, second file all, in_mark file (codes "UnFinMF ") 1 (omega arith) unfinalized)))
+      mdf.marked))
+      (cases_eq (get_or file 0 0) 77)
+
+  closed_image : (file : List ℕ) → IsClosed file → IsToolImage bytes file
+  closed_image file closed = inl (λ mdf. ⊎_elim
+      (λ finalized. absurd (omega (arith, closed, in_mark file (codes "MDF     ") 0 (omega arith) finalized)))
+      (λ unfinalized. absurd (omega (arith, closed, in_mark file (codes "UnFinMF ") 0 (omega arith) unfinalized)))
+      mdf.marked)
+
+  pub sealed_image : (file : List ℕ) → IsSealedImage bytes file → IsToolImage bytes file
+  sealed_image file (inl short) = inl (λ mdf. absurd (omega (arith, mdf.long, short)))
+  sealed_image file (inr (inl closed)) = closed_image file closed
+  sealed_image file (inr (inr all)) = whole_image file all

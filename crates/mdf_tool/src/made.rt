@@ -1,0 +1,19 @@
+use mdf_num::Bytes;
+
+/// What is told of a file that was made.
+#[derive(Clone, Copy, Debug, PartialEq, Eq)]
+pub struct Report {
+    /// How many groups it has, without those of values of variable length.
+    pub groups: u32,
+    /// How many samples these have.
+    pub samples: u64,
+    /// How many links of the input were passed over.
+    pub dropped: u64,
+}
+
+/// What a tool made: the bytes of a file, and what is told of it.
+#[derive(Debug, Drop)]
+pub struct Made {
+    pub bytes: Bytes,
+    pub report: Report,
+}

@@ -1,0 +1,38 @@
+ghost use Rattle.std.specs.Prelude.{◌≡◌, ◌≤◌, true, is_some};
+ghost use Rattle.mdf_format.specs.Identification.{IsFinalized};
+ghost use Rattle.mdf_disk.specs.Crash.{Adds};
+ghost use Rattle.mdf_disk.specs.State.{state_of};
+ghost use Rattle.mdf_seal.specs.Seal.{IsBlank};
+ghost use Rattle.mdf_tool.specs.Tool.{IsToolImage, WriteEnds};
+
+use crate::{Made, Report, ToolFault};
+use mdf_disk::Disk;
+use mdf_seal::write_sealed;
+
+/// From this many bytes on no file is written under a seal.
+const TOO_LONG: u64 = 1 << 62;
+
+/// Writes the file that a tool made under a seal, on a disk that is attached with an empty file, and answers what is told
+/// of it. The file is marked as finalized; so whatever a crash leaves is the whole file, or no MDF.
+///
+/// # Errors
+/// `Failed` where the disk failed. `Memory` for a file of 2^62 bytes or more; then no call of the disk was made.
+pub fn write_made<C: Disk>(out: &mut C, made: Made) -> Result<Report, ToolFault>
+    requires attached { C.attached out.old ≡ true }
+    requires blank { IsBlank (C.content out.old) (C.story out.old) }
+    requires marked { IsFinalized made.bytes }
+    ensures ends { WriteEnds made (state_of C.Disk out.old) (state_of C.Disk out.new) result }
+    ensures any_moment { Adds (C.story out.old) (C.story out.new) (IsToolImage made.bytes) }
+    ensures asked { C.asked out.new ≡ C.asked out.old }
+    ensures attached { C.attached out.new ≡ C.attached out.old }
+    ensures moment { C.moment out.old ≤ C.moment out.new }
+    ensures told { is_some (C.story out.new) ≡ is_some (C.story out.old) }
+{
+    let Made { bytes, report } = made;
+    let file = bytes.as_slice();
+    if file.len() as u64 >= TOO_LONG {
+        return Err(ToolFault::Memory);
+    }
+    write_sealed(out, file)?;
+    Ok(report)
+}

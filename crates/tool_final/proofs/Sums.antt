@@ -1,0 +1,34 @@
+-- Loops that sum over groups.
+use Rattle.std.proofs.Common.{◌≡◌, ◌+◌, ◌<◌, ◌≤◌, ◌⊎◌, inl, inr, ℕ, List, [], ◌∷◌, length, get_or, drop, refl, sym, ◌∙◌, ap, arith}
+use Rattle.std.proofs.lemmas.List.{drop_all, get_or_default}
+use Rattle.mdf_block.proofs.Everys.{rest_is}
+use Rattle.mdf_group.specs.declared.row.GroupRow.{GroupRow}
+use Rattle.tool_final.specs.Finalized.{counted, sample_count}
+
+module _ (groups : List GroupRow) (counts : List ℕ) where
+  -- one more group is counted
+  pub samples_more : (so_far k sum : ℕ) (group : GroupRow) → k < length groups → k < length counts → group ≡ get_or groups k group
+      → sum ≡ so_far + counted group (get_or counts k 0)
+      → so_far + sample_count (drop k groups) (drop k counts) ≡ sample_count groups counts
+      → sum + sample_count (drop (k + 1) groups) (drop (k + 1) counts) ≡ sample_count groups counts
+  unfolding sample_count
+  samples_more so_far k sum group below within is added before =
+      let n = get_or counts k 0 in
+      let split : sample_count (drop k groups) (drop k counts) ≡ counted group n + sample_count (drop (k + 1) groups) (drop (k + 1) counts) =
+      ap (λ (more : List GroupRow). sample_count more (drop k counts)) (rest_is groups k group below is)
+      ∙ ap (λ (more : List ℕ). sample_count (group ∷ drop (k + 1) groups) more) (rest_is counts k n within (get_or_default counts k 0 n within)) in
+      omega (arith, split, added, before)
+
+  -- all are counted
+  pub samples_done : (so_far k : ℕ) → (length groups ≤ k) ⊎ (length counts ≤ k)
+      → so_far + sample_count (drop k groups) (drop k counts) ≡ sample_count groups counts → so_far ≡ sample_count groups counts
+  unfolding sample_count
+  samples_done so_far k past before = omega (arith, none past, before)
+    where
+      empty : (left : List GroupRow) → sample_count left [] ≡ 0
+      empty [] = refl
+      empty (group ∷ left) = refl
+
+      none : (length groups ≤ k) ⊎ (length counts ≤ k) → sample_count (drop k groups) (drop k counts) ≡ 0
+      none (inl past) = ap (λ (more : List GroupRow). sample_count more (drop k counts)) (drop_all k groups past)
+      none (inr past) = ap (λ (more : List ℕ). sample_count (drop k groups) more) (drop_all k counts past) ∙ empty (drop k groups)

@@ -1,0 +1,58 @@
+-- The finalized file of a session, and what is told of it.
+use Rattle.std.specs.Prelude.{ℕ, ◌≡◌, ◌+◌, if◌then◌else◌, List, [], ◌∷◌, sum_by, Some, slice_get}
+use Rattle.mdf_group.specs.declared.row.GroupRow.{GroupRow}
+use Rattle.mdf_group.specs.declared.row.DataRow.{DataRow}
+use Rattle.mdf_group.specs.Group.{is_variable}
+use Rattle.mdf_session.specs.Session.{SessionParts}
+use Rattle.mdf_spell.specs.declared.recovered.Recovered.{Recovered}
+use Rattle.mdf_spell.specs.Session.{session_file}
+use Rattle.mdf_tool.specs.declared.made.Made.{Made}
+use Rattle.mdf_tool.specs.declared.made.Report.{Report}
+
+-- what was recovered is what the session has, of its first data group
+pub record IsOfSession (session : SessionParts) (recovered : Recovered) : Type 0 where
+  pub head : recovered.head.now ≡ session.tree.head
+  pub history : recovered.history.now ≡ session.tree.history
+  pub row : slice_get session.tree.rows 0 ≡ Some recovered.row.now
+  pub counts : recovered.counts.now ≡ session.kept.counts
+  pub totals : recovered.totals.now ≡ session.kept.totals
+  pub content : recovered.content.now ≡ session.kept.content
+  pub streams : recovered.streams.now ≡ session.kept.streams
+
+-- these bytes are the finalized file of what was recovered, at a time in ns
+pub record IsSessionFile (session : SessionParts) (now : ℕ) (bytes : List ℕ) : Type 0 where
+  pub recovered : Recovered
+  pub is_of : IsOfSession session recovered
+  pub bytes_are : bytes ≡ session_file recovered now
+
+-- the number of a group, which is 0 where it holds values of variable length
+abbrev pub counted : GroupRow → ℕ → ℕ
+counted group number = if is_variable group then 0 else number
+
+-- how many groups hold no values of variable length
+abbrev pub group_count : List GroupRow → ℕ
+group_count groups = sum_by (λ (group : GroupRow). counted group 1) groups
+
+-- how many records these have, where each group has so many
+unfoldable pub sample_count : List GroupRow → List ℕ → ℕ
+sample_count [] counts = 0
+sample_count (group ∷ groups) [] = 0
+sample_count (group ∷ groups) (count ∷ counts) = counted group count + sample_count groups counts
+
+-- the groups of the first data group
+abbrev pub first_groups : List DataRow → List GroupRow
+first_groups [] = []
+first_groups (row ∷ rows) = row.groups
+
+-- what is told of the finalized file: its groups and samples, and how many links of the recording were passed over
+abbrev pub report_for : SessionParts → Report
+report_for session = record {
+  groups = group_count (first_groups session.tree.rows);
+  samples = sample_count (first_groups session.tree.rows) session.kept.counts;
+  dropped = session.tree.dropped;
+}
+
+-- the finalized file and what is told of it
+pub record IsMadeOf (session : SessionParts) (now : ℕ) (made : Made) : Type 0 where
+  pub bytes_are : IsSessionFile session now made.bytes
+  pub report_is : made.report ≡ report_for session

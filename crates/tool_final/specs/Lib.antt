@@ -1,0 +1,2 @@
+pub mod Finalized
+pub mod Finalize
