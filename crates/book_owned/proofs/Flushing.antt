@@ -95,7 +95,7 @@ module _ {D V N : Type 0} (disk : DiskOf D) (view : ViewOf V N) (front : InMemor
     pub turned : (made after : InMemory V) (file' : Gated D)
         → reserved.history.items ≡ front.history.items → reserved.marks.items ≡ front.marks.items
         → MakesRoom disk view reserved file size made file'
-        → after ≡ record made { history = after.history; held = after.held; block = after.block; scratch = after.scratch; next = after.next }
+        → after ≡ record made { history = after.history; held = after.held; block = after.block; next = after.next }
         → Turns disk view (account_of disk view front file) (account_of disk view after file') sample
     turned made after file' same_history same_marks room put =
         let same_after = ap (λ f. f.marks.items) put in

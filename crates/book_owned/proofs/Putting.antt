@@ -50,7 +50,6 @@ module _ {V : Type 0} (old new : InMemory V) (sample : Sample) (put : IsPut old 
     session = counted.session;
     some = omega (arith, counted.some, put.limit);
     block = omega (arith, counted.block, put.limit);
-    scratch = put.scratch ∙ counted.scratch ∙ sym put.limit;
     groups = counted.groups;
     fields = counted.fields;
     disjoint = counted.disjoint;
@@ -91,7 +90,7 @@ module _ {D V N : Type 0} (disk : DiskOf D) (view : ViewOf V N) where
       → IsPut old new sample → 1 ≤ old.marks.spare → old.held + cost_of old.shapes sample ≤ old.session_limit
       → IsBook disk view new file
   book_put old new file sample book put spare session =
-      let at : InMemory V = record old { history = new.history; held = new.held; block = new.block; scratch = new.scratch; next = new.next } in
+      let at : InMemory V = record old { history = new.history; held = new.held; block = new.block; next = new.next } in
       let put_at : IsPut old at sample = subst (λ f. IsPut old f sample) put.rest put in
       let history = old.history.items in
       let through = durable old.marks.items in
@@ -119,11 +118,11 @@ module _ {D V N : Type 0} (disk : DiskOf D) (view : ViewOf V N) where
   -- a book that has just begun
   pub book_begun : (front : InMemory V) (file : Gated D) → IsNewFile disk file → IsAdmissible front.shapes front.block.limit front.session_limit
       → front.history.items ≡ [] → front.marks.items ≡ record { moment = disk.moment file.disk; through = 0 } ∷ [] → front.held ≡ 0
-      → front.block.bytes ≡ [] → length front.scratch.items ≡ front.block.limit
+      → front.block.bytes ≡ []
       → view.shows front.view [] → view.count front.view ≡ 0 → ((handed : List Sample) → view.hands front.view handed → handed ≡ [])
       → HoldsSince (disk.story file.disk) (disk.moment file.disk) (Opens (head_of (disk.story file.disk) file.first) [])
       → AreNext front.shapes [] front.next → IsBook disk view front file
-  book_begun front file created admissible history_is marks_are held_is bytes_are scratch_is shown counted handed leaves next =
+  book_begun front file created admissible history_is marks_are held_is bytes_are shown counted handed leaves next =
       let head = head_of (disk.story file.disk) file.first in
       let first : Mark = record { moment = disk.moment file.disk; through = 0 } in
       let durable_is : durable front.marks.items ≡ 0 = ap durable marks_are in
@@ -143,7 +142,6 @@ module _ {D V N : Type 0} (disk : DiskOf D) (view : ViewOf V N) where
           session = admissible.session;
           some = admissible.some;
           block = admissible.block;
-          scratch = scratch_is;
           groups = admissible.groups;
           fields = admissible.fields;
           variable = admissible.variable;

@@ -13,6 +13,7 @@ use Rattle.mdf_disk.proofs.Crash.{adds_more}
 use Rattle.mdf_layout.specs.Layout.{Layout}
 use Rattle.mdf_layout.specs.Record.{history_cost}
 use Rattle.mdf_layout.specs.Behind.{AreEncodingsBehind}
+use Rattle.mdf_layout.specs.Stock.{Stock}
 use Rattle.mdf_layout.specs.declared.sample.Sample.{Sample}
 use Rattle.mdf_layout.proofs.Behind.{all_written, no_encodings}
 use Rattle.mdf_layout.proofs.Sizes.{encodings-length}
@@ -25,7 +26,7 @@ use Rattle.book_owned.specs.Members.{DiskOf, ViewOf}
 use Rattle.book_owned.specs.Marks.{durable}
 use Rattle.book_owned.specs.Account.{Terms}
 use Rattle.book_owned.specs.Kept.{IsKept}
-use Rattle.book_owned.specs.Halves.{IsBook, IsPending, terms_of}
+use Rattle.book_owned.specs.Halves.{IsBook, IsCounted, IsPending, terms_of}
 use Rattle.book_owned.specs.declared.in_memory.InMemory.{InMemory}
 use Rattle.book_owned.specs.declared.mark.Mark.{Mark}
 use Rattle.book_owned.proofs.Costs.{history_cost-least, history_cost-append}
@@ -98,6 +99,23 @@ module _ {D V N : Type 0} (disk : DiskOf D) (view : ViewOf V N) (front : InMemor
       (carries_either layouts terms.head history through written.blocks front.block.bytes book.pending.through written.records (book.pending.records going))
       (adds written.blocks written.rests)
 
+  -- what is counted stays where the buffer keeps its limit
+  counted_with : (marks : Stock Mark) → IsCounted front → block.limit ≡ front.block.limit → IsCounted (record front { block = block; marks = marks })
+  counted_with marks counted limit = record {
+    fit = counted.fit;
+    held = counted.held;
+    within = counted.within;
+    session = counted.session;
+    some = omega (arith, counted.some, limit);
+    block = omega (arith, counted.block, limit);
+    groups = counted.groups;
+    fields = counted.fields;
+    disjoint = counted.disjoint;
+    stored = counted.stored;
+    variable = counted.variable;
+    next = counted.next;
+  }
+
   -- the disk failed
   pub book_failed : IsBook disk view front file
       → block.bytes ≡ front.block.bytes → block.limit ≡ front.block.limit → file'.failed ≡ true
@@ -106,21 +124,7 @@ module _ {D V N : Type 0} (disk : DiskOf D) (view : ViewOf V N) (front : InMemor
       → disk.moment file.disk ≤ disk.moment file'.disk → is_some (disk.story file'.disk) ≡ is_some (disk.story file.disk)
       → IsBook disk view (record front { block = block }) file'
   book_failed book bytes limit failed same adds later told = record {
-    counted = record {
-      fit = book.counted.fit;
-      held = book.counted.held;
-      within = book.counted.within;
-      session = book.counted.session;
-      some = omega (arith, book.counted.some, limit);
-      block = omega (arith, book.counted.block, limit);
-      scratch = book.counted.scratch ∙ sym limit;
-      groups = book.counted.groups;
-      fields = book.counted.fields;
-      disjoint = book.counted.disjoint;
-      stored = book.counted.stored;
-      variable = book.counted.variable;
-      next = book.counted.next;
-    };
+    counted = counted_with front.marks book.counted limit;
     pending = record {
       through = book.pending.through;
       records = λ going. absurd (both going);
@@ -174,21 +178,7 @@ module _ {D V N : Type 0} (disk : DiskOf D) (view : ViewOf V N) (front : InMemor
         let all : take (durable marks) history ≡ history = take_all (durable marks) history (omega (arith, durable_is)) in
         let none : drop (durable marks) history ≡ [] = drop_all (durable marks) history (omega (arith, durable_is)) in
         record {
-          counted = record {
-            fit = book.counted.fit;
-            held = book.counted.held;
-            within = book.counted.within;
-            session = book.counted.session;
-            some = omega (arith, book.counted.some, limit);
-            block = omega (arith, book.counted.block, limit);
-            scratch = book.counted.scratch ∙ sym limit;
-            groups = book.counted.groups;
-            fields = book.counted.fields;
-            disjoint = book.counted.disjoint;
-            stored = book.counted.stored;
-            variable = book.counted.variable;
-            next = book.counted.next;
-          };
+          counted = counted_with (record { items = marks; spare = spare }) book.counted limit;
           pending = record {
             through = omega (arith, durable_is);
             records = λ g. rw (emptied, none) (no_encodings layouts (take (durable marks) history));

@@ -52,7 +52,6 @@ pub record IsCounted {V : Type 0} (front : InMemory V) : Type 0 where
   pub session : front.session_limit ≤ 268435456
   pub some : 1 ≤ front.block.limit
   pub block : front.block.limit ≤ 16777216
-  pub scratch : length front.scratch.items ≡ front.block.limit
   pub groups : length front.shapes ≤ 64
   pub fields : sum_by (λ layout. length layout.rows) front.shapes ≤ 1024
   pub variable : sum_by (λ layout. length (variables layout.rows)) front.shapes ≤ 128
@@ -95,6 +94,5 @@ pub record IsPut {V : Type 0} (old new : InMemory V) (sample : Sample) : Type 0 
   pub limit : new.block.limit ≡ old.block.limit
   pub history : new.history.items ≡ old.history.items ++ sample ∷ []
   pub held : new.held ≡ old.held + cost_of old.shapes sample
-  pub scratch : length new.scratch.items ≡ length old.scratch.items
   pub next : AreNext old.shapes new.history.items new.next
-  pub rest : new ≡ record old { history = new.history; held = new.held; block = new.block; scratch = new.scratch; next = new.next }
+  pub rest : new ≡ record old { history = new.history; held = new.held; block = new.block; next = new.next }

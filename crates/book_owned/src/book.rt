@@ -38,26 +38,24 @@ impl<D: Disk, V: Shown> Model for Book<D, V> {
     ghost invariant = { λ b. IsBook D.Disk V.Shown b.front b.file };
 }
 
-/// The buffers of a book: that of a block, one for the records of a sample, the list of marks with room for one, and
-/// where the first values of variable length go.
+/// What a book begins with: the buffer of a block, the list of marks with room for one, and where the first values of
+/// variable length go.
 fn buffers(
     alloc: Global,
     shapes: &Shapes,
     block_limit: u32,
-) -> Result<(Block, Vec<u8>, Marks, NextValues), Memory>
+) -> Result<(Block, Marks, NextValues), Memory>
     requires some { 1 ≤ block_limit }
     requires ids { first_id shapes.now (length shapes.now) ≤ 255 }
     ensures block { IfOk result (λ parts. (parts.0.bytes ≡ []) × (parts.0.limit ≡ block_limit)) }
-    ensures scratch { IfOk result (λ parts. length parts.1.items ≡ block_limit) }
-    ensures marks { IfOk result (λ parts. (parts.2.items ≡ []) × (1 ≤ parts.2.spare)) }
-    ensures next { IfOk result (λ parts. AreNext shapes.now [] parts.3) }
+    ensures marks { IfOk result (λ parts. (parts.1.items ≡ []) × (1 ≤ parts.1.spare)) }
+    ensures next { IfOk result (λ parts. AreNext shapes.now [] parts.2) }
 {
     let block = Block::with_limit(alloc, block_limit)?;
-    let scratch = Vec::from_elem(alloc, 0, block_limit as usize)?;
     let mut marks = Marks::empty(alloc);
     marks.reserve(1)?;
     let next = NextValues::first(alloc, shapes)?;
-    Ok((block, scratch, marks, next))
+    Ok((block, marks, next))
 }
 
 impl<D: Disk, V: Shown> Book<D, V> {
@@ -89,7 +87,7 @@ impl<D: Disk, V: Shown> Book<D, V> {
         ensures shown { IfOk result (λ book. IsShowing V.Shown book.view book.history book.marks) }
         ensures handed_back { IfErr result (λ parts. (parts.1 ≡ file) × (parts.2 ≡ view)) }
     {
-        let Ok((block, scratch, mut marks, next)) = buffers(alloc, &shapes, block_limit) else {
+        let Ok((block, mut marks, next)) = buffers(alloc, &shapes, block_limit) else {
             return Err((Memory, file, view));
         };
         marks.put(Mark {
@@ -104,7 +102,6 @@ impl<D: Disk, V: Shown> Book<D, V> {
                 held: 0,
                 block,
                 next,
-                scratch,
                 session_limit,
                 view,
             },
@@ -237,7 +234,6 @@ impl<D: Disk, V: Shown> Book<D, V> {
             held: _,
             block: _,
             next: _,
-            scratch: _,
             session_limit: _,
             view,
         } = front;

@@ -35,12 +35,9 @@ pub(crate) fn accept<V>(front: &mut InMemory<V>, sample: Sample)
     requires session { front.old.held + cost_of front.old.shapes sample ≤ front.old.session_limit }
     ensures put { IsPut front.old front.new sample }
 {
-    let size = front
-        .next
-        .encode(&front.shapes, &sample, &mut front.scratch);
-    front.block.push(&front.scratch[..size]);
+    let size = front.block.put_sample(&front.next, &front.shapes, &sample);
     front.next.pass(&front.shapes, &sample);
-    front.held += front.shapes.cost_with(&sample, size as u64);
+    front.held += front.shapes.cost_with(&sample, size);
     front.history.put(sample);
 }
 

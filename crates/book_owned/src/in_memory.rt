@@ -15,8 +15,6 @@ pub struct InMemory<V> {
     pub(crate) block: Block,
     /// Where the next values of variable length go.
     pub(crate) next: NextValues,
-    /// Where the records of a sample are made: as many bytes as a block holds at most.
-    pub(crate) scratch: Vec<u8>,
     /// What a history may cost at most, in bytes.
     pub(crate) session_limit: u64,
     pub(crate) view: V,

@@ -248,9 +248,7 @@ module _ {D V N : Type 0} (disk : DiskOf D) (view : ViewOf V N) where
 
   pub tries_book : (v u x : View) (word : ℕ) (old new : Account D V) (sample : Sample) (answer : Try) → Took v u old → Puts disk view old new sample answer
       → x ≡ given u word new → TriesBook disk view x sample answer
-  tries_book v u x word old new sample (Busy w back) took puts is = tt
-  tries_book v u x word old new sample (NeedsFlush held size limit back) took puts is = (old, new, turned_now v u x word old new took is, puts)
-  tries_book v u x word old new sample (Answered answer) took puts is = (old, new, turned_now v u x word old new took is, puts)
+  tries_book v u x word old new sample answer took puts is = record { tried = λ had. (old, new, turned_now v u x word old new took is, puts) }
 
 -- the last of marks stands among them
 last_stands : (first : Mark) (marks : List Mark) → (before : List Mark) × (first ∷ marks ≡ before ++ fold (λ b mark. mark) first marks ∷ [])

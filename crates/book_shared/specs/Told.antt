@@ -119,16 +119,25 @@ pub record Turned {D V : Type 0} (u : View) (old new : Account D V) : Type 0 whe
   pub stopped : new.stopped ≡ u.knows
 
 -- the turn was one append of the book, with the causes of that
-abbrev pub AppendsBook : {D V N : Type 0} → DiskOf D → ViewOf V N → View → Sample → Append → Type 0
-AppendsBook {D = D} {V = V} disk view u sample answer = (old new : Account D V) × Turned u old new × AppendAnswers disk view old new sample answer
+pub record AppendsBook {D V N : Type 0} (disk : DiskOf D) (view : ViewOf V N) (u : View) (sample : Sample) (answer : Append) : Type 0 where
+  pub old : Account D V
+  pub new : Account D V
+  pub turned : Turned u old new
+  pub answers : AppendAnswers disk view old new sample answer
 
 -- the turn was one flush of the book, with the causes of that
-abbrev pub FlushesBook : {D V N : Type 0} → DiskOf D → ViewOf V N → View → Flush N → Type 0
-FlushesBook {D = D} {V = V} disk view u answer = (old new : Account D V) × Turned u old new × FlushAnswers disk view old new answer
+pub record FlushesBook {D V N : Type 0} (disk : DiskOf D) (view : ViewOf V N) (u : View) (answer : Flush N) : Type 0 where
+  pub old : Account D V
+  pub new : Account D V
+  pub turned : Turned u old new
+  pub answers : FlushAnswers disk view old new answer
+
+-- the seat had a turn in the try
+abbrev pub HadTurn : Try → Type 0
+HadTurn (Busy word back) = ⊥
+HadTurn (NeedsFlush held size limit back) = Unit {0}
+HadTurn (Answered answer) = Unit {0}
 
 -- where the seat had a turn, it was one try of the book, with the causes of that
-abbrev pub TriesBook : {D V N : Type 0} → DiskOf D → ViewOf V N → View → Sample → Try → Type 0
-TriesBook disk view u sample (Busy word back) = Unit {0}
-TriesBook {D = D} {V = V} disk view u sample (NeedsFlush held size limit back) =
-    (old new : Account D V) × Turned u old new × Puts disk view old new sample (NeedsFlush held size limit back)
-TriesBook {D = D} {V = V} disk view u sample (Answered answer) = (old new : Account D V) × Turned u old new × Puts disk view old new sample (Answered answer)
+pub record TriesBook {D V N : Type 0} (disk : DiskOf D) (view : ViewOf V N) (u : View) (sample : Sample) (answer : Try) : Type 0 where
+  pub tried : HadTurn answer → (old new : Account D V) × Turned u old new × Puts disk view old new sample answer

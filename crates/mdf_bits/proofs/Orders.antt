@@ -1,12 +1,12 @@
 -- Bytes of either order, and the bits of the number that they are.
-use Rattle.std.proofs.Common.{◌≡◌, ◌≢◌, ◌<◌, ◌≤◌, ◌+◌, ◌-◌, ◌*◌, ◌/◌, ◌%◌, ◌^◌, ℕ, suc, Bool, true, false, List, [], ◌∷◌, length, drop, reverse, get_or, if◌then◌else◌, bit_or, refl, sym, ◌∙◌, ap, Fits, w8, arith, inl, inr, drop-cons, get_or-set_other, get_or-set_same}
+use Rattle.std.proofs.Common.{◌≡◌, ◌≢◌, ◌<◌, ◌≤◌, ◌+◌, ◌-◌, ◌*◌, ◌/◌, ◌%◌, ◌^◌, ℕ, zero, suc, Bool, true, false, List, [], ◌∷◌, length, drop, reverse, get_or, if◌then◌else◌, bit_or, refl, sym, subst, ◌∙◌, ap, Fits, w8, arith, inl, inr, drop-cons, get_or-set_other, get_or-set_same}
 use Rattle.std.proofs.Math.Facts.{Fits-lt-pow}
 use Rattle.std.proofs.Math.ListN.{set}
 use Rattle.std.proofs.lemmas.Bool.{cases_eq, cases_lt}
 use Rattle.std.proofs.lemmas.List.{get_or-drop, get_or_past, get_or-reverse, length-drop, length-reverse, length-set}
 use Rattle.std.proofs.lemmas.Nat.{and_mask, or_shifted, pow-add, shl_whole, shr-shr}
 use Rattle.std.proofs.lemmas.Nat.Bits.{bit_at-lt, bit_at-zero, bit_at_above, bit_at_and, bit_at_cat_low, bit_at_cat_high, bit_at_ones}
-use Rattle.std.specs.Int.{bit_at}
+use Rattle.std.specs.Int.{bit_at, byte_at, bytes_low_first, to_le_bytes, w64}
 use Rattle.mdf_format.specs.Field.{bit_of, lowest_first}
 use Rattle.mdf_format.specs.Number.{le_number}
 
@@ -138,3 +138,20 @@ bit_of-bytes bytes word fits same k = elim (cases_lt k (8 * length bytes)) [
       ap (λ (b : ℕ). bit_at b i) (same j (omega arith)) ∙ masked ∙ ap (λ (n : ℕ). n % 2) (shr-shr word (8 * j) i) ∙ ap (bit_at word) place
   | inr past ↦ bit_of_past bytes k past ∙ sym (bit_at_above word (8 * length bytes) k fits past)
 ]
+
+byte_small : (i n : ℕ) → byte_at i n < 256
+byte_small zero n = omega arith
+byte_small (suc i) n = omega arith
+
+low_bytes_small : (first count n i : ℕ) → get_or (bytes_low_first first count n) i 0 < 256
+low_bytes_small first zero n i = subst (λ (b : ℕ). b < 256) (sym (get_or_past {X = ℕ} [] i 0 (omega arith))) (omega arith)
+low_bytes_small first (suc count) n zero = byte_small first n
+low_bytes_small first (suc count) n (suc i) = low_bytes_small (suc first) count n i
+
+-- the eight bytes of a number, the lowest first, have its bits
+pub bit_of-eight : (word k : ℕ) → word < 2 ^ 64 → bit_of (to_le_bytes w64 word) k ≡ bit_at word k
+bit_of-eight word k small =
+    sym (bit_at-le_number (to_le_bytes w64 word) k (record { small = low_bytes_small 0 8 word })) ∙ ap (λ (n : ℕ). bit_at n k) number
+  where
+    number : le_number (to_le_bytes w64 word) ≡ word
+    number = omega (arith, small)

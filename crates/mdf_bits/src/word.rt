@@ -24,8 +24,8 @@ pub(crate) fn word_of(bytes: &[u8], big: bool) -> u128
     word
 }
 
-/// Writes the number into all of the bytes.
-pub(crate) fn put_word(bytes: &mut [u8], big: bool, word: u128)
+/// Writes the number into all of the bytes, one after another.
+fn put_each_byte(bytes: &mut [u8], big: bool, word: u128)
     requires { word < 2 ^ (8 * length bytes.old) }
     ensures bits { (k : ℕ) → bit_of (lowest_first big bytes.new) k ≡ bit_at word k }
     ensures len { length bytes.new ≡ length bytes.old }
@@ -36,6 +36,19 @@ pub(crate) fn put_word(bytes: &mut [u8], big: bool, word: u128)
         bytes[place] = (rest & 0xff) as u8;
         rest >>= 8;
     }
+}
+
+/// Writes the number into all of the bytes. Eight bytes with the lowest first are written at once.
+pub(crate) fn put_word(bytes: &mut [u8], big: bool, word: u128)
+    requires { word < 2 ^ (8 * length bytes.old) }
+    ensures bits { (k : ℕ) → bit_of (lowest_first big bytes.new) k ≡ bit_at word k }
+    ensures len { length bytes.new ≡ length bytes.old }
+{
+    if bytes.len() == 8 && !big {
+        bytes.copy_from_slice(&(word as u64).to_le_bytes());
+        return;
+    }
+    put_each_byte(bytes, big, word);
 }
 
 /// The `bits` bits of the word from `bit` on, as a number.

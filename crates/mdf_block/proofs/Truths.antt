@@ -13,7 +13,6 @@ use Rattle.mdf_block.specs.Block.{is_block, is_compressed, the_block, block}
 use Rattle.mdf_block.specs.Text.{note, note_size, IsNote, LacksNote}
 use Rattle.mdf_block.specs.Chain.{Step, chain, full}
 use Rattle.mdf_block.specs.Each.{each}
-use Rattle.mdf_block.specs.Every.{every}
 use Rattle.mdf_block.specs.Truth.{LacksBlock, IsCounted, IsTrueOf}
 use Rattle.mdf_block.proofs.Refusals.{bind_err}
 use Rattle.mdf_block.proofs.Wholes.{chosen, is_compressed_true, not_block, block_found}
@@ -86,18 +85,6 @@ refusing_each P item items k (suc count) left =
     (items k left)
     (λ found _. refusing_then P (each item (k + 1) count found.1) (λ rest. Ok (found.0 ∷ rest.0, rest.1))
     (refusing_each P item items (k + 1) count found.1)
-    (λ rest _. refusing_none P (found.0 ∷ rest.0, rest.1)))
-
--- an item for each of a list
-pub refusing_every : {A B S : Type 0} (P : Refusal → Type 0) (item : A → S → Read (B × S))
-    → ((x : A) (left : S) → Refusing P (item x left)) → (xs : List A) (left : S) → Refusing P (every item xs left)
-unfolding every
-refusing_every P item items [] left = refusing_none P ([], left)
-refusing_every P item items (x ∷ xs) left =
-    refusing_then P (item x left) (λ found. every item xs found.1 >>= λ rest. Ok (found.0 ∷ rest.0, rest.1))
-    (items x left)
-    (λ found _. refusing_then P (every item xs found.1) (λ rest. Ok (found.0 ∷ rest.0, rest.1))
-    (refusing_every P item items xs found.1)
     (λ rest _. refusing_none P (found.0 ∷ rest.0, rest.1)))
 
 -- a block that does not stand

@@ -8,7 +8,7 @@ use Rattle.mdf_num.specs.declared.halt.Halt.{Halt}
 use Rattle.mdf_block.specs.Refusal.{Refusal, Read, ◌>>=◌, Halts}
 use Rattle.mdf_block.proofs.Refusals.{halts_then}
 use Rattle.mdf_block.proofs.Eachs.{with_front, with_none}
-use Rattle.mdf_block.proofs.Everys.{rest_is}
+use Rattle.mdf_block.proofs.Rests.{rest_is}
 use Rattle.mdf_content.specs.Visit.{gathered}
 
 front_joins : {A S : Type 0} (all ys : List A) (read : Read (List A × S))

@@ -11,7 +11,7 @@ use Rattle.mdf_data.specs.declared.known.Known.{Known}
 use Rattle.mdf_data.specs.Record.{least_size}
 use Rattle.mdf_data.specs.Places.{HaveRoom}
 use Rattle.mdf_content.specs.Records.{record_size, known_of}
-use Rattle.mdf_block.proofs.Everys.{rest_is}
+use Rattle.mdf_block.proofs.Rests.{rest_is}
 use Rattle.mdf_group.specs.declared.row.GroupRow.{GroupRow}
 use Rattle.mdf_group.specs.Group.{is_variable}
 use Rattle.mdf_content.specs.Values.{values_group}

@@ -77,13 +77,15 @@ fn count_of(believed: bool, group: &GroupRow, places: &Places) -> u64
     }
 }
 
-/// Adds the bytes of the record at a place, which fill the buffer, at the end.
+/// Adds the bytes of the record at a place, which fill the buffer, at the end. The search for it begins at part `near` of
+/// the stream.
 fn add_record<P: Span>(
     span: &mut P,
     view: &DataView,
     place: u64,
     buffer: &mut [u8],
     content: &mut Bytes,
+    near: &mut usize,
 ) -> Result<(), Stop>
     requires inside { ArePartsInside (P.size span.old) view.now }
     requires room { place + length buffer.old ≤ stream_size view.now }
@@ -94,7 +96,7 @@ fn add_record<P: Span>(
     ensures size { P.size span.new ≡ P.size span.old }
     ensures cause { StopCause true (P.faults span.old) (P.faults span.new) result }
 {
-    view.read_in(span, place, buffer)?;
+    view.read_near(span, place, buffer, near)?;
     match content.push_slice(buffer) {
         Ok(()) => Ok(()),
         Err(_) => Err(Stop::Memory),
@@ -127,6 +129,7 @@ fn content_in<P: Span>(
     };
     let mut content = Bytes::empty(alloc);
     let mut row = 0;
+    let mut near = 0;
     while row < count {
         add_record(
             span,
@@ -134,6 +137,7 @@ fn content_in<P: Span>(
             place_at(places, row),
             buffer.as_mut_slice(),
             &mut content,
+            &mut near,
         )?;
         row += 1;
     }

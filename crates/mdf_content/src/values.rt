@@ -72,6 +72,13 @@ pub struct Records<'a> {
     pub count: u64,
 }
 
+/// Where the searches for the next record and for the next value begin: at these parts of their streams.
+#[derive(Clone, Copy)]
+struct Near {
+    record: usize,
+    value: usize,
+}
+
 /// Adds a group to a table of the groups that hold values, if it is one.
 fn add_group(table: &mut BTreeMap<u64, u64>, group: &GroupRow, k: u64) -> Result<(), Memory>
     ensures { OnOk result ((at : ℕ) → get nat_cmp table.new at
@@ -106,12 +113,14 @@ pub fn place_at(places: &Places, row: u64) -> u64
     places.get(row).unwrap_or(0)
 }
 
-/// Adds the value in the record at a place, with its length, at the end of a stream.
+/// Adds the value in the record at a place, with its length, at the end of a stream. The search for it begins at part
+/// `near` of the stream of the records.
 fn add_value<P: Span>(
     span: &mut P,
     view: &DataView,
     place: u64,
     values: &mut DataView,
+    near: &mut usize,
 ) -> Result<(), Stop>
     requires inside { ArePartsInside (P.size span.old) view.now }
     requires room { place + 4 ≤ stream_size view.now }
@@ -122,7 +131,7 @@ fn add_value<P: Span>(
     ensures size { P.size span.new ≡ P.size span.old }
     ensures cause { StopCause true (P.faults span.old) (P.faults span.new) result }
 {
-    let len = 4 + view.u32_in(span, place)? as u64;
+    let len = 4 + view.u32_near(span, place, near)? as u64;
     let len = len.min(view.len() - place);
     if len >= LONGEST - values.len() {
         return Err(Stop::Memory);
@@ -150,8 +159,9 @@ fn values_in<P: Span>(
 {
     let mut values = DataView::empty(alloc);
     let mut k = 0;
+    let mut near = 0;
     while k < places.len() {
-        add_value(span, view, place_at(places, k), &mut values)?;
+        add_value(span, view, place_at(places, k), &mut values, &mut near)?;
         k += 1;
     }
     Ok(values)
@@ -202,8 +212,13 @@ fn channel_values_in<P: Span>(
     Ok(values)
 }
 
-/// Whether a whole value stands at an offset of a stream.
-fn has_value_in<P: Span>(span: &mut P, values: &DataView, offset: u64) -> Result<bool, Stop>
+/// Whether a whole value stands at an offset of a stream. The search for it begins at part `near` of the stream.
+fn has_value_in<P: Span>(
+    span: &mut P,
+    values: &DataView,
+    offset: u64,
+    near: &mut usize,
+) -> Result<bool, Stop>
     requires inside { ArePartsInside (P.size span.old) values.now }
     ensures has { IfOk result (λ has. (f : List ℕ) → P.bytes span.old ≡ Some f → has ≡ has_value (stream_of f values.now) offset) }
     ensures same { P.bytes span.new ≡ P.bytes span.old }
@@ -214,7 +229,7 @@ fn has_value_in<P: Span>(span: &mut P, values: &DataView, offset: u64) -> Result
     if total < 4 || offset > total - 4 {
         return Ok(false);
     }
-    let len = values.u32_in(span, offset)? as u64;
+    let len = values.u32_near(span, offset, near)? as u64;
     Ok(len <= total - offset - 4)
 }
 
@@ -234,7 +249,7 @@ fn offset_field(channel: &ChannelRow, data_bytes: u32) -> Field
 }
 
 /// The number of a field in the record at a place, which has so many data bytes. The buffer has as many bytes as the
-/// field touches.
+/// field touches. The search for them begins at part `near` of the stream.
 fn number_by<P: Span>(
     span: &mut P,
     view: &DataView,
@@ -242,6 +257,7 @@ fn number_by<P: Span>(
     data_bytes: u32,
     place: u64,
     covered: &mut [u8],
+    near: &mut usize,
 ) -> Result<u64, Stop>
     requires size { length covered.old ≡ covered_size (spot_of field) }
     requires covered { covered_end (spot_of field) ≤ data_bytes }
@@ -260,17 +276,19 @@ fn number_by<P: Span>(
         bits: field.bits,
         big: field.big,
     };
-    view.read_in(span, place + field.byte as u64, covered)?;
+    view.read_near(span, place + field.byte as u64, covered, near)?;
     Ok(get(covered, front))
 }
 
-/// The number of a field in the record at a place, which has so many data bytes.
+/// The number of a field in the record at a place, which has so many data bytes. The search for it begins at part `near` of
+/// the stream.
 fn number_in<P: Span>(
     span: &mut P,
     view: &DataView,
     field: Field,
     data_bytes: u32,
     place: u64,
+    near: &mut usize,
 ) -> Result<u64, Stop>
     requires covered { covered_end (spot_of field) ≤ data_bytes }
     requires inside { ArePartsInside (P.size span.old) view.now }
@@ -283,7 +301,15 @@ fn number_in<P: Span>(
 {
     let size = (field.bit as usize + field.bits as usize + 7) / 8;
     let mut bytes = [0u8; 9];
-    number_by(span, view, field, data_bytes, place, &mut bytes[..size])
+    number_by(
+        span,
+        view,
+        field,
+        data_bytes,
+        place,
+        &mut bytes[..size],
+        near,
+    )
 }
 
 /// Nothing, where the offset of a channel in a row meets a value.
@@ -295,6 +321,7 @@ fn offset_met_in<P: Span>(
     channel: &ChannelRow,
     c: u32,
     row: u64,
+    near: &mut Near,
 ) -> Result<(), Halt<ReadFault>>
     requires kind { channel.now.kind ≡ 1 }
     requires placed { HasOffset records.now.data_bytes channel.now }
@@ -310,8 +337,15 @@ fn offset_met_in<P: Span>(
 {
     let place = place_at(records.places, row);
     let field = offset_field(channel, records.data_bytes);
-    let offset = number_in(span, view, field, records.data_bytes, place)?;
-    if !has_value_in(span, values, offset)? {
+    let offset = number_in(
+        span,
+        view,
+        field,
+        records.data_bytes,
+        place,
+        &mut near.record,
+    )?;
+    if !has_value_in(span, values, offset, &mut near.value)? {
         return Err(Halt::Fault(ReadFault::Offset {
             channel: c,
             row,
@@ -344,8 +378,12 @@ fn offsets_met_in<P: Span>(
 {
     let count = records.count;
     let mut row = 0;
+    let mut near = Near {
+        record: 0,
+        value: 0,
+    };
     while row < count {
-        offset_met_in(span, view, records, values, channel, c, row)?;
+        offset_met_in(span, view, records, values, channel, c, row, &mut near)?;
         row += 1;
     }
     Ok(())

@@ -23,7 +23,7 @@ use Rattle.mdf_conv.specs.declared.row.Ref.TheVariants as refs
 use Rattle.mdf_conv.specs.declared.texts.SourceTexts.{SourceTexts}
 use Rattle.mdf_conv.specs.declared.texts.Texts.{Texts}
 use Rattle.mdf_conv.specs.Left.{with_dropped, link_count}
-use Rattle.mdf_conv.specs.Conv.{words, counted, source_texts, source, texts, ref_by, item_by, conv_of_block, conv_by, conv}
+use Rattle.mdf_conv.specs.Conv.{words, block_size, without, counted, source_texts, source, texts, ref_by, item_by, conv_of_block, conv_by, conv}
 use Rattle.mdf_conv.specs.Cost.{Cost, nothing, both, bytes_of_texts, dropped_links, note_cost, source_cost, text_size, ref_cost, refs_cost, own_cost, conv_cost, Spends}
 use Rattle.mdf_conv.proofs.Founds.{ok_injective, words_found}
 
@@ -152,10 +152,10 @@ one_conversion = record { text = 0; conversions = 1; dropped = 0 }
 one_less : (n : ℕ) → n ≢ 0 → n - 1 + 1 ≡ n
 one_less n some = omega (arith, some)
 
-counted_falls : (at : ℕ) (left found : Budget) → counted at left ≡ Ok found → Falls left one_conversion found
+counted_falls : (at size : ℕ) (left found : Budget) → counted at size left ≡ Ok found → Falls left one_conversion found
 unfolding counted
-counted_falls at left found is =
-    let less : Budget = record left { conversions = left.conversions - 1 } in
+counted_falls at size left found is =
+    let less : Budget = without size left in
     elim (chosen (nat_eq left.conversions 0) (Err (TooMany whats.Cc at)) (Ok less) (Ok found) is) [
       | inl none ↦ let wrong : ◌≡◌ {A = Read Budget} (Err (TooMany whats.Cc at)) (Ok found) = none.1 in cc
       | inr some ↦
@@ -222,7 +222,7 @@ module _ (inner : ℕ → Budget → Read (Conversion × Budget)) (cost : ℕ �
   conv_by_falls at left found is =
       let first = bind_ok (block f at Cc) _ found is in
       let here = block_found f at Cc first.0 first.1 in
-      let one = bind_ok (counted at left) _ found first.2 in
+      let one = bind_ok (counted at (block_size first.0) left) _ found first.2 in
       let named = bind_ok (texts f first.0.at one.0) _ found one.2 in
       let given = bind_ok (each (item_by inner f first.0.at) 4 (first.0.links - 4) named.0.1) _ found named.2 in
       let bytes = three_texts f first.0.at in
@@ -230,7 +230,7 @@ module _ (inner : ℕ → Budget → Read (Conversion × Budget)) (cost : ℕ �
       let rows = refs_cost cost f first.0.at 4 (first.0.links - 4) in
       let texts_cost : Cost = both one_conversion (bytes_of_texts bytes) in
       let after_texts : Falls left texts_cost named.0.1 =
-      falls_both left one_conversion one.0 (bytes_of_texts bytes) named.0.1 (counted_falls at left one.0 one.1)
+      falls_both left one_conversion one.0 (bytes_of_texts bytes) named.0.1 (counted_falls at (block_size first.0) left one.0 one.1)
       (texts_fall f first.0.at one.0 named.0 named.1) in
       let after_refs : Falls left (both texts_cost rows) given.0.1 =
       falls_both left texts_cost named.0.1 rows given.0.1 after_texts (refs_fall first.0.at 4 (first.0.links - 4) named.0.1 given.0 given.1) in

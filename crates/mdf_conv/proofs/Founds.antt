@@ -20,7 +20,7 @@ use Rattle.mdf_conv.specs.declared.row.Ref.{Ref}
 use Rattle.mdf_conv.specs.declared.row.Ref.TheVariants as refs
 use Rattle.mdf_conv.specs.declared.texts.SourceTexts.{SourceTexts}
 use Rattle.mdf_conv.specs.declared.texts.Texts.{Texts}
-use Rattle.mdf_conv.specs.Conv.{words, counted, the_source, source_texts, source, the_conversion, texts, ref_by, item_by, conv_of_block, conv_by, conv}
+use Rattle.mdf_conv.specs.Conv.{words, block_size, counted, the_source, source_texts, source, the_conversion, texts, ref_by, item_by, conv_of_block, conv_by, conv}
 use Rattle.mdf_conv.specs.Standing.{IsSource, IsRefBy, AreRefsBy, IsConversionBy, IsConversion}
 
 pub ok_injective : {A : Type 0} (x y : A) → ◌≡◌ {A = Read A} (Ok x) (Ok y) → x ≡ y
@@ -143,7 +143,7 @@ module _ (inner : ℕ → Budget → Read (Conversion × Budget)) (IsConv : ℕ 
       let place : first.0.at ≡ at = ap (λ (b : BlockAt). b.at) here.1 in
       let links : first.0.links ≡ links_at f at = ap (λ (b : BlockAt). b.links) here.1 in
       let body : body_of f first.0 ≡ body_at f at = ap (λ (b : BlockAt). body_of f b) here.1 in
-      let one = bind_ok (counted at left) _ found first.2 in
+      let one = bind_ok (counted at (block_size first.0) left) _ found first.2 in
       let named = bind_ok (texts f first.0.at one.0) _ found one.2 in
       let given = bind_ok (each (item_by inner f first.0.at) 4 (first.0.links - 4) named.0.1) _ found named.2 in
       let there = texts_found f first.0.at one.0 named.0 named.1 in

@@ -14,7 +14,7 @@ use Rattle.mdf_block.proofs.Wholes.{block_found}
 use Rattle.mdf_block.proofs.Truths.{Refusing, refusing_none, refusing_one, refusing_then, refusing_if, refusing_each, block_true, note_true}
 use Rattle.mdf_conv.specs.declared.limits.Budget.{Budget}
 use Rattle.mdf_conv.specs.declared.row.Conversion.{Conversion}
-use Rattle.mdf_conv.specs.Conv.{words, counted, source_texts, source, texts, ref_by, item_by, conv_of_block, conv_by, conv}
+use Rattle.mdf_conv.specs.Conv.{words, block_size, counted, source_texts, source, texts, ref_by, item_by, conv_of_block, conv_by, conv}
 
 -- all that it refuses is true of the file
 abbrev pub Honest : {A : Type 0} → List ℕ → Read A → Type 0
@@ -44,9 +44,9 @@ texts_true f at left =
     refusing_then (IsTrueOf f) (words f (link_at f at 1) name.1) _ (words_true f _ name.1) (λ unit _.
     refusing_then (IsTrueOf f) (words f (link_at f at 2) unit.1) _ (words_true f _ unit.1) (λ comment _. refusing_none (IsTrueOf f) _)))
 
-counted_true : (f : List ℕ) (at : ℕ) (left : Budget) → IsBlock f at Cc → Honest f (counted at left)
+counted_true : (f : List ℕ) (at size : ℕ) (left : Budget) → IsBlock f at Cc → Honest f (counted at size left)
 unfolding counted
-counted_true f at left is =
+counted_true f at size left is =
     refusing_if (IsTrueOf f) (nat_eq left.conversions 0) _ _ (λ _. refusing_one (IsTrueOf f) (TooMany whats.Cc at) is)
     (λ _. refusing_none (IsTrueOf f) _)
 
@@ -71,7 +71,7 @@ module _ (f : List ℕ) (inner : ℕ → Budget → Read (Conversion × Budget))
   unfolding conv_by
   conv_by_true at left =
       refusing_then (IsTrueOf f) (block f at Cc) _ (block_true f at Cc (λ none. none)) (λ b found.
-      refusing_then (IsTrueOf f) (counted at left) _ (counted_true f at left (block_found f at Cc b found).0) (λ one _.
+      refusing_then (IsTrueOf f) (counted at (block_size b) left) _ (counted_true f at (block_size b) left (block_found f at Cc b found).0) (λ one _.
       conv_of_block_true b one))
 
 pub conv_true : (levels : ℕ) (f : List ℕ) (at : ℕ) (left : Budget) → Honest f (conv levels f at left)

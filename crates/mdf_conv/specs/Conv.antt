@@ -34,10 +34,20 @@ words file at left = do
   text ← note file at left.text
   Ok (text.0, record left { text = text.1 })
 
--- one conversion less may come
-unfoldable pub counted : ℕ → Budget → Read Budget
-counted at left =
-    if nat_eq left.conversions 0 then Err (TooMany whats.Cc at) else Ok (record left { conversions = left.conversions - 1 })
+-- how many bytes a block has: its header, its links and its body
+abbrev pub block_size : BlockAt → ℕ
+block_size b = b.body_at + b.body_len - b.at
+
+-- one conversion less may come, and so many bytes of their blocks
+abbrev pub without : ℕ → Budget → Budget
+without size left = record left {
+  conversions = left.conversions - 1;
+  conversion_bytes = left.conversion_bytes - size;
+}
+
+-- one conversion less may come, whose block has so many bytes
+unfoldable pub counted : ℕ → ℕ → Budget → Read Budget
+counted at size left = if nat_eq left.conversions 0 then Err (TooMany whats.Cc at) else Ok (without size left)
 
 -- a source, from its body
 abbrev pub the_source : List ℕ → Note → Note → Note → SourceInfo
@@ -132,7 +142,7 @@ conv_of_block inner file b left = do
 unfoldable pub conv_by : (ℕ → Budget → Read (Conversion × Budget)) → List ℕ → ℕ → Budget → Read (Conversion × Budget)
 conv_by inner file at left = do
   b ← block file at Cc
-  one ← counted at left
+  one ← counted at (block_size b) left
   conv_of_block inner file b one
 
 -- with so many levels of conversions; the one below them is too deep, after it has been found to be one

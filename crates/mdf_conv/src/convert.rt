@@ -157,7 +157,8 @@ fn held_in<P: Span>(
     finished_in(alloc, span, block, texts, refs, left)
 }
 
-/// The conversion at `at`, with so many levels of conversions below it, and what may still come.
+/// The conversion at `at`, with so many levels of conversions below it, and what may still come. Channels may name the
+/// same conversion, and each has its own copy of it: where the blocks have more bytes than may come, that is want of memory.
 #[cycle(conv)]
 #[tactic(auto, unfolding(crate::specs::Conv::conv_by, crate::specs::Conv::counted))]
 fn whole_in<P: Span>(
@@ -177,8 +178,13 @@ fn whole_in<P: Span>(
     if budget.conversions == 0 {
         return Err(Halt::Fault(ConvFault::TooMany { what: What::Cc, at }));
     }
+    let size = block.body_at + block.body_len - block.at;
+    if size > budget.conversion_bytes {
+        return Err(Halt::Memory);
+    }
     let left = Budget {
         conversions: budget.conversions - 1,
+        conversion_bytes: budget.conversion_bytes - size,
         ..budget
     };
     held_in(alloc, span, &block, left, levels)

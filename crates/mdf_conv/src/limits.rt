@@ -5,6 +5,8 @@ pub struct Budget {
     pub text: u64,
     /// How many conversions (CCBLOCKs) may still come.
     pub conversions: u64,
+    /// How many bytes these blocks may still have, each with its links and its body. What has more is want of memory.
+    pub conversion_bytes: u64,
     /// How many links that name something were passed over. It stays at the last u64.
     pub dropped: u64,
 }

@@ -39,13 +39,14 @@ pub fn read_conv_in<P: Span>(
 
 /// The conversion (CCBLOCK) at `at`: its name, its unit and its comment, and what all its links after the fourth refer
 /// to, each nothing, a text or another conversion. Four conversions may be open at once. The budget falls by the bytes
-/// of the texts and by one for each conversion; a link to an inverse conversion is passed over and counted as dropped.
+/// of the texts, by one for each conversion and by the bytes of its block; a link to an inverse conversion is passed
+/// over and counted as dropped.
 /// After a refusal the budget is as before.
 ///
 /// # Errors
 /// The first fault in that order: `Bad` exactly where no block of the kind stands whole; else `Deep` exactly where the
 /// conversion is the fifth that is open; else `TooMany` exactly where no conversion may come any more, or a text is
-/// longer than may come; and `Memory`.
+/// longer than may come; and `Memory`, also where the block of a conversion has more bytes than may come.
 pub fn read_conv(
     alloc: Global,
     bytes: &[u8],

@@ -30,8 +30,14 @@ pub(crate) fn group_of(known: &[Known], id: u64) -> Option<Group>
     None
 }
 
-/// The id in the bytes of the stream from `at` on.
-fn id_in<P: Span>(span: &mut P, view: &DataView, id_size: u8, at: u64) -> Result<u64, Stop>
+/// The id in the bytes of the stream from `at` on. The search for them begins at part `near` of the stream.
+fn id_in<P: Span>(
+    span: &mut P,
+    view: &DataView,
+    id_size: u8,
+    at: u64,
+    near: &mut usize,
+) -> Result<u64, Stop>
     requires id_size { IsIdSize id_size }
     requires inside { ArePartsInside (P.size span.old) view.now }
     requires within { at + id_size ≤ stream_size view.now }
@@ -41,17 +47,19 @@ fn id_in<P: Span>(span: &mut P, view: &DataView, id_size: u8, at: u64) -> Result
     ensures cause { StopCause P.may_want (P.faults span.old) (P.faults span.new) result }
 {
     let mut word = [0u8; 8];
-    view.read_in(span, at, &mut word[..id_size as usize])?;
+    view.read_near(span, at, &mut word[..id_size as usize], near)?;
     Ok(u64_field(&word, 0))
 }
 
-/// How long the body of a record of a group is, where it is whole. The body begins at `at`, and `rest` bytes are there.
+/// How long the body of a record of a group is, where it is whole. The body begins at `at`, and `rest` bytes are there. The
+/// search for them begins at part `near` of the stream.
 fn body_size_in<P: Span>(
     span: &mut P,
     view: &DataView,
     at: u64,
     rest: u64,
     size: Size,
+    near: &mut usize,
 ) -> Result<Option<u64>, Stop>
     requires inside { ArePartsInside (P.size span.old) view.now }
     requires within { at + rest ≤ stream_size view.now }
@@ -73,7 +81,7 @@ fn body_size_in<P: Span>(
             if rest < 4 {
                 return Ok(None);
             }
-            let len = view.u32_in(span, at)? as u64;
+            let len = view.u32_near(span, at, near)? as u64;
             if rest - 4 < len {
                 return Ok(None);
             }
@@ -82,13 +90,15 @@ fn body_size_in<P: Span>(
     }
 }
 
-/// The id of the record that begins at `at`, and None at the end of the stream.
+/// The id of the record that begins at `at`, and None at the end of the stream. The search for it begins at part `near` of
+/// the stream.
 #[tactic(auto, unfolding(crate::specs::Record::id_at))]
 pub(crate) fn id_here_in<P: Span>(
     span: &mut P,
     view: &DataView,
     id_size: u8,
     at: u64,
+    near: &mut usize,
 ) -> Result<Option<u64>, Halt<SplitFault>>
     requires id_size { IsIdSize id_size }
     requires inside { ArePartsInside (P.size span.old) view.now }
@@ -107,11 +117,12 @@ pub(crate) fn id_here_in<P: Span>(
     if rest < id_size as u64 {
         return Err(Halt::Fault(SplitFault::Cut { at }));
     }
-    let id = id_in(span, view, id_size, at)?;
+    let id = id_in(span, view, id_size, at, near)?;
     Ok(Some(id))
 }
 
-/// The record that begins at `at` with this id, which belongs to this group.
+/// The record that begins at `at` with this id, which belongs to this group. The search for it begins at part `near` of the
+/// stream.
 #[tactic(auto, unfolding(crate::specs::Record::group_piece))]
 pub(crate) fn group_piece_in<P: Span>(
     span: &mut P,
@@ -120,6 +131,7 @@ pub(crate) fn group_piece_in<P: Span>(
     at: u64,
     id: u64,
     group: Option<Group>,
+    near: &mut usize,
 ) -> Result<Piece, Halt<SplitFault>>
     requires inside { ArePartsInside (P.size span.old) view.now }
     requires within { at + id_size ≤ stream_size view.now }
@@ -138,7 +150,7 @@ pub(crate) fn group_piece_in<P: Span>(
     };
     let rest = view.len() - at - id_size as u64;
     let start = at + id_size as u64;
-    let Some(size) = body_size_in(span, view, start, rest, group.size)? else {
+    let Some(size) = body_size_in(span, view, start, rest, group.size, near)? else {
         return Err(Halt::Fault(SplitFault::Cut { at }));
     };
     Ok(Piece {

@@ -68,11 +68,12 @@ impl Splitter {
         ensures size { P.size span.new ≡ P.size span.old }
         ensures cause { HaltCause P.may_want (P.faults span.old) (P.faults span.new) result }
     {
-        let Some(id) = id_here_in(span, view, self.id_size, self.place)? else {
+        let mut near = 0;
+        let Some(id) = id_here_in(span, view, self.id_size, self.place, &mut near)? else {
             return Ok(None);
         };
         let group = group_of(self.known.as_slice(), id);
-        let piece = group_piece_in(span, view, self.id_size, self.place, id, group)?;
+        let piece = group_piece_in(span, view, self.id_size, self.place, id, group, &mut near)?;
         self.place = piece.at + piece.len;
         Ok(Some(piece))
     }

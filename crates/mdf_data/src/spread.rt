@@ -17,7 +17,8 @@ use mdf_num::{Halt, Memory, Rows, Span};
 use std::alloc::Global;
 use std::collections::BTreeMap;
 
-/// The record that begins at `at`, whose group a table finds, and None at the end of the stream.
+/// The record that begins at `at`, whose group a table finds, and None at the end of the stream. The search for it begins
+/// at part `near` of the stream.
 #[tactic(auto, unfolding(crate::specs::Record::piece_at))]
 fn piece_by<P: Span>(
     span: &mut P,
@@ -25,6 +26,7 @@ fn piece_by<P: Span>(
     id_size: u8,
     table: &BTreeMap<u64, Group>,
     at: u64,
+    near: &mut usize,
 ) -> Result<Option<Piece>, Halt<SplitFault>>
     requires id_size { IsIdSize id_size }
     requires inside { ArePartsInside (P.size span.old) view.now }
@@ -37,11 +39,11 @@ fn piece_by<P: Span>(
     ensures size { P.size span.new ≡ P.size span.old }
     ensures cause { HaltCause P.may_want (P.faults span.old) (P.faults span.new) result }
 {
-    let Some(id) = id_here_in(span, view, id_size, at)? else {
+    let Some(id) = id_here_in(span, view, id_size, at, near)? else {
         return Ok(None);
     };
     let group = table.get(&id).copied();
-    let piece = group_piece_in(span, view, id_size, at, id, group)?;
+    let piece = group_piece_in(span, view, id_size, at, id, group, near)?;
     Ok(Some(piece))
 }
 
@@ -92,7 +94,8 @@ pub fn places_in<P: Span>(
     let table = table_of(alloc, known)?;
     let mut lists = empties(alloc, known.len())?;
     let mut at = 0;
-    'records: while let Some(piece) = piece_by(span, view, id_size, &table, at)? {
+    let mut near = 0;
+    'records: while let Some(piece) = piece_by(span, view, id_size, &table, at, &mut near)? {
         add_place(&mut lists, piece.which, piece.at + id_size as u64)?;
         at = piece.at + piece.len;
     }

@@ -1,6 +1,8 @@
 -- Bytes that are written into the buffer of a block.
 use Rattle.std.proofs.Common.{◌≡◌, ℕ, ◌+◌, ◌-◌, ◌≤◌, List, ◌++◌, length, take, drop, replicate, refl, sym, ◌∙◌, ap, arith, length-append, length-drop, append_assoc, take-append-drop}
-use Rattle.std.proofs.lemmas.List.{take_at, drop_at, drop-append-le, drop-take, drop-drop, length-take-le, length-replicate, replicate-append-replicate}
+use Rattle.std.proofs.lemmas.List.{take_at, drop_at, take-append-le, drop-append-le, drop-take, drop-drop, length-take-le, length-replicate, replicate-append-replicate}
+use Rattle.std.proofs.Math.Seq.{take-add}
+use borrow.Rule.Slice.PartMut.{put_mid, post_of}
 use Rattle.std.specs.Prelude.{codes}
 use Rattle.std.specs.Int.{to_le_bytes, w64}
 use Rattle.mdf_format.specs.Number.{bytes_at, patched, aligned}
@@ -39,12 +41,6 @@ module _ (items : List ℕ) (used : ℕ) (within : 23 + used ≤ length items) w
       ap (drop 23) (append_assoc (take (23 + used) items) part rest)
       ∙ drop-append-le 23 (take (23 + used) items) (part ++ rest) long
       ∙ ap (λ (front : List ℕ). front ++ (part ++ rest)) (drop-take 23 used items)
-
-  pub pushed : (part : List ℕ) → bytes_at (used + length part) (patched (23 + used) part items) 23 ≡ data_bytes ++ part
-  pushed part =
-      let rest = drop (23 + used + length part) items in
-      ap (take (used + length part)) (behind part ∙ sym (append_assoc data_bytes part rest))
-      ∙ take_at (data_bytes ++ part) rest (used + length part) (omega (arith, length-data, length-append data_bytes part))
 
   pub still_there : (part : List ℕ) → bytes_at used (patched (23 + used) part items) 23 ≡ data_bytes
   still_there part = ap (take used) (behind part) ∙ take_at data_bytes _ used length-data
@@ -115,22 +111,6 @@ header_written items one two three count number is first second third =
     ∙ put_behind (mark ++ size) (to_le_bytes w64 0) items 15 refl
     ∙ ap (λ (n : ℕ). patched 0 (header_of n) items) is
 
--- a part that is put behind the data, as a vector has it
-pub put_whole : (items new part : List ℕ) (used len : ℕ) → 23 + used + length part ≤ length items → len ≡ length items → new ≡ patched (23 + used) part items
-    → bytes_at (used + length part) (take len (new ++ drop (length new) items)) 23 ≡ bytes_at used items 23 ++ part
-put_whole items new part used len within is_len is =
-    let long : length new ≡ length items = omega (
-      arith,
-      ap length is,
-      within,
-      length-take-le (23 + used) items (omega (arith, within)),
-      length-append (take (23 + used) items) part,
-      length-append (take (23 + used) items ++ part) (drop (23 + used + length part) items),
-      length-drop (23 + used + length part) items,
-    ) in
-    ap (λ (xs : List ℕ). bytes_at (used + length part) xs 23) (take_at new (drop (length new) items) len (omega (arith, long, is_len)) ∙ is)
-    ∙ pushed items used (omega (arith, within)) part
-
 -- what is written of a framed buffer
 pub written_payload : (items old new slice body : List ℕ) (used len end number : ℕ) → len ≡ length items → length new ≡ length items → old ≡ items
     → slice ≡ take len (new ++ drop (length new) items) → end ≡ aligned (24 + number) → number ≡ used
@@ -142,3 +122,18 @@ written_payload items old new slice body used len end number is_len long is_old 
     ∙ framed_new
     ∙ ap (λ (bytes : List ℕ). payload_of (bytes_at used bytes 23)) is_old
     ∙ ap payload_of is_body
+
+-- bytes that are put behind the data, where what stands before them stays
+pub put_behind_data : (items new : List ℕ) (used size len : ℕ) → len ≡ length items → length new ≡ length items → take (23 + used) new ≡ take (23 + used) items
+    → bytes_at (used + size) (take len (new ++ drop (length new) items)) 23 ≡ bytes_at used items 23 ++ bytes_at size new (23 + used)
+put_behind_data items new used size len is_len long before =
+    ap (λ (xs : List ℕ). bytes_at (used + size) xs 23) (take_at new (drop (length new) items) len (omega (arith, long, is_len)))
+    ∙ take-add used size (drop 23 new)
+    ∙ ap (λ (xs : List ℕ). xs ++ take size (drop used (drop 23 new))) (sym (drop-take 23 used new) ∙ ap (drop 23) before ∙ drop-take 23 used items)
+    ∙ ap (λ (xs : List ℕ). bytes_at used items 23 ++ take size xs) (drop-drop used 23 new)
+
+-- bytes that were put over those from a place on are there
+pub over_the_rest : (items new : List ℕ) (at count size : ℕ) → at ≤ length items → size ≤ length new → bytes_at size (put_mid at count items new) at ≡ take size new
+over_the_rest items new at count size within few =
+    ap (take size) (drop_at (take at items) (new ++ post_of at count items) at (length-take-le at items within))
+    ∙ take-append-le size new (post_of at count items) few

@@ -1,14 +1,21 @@
-ghost use Rattle.std.specs.Prelude.{◌≡◌, ◌+◌, ◌≤◌, ◌<◌, ◌^◌, ◌↔◌, ℕ, List, [], ◌∷◌, ◌++◌, length, take, true, is_some, IsTrue, IfSome, IfOk, OnOk};
+ghost use Rattle.std.specs.Prelude.{◌≡◌, ◌+◌, ◌≤◌, ◌<◌, ◌^◌, ◌↔◌, ℕ, List, [], ◌∷◌, ◌++◌, length, take, true, is_some, All, IsTrue, IfSome, IfOk, OnOk};
 ghost use Rattle.std.specs.Option.{option_map};
 ghost use Rattle.mdf_format.specs.Number.{bytes_at, patched};
 ghost use Rattle.mdf_format.specs.Cause.{HasCause};
 ghost use Rattle.mdf_disk.specs.Crash.{Adds};
+ghost use Rattle.mdf_layout.specs.Written.{AreApart};
+ghost use Rattle.mdf_layout.specs.Stored.{IsStored};
+ghost use Rattle.mdf_layout.specs.Record.{SampleFits, encoded_size};
+ghost use Rattle.mdf_layout.specs.Behind.{first_id, IsEncodingBehind};
+ghost use Rattle.mdf_layout.specs.Next.{AreNext};
+ghost use Rattle.mdf_layout.specs.declared.sample.Sample.{Sample};
 ghost use Rattle.mdf_seal.specs.Seal.{IsKept};
 ghost use Rattle.mdf_gate.specs.Gated.{header_of, room_of, payload_of, opened_at};
 ghost use Rattle.mdf_gate.specs.Images.{IsStage};
 
 use crate::stage::write_block;
 use mdf_disk::Disk;
+use mdf_layout::{NextValues, Sample, Shapes};
 use mdf_num::{Failed, Memory, align8, put_u64};
 use std::alloc::Global;
 use std::marker::Model;
@@ -70,6 +77,29 @@ fn frame(bytes: &mut [u8], used: u32)
     put(bytes, HEADER + used as usize, &[0; BEHIND]);
 }
 
+/// Writes the records of a sample over the bytes from a place on, and answers their length.
+fn put_records(
+    bytes: &mut [u8],
+    at: usize,
+    next: &NextValues,
+    shapes: &Shapes,
+    sample: &Sample,
+) -> usize
+    requires fits { SampleFits shapes.now sample.now }
+    requires ids { first_id shapes.now (length shapes.now) ≤ 255 }
+    requires apart { All (λ layout. AreApart layout.rows) shapes.now }
+    requires stored { All (λ layout. All IsStored layout.rows) shapes.now }
+    requires next { (before : List Sample) × AreNext shapes.now before next.now }
+    requires room { at + encoded_size shapes.now sample.now ≤ length bytes.old }
+    ensures size { result ≡ encoded_size shapes.now sample.now }
+    ensures before { take at bytes.new ≡ take at bytes.old }
+    ensures record { (before : List Sample) → AreNext shapes.now before next.now
+        → IsEncodingBehind shapes.now before (bytes_at result bytes.new at) sample.now }
+    ensures length { length bytes.new ≡ length bytes.old }
+{
+    next.encode(shapes, sample, &mut bytes[at..])
+}
+
 impl Block {
     /// A buffer for blocks of at most `limit` bytes of data. It takes 31 bytes more than that.
     ///
@@ -88,14 +118,24 @@ impl Block {
         })
     }
 
-    /// Adds bytes at the end. It takes no memory.
-    pub fn push(&mut self, bytes: &[u8])
-        requires { length self.old.bytes + length bytes.now ≤ self.old.limit }
-        ensures bytes { self.new.bytes ≡ self.old.bytes ++ bytes.now }
+    /// Adds the records of a sample at the end, and answers how many bytes they have. They are its records behind each
+    /// history behind which these values come next. It takes no memory.
+    pub fn put_sample(&mut self, next: &NextValues, shapes: &Shapes, sample: &Sample) -> u64
+        requires fits { SampleFits shapes.now sample.now }
+        requires ids { first_id shapes.now (length shapes.now) ≤ 255 }
+        requires apart { All (λ layout. AreApart layout.rows) shapes.now }
+        requires stored { All (λ layout. All IsStored layout.rows) shapes.now }
+        requires next { (before : List Sample) × AreNext shapes.now before next.now }
+        requires room { length self.old.bytes + encoded_size shapes.now sample.now ≤ self.old.limit }
+        ensures size { result ≡ encoded_size shapes.now sample.now }
+        ensures record { (before : List Sample) → AreNext shapes.now before next.now
+            → (added : List ℕ) × (self.new.bytes ≡ self.old.bytes ++ added) × IsEncodingBehind shapes.now before added sample.now }
         ensures limit { self.new.limit ≡ self.old.limit }
     {
-        put(&mut self.bytes, HEADER + self.used as usize, bytes);
-        self.used += bytes.len() as u32;
+        let at = HEADER + self.used as usize;
+        let size = put_records(&mut self.bytes, at, next, shapes, sample);
+        self.used += size as u32;
+        size as u64
     }
 
     /// How many bytes of data it has.

@@ -62,10 +62,11 @@ pub fn read_groups_in<P: Span>(
 
 /// The data groups (DGBLOCKs) from `first` on, each with its channel groups (CGBLOCKs), and each of these with its
 /// channels (CNBLOCKs), in the order of their links: at most 65,535 data groups, 65,535 channel groups and 1,048,576
-/// channels in all. The budget falls by the bytes of the texts and by one for each conversion. Counted as dropped are
-/// links that name something and are passed over: the first sample reduction of a channel group, the composition of a
-/// channel and its links after the eighth, the inverse of a conversion; and a group of values of variable length that no
-/// channel of its data group names. After a refusal the budget is as before.
+/// channels in all. The budget falls by the bytes of the texts, by one for each conversion and by the bytes of its
+/// block, again for each channel that names it. Counted as dropped are links that name something and are passed over:
+/// the first sample reduction of a channel group, the composition of a channel and its links after the eighth, the
+/// inverse of a conversion; and a group of values of variable length that no channel of its data group names. After a
+/// refusal the budget is as before.
 ///
 /// # Errors
 /// The first fault in the order of the links, in which each block stands before what it leads to: of a data group its
@@ -73,7 +74,8 @@ pub fn read_groups_in<P: Span>(
 /// its kind, its data type, its name, its source, its conversion, its unit and its comment. `Bad` exactly where no block
 /// of the kind stands whole, `TooMany` exactly where one more than the limit is reached or a text is longer than may
 /// come, `ChannelKind` exactly where a channel's kind is 4, 5 or over 6, `ChannelType` exactly where its data type is
-/// over 14, `Deep` exactly where a conversion is the fifth that is open; and `Memory`.
+/// over 14, `Deep` exactly where a conversion is the fifth that is open; and `Memory`, also where the blocks of
+/// conversions have more bytes than may come.
 pub fn read_groups(
     alloc: Global,
     bytes: &[u8],

@@ -23,7 +23,7 @@ finalized file = identify file >>= finalized_by
 
 -- what may come of a file: 67,108,864 bytes of texts and 1,048,576 conversions
 abbrev pub whole_budget : Budget
-whole_budget = record { text = 67108864; conversions = 1048576; dropped = 0 }
+whole_budget = record { text = 67108864; conversions = 1048576; conversion_bytes = 134217728; dropped = 0 }
 
 -- the header and the history, and what may still come
 abbrev pub header_of : List ℕ → Budget → Read (Head × List History × Budget)

@@ -97,98 +97,98 @@ const CONVS: &[(File, u64, u64, u64, &str)] = &[
         64,
         TEXT,
         CONVERSIONS,
-        "Ok(Conversion { kind: 7, precision: 3, flags: 33026, low: 9223372036854775809, high: 9, numbers: Rows { items: [] }, refs: Rows { items: [Words(Xml(Bytes { items: [60, 112, 47, 62] })), Nothing, Conv(Boxed { inner: Conversion { kind: 1, precision: 255, flags: 0, low: 0, high: 0, numbers: Rows { items: [5, 4607182418800017408] }, refs: Rows { items: [] }, name: Plain(Bytes { items: [107, 109, 47, 104] }), unit: Nothing, comment: Nothing } })] }, name: Nothing, unit: Plain(Bytes { items: [107, 109, 47, 104] }), comment: Nothing }) Budget { text: 67108852, conversions: 1048574, dropped: 1 }",
+        "Ok(Conversion { kind: 7, precision: 3, flags: 33026, low: 9223372036854775809, high: 9, numbers: Rows { items: [] }, refs: Rows { items: [Words(Xml(Bytes { items: [60, 112, 47, 62] })), Nothing, Conv(Boxed { inner: Conversion { kind: 1, precision: 255, flags: 0, low: 0, high: 0, numbers: Rows { items: [5, 4607182418800017408] }, refs: Rows { items: [] }, name: Plain(Bytes { items: [107, 109, 47, 104] }), unit: Nothing, comment: Nothing } })] }, name: Nothing, unit: Plain(Bytes { items: [107, 109, 47, 104] }), comment: Nothing }) Budget { text: 67108852, conversions: 1048574, conversion_bytes: 134217528, dropped: 1 }",
     ),
     (
         NESTED,
         152,
         TEXT,
         CONVERSIONS,
-        "Ok(Conversion { kind: 5, precision: 0, flags: 0, low: 0, high: 0, numbers: Rows { items: [] }, refs: Rows { items: [Conv(Boxed { inner: Conversion { kind: 5, precision: 0, flags: 0, low: 0, high: 0, numbers: Rows { items: [] }, refs: Rows { items: [Conv(Boxed { inner: Conversion { kind: 5, precision: 0, flags: 0, low: 0, high: 0, numbers: Rows { items: [] }, refs: Rows { items: [Conv(Boxed { inner: Conversion { kind: 5, precision: 0, flags: 0, low: 0, high: 0, numbers: Rows { items: [] }, refs: Rows { items: [Nothing] }, name: Nothing, unit: Nothing, comment: Nothing } })] }, name: Nothing, unit: Nothing, comment: Nothing } })] }, name: Nothing, unit: Nothing, comment: Nothing } })] }, name: Nothing, unit: Nothing, comment: Nothing }) Budget { text: 67108864, conversions: 1048572, dropped: 0 }",
+        "Ok(Conversion { kind: 5, precision: 0, flags: 0, low: 0, high: 0, numbers: Rows { items: [] }, refs: Rows { items: [Conv(Boxed { inner: Conversion { kind: 5, precision: 0, flags: 0, low: 0, high: 0, numbers: Rows { items: [] }, refs: Rows { items: [Conv(Boxed { inner: Conversion { kind: 5, precision: 0, flags: 0, low: 0, high: 0, numbers: Rows { items: [] }, refs: Rows { items: [Conv(Boxed { inner: Conversion { kind: 5, precision: 0, flags: 0, low: 0, high: 0, numbers: Rows { items: [] }, refs: Rows { items: [Nothing] }, name: Nothing, unit: Nothing, comment: Nothing } })] }, name: Nothing, unit: Nothing, comment: Nothing } })] }, name: Nothing, unit: Nothing, comment: Nothing } })] }, name: Nothing, unit: Nothing, comment: Nothing }) Budget { text: 67108864, conversions: 1048572, conversion_bytes: 134217376, dropped: 0 }",
     ),
     (
         NESTED,
         64,
         TEXT,
         CONVERSIONS,
-        "Err(Deep { at: 416 }) Budget { text: 67108864, conversions: 1048576, dropped: 0 }",
+        "Err(Deep { at: 416 }) Budget { text: 67108864, conversions: 1048576, conversion_bytes: 134217728, dropped: 0 }",
     ),
     (
         NESTED,
         64,
         TEXT,
         4,
-        "Err(Deep { at: 416 }) Budget { text: 67108864, conversions: 4, dropped: 0 }",
+        "Err(Deep { at: 416 }) Budget { text: 67108864, conversions: 4, conversion_bytes: 134217728, dropped: 0 }",
     ),
     (
         NESTED,
         64,
         TEXT,
         3,
-        "Err(TooMany { what: Cc, at: 328 }) Budget { text: 67108864, conversions: 3, dropped: 0 }",
+        "Err(TooMany { what: Cc, at: 328 }) Budget { text: 67108864, conversions: 3, conversion_bytes: 134217728, dropped: 0 }",
     ),
     (
         ITSELF,
         416,
         TEXT,
         9,
-        "Err(Deep { at: 416 }) Budget { text: 67108864, conversions: 9, dropped: 0 }",
+        "Err(Deep { at: 416 }) Budget { text: 67108864, conversions: 9, conversion_bytes: 134217728, dropped: 0 }",
     ),
     (
         TEXTS,
         64,
         16,
         1,
-        "Ok(Conversion { kind: 0, precision: 0, flags: 0, low: 0, high: 0, numbers: Rows { items: [] }, refs: Rows { items: [Words(Xml(Bytes { items: [60, 112, 62, 102, 97, 115, 116, 60, 47, 112, 62] }))] }, name: Plain(Bytes { items: [115, 112, 101, 101, 100] }), unit: Nothing, comment: Nothing }) Budget { text: 0, conversions: 0, dropped: 0 }",
+        "Ok(Conversion { kind: 0, precision: 0, flags: 0, low: 0, high: 0, numbers: Rows { items: [] }, refs: Rows { items: [Words(Xml(Bytes { items: [60, 112, 62, 102, 97, 115, 116, 60, 47, 112, 62] }))] }, name: Plain(Bytes { items: [115, 112, 101, 101, 100] }), unit: Nothing, comment: Nothing }) Budget { text: 0, conversions: 0, conversion_bytes: 134217640, dropped: 0 }",
     ),
     (
         TEXTS,
         64,
         15,
         1,
-        "Err(TooMany { what: Text, at: 184 }) Budget { text: 15, conversions: 1, dropped: 0 }",
+        "Err(TooMany { what: Text, at: 184 }) Budget { text: 15, conversions: 1, conversion_bytes: 134217728, dropped: 0 }",
     ),
     (
         TEXTS,
         64,
         4,
         1,
-        "Err(TooMany { what: Text, at: 152 }) Budget { text: 4, conversions: 1, dropped: 0 }",
+        "Err(TooMany { what: Text, at: 152 }) Budget { text: 4, conversions: 1, conversion_bytes: 134217728, dropped: 0 }",
     ),
     (
         NO_UNIT,
         64,
         TEXT,
         CONVERSIONS,
-        "Err(Bad { at: 64, want: Tx }) Budget { text: 67108864, conversions: 1048576, dropped: 0 }",
+        "Err(Bad { at: 64, want: Tx }) Budget { text: 67108864, conversions: 1048576, conversion_bytes: 134217728, dropped: 0 }",
     ),
     (
         NO_TEXT,
         64,
         TEXT,
         CONVERSIONS,
-        "Err(Bad { at: 72, want: Tx }) Budget { text: 67108864, conversions: 1048576, dropped: 0 }",
+        "Err(Bad { at: 72, want: Tx }) Budget { text: 67108864, conversions: 1048576, conversion_bytes: 134217728, dropped: 0 }",
     ),
     (
         CUT,
         64,
         TEXT,
         CONVERSIONS,
-        "Err(Bad { at: 152, want: Cc }) Budget { text: 67108864, conversions: 1048576, dropped: 0 }",
+        "Err(Bad { at: 152, want: Cc }) Budget { text: 67108864, conversions: 1048576, conversion_bytes: 134217728, dropped: 0 }",
     ),
     (
         CUT,
         152,
         TEXT,
         CONVERSIONS,
-        "Err(Bad { at: 152, want: Cc }) Budget { text: 67108864, conversions: 1048576, dropped: 0 }",
+        "Err(Bad { at: 152, want: Cc }) Budget { text: 67108864, conversions: 1048576, conversion_bytes: 134217728, dropped: 0 }",
     ),
     (
         TEXTS,
         152,
         TEXT,
         CONVERSIONS,
-        "Err(Bad { at: 152, want: Cc }) Budget { text: 67108864, conversions: 1048576, dropped: 0 }",
+        "Err(Bad { at: 152, want: Cc }) Budget { text: 67108864, conversions: 1048576, conversion_bytes: 134217728, dropped: 0 }",
     ),
 ];
 
@@ -203,7 +203,7 @@ fn conv_told(
     let mut budget = Budget {
         text,
         conversions,
-        dropped: 0,
+        ..Budget::of_file()
     };
     let answer = read_conv(alloc, bytes.as_slice(), at, &mut budget);
     Ok(format!(in alloc; "{answer:?} {budget:?}")?)
@@ -214,6 +214,28 @@ fn conversions_are_told(rt: HostRuntime) -> Result<(), Fail> {
     for (file, at, text, conversions, want) in CONVS {
         let told = conv_told(rt.alloc(), *file, *at, *text, *conversions)?;
         assert_eq!(rt; told.as_str(), *want);
+    }
+    Ok(())
+}
+
+// The blocks of the conversion and of the one that it refers to have 104 and 96 bytes.
+#[test]
+fn conversions_of_more_bytes_than_may_come_want_memory(rt: HostRuntime) -> Result<(), Fail> {
+    let bytes = file_of(rt.alloc(), OUTER.0, OUTER.1)?;
+    for (room, fault) in [
+        (0, Some(ConvFault::Memory)),
+        (103, Some(ConvFault::Memory)),
+        (199, Some(ConvFault::Memory)),
+        (200, None),
+    ] {
+        let mut budget = Budget {
+            conversion_bytes: room,
+            ..Budget::of_file()
+        };
+        let answer = read_conv(rt.alloc(), bytes.as_slice(), 64, &mut budget);
+        let left = if fault.is_some() { room } else { 0 };
+        assert_eq!(rt; answer.err(), fault);
+        assert_eq!(rt; budget.conversion_bytes, left);
     }
     Ok(())
 }
@@ -243,35 +265,35 @@ const SOURCES: &[(File, u64, u64, u64, &str)] = &[
         64,
         TEXT,
         CONVERSIONS,
-        "Ok(SourceInfo { kind: 2, bus: 3, flags: 1, name: Plain(Bytes { items: [101, 110, 103, 105, 110, 101] }), path: Plain(Bytes { items: [101, 110, 103, 105, 110, 101] }), comment: Nothing }) Budget { text: 67108852, conversions: 1048576, dropped: 0 }",
+        "Ok(SourceInfo { kind: 2, bus: 3, flags: 1, name: Plain(Bytes { items: [101, 110, 103, 105, 110, 101] }), path: Plain(Bytes { items: [101, 110, 103, 105, 110, 101] }), comment: Nothing }) Budget { text: 67108852, conversions: 1048576, conversion_bytes: 134217728, dropped: 0 }",
     ),
     (
         SOURCE,
         64,
         11,
         0,
-        "Err(TooMany { what: Text, at: 120 }) Budget { text: 11, conversions: 0, dropped: 0 }",
+        "Err(TooMany { what: Text, at: 120 }) Budget { text: 11, conversions: 0, conversion_bytes: 134217728, dropped: 0 }",
     ),
     (
         SOURCE,
         64,
         5,
         0,
-        "Err(TooMany { what: Text, at: 120 }) Budget { text: 5, conversions: 0, dropped: 0 }",
+        "Err(TooMany { what: Text, at: 120 }) Budget { text: 5, conversions: 0, conversion_bytes: 134217728, dropped: 0 }",
     ),
     (
         NO_COMMENT,
         64,
         12,
         0,
-        "Err(Bad { at: 64, want: Tx }) Budget { text: 12, conversions: 0, dropped: 0 }",
+        "Err(Bad { at: 64, want: Tx }) Budget { text: 12, conversions: 0, conversion_bytes: 134217728, dropped: 0 }",
     ),
     (
         SOURCE,
         120,
         TEXT,
         CONVERSIONS,
-        "Err(Bad { at: 120, want: Si }) Budget { text: 67108864, conversions: 1048576, dropped: 0 }",
+        "Err(Bad { at: 120, want: Si }) Budget { text: 67108864, conversions: 1048576, conversion_bytes: 134217728, dropped: 0 }",
     ),
 ];
 
@@ -286,7 +308,7 @@ fn source_told(
     let mut budget = Budget {
         text,
         conversions,
-        dropped: 0,
+        ..Budget::of_file()
     };
     let answer = read_source(alloc, bytes.as_slice(), at, &mut budget);
     Ok(format!(in alloc; "{answer:?} {budget:?}")?)

@@ -1,7 +1,7 @@
 use crate::files::{Piece, file_of, put_number};
 use crate::span::span_over;
 use mdf_conv::Budget;
-use mdf_group::{read_groups, read_groups_in};
+use mdf_group::{GroupFault, read_groups, read_groups_in};
 use mdf_num::{Halt, Span, Stop};
 use std::alloc::Global;
 use std::test::Fail;
@@ -90,6 +90,9 @@ const FRONT: usize = 320;
 
 const REFERENCE: usize = 448;
 
+// The link to the conversion of the second channel of the two groups.
+const SECOND_CONVERSION: usize = 568;
+
 // What may be read of a file: so many bytes of texts, and so many conversions.
 const TEXT: u64 = 67_108_864;
 
@@ -103,119 +106,119 @@ const TOLD: &[(File, &[(usize, u64)], u64, u64, &str)] = &[
         &[],
         TEXT,
         CONVERSIONS,
-        "Ok(Rows { items: [DataRow { at: 64, id_size: 2, comment: Nothing, content: 0, groups: Rows { items: [GroupRow { at: 128, id: 9, cycles: 72057594037927944, flags: 0, separator: 46, data_bytes: 825373492, inval_bytes: 6, name: Nothing, source: None, comment: Nothing, channels: Rows { items: [ChannelRow { at: 336, kind: 2, sync: 1, data_type: 4, bit: 3, byte: 16909060, bits: 286397204, flags: 2147483906, inval: 555885348, precision: 7, ranges: [1, 2, 3, 4, 5, 9223372036854775808], name: Nothing, source: Some(SourceInfo { kind: 2, bus: 3, flags: 1, name: Nothing, path: Nothing, comment: Nothing }), conv: Some(Conversion { kind: 0, precision: 0, flags: 0, low: 0, high: 0, numbers: Rows { items: [] }, refs: Rows { items: [Words(Plain(Bytes { items: [107, 109, 47, 104] })), Conv(Boxed { inner: Conversion { kind: 0, precision: 0, flags: 0, low: 0, high: 0, numbers: Rows { items: [] }, refs: Rows { items: [] }, name: Nothing, unit: Nothing, comment: Nothing } })] }, name: Nothing, unit: Nothing, comment: Nothing }), unit: Nothing, comment: Nothing, values: 0, extra: 1 }, ChannelRow { at: 512, kind: 1, sync: 0, data_type: 14, bit: 0, byte: 0, bits: 0, flags: 0, inval: 0, precision: 0, ranges: [0, 0, 0, 0, 0, 0], name: Nothing, source: Some(SourceInfo { kind: 2, bus: 3, flags: 1, name: Nothing, path: Nothing, comment: Nothing }), conv: None, unit: Nothing, comment: Nothing, values: 232, extra: 0 }] } }, GroupRow { at: 232, id: 10, cycles: 0, flags: 3, separator: 0, data_bytes: 0, inval_bytes: 0, name: Nothing, source: None, comment: Nothing, channels: Rows { items: [] } }] } }] }) Budget { text: 67108860, conversions: 1048574, dropped: 3 }",
+        "Ok(Rows { items: [DataRow { at: 64, id_size: 2, comment: Nothing, content: 0, groups: Rows { items: [GroupRow { at: 128, id: 9, cycles: 72057594037927944, flags: 0, separator: 46, data_bytes: 825373492, inval_bytes: 6, name: Nothing, source: None, comment: Nothing, channels: Rows { items: [ChannelRow { at: 336, kind: 2, sync: 1, data_type: 4, bit: 3, byte: 16909060, bits: 286397204, flags: 2147483906, inval: 555885348, precision: 7, ranges: [1, 2, 3, 4, 5, 9223372036854775808], name: Nothing, source: Some(SourceInfo { kind: 2, bus: 3, flags: 1, name: Nothing, path: Nothing, comment: Nothing }), conv: Some(Conversion { kind: 0, precision: 0, flags: 0, low: 0, high: 0, numbers: Rows { items: [] }, refs: Rows { items: [Words(Plain(Bytes { items: [107, 109, 47, 104] })), Conv(Boxed { inner: Conversion { kind: 0, precision: 0, flags: 0, low: 0, high: 0, numbers: Rows { items: [] }, refs: Rows { items: [] }, name: Nothing, unit: Nothing, comment: Nothing } })] }, name: Nothing, unit: Nothing, comment: Nothing }), unit: Nothing, comment: Nothing, values: 0, extra: 1 }, ChannelRow { at: 512, kind: 1, sync: 0, data_type: 14, bit: 0, byte: 0, bits: 0, flags: 0, inval: 0, precision: 0, ranges: [0, 0, 0, 0, 0, 0], name: Nothing, source: Some(SourceInfo { kind: 2, bus: 3, flags: 1, name: Nothing, path: Nothing, comment: Nothing }), conv: None, unit: Nothing, comment: Nothing, values: 232, extra: 0 }] } }, GroupRow { at: 232, id: 10, cycles: 0, flags: 3, separator: 0, data_bytes: 0, inval_bytes: 0, name: Nothing, source: None, comment: Nothing, channels: Rows { items: [] } }] } }] }) Budget { text: 67108860, conversions: 1048574, conversion_bytes: 134217552, dropped: 3 }",
     ),
     (
         STRAIGHT,
         &[],
         TEXT,
         CONVERSIONS,
-        "Ok(Rows { items: [DataRow { at: 64, id_size: 0, comment: Nothing, content: 7, groups: Rows { items: [GroupRow { at: 128, id: 0, cycles: 0, flags: 0, separator: 0, data_bytes: 0, inval_bytes: 0, name: Nothing, source: None, comment: Nothing, channels: Rows { items: [ChannelRow { at: 232, kind: 0, sync: 0, data_type: 0, bit: 0, byte: 0, bits: 0, flags: 0, inval: 0, precision: 0, ranges: [0, 0, 0, 0, 0, 0], name: Nothing, source: None, conv: None, unit: Nothing, comment: Nothing, values: 0, extra: 0 }] } }] } }] }) Budget { text: 67108864, conversions: 1048576, dropped: 0 }",
+        "Ok(Rows { items: [DataRow { at: 64, id_size: 0, comment: Nothing, content: 7, groups: Rows { items: [GroupRow { at: 128, id: 0, cycles: 0, flags: 0, separator: 0, data_bytes: 0, inval_bytes: 0, name: Nothing, source: None, comment: Nothing, channels: Rows { items: [ChannelRow { at: 232, kind: 0, sync: 0, data_type: 0, bit: 0, byte: 0, bits: 0, flags: 0, inval: 0, precision: 0, ranges: [0, 0, 0, 0, 0, 0], name: Nothing, source: None, conv: None, unit: Nothing, comment: Nothing, values: 0, extra: 0 }] } }] } }] }) Budget { text: 67108864, conversions: 1048576, conversion_bytes: 134217728, dropped: 0 }",
     ),
     (
         STRAIGHT,
         &[(UNIT, 392)],
         TEXT,
         CONVERSIONS,
-        "Err(Bad { at: 392, want: Tx }) Budget { text: 67108864, conversions: 1048576, dropped: 0 }",
+        "Err(Bad { at: 392, want: Tx }) Budget { text: 67108864, conversions: 1048576, conversion_bytes: 134217728, dropped: 0 }",
     ),
     (
         STRAIGHT,
         &[(NEXT_DATA, 128)],
         TEXT,
         CONVERSIONS,
-        "Err(Bad { at: 128, want: Dg }) Budget { text: 67108864, conversions: 1048576, dropped: 0 }",
+        "Err(Bad { at: 128, want: Dg }) Budget { text: 67108864, conversions: 1048576, conversion_bytes: 134217728, dropped: 0 }",
     ),
     (
         STRAIGHT,
         &[(NEXT_GROUP, 232)],
         TEXT,
         CONVERSIONS,
-        "Err(Bad { at: 232, want: Cg }) Budget { text: 67108864, conversions: 1048576, dropped: 0 }",
+        "Err(Bad { at: 232, want: Cg }) Budget { text: 67108864, conversions: 1048576, conversion_bytes: 134217728, dropped: 0 }",
     ),
     (
         STRAIGHT,
         &[(FIRST_CHANNEL, 128)],
         TEXT,
         CONVERSIONS,
-        "Err(Bad { at: 128, want: Cn }) Budget { text: 67108864, conversions: 1048576, dropped: 0 }",
+        "Err(Bad { at: 128, want: Cn }) Budget { text: 67108864, conversions: 1048576, conversion_bytes: 134217728, dropped: 0 }",
     ),
     (
         STRAIGHT,
         &[(SOURCE, 392)],
         TEXT,
         CONVERSIONS,
-        "Err(Bad { at: 392, want: Si }) Budget { text: 67108864, conversions: 1048576, dropped: 0 }",
+        "Err(Bad { at: 392, want: Si }) Budget { text: 67108864, conversions: 1048576, conversion_bytes: 134217728, dropped: 0 }",
     ),
     (
         STRAIGHT,
         &[(CONVERSION, 480)],
         TEXT,
         CONVERSIONS,
-        "Err(Bad { at: 480, want: Cc }) Budget { text: 67108864, conversions: 1048576, dropped: 0 }",
+        "Err(Bad { at: 480, want: Cc }) Budget { text: 67108864, conversions: 1048576, conversion_bytes: 134217728, dropped: 0 }",
     ),
     (
         STRAIGHT,
         &[(CONVERSION, 392), (REFERENCE, 392)],
         TEXT,
         4,
-        "Err(Deep { at: 392 }) Budget { text: 67108864, conversions: 4, dropped: 0 }",
+        "Err(Deep { at: 392 }) Budget { text: 67108864, conversions: 4, conversion_bytes: 134217728, dropped: 0 }",
     ),
     (
         STRAIGHT,
         &[(CONVERSION, 392)],
         TEXT,
         0,
-        "Err(TooMany { what: Cc, at: 392 }) Budget { text: 67108864, conversions: 0, dropped: 0 }",
+        "Err(TooMany { what: Cc, at: 392 }) Budget { text: 67108864, conversions: 0, conversion_bytes: 134217728, dropped: 0 }",
     ),
     (
         STRAIGHT,
         &[(UNIT, 480)],
         7,
         CONVERSIONS,
-        "Err(TooMany { what: Text, at: 480 }) Budget { text: 7, conversions: 1048576, dropped: 0 }",
+        "Err(TooMany { what: Text, at: 480 }) Budget { text: 7, conversions: 1048576, conversion_bytes: 134217728, dropped: 0 }",
     ),
     (
         STRAIGHT,
         &[(FRONT, 4 | 15 << 16)],
         TEXT,
         CONVERSIONS,
-        "Err(ChannelKind { at: 232, kind: 4 }) Budget { text: 67108864, conversions: 1048576, dropped: 0 }",
+        "Err(ChannelKind { at: 232, kind: 4 }) Budget { text: 67108864, conversions: 1048576, conversion_bytes: 134217728, dropped: 0 }",
     ),
     (
         STRAIGHT,
         &[(FRONT, 5 | 15 << 16)],
         TEXT,
         CONVERSIONS,
-        "Err(ChannelKind { at: 232, kind: 5 }) Budget { text: 67108864, conversions: 1048576, dropped: 0 }",
+        "Err(ChannelKind { at: 232, kind: 5 }) Budget { text: 67108864, conversions: 1048576, conversion_bytes: 134217728, dropped: 0 }",
     ),
     (
         STRAIGHT,
         &[(FRONT, 7 | 15 << 16)],
         TEXT,
         CONVERSIONS,
-        "Err(ChannelKind { at: 232, kind: 7 }) Budget { text: 67108864, conversions: 1048576, dropped: 0 }",
+        "Err(ChannelKind { at: 232, kind: 7 }) Budget { text: 67108864, conversions: 1048576, conversion_bytes: 134217728, dropped: 0 }",
     ),
     (
         STRAIGHT,
         &[(FRONT, 6 | 15 << 16), (UNIT, 392)],
         TEXT,
         CONVERSIONS,
-        "Err(ChannelType { at: 232, value: 15 }) Budget { text: 67108864, conversions: 1048576, dropped: 0 }",
+        "Err(ChannelType { at: 232, value: 15 }) Budget { text: 67108864, conversions: 1048576, conversion_bytes: 134217728, dropped: 0 }",
     ),
     (
         STRAIGHT,
         &[(NEXT_CHANNEL, 232), (UNIT, 480)],
         807,
         CONVERSIONS,
-        "Err(TooMany { what: Text, at: 480 }) Budget { text: 807, conversions: 1048576, dropped: 0 }",
+        "Err(TooMany { what: Text, at: 480 }) Budget { text: 807, conversions: 1048576, conversion_bytes: 134217728, dropped: 0 }",
     ),
     (
         STRAIGHT,
         &[(FRONT, 1), (VALUES_AT, 128), (GROUP_FLAGS, 1)],
         TEXT,
         CONVERSIONS,
-        "Ok(Rows { items: [DataRow { at: 64, id_size: 0, comment: Nothing, content: 7, groups: Rows { items: [GroupRow { at: 128, id: 0, cycles: 0, flags: 1, separator: 0, data_bytes: 0, inval_bytes: 0, name: Nothing, source: None, comment: Nothing, channels: Rows { items: [ChannelRow { at: 232, kind: 1, sync: 0, data_type: 0, bit: 0, byte: 0, bits: 0, flags: 0, inval: 0, precision: 0, ranges: [0, 0, 0, 0, 0, 0], name: Nothing, source: None, conv: None, unit: Nothing, comment: Nothing, values: 128, extra: 0 }] } }] } }] }) Budget { text: 67108864, conversions: 1048576, dropped: 1 }",
+        "Ok(Rows { items: [DataRow { at: 64, id_size: 0, comment: Nothing, content: 7, groups: Rows { items: [GroupRow { at: 128, id: 0, cycles: 0, flags: 1, separator: 0, data_bytes: 0, inval_bytes: 0, name: Nothing, source: None, comment: Nothing, channels: Rows { items: [ChannelRow { at: 232, kind: 1, sync: 0, data_type: 0, bit: 0, byte: 0, bits: 0, flags: 0, inval: 0, precision: 0, ranges: [0, 0, 0, 0, 0, 0], name: Nothing, source: None, conv: None, unit: Nothing, comment: Nothing, values: 128, extra: 0 }] } }] } }] }) Budget { text: 67108864, conversions: 1048576, conversion_bytes: 134217728, dropped: 1 }",
     ),
 ];
 
@@ -226,21 +229,21 @@ const LOOPS: &[(File, &[(usize, u64)], u64, u64, &str)] = &[
         &[(NEXT_DATA, 64)],
         TEXT,
         CONVERSIONS,
-        "Err(TooMany { what: Dg, at: 64 }) Budget { text: 67108864, conversions: 1048576, dropped: 0 }",
+        "Err(TooMany { what: Dg, at: 64 }) Budget { text: 67108864, conversions: 1048576, conversion_bytes: 134217728, dropped: 0 }",
     ),
     (
         STRAIGHT,
         &[(NEXT_GROUP, 128)],
         TEXT,
         CONVERSIONS,
-        "Err(TooMany { what: Cg, at: 128 }) Budget { text: 67108864, conversions: 1048576, dropped: 0 }",
+        "Err(TooMany { what: Cg, at: 128 }) Budget { text: 67108864, conversions: 1048576, conversion_bytes: 134217728, dropped: 0 }",
     ),
     (
         STRAIGHT,
         &[(NEXT_CHANNEL, 232)],
         TEXT,
         CONVERSIONS,
-        "Err(TooMany { what: Cn, at: 232 }) Budget { text: 67108864, conversions: 1048576, dropped: 0 }",
+        "Err(TooMany { what: Cn, at: 232 }) Budget { text: 67108864, conversions: 1048576, conversion_bytes: 134217728, dropped: 0 }",
     ),
 ];
 
@@ -258,7 +261,7 @@ fn told(
     let mut budget = Budget {
         text,
         conversions,
-        dropped: 0,
+        ..Budget::of_file()
     };
     let answer = read_groups(alloc, bytes.as_slice(), 64, &mut budget);
     Ok(format!(in alloc; "{answer:?} {budget:?}")?)
@@ -278,6 +281,22 @@ fn loops_are_too_many(rt: HostRuntime) -> Result<(), Fail> {
     for (file, numbers, text, conversions, want) in LOOPS {
         let told = told(rt.alloc(), *file, *numbers, *text, *conversions)?;
         assert_eq!(rt; told.as_str(), *want);
+    }
+    Ok(())
+}
+
+// Both channels name the conversion at 728, which has 96 bytes and refers to one of 80 bytes.
+#[test]
+fn a_conversion_counts_for_each_channel(rt: HostRuntime) -> Result<(), Fail> {
+    let mut bytes = file_of(rt.alloc(), TWO_GROUPS.0, TWO_GROUPS.1)?;
+    put_number(bytes.as_mut_slice(), SECOND_CONVERSION, 728);
+    for (room, fault) in [(351, Some(GroupFault::Memory)), (352, None)] {
+        let mut budget = Budget {
+            conversion_bytes: room,
+            ..Budget::of_file()
+        };
+        let answer = read_groups(rt.alloc(), bytes.as_slice(), 64, &mut budget);
+        assert_eq!(rt; answer.err(), fault);
     }
     Ok(())
 }

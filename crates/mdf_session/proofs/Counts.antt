@@ -3,7 +3,7 @@ use Rattle.std.proofs.Common.{◌≡◌, ◌+◌, ◌<◌, ◌≤◌, ℕ, zero,
 use Rattle.std.proofs.lemmas.List.{drop_all}
 use Rattle.std.specs.Prelude.{slice_index_or}
 use Rattle.std.specs.List.{AllByRecursion}
-use Rattle.mdf_block.proofs.Everys.{rest_is}
+use Rattle.mdf_block.proofs.Rests.{rest_is}
 use Rattle.mdf_data.specs.Record.{least_size}
 use Rattle.mdf_data.specs.Places.{HaveRoom}
 use Rattle.mdf_group.specs.declared.row.GroupRow.{GroupRow}

@@ -1,6 +1,6 @@
 -- Parts that are joined: the one that has a place, and the bytes there.
 use Rattle.std.proofs.Common.{◌≡◌, ◌+◌, ◌-◌, ◌^◌, ◌<◌, ◌≤◌, ℕ, zero, suc, List, [], ◌∷◌, ◌++◌, length, get_or, take, drop, refl, sym, ◌∙◌, ap, subst, arith, length-append, inl, inr, append_assoc, Option, Some}
-use Rattle.std.proofs.lemmas.List.{length-take, length-drop, take-append-le, drop-append-le, take_at, drop_at, take_all, drop_all, append-nil}
+use Rattle.std.proofs.lemmas.List.{get_or_default, length-take, length-drop, take-append-le, drop-append-le, take_at, drop_at, take_all, drop_all, append-nil}
 use Rattle.std.proofs.lemmas.List.Sums.{sum_by-cons}
 use Rattle.std.proofs.Math.Seq.{drop-append-add, take-add, drop-drop}
 use Rattle.std.proofs.lemmas.Bool.Decides.{leb_tells}
@@ -148,6 +148,13 @@ parts_of-append (x ∷ xs) ys = ap (λ (parts : List Part). x.part ∷ parts) (p
 -- the part that stands where there is none
 abbrev pub none : Stretch
 none = record { part = record { at = 0; len = 0 }; end = 0 }
+
+-- parts before one that ends at a place or before it do so too
+pub rises : (place : ℕ) (stretches : List Stretch) (k j : ℕ) (d : Stretch) → IsNonDecreasingBy (λ (stretch : Stretch). stretch.end) stretches
+    → k < length stretches → (get_or stretches (k - 1) none).end ≤ place → j < k → (get_or stretches j d).end ≤ place
+rises place stretches k j d order below past less =
+    rw (get_or_default stretches j d none (omega (arith, below, less)))
+    (omega (arith, order j (k - 1) none (omega (arith, less)) (omega (arith, below)), past))
 
 -- a part that ends behind a place is there, where the stream does
 pub below_end : (place : ℕ) (stretches : List Stretch) (end k : ℕ) → AreJoined 0 stretches end → place < end → k ≤ length stretches

@@ -1,4 +1,4 @@
-ghost use Rattle.std.specs.Prelude.{◌≡◌, ◌+◌, ◌-◌, ◌^◌, ◌≤◌, ◌<◌, ◌++◌, ◌∷◌, ℕ, List, Some, length, drop, slice_index_or, IfOk, OnOk};
+ghost use Rattle.std.specs.Prelude.{◌≡◌, ◌+◌, ◌-◌, ◌^◌, ◌≤◌, ◌<◌, ◌++◌, ◌∷◌, ℕ, List, Some, length, drop, slice_index_or, IsTrue, IfOk, OnOk};
 ghost use Rattle.std.specs.List.Sorted.{IsNonDecreasingBy};
 ghost use Rattle.mdf_format.specs.Number.{bytes_at};
 ghost use Rattle.mdf_num.specs.Halt.{StopCause};
@@ -19,8 +19,8 @@ pub(crate) struct Stretch {
     pub(crate) end: u64,
 }
 
-/// The number of the first part that ends behind a place of the stream.
-pub(crate) fn stretch_at(items: &[Stretch], at: u64) -> usize
+/// The number of the first part that ends behind a place of the stream, by a search over all.
+fn stretch_by_search(items: &[Stretch], at: u64) -> usize
     requires { IsNonDecreasingBy (λ (stretch : Stretch). stretch.end) items.now }
     ensures bound { result ≤ length items.now }
     ensures before { (k : ℕ) (d : Stretch) → k < result → (slice_index_or items.now k d).end ≤ at }
@@ -29,8 +29,34 @@ pub(crate) fn stretch_at(items: &[Stretch], at: u64) -> usize
     items.partition_point(|stretch| stretch.end <= at)
 }
 
-/// The part that has a place of the stream.
-pub(crate) fn stretch_of(items: &[Stretch], end: u64, at: u64) -> Stretch
+/// Whether part `k` is there and is the first that ends behind a place of the stream.
+fn is_stretch_at(items: &[Stretch], at: u64, k: usize) -> bool
+    requires { IsNonDecreasingBy (λ (stretch : Stretch). stretch.end) items.now }
+    ensures there { IsTrue result → k < length items.now }
+    ensures before { (j : ℕ) (d : Stretch) → IsTrue result → j < k → (slice_index_or items.now j d).end ≤ at }
+    ensures behind { (d : Stretch) → IsTrue result → at < (slice_index_or items.now k d).end }
+{
+    k < items.len() && at < items[k].end && (k == 0 || items[k - 1].end <= at)
+}
+
+/// The number of the first part that ends behind a place of the stream. Part `near` and the next are tried first.
+pub(crate) fn stretch_at(items: &[Stretch], at: u64, near: usize) -> usize
+    requires { IsNonDecreasingBy (λ (stretch : Stretch). stretch.end) items.now }
+    ensures bound { result ≤ length items.now }
+    ensures before { (k : ℕ) (d : Stretch) → k < result → (slice_index_or items.now k d).end ≤ at }
+    ensures behind { (d : Stretch) → result < length items.now → at < (slice_index_or items.now result d).end }
+{
+    if is_stretch_at(items, at, near) {
+        return near;
+    }
+    if near < items.len() && is_stretch_at(items, at, near + 1) {
+        return near + 1;
+    }
+    stretch_by_search(items, at)
+}
+
+/// The part that has a place of the stream. Part `near` and the next are tried first; it becomes the number of this one.
+pub(crate) fn stretch_of(items: &[Stretch], end: u64, at: u64, near: &mut usize) -> Stretch
     requires joined { AreJoined 0 items.now end }
     requires within { at < end }
     ensures begins { result.end ≤ at + result.part.len }
@@ -42,7 +68,8 @@ pub(crate) fn stretch_of(items: &[Stretch], end: u64, at: u64) -> Stretch
     ensures range { (len : ℕ) → 0 < len → parts_between (parts_of items.now) at len
         ≡ front_part result at len ∷ parts_between (parts_of items.now) (at + front_len result at len) (len - front_len result at len) }
 {
-    let k = stretch_at(items, at);
+    let k = stretch_at(items, at, *near);
+    *near = k;
     items[k]
 }
 
@@ -57,7 +84,8 @@ pub(crate) fn front_of(items: &[Stretch], end: u64, at: u64, len: u64) -> Part
     ensures range { parts_between (parts_of items.now) at len
         ≡ result ∷ parts_between (parts_of items.now) (at + result.len) (len - result.len) }
 {
-    let stretch = stretch_of(items, end, at);
+    let mut near = 0;
+    let stretch = stretch_of(items, end, at, &mut near);
     let left = stretch.end - at;
     Part {
         at: stretch.part.at + (stretch.part.len - left),
@@ -73,6 +101,7 @@ fn front_in<P: Span>(
     end: u64,
     at: u64,
     buf: &mut [u8],
+    near: &mut usize,
 ) -> Result<usize, Stop>
     requires joined { AreJoined 0 items.now end }
     requires inside { ArePartsInside (P.size span.old) (parts_of items.now) }
@@ -86,7 +115,7 @@ fn front_in<P: Span>(
     ensures size { P.size span.new ≡ P.size span.old }
     ensures cause { StopCause P.may_want (P.faults span.old) (P.faults span.new) result }
 {
-    let stretch = stretch_of(items, end, at);
+    let stretch = stretch_of(items, end, at, near);
     let left = stretch.end - at;
     let place = stretch.part.at + (stretch.part.len - left);
     let count = (buf.len() as u64).min(left) as usize;
@@ -94,13 +123,15 @@ fn front_in<P: Span>(
     Ok(count)
 }
 
-/// Fills the buffer with the bytes of the stream from `at` on, part by part.
+/// Fills the buffer with the bytes of the stream from `at` on, part by part. Part `near` and the next are tried first; it
+/// becomes the number of the part that was read last.
 pub(crate) fn fill_in<P: Span>(
     span: &mut P,
     items: &[Stretch],
     end: u64,
     at: u64,
     buf: &mut [u8],
+    near: &mut usize,
 ) -> Result<(), Stop>
     requires joined { AreJoined 0 items.now end }
     requires inside { ArePartsInside (P.size span.old) (parts_of items.now) }
@@ -113,7 +144,7 @@ pub(crate) fn fill_in<P: Span>(
 {
     let mut done = 0;
     while done < buf.len() {
-        done += front_in(span, items, end, at + done as u64, &mut buf[done..])?;
+        done += front_in(span, items, end, at + done as u64, &mut buf[done..], near)?;
     }
     Ok(())
 }

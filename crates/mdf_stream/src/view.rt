@@ -126,6 +126,29 @@ impl DataView {
         Ok(())
     }
 
+    /// As `read_in`, where part `near` of the stream and the next are tried first: any number will do, and it becomes the
+    /// number of the part that was read last. Places that rise are found so without a search.
+    ///
+    /// # Errors
+    /// The span's own. It is as before in what it tells.
+    pub fn read_near<P: Span>(
+        &self,
+        span: &mut P,
+        at: u64,
+        buf: &mut [u8],
+        near: &mut usize,
+    ) -> Result<(), Stop>
+        requires inside { ArePartsInside (P.size span.old) self.now }
+        requires within { at + length buf.old ≤ stream_size self.now }
+        ensures filled { OnOk result ((f : List ℕ) → P.bytes span.old ≡ Some f →
+            buf.new ≡ bytes_at (length buf.old) (stream_of f self.now) at) }
+        ensures same { P.bytes span.new ≡ P.bytes span.old }
+        ensures size { P.size span.new ≡ P.size span.old }
+        ensures cause { StopCause P.may_want (P.faults span.old) (P.faults span.new) result }
+    {
+        fill_in(span, self.items.as_slice(), self.end, at, buf, near)
+    }
+
     /// Fills the buffer with the bytes of the stream from `at` on.
     ///
     /// # Errors
@@ -139,7 +162,8 @@ impl DataView {
         ensures size { P.size span.new ≡ P.size span.old }
         ensures cause { StopCause P.may_want (P.faults span.old) (P.faults span.new) result }
     {
-        fill_in(span, self.items.as_slice(), self.end, at, buf)
+        let mut near = 0;
+        self.read_near(span, at, buf, &mut near)
     }
 
     /// Fills the buffer with the bytes of the stream from `at` on, where the parts are of these bytes.
@@ -166,8 +190,25 @@ impl DataView {
         ensures size { P.size span.new ≡ P.size span.old }
         ensures cause { StopCause P.may_want (P.faults span.old) (P.faults span.new) result }
     {
+        let mut near = 0;
+        self.u32_near(span, at, &mut near)
+    }
+
+    /// As `u32_in`, where part `near` of the stream and the next are tried first: any number will do, and it becomes the
+    /// number of the part that was read last. Places that rise are found so without a search.
+    ///
+    /// # Errors
+    /// The span's own. It is as before in what it tells.
+    pub fn u32_near<P: Span>(&self, span: &mut P, at: u64, near: &mut usize) -> Result<u32, Stop>
+        requires inside { ArePartsInside (P.size span.old) self.now }
+        requires within { at + 4 ≤ stream_size self.now }
+        ensures number { IfOk result (λ n. (f : List ℕ) → P.bytes span.old ≡ Some f → n ≡ le_number (bytes_at 4 (stream_of f self.now) at)) }
+        ensures same { P.bytes span.new ≡ P.bytes span.old }
+        ensures size { P.size span.new ≡ P.size span.old }
+        ensures cause { StopCause P.may_want (P.faults span.old) (P.faults span.new) result }
+    {
         let mut word = [0u8; 4];
-        self.read_in(span, at, &mut word)?;
+        self.read_near(span, at, &mut word, near)?;
         Ok(u32_field(&word, 0))
     }
 }

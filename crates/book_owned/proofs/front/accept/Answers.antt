@@ -3,11 +3,11 @@ use Rattle.mdf_layout.specs.Record.{history_size}
 use Rattle.book_owned.proofs.Costs.{ids_small, history_cost-least}
 use Rattle.book_owned.proofs.front.accept.Goals as goal
 
-pub encode-size-requires-clause-ids : goal.encode-size-requires-clause-ids
-encode-size-requires-clause-ids g c = ids_small c.args.front.now.shapes c.requires.counted.groups c.requires.counted.variable
+pub put_sample-size-requires-clause-ids : goal.put_sample-size-requires-clause-ids
+put_sample-size-requires-clause-ids g c = ids_small c.args.front.now.shapes c.requires.counted.groups c.requires.counted.variable
 
-pub encode-size-requires-clause-next : goal.encode-size-requires-clause-next
-encode-size-requires-clause-next g c = (c.args.front.now.history.items, c.requires.counted.next)
+pub put_sample-size-requires-clause-next : goal.put_sample-size-requires-clause-next
+put_sample-size-requires-clause-next g c = (c.args.front.now.history.items, c.requires.counted.next)
 
 pub pass-requires-clause-next : goal.pass-requires-clause-next
 pass-requires-clause-next g c =

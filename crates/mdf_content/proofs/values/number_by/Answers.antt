@@ -16,5 +16,5 @@ returns-clause-number g c = λ f told.
     let at = c.args.place + c.args.field.byte in
     c.get.ensures.number
     ∙ ap (field_number (record s { byte = 0 }))
-    (c.in_ok-read_in.ensures.filled f told ∙ ap (λ (n : ℕ). bytes_at n stream at) c.requires.size)
+    (c.in_ok-read_near.ensures.filled f told ∙ ap (λ (n : ℕ). bytes_at n stream at) c.requires.size)
     ∙ same_number s stream c.args.place c.args.data_bytes c.requires.covered

@@ -10,8 +10,8 @@ returns-clause-id g c = λ f told.
     let n = c.args.id_size in
     let short = id_short n c.requires.id_size in
     let taken = length-take-le n zeros short in
-    let long : length c.read_in.new.buf ≡ n = c.read_in.auto.buf ∙ taken in
+    let long : length c.read_near.new.buf ≡ n = c.read_near.auto.buf ∙ taken in
     c.u64_field.ensures
-    ∙ id_number c.read_in.new.buf n long short
-    ∙ ap le_number (c.in_ok-read_in.ensures.filled f told
+    ∙ id_number c.read_near.new.buf n long short
+    ∙ ap le_number (c.in_ok-read_near.ensures.filled f told
     ∙ ap (λ (m : ℕ). bytes_at m (stream_of f c.args.view.now) c.args.at) taken)

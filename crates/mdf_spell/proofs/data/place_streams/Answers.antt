@@ -2,7 +2,7 @@ use Rattle.std.proofs.Common.{◌+◌, List, ◌∷◌, ◌++◌, ℕ, map, drop
 use Rattle.mdf_format.specs.declared.kind.Kind.TheVariants.{Sd}
 use Rattle.mdf_block.specs.declared.link.Link.{Link}
 use Rattle.mdf_block.specs.declared.link.Link.TheVariants as links
-use Rattle.mdf_block.proofs.Everys.{rest_is}
+use Rattle.mdf_block.proofs.Rests.{rest_is}
 use Rattle.mdf_spell.specs.Values.{own_streams}
 use Rattle.mdf_spell.proofs.Lists.{cut_at}
 use Rattle.mdf_spell.specs.Session.{data_block}

@@ -1,6 +1,6 @@
 use Rattle.std.proofs.Common.{◌+◌, List, ◌++◌, length, drop, slice_index_or, sym, ◌∙◌, ap, arith, length-drop}
 use Rattle.std.specs.Prelude.{nat_lt}
-use Rattle.mdf_block.proofs.Everys.{rest_is}
+use Rattle.mdf_block.proofs.Rests.{rest_is}
 use Rattle.mdf_group.specs.declared.row.GroupRow.{GroupRow}
 use Rattle.mdf_tree.specs.Group.{next_if, past_group, group_blocks, groups_blocks}
 use Rattle.mdf_tree.proofs.Placing.{next_less, groups_step}

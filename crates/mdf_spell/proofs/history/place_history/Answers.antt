@@ -1,6 +1,6 @@
 use Rattle.std.proofs.Common.{◌+◌, List, [], ◌∷◌, ◌++◌, length, drop, sym, ◌∙◌, ap}
 use Rattle.std.proofs.lemmas.Result.{on_ok_weaker}
-use Rattle.mdf_block.proofs.Everys.{rest_is}
+use Rattle.mdf_block.proofs.Rests.{rest_is}
 use Rattle.mdf_head.specs.declared.entry.History.{History}
 use Rattle.mdf_tree.specs.Head.{history_blocks}
 use Rattle.mdf_spell.proofs.Histories.{history_step, history_last}

@@ -1,5 +1,5 @@
 use Rattle.std.proofs.Common.{◌+◌, ℕ, List, ◌∷◌, drop, slice_index_or, sym, ◌∙◌, ap}
-use Rattle.mdf_block.proofs.Everys.{rest_is}
+use Rattle.mdf_block.proofs.Rests.{rest_is}
 use Rattle.mdf_group.specs.declared.row.GroupRow.{GroupRow}
 use Rattle.mdf_spell.specs.Values.{values_group}
 use Rattle.mdf_spell.proofs.Lists.{cut_at}

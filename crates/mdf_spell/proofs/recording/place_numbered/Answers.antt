@@ -1,6 +1,6 @@
 use Rattle.std.proofs.Common.{◌+◌, List, ◌++◌, length, drop, sym, ◌∙◌, ap}
 use Rattle.mdf_block.specs.Draft.{Placed}
-use Rattle.mdf_block.proofs.Everys.{rest_is}
+use Rattle.mdf_block.proofs.Rests.{rest_is}
 use Rattle.mdf_group.specs.declared.row.GroupRow.{GroupRow}
 use Rattle.mdf_tree.specs.Group.{past_group, groups_blocks}
 use Rattle.mdf_spell.specs.Recording.{numbered, values_rows}

@@ -1,5 +1,5 @@
 use Rattle.std.proofs.Common.{◌+◌, ◌++◌, List, length, drop, sym, ◌∙◌, ap}
-use Rattle.mdf_block.proofs.Everys.{rest_is}
+use Rattle.mdf_block.proofs.Rests.{rest_is}
 use Rattle.mdf_group.specs.declared.row.ChannelRow.{ChannelRow}
 use Rattle.mdf_tree.specs.Group.{past_channel, channels_blocks, IsChannelSized}
 use Rattle.mdf_tree.proofs.Placing.{all_taken, next_less, channels_step, channels_done}

@@ -2,7 +2,7 @@ use Rattle.std.proofs.Common.{◌+◌, ◌++◌, [], ◌∷◌, List, length, dr
 use Rattle.std.proofs.lemmas.Result.{on_ok_weaker}
 use Rattle.mdf_format.specs.declared.kind.Kind.TheVariants.{Cc}
 use Rattle.mdf_block.specs.Draft.{Placed}
-use Rattle.mdf_block.proofs.Everys.{rest_is}
+use Rattle.mdf_block.proofs.Rests.{rest_is}
 use Rattle.mdf_conv.specs.declared.row.Ref.{Ref}
 use Rattle.mdf_tree.specs.Conv.{conv_body, refs_blocks, refs_links, conv_first, conv_head_links, conv_blocks}
 use Rattle.mdf_tree.proofs.Placing.{linked_is, refs_step, refs_done, conv_placed}

@@ -1,6 +1,6 @@
 use Rattle.std.proofs.Common.{◌≡◌, ◌+◌, ◌++◌, [], ◌∷◌, List, drop, sym, ◌∙◌, ap}
 use Rattle.mdf_block.specs.declared.link.Link.{Link}
-use Rattle.mdf_block.proofs.Everys.{rest_is}
+use Rattle.mdf_block.proofs.Rests.{rest_is}
 use Rattle.mdf_conv.specs.declared.row.Ref.{Ref}
 use Rattle.mdf_tree.specs.Conv.{ref_link, refs_links, conv_blocks}
 use Rattle.mdf_tree.proofs.Placing.{links_step, links_done}

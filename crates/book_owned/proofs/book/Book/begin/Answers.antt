@@ -19,7 +19,7 @@ invariant_of-result g c =
     c.empty.ensures
     (c.put.ensures.items ∙ ap (λ ms. ms ++ record { moment = c.moment.result; through = 0 } ∷ []) c.in-Ok.ensures.marks.0
     ∙ ap (λ t. record { moment = t; through = 0 } ∷ []) c.moment.ensures.moment)
-    refl c.in-Ok.ensures.block.0 (c.in-Ok.ensures.scratch ∙ sym c.in-Ok.ensures.block.1)
+    refl c.in-Ok.ensures.block.0
     c.requires.nothing_shown.0 c.requires.nothing_shown.1 c.requires.nothing_handed at_first c.in-Ok.ensures.next
 
 pub returns-clause-kept : goal.returns-clause-kept

@@ -1,11 +1,24 @@
-use Rattle.std.proofs.Common.{◌≤◌, ◌∙◌, ap, length, sym, subst}
+use Rattle.std.proofs.Common.{◌≤◌, ◌∙◌, [], ap, length, sym, subst, append-nil}
 use Rattle.book_owned.specs.Marks.{durable}
+use Rattle.book_owned.specs.Account.{Steps}
 use Rattle.book_owned.specs.Answers.{FlushAnswers}
 use Rattle.book_owned.specs.Halves.{account_of}
 use Rattle.book_owned.specs.declared.answer.Flush.TheVariants as flush
 use Rattle.book_owned.proofs.Flushing.{flush_done}
 use Rattle.book_owned.proofs.Happening.{flush_happens}
 use Rattle.book_owned.proofs.book.Book.flush.Goals as goal
+
+pub returns-in-Err-clause-steps : goal.returns-in-Err-clause-steps
+returns-in-Err-clause-steps g c =
+    let hands = c.write_pending.ensures.hands in
+    let new = account_of g.D.Disk g.V.Shown c.write_pending.new.front c.write_pending.new.file in
+    subst (λ a. Steps a new []) c.self.view_is
+    (record {
+      history = ap (λ f. f.history.items) hands.rest ∙ sym (append-nil c.self.inside.front.history.items);
+      marks = hands.marks;
+      stopped = λ stopped. c.in-Err.ensures.fault.failed;
+      terms = hands.terms;
+    })
 
 pub returns-clause-answer : goal.returns-clause-answer
 returns-clause-answer g c =

@@ -17,10 +17,10 @@ returns-clause-flushes g c =
     c.requires.single.0 c.requires.single.1 c.flush-answer.ensures.kept.marks_rise
 
 pub returns-clause-book : goal.returns-clause-book
-returns-clause-book g c = (
-  c.seize-word.result.1,
-  c.flush-answer.new.self,
-  turned_now c.args.seat.now.me.0 c.seize-word.new.seat.me.0 c.give.new.seat.me.0 (c.seize-word.result.0 + 1) c.seize-word.result.1 c.flush-answer.new.self
-      c.seize-word.ensures.took (ap (λ (seat : Here g.row.D.Denot g.row.V.Denot). seat.0) c.give.ensures.given),
-  c.flush-answer.ensures.answer,
-)
+returns-clause-book g c = record {
+  old = c.seize-word.result.1;
+  new = c.flush-answer.new.self;
+  turned = turned_now c.args.seat.now.me.0 c.seize-word.new.seat.me.0 c.give.new.seat.me.0 (c.seize-word.result.0 + 1) c.seize-word.result.1 c.flush-answer.new.self
+      c.seize-word.ensures.took (ap (λ (seat : Here g.row.D.Denot g.row.V.Denot). seat.0) c.give.ensures.given);
+  answers = c.flush-answer.ensures.answer;
+}

@@ -1,7 +1,7 @@
 use Rattle.std.proofs.Common.{◌≡◌, ◌∙◌, ap, arith}
 use Rattle.mdf_stream.specs.Parts.{stream_size}
 use Rattle.mdf_stream.proofs.Joins.{joined_ends}
-use Rattle.mdf_stream.proofs.view.DataView.read_in.Goals as goal
+use Rattle.mdf_stream.proofs.view.DataView.read_near.Goals as goal
 
 pub fill_in-requires-clause-within : goal.fill_in-requires-clause-within
 fill_in-requires-clause-within g c =

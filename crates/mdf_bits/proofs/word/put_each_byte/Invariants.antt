@@ -1,7 +1,7 @@
 use Rattle.std.proofs.Common.{◌≡◌, ◌<◌, ◌*◌, ◌/◌, ◌^◌, ℕ, get_or}
 use Rattle.mdf_format.specs.Field.{lowest_first}
 use Rattle.mdf_bits.proofs.Orders.{byte_of}
-use Rattle.mdf_bits.proofs.word.put_word.Given as goal
+use Rattle.mdf_bits.proofs.word.put_each_byte.Given as goal
 
 abbrev pub invariant-loop-i : goal.invariant-loop-i
 invariant-loop-i l = record {

@@ -2,7 +2,7 @@ use Rattle.std.proofs.Common.{leb, leb-true, arith, rules}
 use Rattle.std.proofs.lemmas.List.Sorted.{IsPartitionPoint-from_clause, IsPartitionedBy-leb}
 use Rattle.mdf_stream.specs.declared.stretch.Stretch.{Stretch}
 use Rattle.std.proofs.lemmas.Bool.{leb-false}
-use Rattle.mdf_stream.proofs.stretch.stretch_at.Goals as goal
+use Rattle.mdf_stream.proofs.stretch.stretch_by_search.Goals as goal
 
 pub returns-clause-before : goal.returns-clause-before
 returns-clause-before c =

@@ -1,0 +1,20 @@
+use Rattle.std.proofs.Common.{◌≡◌, ◌+◌, ◌++◌, ◌∙◌, ap, length, take, rules}
+use Rattle.mdf_gate.specs.Gated.{Buffered}
+use Rattle.mdf_format.specs.Number.{bytes_at}
+use Rattle.mdf_gate.proofs.Buffers.{put_behind_data}
+use Rattle.mdf_gate.proofs.buffer.Block.put_sample.Goals as goal
+
+pub returns-clause-record : goal.returns-clause-record
+returns-clause-record c = λ before next.
+    let block = c.self.inside in
+    let size = c.put_records-size.result in
+    let new = c.put_records-size.new.bytes in
+    let len : block.bytes.len ≡ length block.bytes.items = search rules in
+    let long : length new ≡ length block.bytes.items = search rules in
+    let same : take (23 + block.used) new ≡ take (23 + block.used) block.bytes.items =
+    c.put_records-size.ensures.before ∙ ap (take (23 + block.used)) c.deref_mut.ensures.value in (
+      bytes_at size new (23 + block.used),
+      put_behind_data block.bytes.items new block.used size block.bytes.len len long same
+          ∙ ap (λ (b : Buffered). b.bytes ++ bytes_at size new (23 + block.used)) c.self.view_is,
+      c.put_records-size.ensures.record before next,
+    )
