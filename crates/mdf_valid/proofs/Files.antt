@@ -222,3 +222,7 @@ measurement_true f =
 
 pub refusal_true : (f : List ℕ) (refusal : Refusal) → measurement f ≡ Err refusal → IsTrueOfFile f refusal
 refusal_true f refusal is = (measurement_true f).tells refusal is
+
+-- of the identification alone
+pub identify_refused : (f : List ℕ) (refusal : Refusal) → identify f ≡ Err refusal → IsTrueOfFile f refusal
+identify_refused f refusal is = as_file f refusal ((identify_true f).tells refusal is)

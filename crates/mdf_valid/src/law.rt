@@ -1,5 +1,6 @@
 ghost use Rattle.std.specs.Prelude.{◌≡◌, ◌↔◌, ℕ, List, ◌∷◌, Ok, Err, IsTrue};
 ghost use Rattle.mdf_block.specs.Refusal.{Refusal};
+ghost use Rattle.mdf_head.specs.Ident.{identify};
 ghost use Rattle.mdf_head.specs.declared.entry.Head.{Head};
 ghost use Rattle.mdf_head.specs.declared.entry.History.{History};
 ghost use Rattle.mdf_group.specs.declared.row.ChannelRow.{ChannelRow};
@@ -29,7 +30,8 @@ pub fn strict_is_valid()
 
 /// A refusal is true of the file: of its identification, of a block at the address, or of one of its data groups.
 pub fn a_refusal_is_true()
-    ensures { (file : List ℕ) (refusal : Refusal) → measurement file ≡ Err refusal → IsTrueOfFile file refusal }
+    ensures measured { (file : List ℕ) (refusal : Refusal) → measurement file ≡ Err refusal → IsTrueOfFile file refusal }
+    ensures identified { (file : List ℕ) (refusal : Refusal) → identify file ≡ Err refusal → IsTrueOfFile file refusal }
 {}
 
 /// A file whose layouts, records, counts or values are refused has no measurement.
