@@ -103,7 +103,7 @@ text_clean : (body : List ℕ) → IsText (text_of body)
 text_clean [] = tt
 text_clean (byte ∷ body) = text_case (is_zero byte) byte body refl (text_clean body)
 
-note_clean : (file : List ℕ) (at : ℕ) (note : Note) → IsNote file at note → IsWritable note
+pub note_clean : (file : List ℕ) (at : ℕ) (note : Note) → IsNote file at note → IsWritable note
 note_clean file at notes.Nothing is = tt
 note_clean file at (notes.Plain bytes) is = subst (λ (text : List ℕ). IsText text) (sym is.2) (text_clean (body_at file at))
 note_clean file at (notes.Xml bytes) is = subst (λ (text : List ℕ). IsText text) (sym is.2) (text_clean (body_at file at))
@@ -190,6 +190,25 @@ channels_clean : (file : List ℕ) → AreBytes file → (rows : List ChannelRow
 channels_clean file are [] each = tt
 channels_clean file are (row ∷ rows) each = (channel_clean file are row each.0, channels_clean file are rows each.1)
 
+pub row_clean : (file : List ℕ) → AreBytes file → (row : GroupRow) → IsGroup file row → IsGroupWritable row
+row_clean file are row is =
+    let body = body_at file row.at in
+    let bytes = body_bytes file row.at are in
+    subst (λ (r : GroupRow). IsGroupWritable r) (sym is.fields) (record {
+      sized = record {
+        id = below64 body 0 bytes;
+        cycles = below64 body 8 bytes;
+        flags = below16 body 16 bytes;
+        separator = below16 body 18 bytes;
+        data_bytes = below32 body 24 bytes;
+        inval_bytes = below32 body 28 bytes;
+      };
+      name = note_clean file _ is.links.name is.name;
+      source = source_clean file _ is.links.source is.source;
+      comment = note_clean file _ is.links.comment is.comment;
+      channels = channels_clean file are row.channels is.channels.each;
+    })
+
 either_below : (first : Bool) (m n most : ℕ) → m < most → n < most → (if first then m else n) < most
 either_below true m n most one other = one
 either_below false m n most one other = other
@@ -197,22 +216,20 @@ either_below false m n most one other = other
 group_clean : (file : List ℕ) → AreBytes file → (count total : ℕ) (row : GroupRow) → count < 2 ^ 64 → IsGroup file row
     → IsGroupWritable (counted_group count total row)
 group_clean file are count total row fits is =
-    let body = body_at file row.at in
-    let bytes = body_bytes file row.at are in
-    subst (λ (r : GroupRow). IsGroupWritable (counted_group count total r)) (sym is.fields) (record {
+    let own = row_clean file are row is in record {
       sized = record {
-        id = below64 body 0 bytes;
+        id = own.sized.id;
         cycles = fits;
-        flags = below16 body 16 bytes;
-        separator = below16 body 18 bytes;
-        data_bytes = either_below _ (total % 2 ^ 32) _ (2 ^ 32) (omega arith) (below32 body 24 bytes);
-        inval_bytes = either_below _ (total / 2 ^ 32 % 2 ^ 32) _ (2 ^ 32) (omega arith) (below32 body 28 bytes);
+        flags = own.sized.flags;
+        separator = own.sized.separator;
+        data_bytes = either_below _ (total % 2 ^ 32) _ (2 ^ 32) (omega arith) own.sized.data_bytes;
+        inval_bytes = either_below _ (total / 2 ^ 32 % 2 ^ 32) _ (2 ^ 32) (omega arith) own.sized.inval_bytes;
       };
-      name = note_clean file _ is.links.name is.name;
-      source = source_clean file _ is.links.source is.source;
-      comment = note_clean file _ is.links.comment is.comment;
-      channels = channels_clean file are row.channels is.channels.each;
-    })
+      name = own.name;
+      source = own.source;
+      comment = own.comment;
+      channels = own.channels;
+    }
 
 groups_clean : (file : List ℕ) → AreBytes file → (counts totals : List ℕ) (rows : List GroupRow) → AllByRecursion (λ n. n < 2 ^ 64) counts
     → AllByRecursion (IsGroup file) rows → AllByRecursion IsGroupWritable (counted_groups counts totals rows)
@@ -241,12 +258,12 @@ entry_clean file are entry is =
       comment = note_clean file _ entry.comment is.comment;
     })
 
-history_clean : (file : List ℕ) → AreBytes file → (entries : List History) → AllByRecursion (IsHistory file) entries
+pub history_clean : (file : List ℕ) → AreBytes file → (entries : List History) → AllByRecursion (IsHistory file) entries
     → AllByRecursion IsEntryWritable entries
 history_clean file are [] each = tt
 history_clean file are (entry ∷ entries) each = (entry_clean file are entry each.0, history_clean file are entries each.1)
 
-head_clean : (file : List ℕ) → AreBytes file → (head : Head) (entries : List History) → IsHead file head entries → IsHeadWritable head
+pub head_clean : (file : List ℕ) → AreBytes file → (head : Head) (entries : List History) → IsHead file head entries → IsHeadWritable head
 head_clean file are head entries is =
     let body = body_at file 64 in
     let bytes = body_bytes file 64 are in

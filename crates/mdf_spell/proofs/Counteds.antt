@@ -6,7 +6,7 @@ use Rattle.mdf_block.specs.declared.link.Link.TheVariants as links
 use Rattle.mdf_block.specs.Draft.{Placed}
 use Rattle.mdf_group.specs.declared.row.GroupRow.{GroupRow}
 use Rattle.mdf_group.specs.declared.row.DataRow.{DataRow}
-use Rattle.mdf_tree.specs.Text.{note_blocks, note_link}
+use Rattle.mdf_tree.specs.Text.{note_blocks}
 use Rattle.mdf_tree.specs.Group.{next_link, data_groups, groups_blocks, data_group_blocks}
 use Rattle.mdf_tree.proofs.Placing.{placed_step}
 use Rattle.mdf_spell.specs.Counts.{counted_group, counted_groups, counted_data}
@@ -41,20 +41,27 @@ groups_none w values counts totals rows i past =
     ∙ append-nil w)
 
 -- the data group: its block, its comment, and its groups
-pub data_placed : (w0 w1 w2 w3 : List Placed) (content : Link) (values : List Link) (row : DataRow) (counts totals : List ℕ)
-    → length counts ≡ length row.groups → length totals ≡ length row.groups
-    → w1 ≡ w0 ++ data_own (length w0) content row ∷ [] → w2 ≡ w1 ++ note_blocks row.comment
-    → w3 ≡ w2 ++ groups_blocks (length w2) values (counted_groups counts totals row.groups)
-    → w3 ≡ w0 ++ data_group_blocks (length w0) links.Nothing content values (counted_data counts totals row)
+pub row_placed : (w0 w1 w2 w3 : List Placed) (next content : Link) (values : List Link) (row : DataRow)
+    → w1 ≡ w0 ++ data_own (length w0) row.id_size next (next_link (data_groups (length w0) row) row.groups) content row.comment ∷ []
+    → w2 ≡ w1 ++ note_blocks row.comment → w3 ≡ w2 ++ groups_blocks (length w2) values row.groups
+    → w3 ≡ w0 ++ data_group_blocks (length w0) next content values row
 unfolding data_group_blocks
-data_placed w0 w1 w2 w3 content values row counts totals same_counts same_totals own comment groups =
-    let all = counted_data counts totals row in
-    let first = data_groups (length w0) row in
-    let named : data_own (length w0) content row ≡ data_own (length w0) content all =
-    ap (λ (link : Link). record (data_own (length w0) content row) { links = links.Nothing ∷ link ∷ content ∷ note_link (length w0 + 1) row.comment ∷ [] })
-    (sym (counted_link first counts totals row.groups same_counts same_totals)) in
-    let rest : ℕ → List Placed = λ m. groups_blocks m values all.groups in
+row_placed w0 w1 w2 w3 next content values row own comment groups =
+    let block = data_own (length w0) row.id_size next (next_link (data_groups (length w0) row) row.groups) content row.comment in
+    let rest : ℕ → List Placed = λ m. groups_blocks m values row.groups in
     groups
     ∙ placed_step w1 (note_blocks row.comment) rest w2 (length w1 + length (note_blocks row.comment)) comment refl
-    ∙ placed_step w0 (data_own (length w0) content all ∷ []) (λ m. note_blocks row.comment ++ rest (m + length (note_blocks row.comment))) w1
-    (length w0 + 1) (own ∙ ap (λ (b : Placed). w0 ++ b ∷ []) named) refl
+    ∙ placed_step w0 (block ∷ []) (λ m. note_blocks row.comment ++ rest (m + length (note_blocks row.comment))) w1 (length w0 + 1) own refl
+
+-- the same with the numbers of its groups
+pub data_placed : (w0 w1 w2 w3 : List Placed) (content : Link) (values : List Link) (row : DataRow) (counts totals : List ℕ)
+    → length counts ≡ length row.groups → length totals ≡ length row.groups
+    → w1 ≡ w0 ++ data_own (length w0) row.id_size links.Nothing (next_link (data_groups (length w0) row) row.groups) content row.comment ∷ []
+    → w2 ≡ w1 ++ note_blocks row.comment
+    → w3 ≡ w2 ++ groups_blocks (length w2) values (counted_groups counts totals row.groups)
+    → w3 ≡ w0 ++ data_group_blocks (length w0) links.Nothing content values (counted_data counts totals row)
+data_placed w0 w1 w2 w3 content values row counts totals same_counts same_totals own comment groups =
+    let block : Link → Placed = λ link. data_own (length w0) row.id_size links.Nothing link content row.comment in
+    let linked = counted_link (data_groups (length w0) row) counts totals row.groups same_counts same_totals in
+    row_placed w0 w1 w2 w3 links.Nothing content values (counted_data counts totals row)
+    (own ∙ ap (λ (link : Link). w0 ++ block link ∷ []) (sym linked)) comment groups

@@ -1,26 +1,23 @@
 -- What a recording's head has before its first channel group, and the whole of it.
-use Rattle.std.proofs.Common.{◌≡◌, ◌≤◌, ℕ, List, [], ◌∷◌, ◌++◌, length, ◌∙◌, ap, arith}
+use Rattle.std.proofs.Common.{◌≡◌, ◌≤◌, ℕ, List, [], ◌∷◌, ◌++◌, length, sym, ◌∙◌, ap, arith, append-nil}
 use Rattle.std.specs.Prelude.{codes}
 use Rattle.mdf_block.specs.declared.link.Link.TheVariants as links
-use Rattle.mdf_block.specs.declared.note.Note.TheVariants as notes
 use Rattle.mdf_block.specs.Draft.{Placed}
 use Rattle.mdf_head.specs.declared.entry.History.{History}
 use Rattle.mdf_group.specs.declared.row.GroupRow.{GroupRow}
 use Rattle.mdf_tree.specs.Text.{note_blocks, note_link}
 use Rattle.mdf_tree.specs.Group.{groups_blocks, data_group_blocks}
-use Rattle.mdf_tree.specs.Head.{entry_block, past_history, history_blocks, header_block, head_blocks, entry_text, new_entry}
+use Rattle.mdf_tree.specs.Head.{entry_block, past_history, history_blocks, header_block, head_blocks, new_entry}
 use Rattle.mdf_spell.specs.Recording.{start_head, numbered, recording_groups, recording_data, value_links, recording_blocks}
 
 abbrev first_entry : ℕ → History
 first_entry start = new_entry (codes "record") start
 
--- the entry of the history
-pub entry_is : (n start : ℕ) (text : List ℕ) → text ≡ entry_text (codes "record")
-    → ◌≡◌ {A = List Placed} (entry_block n links.Nothing (record (first_entry start) { comment = notes.Xml text }) ∷ note_blocks (notes.Xml text))
-    (history_blocks n (first_entry start ∷ []))
-unfolding history_blocks note_blocks note_link
-entry_is n start text is =
-    ap (λ (bytes : List ℕ). entry_block n links.Nothing (record (first_entry start) { comment = notes.Xml bytes }) ∷ note_blocks (notes.Xml bytes)) is
+-- a history of one entry
+pub entry_is : (n : ℕ) (entry : History)
+    → ◌≡◌ {A = List Placed} (entry_block n links.Nothing entry ∷ note_blocks entry.comment) (history_blocks n (entry ∷ []))
+unfolding history_blocks
+entry_is n entry = sym (append-nil (entry_block n links.Nothing entry ∷ note_blocks entry.comment))
 
 -- header, entry and data group
 pub front_placed : (w0 w1 w2 w3 : List Placed) (start : ℕ) → w0 ≡ []

@@ -6,8 +6,8 @@ mod HeadFinding
 mod Finding
 pub mod Lists
 mod Links
-mod Counteds
+pub mod Counteds
 mod Histories
-mod Wholes
-mod SessionTrees
-mod Cleans
+pub mod Wholes
+pub mod SessionTrees
+pub mod Cleans

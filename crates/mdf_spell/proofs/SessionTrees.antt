@@ -25,12 +25,12 @@ use Rattle.mdf_spell.specs.Session.{data_block, session_names, session_history, 
 use Rattle.mdf_spell.specs.Standing.{HoldsData, HoldStreams, data_number, records_number, IsRecoveredWritable, IsSessionTree}
 
 -- a block of data holds its bytes
-data_stands : (file : List ℕ) (blocks : List Placed) → AllStand file blocks → (n : ℕ) (content : List ℕ) (rest : List Placed)
+pub data_stands : (file : List ℕ) (blocks : List Placed) → AllStand file blocks → (n : ℕ) (content : List ℕ) (rest : List Placed)
     → Has blocks n (data_block Dt content ∷ rest) → HoldsData file (address_of blocks n) Dt content
 data_stands file blocks all n content rest has =
     let s = here file blocks n (data_block Dt content) rest all has in (s.whole (record { linked = omega arith; filled = omega arith }), s.body)
 
-streams_stand : (file : List ℕ) (blocks : List Placed) → AllStand file blocks → (n : ℕ) (streams : List (List ℕ))
+pub streams_stand : (file : List ℕ) (blocks : List Placed) → AllStand file blocks → (n : ℕ) (streams : List (List ℕ))
     → Has blocks n (map (data_block Sd) streams) → HoldStreams file blocks n streams
 streams_stand file blocks all n [] has = tt
 streams_stand file blocks all n (stream ∷ streams) has =
@@ -56,7 +56,7 @@ unfolding head_blocks
 head_long head entries groups =
     omega (arith, length-append (history_blocks 1 entries) (note_blocks head.comment), history_long 1 entries)
 
-data_long : (n : ℕ) (next content : Link) (values : List Link) (row : DataRow)
+pub data_long : (n : ℕ) (next content : Link) (values : List Link) (row : DataRow)
     → n + length (data_group_blocks n next content values row) ≡ past_data_group n row
 unfolding data_group_blocks
 data_long n next content values row =
@@ -66,13 +66,11 @@ data_long n next content values row =
       groups_long (data_groups n row) values row.groups,
     )
 
--- the entry of a finalizing can be read back
-entry_writable : (now : ℕ) → now < 2 ^ 64 → IsEntryWritable (new_entry (codes "finalize") now)
-entry_writable now in_time =
-    let clean : IsText (entry_text (codes "finalize")) = grind arith in
-    record { time = in_time; zone = omega arith; daylight = omega arith; comment = clean }
+-- a new entry can be read back
+pub entry_writable : (title : List ℕ) (now : ℕ) → IsText (entry_text title) → now < 2 ^ 64 → IsEntryWritable (new_entry title now)
+entry_writable title now clean in_time = record { time = in_time; zone = omega arith; daylight = omega arith; comment = clean }
 
-all_with : {A : Type 0} (P : A → Type 0) (xs : List A) (x : A) → AllByRecursion P xs → P x → AllByRecursion P (xs ++ x ∷ [])
+pub all_with : {A : Type 0} (P : A → Type 0) (xs : List A) (x : A) → AllByRecursion P xs → P x → AllByRecursion P (xs ++ x ∷ [])
 all_with {A} P [] x all one = (one, tt)
 all_with {A} P (first ∷ xs) x all one = (all.0, all_with P xs x all.1 one)
 
@@ -97,12 +95,14 @@ session_stands file recovered now in_time counted is all =
     let whole : Has blocks 0 (hd ++ (dg ++ (dt ∷ sds))) = record { front = []; rest = []; split = sym (append-nil (hd ++ (dg ++ (dt ∷ sds)))); number = refl } in
     let behind : Has blocks n (dg ++ (dt ∷ sds)) =
     subst (λ (m : ℕ). Has blocks m (dg ++ (dt ∷ sds))) (omega (arith, head_long head entries (links.Block n))) (has_right blocks 0 hd (dg ++ (dt ∷ sds)) whole) in
+    let clean : IsText (entry_text (codes "finalize")) = grind arith in
     let past : n + length dg ≡ records = data_long n links.Nothing (links.Block records) values written
     ∙ counted_past (data_groups n row) recovered.counts.now recovered.totals.now row.groups counted.counts counted.totals in
     let records_has : Has blocks records (dt ∷ sds) = subst (λ (m : ℕ). Has blocks m (dt ∷ sds)) past (has_right blocks n dg (dt ∷ sds) behind) in
     let groups = data_group_stands file blocks all n links.Nothing (links.Block records) values written is.row (has_left blocks n dg (dt ∷ sds) behind) in record {
       head = head_stands file blocks all head entries (links.Block n) is.head
-          (all_with IsEntryWritable recovered.history.now (new_entry (codes "finalize") now) is.history (entry_writable now in_time))
+          (all_with IsEntryWritable recovered.history.now (new_entry (codes "finalize") now) is.history
+          (entry_writable (codes "finalize") now clean in_time))
           (has_left blocks 0 hd (dg ++ (dt ∷ sds)) whole);
       groups = record { chain = (refl, groups.0, groups.1); once = (tt, tt); each = (groups.2, tt) };
       records = data_stands file blocks all records recovered.content.now sds records_has;

@@ -1,5 +1,6 @@
 -- The data group with its data, and the whole file.
-use Rattle.std.proofs.Common.{◌≡◌, ◌+◌, ℕ, List, [], ◌∷◌, ◌++◌, length, map, ◌∙◌, ap, append_assoc}
+use Rattle.std.proofs.Common.{◌≡◌, ◌+◌, ℕ, true, List, [], ◌∷◌, ◌++◌, length, map, ◌∙◌, ap, append_assoc}
+use Rattle.std.specs.Prelude.{codes}
 use Rattle.mdf_format.specs.declared.kind.Kind.TheVariants.{Dt, Sd}
 use Rattle.mdf_block.specs.declared.link.Link.{Link}
 use Rattle.mdf_block.specs.declared.link.Link.TheVariants as links
@@ -9,12 +10,13 @@ use Rattle.mdf_tree.specs.Head.{head_blocks}
 use Rattle.mdf_spell.specs.declared.recovered.Recovered.{Recovered}
 use Rattle.mdf_spell.specs.Values.{with_streams, own_streams}
 use Rattle.mdf_spell.specs.Counts.{counted_data}
+use Rattle.mdf_spell.specs.Titled.{titled_head}
 use Rattle.mdf_spell.specs.Session.{data_block, session_names, session_data, session_history, session_blocks}
 use Rattle.mdf_spell.specs.Standing.{data_number}
 use Rattle.mdf_spell.proofs.SessionTrees.{head_long}
 
 -- the tree, the records and the values
-three_placed : (w0 w1 w2 w3 tree values : List Placed) (records : Placed) → w1 ≡ w0 ++ tree → w2 ≡ w1 ++ records ∷ []
+pub three_placed : (w0 w1 w2 w3 tree values : List Placed) (records : Placed) → w1 ≡ w0 ++ tree → w2 ≡ w1 ++ records ∷ []
     → w3 ≡ w2 ++ values → w3 ≡ w0 ++ (tree ++ (records ∷ values))
 three_placed w0 w1 w2 w3 tree values records first second third =
     third
@@ -43,15 +45,14 @@ session_placed w0 w1 w2 w3 recovered n records names values same past named link
     ∙ ap (λ (m : ℕ). all (past_data_group m row) (session_names m row) (with_streams (past_data_group m row + 1) (session_names m row))) same
 
 -- the head and the data group
-pub file_placed : (w1 w2 : List Placed) (recovered : Recovered) (now groups : ℕ) → groups ≡ data_number recovered now
-    → w1 ≡ head_blocks recovered.head.now (session_history recovered.history.now now) (links.Block groups)
+pub file_placed : (w1 w2 : List Placed) (recovered : Recovered) (now : ℕ)
+    → w1 ≡ titled_head recovered.head.now recovered.history.now (codes "finalize") now true
     → w2 ≡ w1 ++ session_data (length w1) recovered → w2 ≡ session_blocks recovered now
 unfolding session_blocks
-file_placed w1 w2 recovered now groups same first second =
+file_placed w1 w2 recovered now first second =
     let head = recovered.head.now in
     let entries = session_history recovered.history.now now in
-    let n = data_number recovered now in
-    let hd = head_blocks head entries (links.Block n) in
+    let hd = head_blocks head entries (links.Block (data_number recovered now)) in
     second
-    ∙ ap (λ (xs : List Placed). xs ++ session_data (length xs) recovered) (first ∙ ap (λ (m : ℕ). head_blocks head entries (links.Block m)) same)
-    ∙ ap (λ (m : ℕ). hd ++ session_data m recovered) (head_long head entries (links.Block n))
+    ∙ ap (λ (xs : List Placed). xs ++ session_data (length xs) recovered) first
+    ∙ ap (λ (m : ℕ). hd ++ session_data m recovered) (head_long head entries (links.Block (data_number recovered now)))

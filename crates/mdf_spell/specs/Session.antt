@@ -6,12 +6,14 @@ use Rattle.mdf_format.specs.declared.kind.Kind.{Kind}
 use Rattle.mdf_format.specs.declared.kind.Kind.TheVariants.{Dg, Dt, Sd}
 use Rattle.mdf_block.specs.declared.link.Link.{Link}
 use Rattle.mdf_block.specs.declared.link.Link.TheVariants as links
+use Rattle.mdf_block.specs.declared.note.Note.{Note}
 use Rattle.mdf_block.specs.Draft.{Placed, linked, written}
 use Rattle.mdf_head.specs.declared.entry.History.{History}
 use Rattle.mdf_group.specs.declared.row.DataRow.{DataRow}
 use Rattle.mdf_tree.specs.Text.{note_link}
-use Rattle.mdf_tree.specs.Group.{next_link, data_groups, past_data_group, data_group_blocks}
-use Rattle.mdf_tree.specs.Head.{head_blocks, head_groups, new_entry}
+use Rattle.mdf_tree.specs.Group.{data_groups, past_data_group, data_group_blocks}
+use Rattle.mdf_tree.specs.Head.{head_blocks, head_groups}
+use Rattle.mdf_spell.specs.Titled.{titled_history}
 use Rattle.mdf_spell.specs.Values.{group_numbers, named_groups, with_streams, own_streams}
 use Rattle.mdf_spell.specs.declared.recovered.Recovered.{Recovered}
 use Rattle.mdf_spell.specs.Counts.{counted_data}
@@ -28,12 +30,13 @@ data_block kind body = linked kind [] body
 abbrev pub session_names : ℕ → DataRow → List Link
 session_names n row = named_groups row.groups (group_numbers (data_groups n row) row.groups)
 
--- the block of the data group at block n alone, the only one, with a link to its data
-abbrev pub data_own : ℕ → Link → DataRow → Placed
-data_own n content row = record {
+-- the block of a data group alone, at block n: with links to the next one, to its channel groups and to its data, and its comment
+-- behind it
+abbrev pub data_own : ℕ → ℕ → Link → Link → Link → Note → Placed
+data_own n id_size next groups content comment = record {
   kind = Dg;
-  links = links.Nothing ∷ next_link (data_groups n row) row.groups ∷ content ∷ note_link (n + 1) row.comment ∷ [];
-  body = row.id_size ∷ replicate 7 0;
+  links = next ∷ groups ∷ content ∷ note_link (n + 1) comment ∷ [];
+  body = id_size ∷ replicate 7 0;
 }
 
 -- the data group from block n on, with its data behind it
@@ -48,7 +51,7 @@ session_data n recovered =
 
 -- the history with the entry of this finalizing, at a time in ns
 abbrev pub session_history : List History → ℕ → List History
-session_history history now = history ++ new_entry (codes "finalize") now ∷ []
+session_history history now = titled_history history (codes "finalize") now
 
 -- the blocks of the file
 unfoldable pub session_blocks : Recovered → ℕ → List Placed

@@ -1,7 +1,7 @@
 ghost use Rattle.std.specs.Prelude.{◌≡◌, ◌+◌, ◌^◌, ◌<◌, [], ◌∷◌, ◌++◌, length, map, IfOk, OnOk};
 ghost use Rattle.std.specs.List.{AllByRecursion};
 ghost use Rattle.mdf_format.specs.declared.kind.Kind.TheVariants.{Sd};
-ghost use Rattle.mdf_tree.specs.Group.{data_groups, past_data_group, data_group_blocks};
+ghost use Rattle.mdf_tree.specs.Group.{next_link, data_groups, past_data_group, data_group_blocks};
 ghost use Rattle.mdf_spell.specs.Values.{own_stream, own_streams};
 ghost use Rattle.mdf_spell.specs.Counts.{counted_data, IsCounted};
 ghost use Rattle.mdf_spell.specs.Session.{data_block, data_own, session_names, session_data};
@@ -9,7 +9,7 @@ ghost use Rattle.mdf_spell.specs.Session.{data_block, data_own, session_names, s
 use crate::groups::place_groups;
 use crate::names::{group_numbers, named_groups, with_streams};
 use crate::recovered::Recovered;
-use mdf_block::{Draft, Kind, Link};
+use mdf_block::{Draft, Kind, Link, Note};
 use mdf_group::DataRow;
 use mdf_num::{Bytes, Memory};
 use mdf_tree::{next_if, next_number, note_count, note_link, past_groups, place_note, plus};
@@ -17,7 +17,10 @@ use mdf_vlsd::ValueStream;
 use std::alloc::Global;
 
 /// Places a block of data: of records (DT) or of values (SD).
-fn place_data(alloc: Global, draft: &mut Draft, kind: Kind, bytes: &[u8]) -> Result<(), Memory>
+///
+/// # Errors
+/// `Memory` where memory runs out; then no block was placed.
+pub fn place_data(alloc: Global, draft: &mut Draft, kind: Kind, bytes: &[u8]) -> Result<(), Memory>
     ensures { OnOk result (draft.new ≡ draft.old ++ data_block kind bytes.now ∷ []) }
 {
     let body = Bytes::from_slice(alloc, bytes)?;
@@ -75,20 +78,43 @@ fn session_names(alloc: Global, n: u32, row: &DataRow) -> Result<Vec<Link>, Memo
     named_groups(alloc, row.groups.as_slice(), numbers.as_slice())
 }
 
-/// Places the block of a data group alone, with a link to its data.
-fn place_own(alloc: Global, draft: &mut Draft, row: &DataRow, content: Link) -> Result<(), Memory>
-    ensures { OnOk result (draft.new ≡ draft.old ++ data_own (length draft.old) content row.now ∷ []) }
+/// Places the block of a data group alone (DGBLOCK), with ids of so many bytes before its records, and with links to the next
+/// data group, to its first channel group, to its data, and to its comment, which is to be the block behind it.
+///
+/// # Errors
+/// `Memory` where memory runs out, or where there are more than 2^30 blocks; then no block was placed.
+pub fn place_data_group(
+    alloc: Global,
+    draft: &mut Draft,
+    id_size: u8,
+    next: Link,
+    groups: Link,
+    content: Link,
+    comment: &Note,
+) -> Result<(), Memory>
+    ensures { OnOk result (draft.new ≡ draft.old ++ data_own (length draft.old) id_size next groups content comment.now ∷ []) }
 {
     let n = next_number(draft)?;
-    let first = data_places(n, row)?.0;
-    let links = vec![in alloc;
-        Link::Nothing,
-        next_if(!row.groups.is_empty(), first),
-        content,
-        note_link(n + 1, &row.comment),
-    ]?;
-    let body = Bytes::from_slice(alloc, &[row.id_size, 0, 0, 0, 0, 0, 0, 0])?;
+    let links = vec![in alloc; next, groups, content, note_link(n + 1, comment)]?;
+    let body = Bytes::from_slice(alloc, &[id_size, 0, 0, 0, 0, 0, 0, 0])?;
     draft.place_linked(Kind::Dg, links, body)
+}
+
+/// Places the block of the data group of a recording alone, the only one, with a link to its data.
+fn place_own(alloc: Global, draft: &mut Draft, row: &DataRow, content: Link) -> Result<(), Memory>
+    ensures { OnOk result (draft.new ≡ draft.old ++ data_own (length draft.old) row.now.id_size Link.Nothing (next_link (data_groups (length draft.old) row.now) row.now.groups) content row.now.comment ∷ []) }
+{
+    let first = data_places(next_number(draft)?, row)?.0;
+    let groups = next_if(!row.groups.is_empty(), first);
+    place_data_group(
+        alloc,
+        draft,
+        row.id_size,
+        Link::Nothing,
+        groups,
+        content,
+        &row.comment,
+    )
 }
 
 /// Places a data group with what is counted of its channel groups: DG, its comment, and the groups.

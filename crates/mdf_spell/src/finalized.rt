@@ -4,15 +4,14 @@ ghost use Rattle.mdf_spell.specs.Session.{session_file};
 ghost use Rattle.mdf_spell.specs.Standing.{IsRecoveredOf, IsSessionTree};
 
 use crate::data::place_session;
-use crate::history::{past_session, place_head};
+use crate::history::place_head;
 use crate::recovered::Recovered;
-use mdf_block::{Draft, Link};
+use mdf_block::Draft;
 use mdf_num::{Bytes, Memory};
-use mdf_tree::{note_count, plus};
 use std::alloc::Global;
 
 /// The identification of a finalized file: version 4.10, and no flags.
-const IDENT: [u8; 64] = [
+pub const FINALIZED_IDENT: [u8; 64] = [
     77, 68, 70, 32, 32, 32, 32, 32, 52, 46, 49, 48, 32, 32, 32, 32, 109, 100, 102, 52, 114, 101,
     99, 32, 0, 0, 0, 0, 154, 1, 0, 0, 0, 0, 0, 0, 0, 0, 0, 0, 0, 0, 0, 0, 0, 0, 0, 0, 0, 0, 0, 0,
     0, 0, 0, 0, 0, 0, 0, 0, 0, 0, 0, 0,
@@ -32,16 +31,15 @@ pub fn finalized_file(alloc: Global, recovered: &Recovered, now_ns: u64) -> Resu
     ensures keeps { (file : List ℕ) → IsRecoveredOf file recovered.now → IfOk result (λ bytes. IsSessionTree bytes recovered.now now_ns) }
 {
     let mut draft = Draft::new(alloc);
-    let comment = past_session(alloc, recovered.history, now_ns)?;
-    let groups = plus(comment, note_count(&recovered.head.comment))?;
     place_head(
         alloc,
         &mut draft,
         recovered.head,
         recovered.history,
+        "finalize",
         now_ns,
-        Link::Block(groups),
+        true,
     )?;
     place_session(alloc, &mut draft, recovered)?;
-    draft.bytes(&IDENT)
+    draft.bytes(&FINALIZED_IDENT)
 }

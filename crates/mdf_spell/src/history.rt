@@ -1,22 +1,36 @@
-ghost use Rattle.std.specs.Prelude.{◌≡◌, [], ◌∷◌, ◌++◌, length, codes, IfOk, OnOk};
-ghost use Rattle.mdf_tree.specs.Head.{past_entry, past_history, history_blocks, head_blocks, new_entry};
-ghost use Rattle.mdf_spell.specs.Session.{session_history};
+ghost use Rattle.std.specs.Prelude.{◌≡◌, [], ◌∷◌, ◌++◌, length, IfOk, OnOk};
+ghost use Rattle.mdf_tree.specs.Group.{next_if};
+ghost use Rattle.mdf_tree.specs.Head.{past_entry, past_history, history_blocks, head_blocks, head_groups, entry_text, new_entry};
+ghost use Rattle.mdf_spell.specs.Titled.{titled_head};
 
 use mdf_block::{Draft, Link, Note};
 use mdf_head::{Head, History};
 use mdf_num::{Bytes, Memory};
-use mdf_tree::{note_count, place_entry, place_header, place_note, plus};
+use mdf_tree::{next_if, note_count, place_entry, place_header, place_note, plus};
 use std::alloc::Global;
 
-/// The XML text of the entry of the history that finalizing adds.
-const ENTRY: &[u8; 127] =
-    b"<FHcomment><TX>finalize</TX><tool_id>mdf4rec</tool_id><tool_vendor>none</tool_vendor><tool_version>1</tool_version></FHcomment>";
+/// What stands before the title in the comment of an entry of the history.
+const BEFORE: &[u8; 15] = b"<FHcomment><TX>";
 
-/// The entry of the history that finalizing adds, at this time in ns since 1970.
-fn finalize_entry(alloc: Global, now_ns: u64) -> Result<History, Memory>
-    ensures { IfOk result (λ entry. entry ≡ new_entry (codes "finalize") now_ns) }
+/// What stands behind it.
+const BEHIND: &[u8; 104] =
+    b"</TX><tool_id>mdf4rec</tool_id><tool_vendor>none</tool_vendor><tool_version>1</tool_version></FHcomment>";
+
+/// The XML text of an entry of the history that this program adds: what was done, and by which tool.
+fn entry_text(alloc: Global, title: &str) -> Result<Bytes, Memory>
+    ensures { IfOk result (λ text. text ≡ entry_text title.now) }
 {
-    let text = Bytes::from_slice(alloc, ENTRY)?;
+    let mut text = Bytes::from_slice(alloc, BEFORE)?;
+    text.push_slice(title.as_bytes())?;
+    text.push_slice(BEHIND)?;
+    Ok(text)
+}
+
+/// An entry of the history that says what was done, at a time in ns since 1970, in UTC.
+pub(crate) fn new_entry(alloc: Global, title: &str, now_ns: u64) -> Result<History, Memory>
+    ensures { IfOk result (λ entry. entry ≡ new_entry title.now now_ns) }
+{
+    let text = entry_text(alloc, title)?;
     Ok(History {
         at: 0,
         time: now_ns,
@@ -61,29 +75,58 @@ fn place_history(
     place_entry(alloc, draft, last, false)
 }
 
-/// The block behind the history of a finalized file.
-pub(crate) fn past_session(alloc: Global, history: &[History], now_ns: u64) -> Result<u32, Memory>
-    ensures { IfOk result (λ past. past ≡ past_history 1 (session_history history.now now_ns)) }
+/// The block behind a history that begins at block 1 and has a last entry more.
+fn past_all(history: &[History], last: &History) -> Result<u32, Memory>
+    ensures { IfOk result (λ past. past ≡ past_history 1 (history.now ++ last.now ∷ [])) }
 {
-    let last = finalize_entry(alloc, now_ns)?;
-    past_entry(past_entries(1, history)?, &last)
+    past_entry(past_entries(1, history)?, last)
 }
 
-/// Places the header, the history with one entry more, and the comment of the header.
-pub(crate) fn place_head(
+/// Places the header, the history and a last entry, and the comment of the header. With `more`, the header links to the block
+/// behind all of these.
+fn place_all(
     alloc: Global,
     draft: &mut Draft,
     head: &Head,
     history: &[History],
-    now_ns: u64,
-    groups: Link,
+    last: &History,
+    more: bool,
 ) -> Result<(), Memory>
     requires { draft.old ≡ [] }
-    ensures { OnOk result (draft.new ≡ head_blocks head.now (session_history history.now now_ns) groups) }
+    ensures { OnOk result (draft.new ≡ head_blocks head.now (history.now ++ last.now ∷ []) (next_if more (head_groups head.now (history.now ++ last.now ∷ [])))) }
 {
-    let last = finalize_entry(alloc, now_ns)?;
-    let comment = past_entry(past_entries(1, history)?, &last)?;
-    place_header(alloc, draft, head, comment, Link::Block(1), groups)?;
-    place_history(alloc, draft, history, &last)?;
+    let comment = past_all(history, last)?;
+    let groups = plus(comment, note_count(&head.comment))?;
+    place_header(
+        alloc,
+        draft,
+        head,
+        comment,
+        Link::Block(1),
+        next_if(more, groups),
+    )?;
+    place_history(alloc, draft, history, last)?;
     place_note(alloc, draft, &head.comment)
+}
+
+/// Places what a file begins with: its header (HDBLOCK), its history (FHBLOCKs) with one entry more, which says what was done
+/// at `now_ns` (ns since 1970), and the comment of the header. With `more`, the header links to the block behind all of these
+/// as its first data group.
+///
+/// # Errors
+/// `Memory` where memory runs out, or where there are more than 2^30 blocks; some of the blocks may be placed then.
+pub fn place_head(
+    alloc: Global,
+    draft: &mut Draft,
+    head: &Head,
+    history: &[History],
+    title: &str,
+    now_ns: u64,
+    more: bool,
+) -> Result<(), Memory>
+    requires { draft.old ≡ [] }
+    ensures { OnOk result (draft.new ≡ titled_head head.now history.now title.now now_ns more) }
+{
+    let last = new_entry(alloc, title, now_ns)?;
+    place_all(alloc, draft, head, history, &last, more)
 }

@@ -10,6 +10,9 @@ mod recording;
 mod recovered;
 mod variable;
 
-pub use finalized::finalized_file;
+pub use data::{place_data, place_data_group};
+pub use finalized::{FINALIZED_IDENT, finalized_file};
+pub use history::place_head;
 pub use recording::recording_head;
 pub use recovered::Recovered;
+pub use variable::block_links;

@@ -6,10 +6,11 @@ ghost use Rattle.mdf_tree.specs.Head.{header_block, history_blocks, head_blocks,
 ghost use Rattle.mdf_spell.specs.Recording.{start_head, values_row, values_rows, variable_count, value_links, recording_data, recording_groups, ArePlacedBefore, recording_blocks, head_file, IsRecordingTree, FindsHead, FindsGroups};
 ghost use Rattle.mdf_tree.specs.Sized.{IsWholeSized};
 
+use crate::history::new_entry;
 use crate::variable::{block_links, variable_count};
 use mdf_block::{Draft, Kind, Link, Note};
 use mdf_group::GroupRow;
-use mdf_head::{Head, History};
+use mdf_head::Head;
 use mdf_num::{Bytes, Memory, Rows};
 use mdf_tree::{
     Counted, group_values_behind, next_if, next_number, past_groups, place_entry, place_group,
@@ -23,10 +24,6 @@ const IDENT: [u8; 64] = [
     99, 32, 0, 0, 0, 0, 154, 1, 0, 0, 0, 0, 0, 0, 0, 0, 0, 0, 0, 0, 0, 0, 0, 0, 0, 0, 0, 0, 0, 0,
     0, 0, 0, 0, 0, 0, 0, 0, 33, 0, 1, 0,
 ];
-
-/// The XML text of the entry of the history.
-const ENTRY: &[u8; 125] =
-    b"<FHcomment><TX>record</TX><tool_id>mdf4rec</tool_id><tool_vendor>none</tool_vendor><tool_version>1</tool_version></FHcomment>";
 
 /// The block of the first channel group: HD is block 0, FH and its comment are 1 and 2, DG is 3.
 const FIRST_GROUP: u32 = 4;
@@ -54,15 +51,7 @@ fn place_start(alloc: Global, draft: &mut Draft, start_ns: u64) -> Result<(), Me
 fn place_record_entry(alloc: Global, draft: &mut Draft, start_ns: u64) -> Result<(), Memory>
     ensures { OnOk result (draft.new ≡ draft.old ++ history_blocks (length draft.old) (new_entry (codes "record") start_ns ∷ [])) }
 {
-    let text = Bytes::from_slice(alloc, ENTRY)?;
-    let entry = History {
-        at: 0,
-        time: start_ns,
-        zone: 0,
-        daylight: 0,
-        flags: 0,
-        comment: Note::Xml(text),
-    };
+    let entry = new_entry(alloc, "record", start_ns)?;
     place_entry(alloc, draft, &entry, false)
 }
 

@@ -33,7 +33,10 @@ pub(crate) fn variable_count(rows: &[GroupRow]) -> Result<u32, Memory>
 }
 
 /// Links to so many blocks, one behind the other, from block n on.
-pub(crate) fn block_links(alloc: Global, n: u32, count: u32) -> Result<Vec<Link>, Memory>
+///
+/// # Errors
+/// `Memory` where memory runs out, or where there are more than 2^30 blocks.
+pub fn block_links(alloc: Global, n: u32, count: u32) -> Result<Vec<Link>, Memory>
     ensures { IfOk result (λ links. links.items ≡ block_links n count) }
 {
     let mut links = Vec::new(alloc);

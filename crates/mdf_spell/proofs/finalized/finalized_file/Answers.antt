@@ -1,4 +1,4 @@
-use Rattle.std.proofs.Common.{◌≡◌, List, ◌∙◌, ap, subst, arith}
+use Rattle.std.proofs.Common.{◌≡◌, List, ◌∙◌, ap, subst}
 use Rattle.std.proofs.lemmas.Result.{IfOk-weaker}
 use Rattle.mdf_block.specs.Draft.{Placed, written, AllStand}
 use Rattle.mdf_spell.specs.Session.{finalized_ident, session_blocks}
@@ -10,9 +10,8 @@ use Rattle.mdf_spell.proofs.finalized.finalized_file.Goals as goal
 -- the blocks that are placed
 placed : (c : goal.After-drop-draft-inside-2) → c.place_session.new.draft ≡ session_blocks c.args.recovered.now c.args.now_ns
 placed c =
-    file_placed c.place_head.new.draft c.place_session.new.draft c.args.recovered.now c.args.now_ns c.in_ok-groups.groups
-    (omega (arith, c.in_ok-groups.ensures.0, c.in_ok-comment.ensures, c.note_count.ensures.count))
-    c.in_ok-place_head.ensures c.in_ok-place_session.ensures.placed
+    file_placed c.place_head.new.draft c.place_session.new.draft c.args.recovered.now c.args.now_ns c.in_ok-place_head.ensures
+    c.in_ok-place_session.ensures.placed
 
 pub returns-clause-written : goal.returns-clause-written
 returns-clause-written c =
