@@ -1,6 +1,6 @@
 -- The records of a data group and where they are in its stream, with ids and without.
 use Rattle.std.proofs.Common.{◌≡◌, ◌≢◌, ◌<◌, ◌≤◌, ℕ, zero, suc, List, [], ◌∷◌, length, get_or, map, Ok, Err, refl, sym, ◌∙◌, ap, subst, inl, inr, arith}
-use Rattle.std.specs.Prelude.{true, nat_eq, nat_le, nat_lt, ◌&&◌, ◌||◌}
+use Rattle.std.specs.Prelude.{Bool, true, nat_eq, nat_le, nat_lt, ◌&&◌, ◌||◌}
 use Rattle.std.proofs.lemmas.Bool.{eqb-true, eqb-false, eq-eqb, leb-true, le-leb, and_parts, and_from, or_cases, or_left, or_right}
 use Rattle.mdf_format.specs.Number.{bytes_at}
 use Rattle.mdf_block.specs.declared.what.What.TheVariants as whats
@@ -16,7 +16,7 @@ use Rattle.mdf_data.proofs.Alones.{alones_found}
 use Rattle.mdf_group.specs.declared.row.GroupRow.{GroupRow}
 use Rattle.mdf_group.specs.declared.row.DataRow.{DataRow}
 use Rattle.mdf_content.specs.Layouts.{has_id_size}
-use Rattle.mdf_content.specs.Records.{size_of, known_of, empties_of, places_of_one, places_without_ids, places_of}
+use Rattle.mdf_content.specs.Records.{size_of, known_of, said_by, empties_of, places_of_one, places_without_ids, places_of}
 use Rattle.mdf_content.proofs.Rooms.{room_alone}
 use Rattle.mdf_valid.specs.Bodies.{bodies}
 use Rattle.mdf_valid.specs.Contents.{HasIdSize, empties_in}
@@ -80,11 +80,11 @@ first_alone : (stream : List ℕ) (known : Known) (found : List ℕ) (records : 
 first_alone stream known found records same zero d below = same
 first_alone stream known found records same (suc k) d below = absurd (omega (arith, below))
 
-alone_split : (stream : List ℕ) (group : GroupRow) (found : List ℕ)
-    → places_alone (length stream) (empties_of group.cycles group) (size_of group) ≡ found
-    → AreSplitAt stream 0 (known_of group ∷ []) (empties_of group.cycles group) (found ∷ [])
-alone_split stream group found is =
-    let empties = empties_of group.cycles group in
+alone_split : (stream : List ℕ) (said : ℕ) (group : GroupRow) (found : List ℕ)
+    → places_alone (length stream) (empties_of said group) (size_of group) ≡ found
+    → AreSplitAt stream 0 (known_of group ∷ []) (empties_of said group) (found ∷ [])
+alone_split stream said group found is =
+    let empties = empties_of said group in
     let size = size_of group in
     let split = alones_found stream (known_of group) [] empties in
     let records = map (alone_at stream size) (places_alone (length stream) empties size) in
@@ -98,18 +98,23 @@ alone_split stream group found is =
       places = first_alone stream (known_of group) found records same;
     }
 
-one_found : (stream : List ℕ) (group : GroupRow) (found : List ℕ) → places_of_one (length stream) group.cycles group ≡ Ok found
-    → places_alone (length stream) (empties_of group.cycles group) (size_of group) ≡ found
-one_found stream group found is =
-    elim (chosen (nat_lt 268435456 (empties_of group.cycles group)) (Err (TooMany whats.Sample group.at))
-    (Ok (places_alone (length stream) (empties_of group.cycles group) (size_of group))) (Ok found) is) [
+one_found : (stream : List ℕ) (said : ℕ) (group : GroupRow) (found : List ℕ) → places_of_one (length stream) said group ≡ Ok found
+    → places_alone (length stream) (empties_of said group) (size_of group) ≡ found
+one_found stream said group found is =
+    elim (chosen (nat_lt 268435456 (empties_of said group)) (Err (TooMany whats.Sample group.at))
+    (Ok (places_alone (length stream) (empties_of said group) (size_of group))) (Ok found) is) [
       | inl many ↦ let wrong : ◌≡◌ {A = Read (List ℕ)} (Err (TooMany whats.Sample group.at)) (Ok found) = many.1 in cc
       | inr few ↦ ok_injective _ found few.1
     ]
 
-without_ids : (stream : List ℕ) (groups : List GroupRow) (lists : List (List ℕ)) → length groups ≤ 1
-    → places_without_ids (length stream) true groups ≡ Ok lists → AreSplitAt stream 0 (map known_of groups) (empties_in groups) lists
-without_ids stream [] lists few is = record {
+-- how many records without bytes a stream without ids has, where what its one group says is believed or is not
+abbrev pub empties_by : Bool → List GroupRow → ℕ
+empties_by believed [] = 0
+empties_by believed (group ∷ groups) = empties_of (said_by believed group) group
+
+without_ids : (stream : List ℕ) (believed : Bool) (groups : List GroupRow) (lists : List (List ℕ)) → length groups ≤ 1
+    → places_without_ids (length stream) believed groups ≡ Ok lists → AreSplitAt stream 0 (map known_of groups) (empties_by believed groups) lists
+without_ids stream believed [] lists few is = record {
   records = [];
   rest = stream;
   split = record { records_are = refl; rest_is = refl };
@@ -117,11 +122,12 @@ without_ids stream [] lists few is = record {
   room = λ k d below. absurd (omega (arith, below));
   places = λ k d below. absurd (omega (arith, below));
 }
-without_ids stream (group ∷ []) lists few is =
-    let first = bind_ok (places_of_one (length stream) group.cycles group) (λ found. Ok (found ∷ [])) lists is in
-    subst (AreSplitAt stream 0 (known_of group ∷ []) (empties_of group.cycles group)) (ok_injective (first.0 ∷ []) lists first.2)
-    (alone_split stream group first.0 (one_found stream group first.0 first.1))
-without_ids stream (group ∷ other ∷ groups) lists few is = absurd (omega (arith, few))
+without_ids stream believed (group ∷ []) lists few is =
+    let said = said_by believed group in
+    let first = bind_ok (places_of_one (length stream) said group) (λ found. Ok (found ∷ [])) lists is in
+    subst (AreSplitAt stream 0 (known_of group ∷ []) (empties_of said group)) (ok_injective (first.0 ∷ []) lists first.2)
+    (alone_split stream said group first.0 (one_found stream said group first.0 first.1))
+without_ids stream believed (group ∷ other ∷ groups) lists few is = absurd (omega (arith, few))
 
 some_ids : (n : ℕ) → n ≢ 0 → 1 ≤ n
 some_ids n some = grind (arith, some)
@@ -131,17 +137,28 @@ at_most_one row (inl some) none = grind (arith, some, none)
 at_most_one row (inr few) none = few.1
 
 -- the records of a data group
-pub split_found : (row : DataRow) (stream : List ℕ) (lists : List (List ℕ)) → HasIdSize row → places_of stream (length stream) true row ≡ Ok lists
-    → AreSplitAt stream row.id_size (map known_of row.groups) (empties_in row.groups) lists
+pub split_by : (believed : Bool) (row : DataRow) (stream : List ℕ) (lists : List (List ℕ)) → HasIdSize row
+    → places_of stream (length stream) believed row ≡ Ok lists
+    → AreSplitAt stream row.id_size (map known_of row.groups) (empties_by believed row.groups) lists
 unfolding places_of
-split_found row stream lists has is =
-    elim (chosen (nat_eq row.id_size 0) (places_without_ids (length stream) true row.groups)
+split_by believed row stream lists has is =
+    let empties = empties_by believed row.groups in
+    elim (chosen (nat_eq row.id_size 0) (places_without_ids (length stream) believed row.groups)
     (places stream (length stream) row.id_size (map known_of row.groups)) (Ok lists) is) [
       | inl none ↦
           let zero_size = eqb-true row.id_size 0 none.0 in
-          subst (λ (n : ℕ). AreSplitAt stream n (map known_of row.groups) (empties_in row.groups) lists) (sym zero_size)
-          (without_ids stream row.groups lists (at_most_one row has zero_size) none.1)
+          subst (λ (n : ℕ). AreSplitAt stream n (map known_of row.groups) empties lists) (sym zero_size)
+          (without_ids stream believed row.groups lists (at_most_one row has zero_size) none.1)
       | inr some ↦
-          places_found stream row.id_size (map known_of row.groups) (empties_in row.groups) lists
+          places_found stream row.id_size (map known_of row.groups) empties lists
           (some_ids row.id_size (eqb-false row.id_size 0 some.0)) some.1
     ]
+
+empties_said : (groups : List GroupRow) → empties_by true groups ≡ empties_in groups
+empties_said [] = refl
+empties_said (group ∷ groups) = refl
+
+pub split_found : (row : DataRow) (stream : List ℕ) (lists : List (List ℕ)) → HasIdSize row → places_of stream (length stream) true row ≡ Ok lists
+    → AreSplitAt stream row.id_size (map known_of row.groups) (empties_in row.groups) lists
+split_found row stream lists has is =
+    subst (λ (n : ℕ). AreSplitAt stream row.id_size (map known_of row.groups) n lists) (empties_said row.groups) (split_by true row stream lists has is)

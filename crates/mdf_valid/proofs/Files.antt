@@ -38,7 +38,7 @@ use Rattle.mdf_model.specs.declared.tree.Tree.{Tree}
 use Rattle.mdf_model.specs.Tree.{finalized_by, finalized, whole_budget, header_of, tree}
 use Rattle.mdf_model.specs.Whole.{data_item, all_data, whole}
 use Rattle.mdf_model.specs.Measurement.{holds_samples, measured, measurement}
-use Rattle.mdf_valid.specs.Contents.{IsDataSplit}
+use Rattle.mdf_valid.specs.Contents.{empties_in, IsDataSplit}
 use Rattle.mdf_valid.specs.Truth.{IsTrueOfData, sample_count, IsTrueOfFile}
 use Rattle.mdf_valid.proofs.Insides.{data_inside}
 use Rattle.mdf_valid.proofs.Alone.{split_found}
@@ -78,7 +78,7 @@ module _ (f : List ℕ) (row : DataRow) (before : ℕ) where
         is_stream = stream_found f Dt row.content parts is_parts;
         split = split.split;
       } in
-      let hold = hold_by row (stream_of f parts) lists split in
+      let hold = hold_by row (stream_of f parts) (empties_in row.groups) lists split in
       refusing_then IsTrue (counted lists row.groups before) _ (counts_true f row before parts lists split.records split.rest is_split inside hold) (λ next _.
       refusing_then IsTrue (found_of f parts row lists) _
       (found_true parts lists (all_true f row before parts lists split.records split.rest is_split inside hold))

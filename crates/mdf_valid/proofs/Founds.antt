@@ -91,11 +91,13 @@ counts_found lists groups number next is =
 -- what a group holds
 module _ (f : List ℕ) (row : DataRow) (parts : List Part) (lists : List (List ℕ)) (records : List Record)
     (inside : ArePartsInside (length f) parts) (hold : HoldBodies (stream_of f parts) row lists records) (rooms : HaveRooms (stream_of f parts) row lists) where
-  contents_found : (k : ℕ) (group : GroupRow) (found : Contents) → slice_get row.groups k ≡ Some group → is_variable group ≡ false
+  pub contents_found : (k : ℕ) (group : GroupRow) (found : Contents)
+      → bodies_at (stream_of f parts) (size_of group) (get_or lists k []) ≡ bodies row.id_size records k
+      → AllByRecursion (HasRoom (stream_of f parts) (size_of group)) (get_or lists k []) → is_variable group ≡ false
       → group.cycles ≤ length (get_or lists k []) → contents f (held_by parts row lists) true group (get_or lists k []) ≡ Ok found
       → IsContents f row records k group found
   unfolding contents
-  contents_found k group found there other enough is =
+  contents_found k group found held_there room other enough is =
       let places = get_or lists k [] in
       let stream = stream_of f parts in
       let held = held_by parts row lists in
@@ -103,7 +105,7 @@ module _ (f : List ℕ) (row : DataRow) (parts : List Part) (lists : List (List 
       let count = min group.cycles (length places) in
       let fixed : size_of group ≡ sizes.Fixed size = cond-false (is_variable group) sizes.Variable (sizes.Fixed size) other in
       let same : bodies_at stream (sizes.Fixed size) places ≡ bodies row.id_size records k =
-      ap (λ (s : Size). bodies_at stream s places) (sym fixed) ∙ hold k group there in
+      ap (λ (s : Size). bodies_at stream s places) (sym fixed) ∙ held_there in
       let all : count ≡ group.cycles = omega (arith, enough) in
       let own : own_records row records k group ≡ take group.cycles (bodies_at stream (sizes.Fixed size) places) = ap (take group.cycles) (sym same) in
       let long : length (bodies row.id_size records k) ≡ length places = ap length (sym same) ∙ length-map places (bytes_at size stream) in
@@ -131,7 +133,7 @@ module _ (f : List ℕ) (row : DataRow) (parts : List Part) (lists : List (List 
         content = bytes;
         samples =
             group_samples f held group places count first.0 group.channels (content_of stream size (take count places)) second.0 other first.1 refl
-            (subst (λ (s : Size). AllByRecursion (HasRoom stream s) places) fixed (rooms k group there)) (omega arith) second.1 refl;
+            (subst (λ (s : Size). AllByRecursion (HasRoom stream s) places) fixed room) (omega arith) second.1 refl;
         streams = streams_found f row parts lists records inside hold group places (own_records row records k group) second.0 own second.1;
       } in
       subst (IsContents f row records k group) is_made whole
@@ -164,8 +166,10 @@ module _ (f : List ℕ) (row : DataRow) (parts : List Part) (lists : List (List 
   turned : (k : ℕ) (group : GroupRow) (found : Option Contents) → IsKnown k group → IsReadOf k group found
       → IsPicked is_of_samples IsOfSamples (k, group) found
   turned k group None known is = ap not is
-  turned k group (Some found) known is =
-      (ap not is.0, contents_found k group found known.there is.0 (known.enough is.0) is.1)
+  turned k group (Some found) known is = (
+    ap not is.0,
+    contents_found k group found (hold k group known.there) (rooms k group known.there) is.0 (known.enough is.0) is.1,
+  )
 
   all_found : (found : List Contents)
       → AreNumbered (λ n group. is_variable group ≡ false → group.cycles ≤ length (get_or lists n [])) 0 row.groups
@@ -214,15 +218,15 @@ known_at groups k group is =
     let there : slice_get (map known_of groups) k ≡ Some (known_of group) = slice_get-map known_of groups k ∙ ap (option_map known_of) is in
     (slice_get_within (map known_of groups) k (known_of group) there, get_or_from_slice_get (map known_of groups) k (known_of group) (known_of group) there)
 
-pub hold_by : (row : DataRow) (stream : List ℕ) (lists : List (List ℕ))
-    (split : AreSplitAt stream row.id_size (map known_of row.groups) (empties_in row.groups) lists) → HoldBodies stream row lists split.records
-hold_by row stream lists split k group is =
+pub hold_by : (row : DataRow) (stream : List ℕ) (empties : ℕ) (lists : List (List ℕ))
+    (split : AreSplitAt stream row.id_size (map known_of row.groups) empties lists) → HoldBodies stream row lists split.records
+hold_by row stream empties lists split k group is =
     let known = known_at row.groups k group is in
     ap (λ (d : Known). bodies_at stream d.size (get_or lists k [])) (sym known.1) ∙ split.places k (known_of group) known.0
 
-rooms_by : (row : DataRow) (stream : List ℕ) (lists : List (List ℕ))
-    (split : AreSplitAt stream row.id_size (map known_of row.groups) (empties_in row.groups) lists) → HaveRooms stream row lists
-rooms_by row stream lists split k group is =
+pub rooms_by : (row : DataRow) (stream : List ℕ) (empties : ℕ) (lists : List (List ℕ))
+    (split : AreSplitAt stream row.id_size (map known_of row.groups) empties lists) → HaveRooms stream row lists
+rooms_by row stream empties lists split k group is =
     let known = known_at row.groups k group is in
     subst (λ (d : Known). AllByRecursion (HasRoom stream d.size) (get_or lists k [])) known.1 (split.room k (known_of group) known.0)
 
@@ -255,8 +259,8 @@ data_found f row number found is =
       is_parts = viewed.1;
       lists = lists;
       split = split;
-      hold = hold_by row (stream_of f parts) lists split;
-      rooms = rooms_by row (stream_of f parts) lists split;
+      hold = hold_by row (stream_of f parts) (empties_in row.groups) lists split;
+      rooms = rooms_by row (stream_of f parts) (empties_in row.groups) lists split;
       counts = counts_found lists row.groups number counted_all.0 counted_all.1;
       groups = strict.0;
       strict = strict.1;

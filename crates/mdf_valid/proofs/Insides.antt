@@ -21,7 +21,7 @@ use Rattle.mdf_stream.proofs.Links.{all_joined}
 use Rattle.mdf_valid.proofs.Cases.{ok_injective}
 
 -- the body of a block
-body_inside : (f : List ℕ) (want : Kind) (at : ℕ) (b : BlockAt) → block f at want ≡ Ok b → IsPartInside (length f) (part_of b)
+pub body_inside : (f : List ℕ) (want : Kind) (at : ℕ) (b : BlockAt) → block f at want ≡ Ok b → IsPartInside (length f) (part_of b)
 body_inside f want at b found =
     let here = block_found f at want b found in
     subst (λ (x : BlockAt). IsPartInside (length f) (part_of x)) (sym here.1) (omega (arith, here.0.whole, here.0.headed))

@@ -1,19 +1,19 @@
-mod Cases
-mod Insides
-mod Bodies
-mod Picks
-mod Alone
-mod Ruled
-mod Channels
-mod Founds
-mod Onces
-mod Wholes
-mod Stricts
+pub mod Cases
+pub mod Insides
+pub mod Bodies
+pub mod Picks
+pub mod Alone
+pub mod Ruled
+pub mod Channels
+pub mod Founds
+pub mod Onces
+pub mod Wholes
+pub mod Stricts
 mod Walks
 mod Rests
 mod Truths
 mod Counted
 mod Files
-mod Sames
+pub mod Sames
 mod Answers
 mod Undefined

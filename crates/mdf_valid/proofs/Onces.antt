@@ -50,12 +50,16 @@ hashes kinds.Dl = refl
 hashes kinds.Sd = refl
 hashes kinds.At = refl
 
-pub none_first : (f : List ℕ) → IsFinalized f → (kind : Kind) → IsBlock f 0 kind → ⊥
-none_first f is kind block =
+pub none_behind : (f mark : List ℕ) (first : ℕ) → bytes_at 8 f 0 ≡ mark → get_or (bytes_at 4 mark 0) 0 0 ≡ first → 35 < first
+    → (kind : Kind) → IsBlock f 0 kind → ⊥
+none_behind f mark first is is_first above kind block =
     let front : bytes_at 4 (bytes_at 8 f 0) 0 ≡ bytes_at 4 f 0 = bytes_at-bytes_at 4 8 0 0 f (omega arith) in
-    let four : bytes_at 4 (codes "MDF     ") 0 ≡ name_of kind = ap (λ (xs : List ℕ). bytes_at 4 xs 0) (sym is) ∙ front ∙ block.named in
-    let wrong : 77 ≡ 35 = ap (λ (xs : List ℕ). get_or xs 0 0) four ∙ hashes kind in
-    differ 35 77 (sym wrong) (lit< tt)
+    let four : bytes_at 4 mark 0 ≡ name_of kind = ap (λ (xs : List ℕ). bytes_at 4 xs 0) (sym is) ∙ front ∙ block.named in
+    let wrong : first ≡ 35 = sym is_first ∙ ap (λ (xs : List ℕ). get_or xs 0 0) four ∙ hashes kind in
+    differ 35 first (sym wrong) above
+
+pub none_first : (f : List ℕ) → IsFinalized f → (kind : Kind) → IsBlock f 0 kind → ⊥
+none_first f is = none_behind f (codes "MDF     ") 77 is refl (lit< tt)
 
 -- lists that stand item by item to another one
 pub zip_unique : {A B : Type 0} (R : A → B → Type 0) → ((x : A) (y z : B) → R x y → R x z → y ≡ z)
@@ -114,7 +118,7 @@ channel_unique f row records data_bytes own channel xs ys is_x is_y =
 made : Layout → ℕ → List ℕ → List (List ℕ) → Contents
 made shape count content streams = record { shape = shape; count = count; content = content; streams = streams }
 
-contents_unique : (f : List ℕ) (row : DataRow) (records : List Record) (group : ℕ × GroupRow) (x y : Contents)
+pub contents_unique : (f : List ℕ) (row : DataRow) (records : List Record) (group : ℕ × GroupRow) (x y : Contents)
     → IsContents f row records group.0 group.1 x → IsContents f row records group.0 group.1 y → x ≡ y
 unfolding made
 contents_unique f row records group x y is_x is_y =

@@ -1,0 +1,4 @@
+mod Onces
+mod Opens
+mod Counts
+mod Founds
