@@ -1,0 +1,203 @@
+-- All sources: from their seats at the beginning to what they did, when the book is one again.
+use Rattle.std.proofs.Common.{◌≡◌, ◌+◌, ◌≤◌, ◌<◌, ℕ, zero, suc, List, [], ◌∷◌, ◌++◌, length, map, take, drop, refl, sym, ◌∙◌, ap, subst, inl, inr, ⊎_elim, arith, get_or, All}
+use Rattle.std.specs.Prelude.{slice_index}
+use Rattle.std.proofs.lemmas.Bool.{cases_eq, cases_lt}
+use Rattle.std.proofs.lemmas.List.{take_at, length-map}
+use mathlib.Core.List.{IsPrefix}
+use Rattle.mdf_gate.proofs.Carrying.{prefix_self}
+use Rattle.atomic_table.specs.Seated.{TableId}
+use Rattle.mdf_layout.specs.History.{source_samples}
+use Rattle.mdf_layout.specs.declared.sample.Sample.{Sample}
+use Rattle.book_owned.specs.Account.{Account, Terms}
+use Rattle.book_shared.specs.Basis.{Basis}
+use Rattle.book_shared.specs.Place.{Place, own_part}
+use Rattle.book_shared.specs.Seats.{new_seat, new_seats, AreOf, HasNumber, Closed, Closes}
+use Rattle.acq_run.specs.Tasks.{MayFeed}
+use Rattle.acq_run.specs.Works.{AreMarked, HasDriven, IsOver}
+use Rattle.acq_run.specs.Workers.{IsReady, driven_of}
+use Rattle.acq_run.specs.Ran.{AllMayFeed, AllRan, EndsIn, Ran}
+use Rattle.acq_run.specs.declared.tasks.Fed.{Fed}
+use Rattle.acq_run.specs.declared.work.Driven.{Driven}
+use Rattle.acq_run.specs.declared.work.Ended.{Ended}
+use Rattle.acq_run.specs.declared.work.Ended.TheVariants.{Running, Done, SessionFull, Stopped, DiskFault, Memory}
+use Rattle.acq_run.specs.declared.work.Worker.{Worker}
+use Rattle.acq_run.proofs.Doing.{marked_later}
+use Rattle.acq_run.proofs.Owning.{may_same, ran_same}
+
+-- one source
+module _ {D V : Type 0} (basis : Basis) (book : Account D V) (terms : book.terms ≡ basis.terms) (table : TableId) (number : ℕ) (seat : Place)
+    (closed : Closed basis book seat) (feds : List Fed) (accepted : ℕ) (how : Ended) (driven : HasDriven (new_seat table basis number) seat feds accepted how) where
+  of_book : own_part seat.know.mine ≡ source_samples basis.owners book.history number
+  of_book = closed.mine ∙ ap (λ k. source_samples basis.owners book.history k) driven.seat.number_is
+
+  same_basis : seat.know.basis ≡ basis
+  same_basis = driven.drives.does.later.basis_is
+
+  ran_with : (before : List Sample) → IsPrefix before book.history → source_samples basis.owners before number ≡ source_samples basis.owners book.history number
+      → EndsIn book before driven.drives.rest how → Ran basis.owners book number feds (record { accepted = accepted; ended = how })
+  ran_with before begins all_own ends = record {
+    done = driven.drives.done;
+    rest = driven.drives.rest;
+    parts = driven.drives.parts;
+    own = sym of_book ∙ driven.drives.does.mine;
+    marked = marked_later basis.owners number seat.know.seen book.history seat.know.kept book.marks [] driven.drives.done closed.seen closed.kept
+        (subst (λ (b : Basis). AreMarked b.owners number seat.know.seen seat.know.kept [] driven.drives.done) same_basis driven.drives.does.marked);
+    counted = driven.drives.does.counted;
+    before = before;
+    begins = begins;
+    all_own = all_own;
+    ends = ends;
+  }
+
+  ran_all : EndsIn book book.history driven.drives.rest how → Ran basis.owners book number feds (record { accepted = accepted; ended = how })
+  ran_all ends = ran_with book.history (prefix_self book.history) refl ends
+
+ran_of : {D V : Type 0} (basis : Basis) (book : Account D V) → book.terms ≡ basis.terms → (table : TableId) (number : ℕ) (seat : Place) → Closed basis book seat
+    → (feds : List Fed) (accepted : ℕ) (how : Ended) → HasDriven (new_seat table basis number) seat feds accepted how
+    → Ran basis.owners book number feds (record { accepted = accepted; ended = how })
+ran_of basis book terms table number seat closed feds accepted Running driven = absurd driven.drives.ends
+ran_of basis book terms table number seat closed feds accepted Done driven = ran_all basis book terms table number seat closed feds accepted Done driven driven.drives.ends
+ran_of basis book terms table number seat closed feds accepted (SessionFull held size limit) driven =
+    let same = same_basis basis book terms table number seat closed feds accepted (SessionFull held size limit) driven in
+    let ends = driven.drives.ends in
+    ran_with basis book terms table number seat closed feds accepted (SessionFull held size limit) driven seat.know.seen closed.seen
+    (ap (λ (b : Basis). source_samples b.owners seat.know.seen number) (sym same) ∙ ends.1
+    ∙ of_book basis book terms table number seat closed feds accepted (SessionFull held size limit) driven)
+    (subst (λ (t : Terms). IsOver t seat.know.seen driven.drives.rest held size limit) (ap (λ (b : Basis). b.terms) same ∙ sym terms) ends.0)
+ran_of basis book terms table number seat closed feds accepted (Stopped mark) driven =
+    ran_all basis book terms table number seat closed feds accepted (Stopped mark) driven (closed.knows driven.drives.ends.1)
+ran_of basis book terms table number seat closed feds accepted (DiskFault before after) driven =
+    ran_all basis book terms table number seat closed feds accepted (DiskFault before after) driven (closed.knows driven.drives.ends.1)
+ran_of basis book terms table number seat closed feds accepted Memory driven =
+    ran_all basis book terms table number seat closed feds accepted Memory driven driven.drives.ends
+
+-- all sources
+module _ {F : Type 0} (left : F → List Fed) (table : TableId) (basis : Basis) where
+  abbrev pub seats_of : List (Worker F) → List Place
+  seats_of workers = map (λ (w : Worker F). w.seat) workers
+
+  abbrev pub feeds_of : List (Worker F) → List F
+  feeds_of workers = map (λ (w : Worker F). w.feed) workers
+
+  -- the seats at the beginning, one by one
+  first_seat : (first : ℕ) (worker : Worker F) (workers : List (Worker F)) → seats_of (worker ∷ workers) ≡ new_seats table basis first (length (worker ∷ workers))
+      → worker.seat ≡ new_seat table basis first
+  first_seat first worker workers is = ap (λ (seats : List Place). get_or seats 0 worker.seat) is
+
+  later_seats : (first : ℕ) (worker : Worker F) (workers : List (Worker F)) → seats_of (worker ∷ workers) ≡ new_seats table basis first (length (worker ∷ workers))
+      → seats_of workers ≡ new_seats table basis (suc first) (length workers)
+  later_seats first worker workers is = ap (λ (seats : List Place). drop 1 seats) is
+
+  new_seats-length : (first count : ℕ) → length (new_seats table basis first count) ≡ count
+  new_seats-length first zero = refl
+  new_seats-length first (suc count) = omega (arith, new_seats-length (suc first) count)
+
+  -- as many workers as seats
+  pub seated_count : (workers : List (Worker F)) (seats : List Place) (sources : ℕ) → seats_of workers ≡ seats → seats ≡ new_seats table basis 0 sources
+      → length workers ≡ sources
+  seated_count workers seats sources are is =
+      omega (arith, length-map workers (λ (w : Worker F). w.seat), ap length are, ap length is, new_seats-length 0 sources)
+
+  pub seats_count : (seats : List Place) (sources : ℕ) → seats ≡ new_seats table basis 0 sources → length seats ≡ sources
+  seats_count seats sources is = ap length is ∙ new_seats-length 0 sources
+
+  pub seated : (workers : List (Worker F)) (seats : List Place) (sources : ℕ) → seats_of workers ≡ seats → seats ≡ new_seats table basis 0 sources
+      → seats_of workers ≡ new_seats table basis 0 (length workers)
+  seated workers seats sources are is = are ∙ is ∙ ap (new_seats table basis 0) (sym (seated_count workers seats sources are is))
+
+  -- each worker was driven from a new seat, with the feed that it had
+  abbrev pub AllDriven : ℕ → List (Worker F) → List (Worker F) → Type 0
+  AllDriven first [] [] = Unit {0}
+  AllDriven first (old ∷ olds) (new ∷ news) =
+      HasDriven (new_seat table basis first) new.seat (left old.feed) new.accepted new.ended × AllDriven (suc first) olds news
+  AllDriven first _ _ = ⊥
+
+  pub all_driven : (first : ℕ) (olds news : List (Worker F)) → seats_of olds ≡ new_seats table basis first (length olds) → length news ≡ length olds
+      → ((k : ℕ) (d : Worker F) → k < length olds
+      → HasDriven (get_or olds k d).seat (get_or news k d).seat (left (get_or olds k d).feed) (get_or news k d).accepted (get_or news k d).ended)
+      → AllDriven first olds news
+  all_driven first [] [] seats same each = tt
+  all_driven first [] (new ∷ news) seats same each = absurd (omega (arith, same))
+  all_driven first (old ∷ olds) [] seats same each = absurd (omega (arith, same))
+  all_driven first (old ∷ olds) (new ∷ news) seats same each = (
+    subst (λ (s : Place). HasDriven s new.seat (left old.feed) new.accepted new.ended) (first_seat first old olds seats) (each 0 old (omega arith)),
+    all_driven (suc first) olds news (later_seats first old olds seats) (omega (arith, same)) (λ k d within. each (suc k) d (omega (arith, within))),
+  )
+
+  pub of_table : (first : ℕ) (olds news : List (Worker F)) → AllDriven first olds news → AreOf table (seats_of news)
+  of_table first [] [] all = tt
+  of_table first [] (new ∷ news) all = absurd all
+  of_table first (old ∷ olds) [] all = absurd all
+  of_table first (old ∷ olds) (new ∷ news) all = (all.0.seat.table_is, of_table (suc first) olds news all.1)
+
+  pub has_number : (first : ℕ) (olds news : List (Worker F)) → AllDriven first olds news → (n : ℕ) → first ≤ n → n < first + length olds → HasNumber n (seats_of news)
+  has_number first [] [] all n low high = absurd (omega (arith, low, high))
+  has_number first [] (new ∷ news) all n low high = absurd all
+  has_number first (old ∷ olds) [] all n low high = absurd all
+  has_number first (old ∷ olds) (new ∷ news) all n low high = ⊎_elim
+      (λ same. inl (all.0.seat.number_is ∙ sym same))
+      (λ differs. inr (has_number (suc first) olds news all.1 n (above first n low differs) (omega (arith, high)))) (cases_eq n first) where
+        above : (a b : ℕ) → a ≤ b → (b ≡ a → ⊥) → suc a ≤ b
+        above a b low differs = ⊎_elim (λ less. omega (arith, less)) (λ more. absurd (differs (omega (arith, low, more)))) (cases_lt a b)
+
+  module _ {D V : Type 0} (owners : List ℕ) (alike : (group : ℕ) → slice_index basis.owners group ≡ slice_index owners group) (book : Account D V) (terms : book.terms ≡ basis.terms) where
+    pub all_ran : (first : ℕ) (olds news : List (Worker F)) → AllDriven first olds news → Closes basis book (seats_of news)
+        → AllRan owners book first (map left (feeds_of olds)) (map driven_of news)
+    all_ran first [] [] all closes = tt
+    all_ran first [] (new ∷ news) all closes = absurd all
+    all_ran first (old ∷ olds) [] all closes = absurd all
+    all_ran first (old ∷ olds) (new ∷ news) all closes = (
+      ran_same basis.owners owners alike first book (left old.feed) (driven_of new)
+          (ran_of basis book terms table first new.seat closes.0 (left old.feed) new.accepted new.ended all.0),
+      all_ran (suc first) olds news all.1 closes.1,
+    )
+
+  -- the workers may begin
+  pub all_ready : (owners : List ℕ) (terms : Terms) → ((group : ℕ) → slice_index basis.owners group ≡ slice_index owners group) → basis.terms ≡ terms
+      → (first : ℕ) (workers : List (Worker F)) → seats_of workers ≡ new_seats table basis first (length workers)
+      → AllMayFeed owners terms first (map left (feeds_of workers)) → All (λ (w : Worker F). IsReady table w.seat (left w.feed)) workers
+  all_ready owners terms alike same first [] seats may k d within = absurd (omega (arith, within))
+  all_ready owners terms alike same first (worker ∷ workers) seats may zero d within =
+      subst (λ (s : Place). IsReady table s (left worker.feed)) (sym (first_seat first worker workers seats)) (record {
+        table_is = refl;
+        fits = λ k d less. may_same basis.owners owners alike first basis.terms (get_or (left worker.feed) k d)
+            (subst (λ t. MayFeed owners t first (get_or (left worker.feed) k d)) (sym same) (may.0.0 k d less));
+        few = may.0.1;
+      })
+  all_ready owners terms alike same first (worker ∷ workers) seats may (suc k) d within =
+      all_ready owners terms alike same (suc first) workers (later_seats first worker workers seats) may.1 k d (omega (arith, within))
+
+  -- The vector of the workers was lent as a slice, and what was lent came back with what each did.
+  pub record HaveWorked (lent news after : List (Worker F)) (feeds : List F) : Type 0 where
+    pub all : AllDriven 0 lent news
+    pub count : length lent ≡ length feeds
+    pub feeds_are : feeds_of lent ≡ feeds
+    pub after_is : after ≡ news
+
+  pub have_worked : (workers lent news : List (Worker F)) (len sources : ℕ) (seats : List Place) (feeds : List F) → seats_of workers ≡ seats
+      → seats ≡ new_seats table basis 0 sources → feeds_of workers ≡ feeds → lent ≡ workers → length news ≡ length lent → length lent ≡ len
+      → ((k : ℕ) (d : Worker F) → k < length lent
+      → HasDriven (get_or lent k d).seat (get_or news k d).seat (left (get_or lent k d).feed) (get_or news k d).accepted (get_or news k d).ended)
+      → HaveWorked lent news (take len (news ++ drop (length news) workers)) feeds
+  have_worked workers lent news len sources seats feeds are is fed same long lent_is each = record {
+    all = all_driven 0 lent news (subst (λ (ws : List (Worker F)). seats_of ws ≡ new_seats table basis 0 (length ws)) (sym same) (seated workers seats sources are is)) long each;
+    count = omega (arith, ap length same, ap length fed, length-map workers (λ (w : Worker F). w.feed));
+    feeds_are = ap feeds_of same ∙ fed;
+    after_is = take_at news (drop (length news) workers) len (long ∙ lent_is);
+  }
+
+  module _ (lent news after : List (Worker F)) (feeds : List F) (worked : HaveWorked lent news after feeds) where
+    pub worked_of_table : (seats : List Place) → seats ≡ seats_of after → AreOf table seats
+    worked_of_table seats are = subst (AreOf table) (sym (are ∙ ap seats_of worked.after_is)) (of_table 0 lent news worked.all)
+
+    pub worked_numbers : (seats : List Place) → seats ≡ seats_of after → (n : ℕ) → n < length feeds → HasNumber n seats
+    worked_numbers seats are n less =
+        subst (HasNumber n) (sym (are ∙ ap seats_of worked.after_is)) (has_number 0 lent news worked.all n (omega arith) (omega (arith, less, worked.count)))
+
+    module _ {D V : Type 0} (owners : List ℕ) (alike : (group : ℕ) → slice_index basis.owners group ≡ slice_index owners group) (book : Account D V) (terms : book.terms ≡ basis.terms) where
+      pub worked_ran : (seats : List Place) (all : List Driven) → seats ≡ seats_of after → all ≡ map driven_of after → Closes basis book seats
+          → AllRan owners book 0 (map left feeds) all
+      worked_ran seats all are is closes =
+          subst (λ ds. AllRan owners book 0 (map left feeds) ds) (sym (is ∙ ap (λ (ws : List (Worker F)). map driven_of ws) worked.after_is))
+          (subst (λ fs. AllRan owners book 0 (map left fs) (map driven_of news)) worked.feeds_are
+          (all_ran owners alike book terms 0 lent news worked.all (subst (Closes basis book) (are ∙ ap seats_of worked.after_is) closes)))

@@ -1,0 +1,45 @@
+-- Sources that have worked, in a book that was flushed since.
+use Rattle.std.proofs.Common.{◌≡◌, ℕ, suc, List, [], ◌∷◌, sym, ◌∙◌, ap, subst, append-nil}
+use mathlib.Core.List.{IsPrefix}
+use Rattle.mdf_layout.specs.History.{source_samples}
+use Rattle.mdf_layout.specs.declared.sample.Sample.{Sample}
+use Rattle.book_owned.specs.Account.{Account, Steps, Terms}
+use Rattle.acq_run.specs.Works.{IsOver}
+use Rattle.acq_run.specs.Ran.{AllRan, EndsIn, Ran}
+use Rattle.acq_run.specs.declared.tasks.Fed.{Fed}
+use Rattle.acq_run.specs.declared.work.Driven.{Driven}
+use Rattle.acq_run.specs.declared.work.Ended.{Ended}
+use Rattle.acq_run.specs.declared.work.Ended.TheVariants.{Running, Done, SessionFull, Stopped, DiskFault, Memory}
+use Rattle.acq_run.proofs.Doing.{marked_later}
+
+module _ {D V : Type 0} (old new : Account D V) (steps : Steps old new []) where
+  same : new.history ≡ old.history
+  same = steps.history ∙ append-nil old.history
+
+  ends_later : (before : List Sample) (rest : List Fed) (how : Ended) → EndsIn old before rest how → EndsIn new before rest how
+  ends_later before rest Running ends = absurd ends
+  ends_later before rest Done ends = ends
+  ends_later before rest (SessionFull held size limit) ends = subst (λ (t : Terms). IsOver t before rest held size limit) (sym steps.terms) ends
+  ends_later before rest (Stopped mark) ends = steps.stopped ends
+  ends_later before rest (DiskFault less more) ends = steps.stopped ends
+  ends_later before rest Memory ends = ends
+
+  ran_later : (owners : List ℕ) (source : ℕ) (feds : List Fed) (driven : Driven) → Ran owners old source feds driven → Ran owners new source feds driven
+  ran_later owners source feds driven ran = record {
+    done = ran.done;
+    rest = ran.rest;
+    parts = ran.parts;
+    own = ap (λ h. source_samples owners h source) same ∙ ran.own;
+    marked = marked_later owners source old.history new.history old.marks new.marks [] ran.done ([], sym steps.history) steps.marks ran.marked;
+    counted = ran.counted;
+    before = ran.before;
+    begins = subst (IsPrefix ran.before) (sym same) ran.begins;
+    all_own = ran.all_own ∙ ap (λ h. source_samples owners h source) (sym same);
+    ends = ends_later ran.before ran.rest driven.ended ran.ends;
+  }
+
+  pub all_later : (owners : List ℕ) (source : ℕ) (feeds : List (List Fed)) (all : List Driven) → AllRan owners old source feeds all → AllRan owners new source feeds all
+  all_later owners source [] [] ran = tt
+  all_later owners source [] (driven ∷ all) ran = absurd ran
+  all_later owners source (feds ∷ feeds) [] ran = absurd ran
+  all_later owners source (feds ∷ feeds) (driven ∷ all) ran = (ran_later owners source feds driven ran.0, all_later owners (suc source) feeds all ran.1)

@@ -1,0 +1,4 @@
+pub mod Tasks
+pub mod Works
+pub mod Workers
+pub mod Ran

@@ -1,0 +1,47 @@
+-- What the sources of a recording have done, when all have worked and the book is one again.
+use Rattle.std.specs.Prelude.{ℕ, suc, ◌≡◌, ◌<◌, ◌^◌, true, List, [], ◌∷◌, ◌++◌, length, All}
+use mathlib.Core.List.{IsPrefix}
+use Rattle.mdf_layout.specs.History.{source_samples}
+use Rattle.mdf_layout.specs.declared.sample.Sample.{Sample}
+use Rattle.book_owned.specs.Account.{Account, Terms}
+use Rattle.acq_run.specs.Tasks.{samples_of, MayFeed}
+use Rattle.acq_run.specs.Works.{AreMarked, IsNext, IsOver}
+use Rattle.acq_run.specs.declared.tasks.Fed.{Fed}
+use Rattle.acq_run.specs.declared.work.Driven.{Driven}
+use Rattle.acq_run.specs.declared.work.Ended.{Ended}
+use Rattle.acq_run.specs.declared.work.Ended.TheVariants.{Running, Done, SessionFull, Stopped, DiskFault, Memory}
+
+-- why a source's work ended behind this history, by the book and what is left of the feed
+abbrev pub EndsIn : {D V : Type 0} → Account D V → List Sample → List Fed → Ended → Type 0
+EndsIn book before rest Running = ⊥
+EndsIn book before rest Done = rest ≡ []
+EndsIn book before rest (SessionFull held size limit) = IsOver book.terms before rest held size limit
+EndsIn book before rest (Stopped mark) = book.stopped ≡ true
+EndsIn book before rest (DiskFault less more) = book.stopped ≡ true
+EndsIn book before rest Memory = (sample : Sample) × IsNext rest sample
+
+-- A source has worked: some of what its feed had was done, and just those samples are its own in the history. It ended behind
+-- a beginning of the history that has all of them.
+pub record Ran {D V : Type 0} (owners : List ℕ) (book : Account D V) (source : ℕ) (feds : List Fed) (driven : Driven) : Type 0 where
+  pub done : List Fed
+  pub rest : List Fed
+  pub parts : done ++ rest ≡ feds
+  pub own : source_samples owners book.history source ≡ samples_of done
+  pub marked : AreMarked owners source book.history book.marks [] done
+  pub counted : driven.accepted ≡ length (samples_of done)
+  pub before : List Sample
+  pub begins : IsPrefix before book.history
+  pub all_own : source_samples owners before source ≡ source_samples owners book.history source
+  pub ends : EndsIn book before rest driven.ended
+
+-- so have all from this source on, with these feeds
+abbrev pub AllRan : {D V : Type 0} → List ℕ → Account D V → ℕ → List (List Fed) → List Driven → Type 0
+AllRan owners book source [] [] = Unit {0}
+AllRan owners book source (feds ∷ feeds) (driven ∷ all) = Ran owners book source feds driven × AllRan owners book (suc source) feeds all
+AllRan owners book source _ _ = ⊥
+
+-- the sources from this one on may hand in all that these feeds have
+abbrev pub AllMayFeed : List ℕ → Terms → ℕ → List (List Fed) → Type 0
+AllMayFeed owners terms source [] = Unit {0}
+AllMayFeed owners terms source (feds ∷ feeds) =
+    (All (MayFeed owners terms source) feds × (length feds < 2 ^ 64)) × AllMayFeed owners terms (suc source) feeds

@@ -1,0 +1,91 @@
+-- What the work of a source does to its seat.
+use Rattle.std.specs.Prelude.{ℕ, ◌≡◌, ◌+◌, ◌≤◌, ◌<◌, true, List, [], ◌∷◌, ◌++◌, length, take}
+use mathlib.Core.List.{IsPrefix}
+use Rattle.mdf_format.specs.Cause.{Rose}
+use Rattle.mdf_layout.specs.History.{source_samples}
+use Rattle.mdf_layout.specs.Record.{cost_of, history_cost}
+use Rattle.mdf_layout.specs.declared.sample.Sample.{Sample}
+use Rattle.book_owned.specs.Account.{Terms}
+use Rattle.book_owned.specs.Marks.{last_mark}
+use Rattle.book_owned.specs.declared.mark.Mark.{Mark}
+use Rattle.book_shared.specs.Told.{HasMark}
+use Rattle.book_shared.specs.Place.{Place, own_part}
+use Rattle.book_shared.specs.declared.view.View.{View}
+use Rattle.acq_run.specs.Tasks.{samples_of}
+use Rattle.acq_run.specs.declared.tasks.Fed.{Fed}
+use Rattle.acq_run.specs.declared.tasks.Fed.TheVariants as fed
+use Rattle.acq_run.specs.declared.work.Ended.{Ended}
+use Rattle.acq_run.specs.declared.work.Ended.TheVariants.{Running, Done, SessionFull, Stopped, DiskFault, Memory}
+
+-- a mark goes through just these samples of the source, whatever it has of the others
+pub record IsMarkedAt (owners : List ℕ) (source : ℕ) (history : List Sample) (marks : List Mark) (own : List Sample) : Type 0 where
+  pub through : ℕ
+  pub mark : HasMark marks through
+  pub within : through ≤ length history
+  pub own_is : source_samples owners (take through history) source ≡ own
+
+-- Each flush among what a source handed in has a mark with just the source's samples before it, where these stand before
+-- the first.
+abbrev pub AreMarked : List ℕ → ℕ → List Sample → List Mark → List Sample → List Fed → Type 0
+AreMarked owners source history marks before [] = Unit {0}
+AreMarked owners source history marks before (fed.Sample sample ∷ feds) = AreMarked owners source history marks (before ++ sample ∷ []) feds
+AreMarked owners source history marks before (fed.Flush ∷ feds) =
+    IsMarkedAt owners source history marks before × AreMarked owners source history marks before feds
+AreMarked owners source history marks before (fed.End ∷ feds) = AreMarked owners source history marks before feds
+
+-- the next that a source hands in is this sample
+pub record IsNext (rest : List Fed) (sample : Sample) : Type 0 where
+  pub later : List Fed
+  pub rest_is : rest ≡ fed.Sample sample ∷ later
+
+-- behind this history the next sample would pass the session limit
+pub record IsOver (terms : Terms) (history : List Sample) (rest : List Fed) (held size limit : ℕ) : Type 0 where
+  pub sample : Sample
+  pub next : IsNext rest sample
+  pub held_is : held ≡ history_cost terms.layouts history
+  pub size_is : size ≡ cost_of terms.layouts sample
+  pub limit_is : limit ≡ terms.session_limit
+  pub over : limit < held + size
+
+-- why a source's work ended, by what its seat knows and what is left of its feed. All that was accepted of the source had
+-- been seen then.
+abbrev pub Ends : View → ℕ → List Fed → Ended → Type 0
+Ends u source rest Running = ⊥
+Ends u source rest Done = rest ≡ []
+Ends u source rest (SessionFull held size limit) =
+    IsOver u.basis.terms u.seen rest held size limit × (source_samples u.basis.owners u.seen source ≡ own_part u.mine)
+Ends u source rest (Stopped mark) = (mark ≡ last_mark u.kept) × (u.knows ≡ true)
+Ends u source rest (DiskFault before after) = Rose before after × (u.knows ≡ true)
+Ends u source rest Memory = (sample : Sample) × IsNext rest sample
+
+-- the seat has seen and kept what it had, and more, knows of a stop where it knew, and is at the same book
+pub record IsLater (v u : View) : Type 0 where
+  pub seen : IsPrefix v.seen u.seen
+  pub kept : IsPrefix v.kept u.kept
+  pub knows : v.knows ≡ true → u.knows ≡ true
+  pub basis_is : u.basis ≡ v.basis
+
+-- All of this was done, in order: the samples were accepted, so many, and each flush has its mark.
+pub record Does (v u : View) (source : ℕ) (done : List Fed) (accepted : ℕ) : Type 0 where
+  pub later : IsLater v u
+  pub mine : own_part u.mine ≡ own_part v.mine ++ samples_of done
+  pub marked : AreMarked u.basis.owners source u.seen u.kept (own_part v.mine) done
+  pub counted : accepted ≡ length (samples_of done)
+
+-- Some of it was done, up to the first that was not, if there is one.
+pub record Drives (v u : View) (source : ℕ) (feds : List Fed) (accepted : ℕ) (how : Ended) : Type 0 where
+  pub done : List Fed
+  pub rest : List Fed
+  pub parts : done ++ rest ≡ feds
+  pub does : Does v u source done accepted
+  pub ends : Ends u source rest how
+
+-- the same seat
+pub record IsSameSeat (old new : Place) : Type 0 where
+  pub table_is : new.table ≡ old.table
+  pub number_is : new.number ≡ old.number
+
+-- a source was driven from one state of its seat to another
+pub record HasDriven (old new : Place) (feds : List Fed) (accepted : ℕ) (how : Ended) : Type 0 where
+  pub seat : IsSameSeat old new
+  pub drives : Drives old.know new.know old.number feds accepted how

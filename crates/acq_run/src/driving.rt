@@ -1,0 +1,137 @@
+//! How a source works, and how all work at once.
+ghost use Rattle.std.specs.Prelude.{ℕ, ◌≡◌, ◌<◌, ◌^◌, List, [], ◌∷◌, length, All, IfOk, IfErr};
+ghost use Rattle.std.specs.List.{slice_index_or};
+ghost use Rattle.acq_run.specs.Tasks.{IsTask, MayFeed};
+ghost use Rattle.acq_run.specs.Works.{Does, Drives, Ends, HasDriven, IsSameSeat};
+ghost use Rattle.acq_run.specs.Workers.{IsReady};
+ghost use Rattle.acq_run.specs.declared.tasks.Fed.{Fed};
+
+use crate::following::{Follower, Nobody};
+use crate::tasks::{Fed, Feed};
+use crate::work::{Driven, Ended, Worker};
+use book_owned::{Append, Flush, NoView, Shown};
+use book_shared::{SharedBook, SourceSeat};
+use mdf_disk::Disk;
+use std::sync::Wait;
+use std::thread;
+use std::thread::Threads;
+
+/// Does one task of a source, and answers how many samples were accepted.
+fn perform<R: Threads + Wait + Sync, D: Disk, V: Shown, L: Follower<V>>(
+    rt: &R,
+    book: &SharedBook<D, V>,
+    seat: &mut SourceSeat,
+    follower: &mut L,
+    task: Fed,
+) -> Result<u64, Ended>
+    requires table { seat.old.table ≡ book.now.table }
+    requires task { IsTask task }
+    requires fits { MayFeed seat.old.know.basis.owners seat.old.know.basis.terms seat.old.number task }
+    requires follows { L.follows follower.old seat.old.know.basis.terms.which seat.old.know.seen }
+    ensures seat { IsSameSeat seat.old seat.new }
+    ensures done { IfOk result (λ accepted. Does seat.old.know seat.new.know seat.old.number (task ∷ []) accepted) }
+    ensures ended { IfErr result (λ ended. Does seat.old.know seat.new.know seat.old.number [] 0
+        × ((later : List Fed) → Ends seat.new.know seat.new.number (task ∷ later) ended)) }
+    ensures follows { L.follows follower.new seat.new.know.basis.terms.which seat.new.know.seen }
+{
+    match task {
+        Fed::Sample(sample) => match book.append(rt, seat, sample) {
+            Append::Accepted { place: _ } => Ok(1),
+            Append::SessionFull { held, size, limit } => {
+                Err(Ended::SessionFull { held, size, limit })
+            }
+            Append::Stopped { mark } => Err(Ended::Stopped { mark }),
+            Append::DiskFault { before, after } => Err(Ended::DiskFault { before, after }),
+            Append::Memory => Err(Ended::Memory),
+        },
+        Fed::Flush => match book.flush(rt, seat) {
+            Flush::Done {
+                through: _,
+                shown,
+                note,
+            } => {
+                follower.follow(shown, note);
+                Ok(0)
+            }
+            Flush::Stopped { mark } => Err(Ended::Stopped { mark }),
+            Flush::DiskFault { before, after } => Err(Ended::DiskFault { before, after }),
+        },
+        Fed::End => unreachable!(),
+    }
+}
+
+/// Does what the feed of a source hands in, in order, up to its end or to the first that is not done, and tells the follower
+/// of each flush that was done.
+pub fn drive_with<R: Threads + Wait + Sync, D: Disk, V: Shown, F: Feed, L: Follower<V>>(
+    rt: &R,
+    book: &SharedBook<D, V>,
+    seat: &mut SourceSeat,
+    feed: &mut F,
+    follower: &mut L,
+) -> Driven
+    requires ready { IsReady book.now.table seat.old (F.left feed.old) }
+    requires follows { L.follows follower.old seat.old.know.basis.terms.which seat.old.know.seen }
+    ensures driven { HasDriven seat.old seat.new (F.left feed.old) result.accepted result.ended }
+    ensures follows { L.follows follower.new seat.new.know.basis.terms.which seat.new.know.seen }
+{
+    let mut accepted = 0;
+    for _ in rt.forever() {
+        match feed.next(rt) {
+            Fed::End => {
+                return Driven {
+                    accepted,
+                    ended: Ended::Done,
+                };
+            }
+            task => match perform(rt, book, seat, follower, task) {
+                Ok(more) => accepted += more,
+                Err(ended) => return Driven { accepted, ended },
+            },
+        }
+    }
+    unreachable!()
+}
+
+/// Does what a worker's feed hands in, in order, up to its end or to the first that is not done, and keeps how many samples
+/// were accepted and why the work ended.
+pub fn drive<R: Threads + Wait + Sync, D: Disk, F: Feed>(
+    rt: &R,
+    book: &SharedBook<D, NoView>,
+    worker: &mut Worker<F>,
+)
+    requires ready { IsReady book.now.table worker.old.seat (F.left worker.old.feed) }
+    ensures driven { HasDriven worker.old.seat worker.new.seat (F.left worker.old.feed) worker.new.accepted worker.new.ended }
+{
+    let Driven { accepted, ended } = drive_with(
+        rt,
+        book,
+        &mut worker.seat,
+        &mut worker.feed,
+        &mut Nobody,
+    );
+    worker.accepted = accepted;
+    worker.ended = ended;
+}
+
+/// Drives all workers at once, each in a thread of its own where so many can be started.
+pub fn drive_all<R: Threads + Wait + Sync, D: Disk + Send, F: Feed + Send>(
+    rt: &R,
+    book: &SharedBook<D, NoView>,
+    workers: &mut [Worker<F>],
+)
+    requires all { All (λ worker. IsReady book.now.table worker.seat (F.left worker.feed)) workers.old }
+    ensures all { (k : ℕ) (d : _) → k < length workers.old
+        → HasDriven (slice_index_or workers.old k d).seat (slice_index_or workers.new k d).seat (F.left (slice_index_or workers.old k d).feed)
+        (slice_index_or workers.new k d).accepted (slice_index_or workers.new k d).ended }
+{
+    let threads = workers.len().max(1);
+    thread::for_each_mut(
+        rt,
+        workers,
+        threads,
+        &|_place: usize, worker: &mut Worker<F>|
+            requires ready { IsReady book.now.table worker.old.seat (F.left worker.old.feed) }
+            ensures driven { HasDriven worker.old.seat worker.new.seat (F.left worker.old.feed) worker.new.accepted worker.new.ended }
+        { drive(rt, book, worker) },
+    );
+}

@@ -1,0 +1,31 @@
+ghost use Rattle.std.specs.Prelude.{◌≤◌, ℕ, List, length, take};
+ghost use mathlib.Core.List.{IsPrefix};
+ghost use Rattle.mdf_layout.specs.declared.sample.Sample.{Sample};
+
+use book_owned::{NoView, Shown};
+
+/// Who is told of each flush of a source that was done.
+pub trait Follower<V: Shown> {
+    /// What is so of it where its source has seen this history, and the book has the view of this number.
+    ghost follows: { Self → ℕ → List Sample → Type 0 };
+
+    /// After a flush: so many samples of the history are shown, and this is the note of it.
+    fn follow(&mut self, shown: u64, note: V::Note)
+        requires { (which : ℕ) × (seen : List Sample) × follows self.old which seen × V.tells note which (take shown seen) }
+        ensures { (which : ℕ) (seen : List Sample) → follows self.old which seen → V.tells note which (take shown seen) → follows self.new which seen };
+
+    /// It stays so when the source has seen more.
+    ghost stays: { (follower : Self) (which : ℕ) (seen more : List Sample) → follows follower which seen → IsPrefix seen more → follows follower which more };
+}
+
+/// Nobody: a view that shows nobody anything needs no more.
+#[derive(Clone, Copy, Debug)]
+pub struct Nobody;
+
+impl Follower<NoView> for Nobody {
+    ghost follows = { λ follower which seen. Unit {0} };
+
+    ghost stays = { λ follower which seen more is begins. tt };
+
+    fn follow(&mut self, _shown: u64, _note: ()) {}
+}
