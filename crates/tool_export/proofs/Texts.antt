@@ -1,0 +1,110 @@
+-- Texts that are given one behind the other.
+use Rattle.std.proofs.Common.{◌≡◌, ◌+◌, ◌-◌, ◌≤◌, ◌<◌, ℕ, zero, suc, Result, Ok, Err, List, [], ◌++◌, Option, Some, None, refl, sym, ◌∙◌, ap, arith, append_assoc, append-nil}
+use Rattle.std.specs.Io.KnownBytes.{Appends}
+use Rattle.mdf_layout.specs.declared.sample.Entry.{Entry}
+use Rattle.mdf_num.specs.declared.halt.Stop.{Stop}
+use Rattle.mdf_num.specs.declared.halt.Stop.TheVariants as stop
+use Rattle.mdf_port.specs.Sink.{AppendsFront}
+use Rattle.mdf_port.specs.State.{SinkState}
+use Rattle.tool_export.specs.Export.{GivesText}
+use Rattle.tool_export.specs.Table.{line_at, sample_lines}
+
+pub appends_none : (held : Option (List ℕ)) → Appends held held []
+appends_none None = tt
+appends_none (Some held) = sym (append-nil held)
+
+-- known bytes that grow twice grow by both
+pub appends_more : (old mid new : Option (List ℕ)) (xs ys : List ℕ) → Appends old mid xs → Appends mid new ys → Appends old new (xs ++ ys)
+appends_more None mid new xs ys first second = tt
+appends_more (Some held) None new xs ys first second = absurd first
+appends_more (Some held) (Some more) None xs ys first second = absurd second
+appends_more (Some held) (Some more) (Some all) xs ys first second = second ∙ ap (λ (zs : List ℕ). zs ++ ys) first ∙ append_assoc held xs ys
+
+-- a front of a text behind a text that was given
+front_behind : (old mid new : Option (List ℕ)) (xs ys : List ℕ) → Appends old mid xs → AppendsFront mid new ys → AppendsFront old new (xs ++ ys)
+front_behind old mid new xs ys first front =
+    (xs ++ front.0, (front.1.0, append_assoc xs front.0 front.1.0 ∙ ap (λ (zs : List ℕ). xs ++ zs) front.1.1), appends_more old mid new xs front.0 first front.2)
+
+-- a front of a text is one of a longer text
+front_longer : (old new : Option (List ℕ)) (xs rest : List ℕ) → AppendsFront old new xs → AppendsFront old new (xs ++ rest)
+front_longer old new xs rest front =
+    (front.0, (front.1.0 ++ rest, sym (append_assoc front.0 front.1.0 rest) ∙ ap (λ (zs : List ℕ). zs ++ rest) front.1.1), front.2)
+
+-- what was given is a front of a longer text
+whole_front : (old new : Option (List ℕ)) (xs rest : List ℕ) → Appends old new xs → AppendsFront old new (xs ++ rest)
+whole_front old new xs rest given = (xs, (rest, refl), given)
+
+-- a text behind a text that was given
+pub gives_behind : (xs ys : List ℕ) (old mid new : SinkState) (result : Result Unit Stop)
+    → Appends old.held mid.held xs → old.faults ≤ mid.faults → GivesText ys mid new result → GivesText (xs ++ ys) old new result
+gives_behind xs ys old mid new (Ok done) first later gives = record {
+  ok = appends_more old.held mid.held new.held xs ys first gives.ok;
+  err = tt;
+  cause = record { later = omega (arith, gives.cause.later); reason = tt };
+}
+gives_behind xs ys old mid new (Err stop.Failed) first later gives = record {
+  ok = tt;
+  err = front_behind old.held mid.held new.held xs ys first gives.err;
+  cause = record { later = omega (arith, gives.cause.later); reason = omega (arith, gives.cause.reason) };
+}
+gives_behind xs ys old mid new (Err stop.Memory) first later gives = record {
+  ok = tt;
+  err = front_behind old.held mid.held new.held xs ys first gives.err;
+  cause = record { later = omega (arith, gives.cause.later); reason = tt };
+}
+
+-- a longer text, of which giving the first part failed
+pub gives_failed : (xs rest : List ℕ) (old new : SinkState) (e : Stop) → GivesText xs old new (Err e) → GivesText (xs ++ rest) old new (Err e)
+gives_failed xs rest old new e gives = record {
+  ok = tt;
+  err = front_longer old.held new.held xs rest gives.err;
+  cause = gives.cause;
+}
+
+-- want of memory before the next text is given
+pub gives_none : (text : List ℕ) (old : SinkState) → GivesText text old old (Err stop.Memory)
+gives_none text old = record {
+  ok = tt;
+  err = ([], (text, refl), appends_none old.held);
+  cause = record { later = omega arith; reason = tt };
+}
+
+-- the lines of samples begin with those of the first so many
+module _ (sample : ℕ → Option (List Entry)) where
+  behind_more : (i d : ℕ) → (rest : List ℕ) × (sample_lines sample (d + i) ≡ sample_lines sample i ++ rest)
+  unfolding sample_lines
+  behind_more i zero =
+      let same : zero + i ≡ i = omega arith in
+      ([], ap (sample_lines sample) same ∙ sym (append-nil (sample_lines sample i)))
+  behind_more i (suc d) =
+      let before = behind_more i d in
+      let next : suc d + i ≡ suc (d + i) = omega arith in (
+        before.0 ++ line_at (d + i) (sample (d + i)),
+        ap (sample_lines sample) next
+            ∙ ap (λ (front : List ℕ). front ++ line_at (d + i) (sample (d + i))) before.1
+            ∙ append_assoc (sample_lines sample i) before.0 (line_at (d + i) (sample (d + i))),
+      )
+
+  pub lines_behind : (i n : ℕ) → i ≤ n → (rest : List ℕ) × (sample_lines sample n ≡ sample_lines sample i ++ rest)
+  lines_behind i n within =
+      let found = behind_more i (n - i) in
+      let same : n ≡ n - i + i = omega (arith, within) in
+      (found.0, ap (sample_lines sample) same ∙ found.1)
+
+  -- the lines up to a sample, and its line
+  pub lines_more : (i : ℕ) (entries : List Entry) → sample i ≡ Some entries
+      → sample_lines sample (i + 1) ≡ sample_lines sample i ++ line_at i (Some entries)
+  unfolding sample_lines
+  lines_more i entries is =
+      let next : i + 1 ≡ suc i = omega arith in
+      ap (sample_lines sample) next ∙ ap (λ (found : Option (List Entry)). sample_lines sample i ++ line_at i found) is
+
+  -- the lines up to a sample, its line, and those behind it
+  pub lines_around : (i n : ℕ) (entries : List Entry) → i < n → sample i ≡ Some entries
+      → (rest : List ℕ) × (sample_lines sample n ≡ sample_lines sample i ++ (line_at i (Some entries) ++ rest))
+  lines_around i n entries below is =
+      let found = lines_behind (i + 1) n (omega (arith, below)) in (
+        found.0,
+        found.1 ∙ ap (λ (front : List ℕ). front ++ found.0) (lines_more i entries is)
+            ∙ append_assoc (sample_lines sample i) (line_at i (Some entries)) found.0,
+      )

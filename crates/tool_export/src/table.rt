@@ -1,0 +1,77 @@
+ghost use Rattle.std.specs.Prelude.{◌≡◌, ◌≤◌, ◌<◌, length, slice_index_or, IfOk, IfErr};
+ghost use Rattle.mdf_model.specs.declared.part.Measure.{Measure};
+ghost use Rattle.mdf_block.specs.Refusal.{GivesOf};
+ghost use Rattle.mdf_content.specs.Fault.{read_refusal};
+ghost use Rattle.mdf_model.specs.Measurement.{measurement};
+ghost use Rattle.mdf_port.specs.State.{sink_state};
+ghost use Rattle.mdf_valid.specs.Measurement.{IsMeasurement};
+ghost use Rattle.tool_export.specs.Export.{ExportEnds, GivesText, NamesNone};
+ghost use Rattle.tool_export.specs.Table.{table_of};
+
+use crate::ExportFault;
+use crate::give::give_table;
+use crate::samples::GroupSamples;
+use mdf_content::ReadFault;
+use mdf_model::Measurement;
+use mdf_num::{Bytes, Stop};
+use mdf_port::Sink;
+use mdf_valid::read_file;
+use std::alloc::Global;
+
+/// The measurement of a file, which is given back to the allocator before anything is printed of it.
+fn measurement_of(alloc: Global, file: Bytes) -> Result<Measurement, ReadFault>
+    ensures exact { GivesOf read_refusal result (measurement file) }
+    ensures is { IfOk result (λ found. IsMeasurement file found.head found.history found.groups) }
+{
+    read_file(alloc, file.as_slice())
+}
+
+/// The number of a group, where there is one.
+fn group_in(found: &Measurement, said: u64) -> Result<u32, ExportFault>
+    ensures there { IfOk result (λ group. (group ≡ said) × (group < length found.now.groups)) }
+    ensures none { IfErr result (NamesNone said found.now) }
+{
+    let groups = found.groups();
+    if said >= u64::from(groups) {
+        return Err(ExportFault::NoGroup { said, groups });
+    }
+    Ok(said as u32)
+}
+
+/// Gives the table of a group.
+fn give_group<K: Sink>(
+    alloc: Global,
+    sink: &mut K,
+    found: &Measurement,
+    group: u32,
+) -> Result<(), Stop>
+    requires { group < length found.now.groups }
+    ensures { (d : Measure) → GivesText (table_of (slice_index_or found.now.groups group d)) (sink_state K.Sink sink.old) (sink_state K.Sink sink.new) result }
+{
+    let channels = found.part(group).row.channels.as_slice();
+    let list = GroupSamples::new(found, group);
+    give_table(alloc, sink, channels, &list)
+}
+
+/// Prints a channel group of a finalized file, counted from 0 over the groups whose records are samples, as a table in CSV.
+/// Its first line is `index` and the names of the channels. Then each sample has a line: its index, and its values, numbers
+/// in decimal and bytes as `x` and two digits for each, with `?` behind an invalid one. It answers how many samples there are.
+///
+/// # Errors
+/// `Read` where the file is refused, with its first fault, and then `NoGroup` exactly where the file has no such group: of
+/// both nothing was given. `Failed` where the sink failed, and `Memory` where memory runs out; then the sink has a front of
+/// the table.
+pub fn export<K: Sink>(
+    alloc: Global,
+    file: Bytes,
+    group: u64,
+    sink: &mut K,
+) -> Result<u64, ExportFault>
+    ensures ends { ExportEnds file group (sink_state K.Sink sink.old) (sink_state K.Sink sink.new) result }
+    ensures later { K.faults sink.old ≤ K.faults sink.new }
+{
+    let found = measurement_of(alloc, file)?;
+    let group = group_in(&found, group)?;
+    give_group(alloc, sink, &found, group)?;
+    Ok(found.samples(group))
+}
