@@ -1,0 +1,9 @@
+pub mod Numbers
+pub mod Lists
+pub mod Rows
+pub mod Records
+pub mod Entries
+pub mod Holds
+pub mod Sampled
+pub mod Placed
+pub mod Carried

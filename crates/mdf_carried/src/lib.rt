@@ -1,0 +1,6 @@
+//! What a recording carries by the layouts of its groups is what is recovered of it by its own tree.
+#![tactic(auto)]
+
+mod law;
+
+pub use law::recovered_is_carried;
