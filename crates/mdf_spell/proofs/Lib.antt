@@ -3,7 +3,7 @@ mod Fronts
 mod Numbered
 mod Writables
 mod HeadFinding
-mod Finding
+pub mod Finding
 pub mod Lists
 mod Links
 pub mod Counteds

@@ -1,0 +1,8 @@
+mod Parts
+mod Fields
+mod Records
+mod Streams
+mod Standing
+mod Holding
+mod Keeping
+mod Reading

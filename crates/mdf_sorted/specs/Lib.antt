@@ -1,0 +1,4 @@
+pub mod Sorted
+pub mod Places
+pub mod Kept
+pub mod Made
