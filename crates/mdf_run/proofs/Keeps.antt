@@ -13,23 +13,23 @@ use Rattle.book_owned.specs.declared.mark.Mark.{Mark}
 use Rattle.acq_script.specs.Script.{script_of}
 use Rattle.acq_script.specs.Tasks.{samples_of}
 use Rattle.acq_script.specs.declared.script.Script.{Script}
-use Rattle.mdf_run.specs.Sources.{AreOwnMarked}
+use Rattle.mdf_record.specs.Sources.{AreOwnMarked}
 use Rattle.mdf_block.specs.Refusal.{Refusal}
 use Rattle.mdf_content.specs.Fault.{read_refusal}
-use Rattle.mdf_run.specs.Faults.{fault_status, refused_status}
+use Rattle.mdf_command.specs.Faults.{fault_status, refused_status}
 use Rattle.mdf_disk.specs.Crash.{HoldsSince}
 use Rattle.mdf_gate.specs.Images.{IsBegun}
-use Rattle.mdf_run.specs.Head.{script_head}
+use Rattle.mdf_record.specs.Head.{script_head}
 use Rattle.mdf_run.specs.Kept.{IsDone}
-use Rattle.mdf_run.specs.Record.{CloseComes, IsComplete, OfSources, Outcome, fault_code, record_status, record_text}
-use Rattle.mdf_run.specs.Script.{SCRIPT_LIMIT}
-use Rattle.mdf_run.specs.Recorded.{IsClosed, IsNotBegun, IsRefused, IsUnread, RecordComes}
-use Rattle.mdf_run.specs.Texts.{Prints, unwritten_status}
-use Rattle.mdf_run.specs.declared.fault.Fault.{Fault}
-use Rattle.mdf_run.specs.declared.fault.Fault.TheVariants as fault
-use Rattle.mdf_run.specs.declared.record.RecordEnd.{RecordEnd}
-use Rattle.mdf_run.specs.declared.record.RecordEnd.TheVariants.{Refused, Closed}
-use Rattle.mdf_run.proofs.Runs.{none_own}
+use Rattle.mdf_record.specs.Record.{CloseComes, IsComplete, OfSources, Outcome, fault_code, record_status, record_text}
+use Rattle.mdf_record.specs.Script.{SCRIPT_LIMIT}
+use Rattle.mdf_record.specs.Recorded.{IsClosed, IsNotBegun, IsRefused, IsUnread, RecordComes}
+use Rattle.mdf_command.specs.Texts.{Prints, unwritten_status}
+use Rattle.mdf_command.specs.declared.fault.Fault.{Fault}
+use Rattle.mdf_command.specs.declared.fault.Fault.TheVariants as fault
+use Rattle.mdf_record.specs.declared.record.RecordEnd.{RecordEnd}
+use Rattle.mdf_record.specs.declared.record.RecordEnd.TheVariants.{Refused, Closed}
+use Rattle.mdf_record.proofs.Runs.{none_own}
 
 -- a status that was printed is that of the end, or stands for it
 was_status : (text : List ℕ) (status : ℕ) (sink sink' : SinkState) (result : ℕ) → Prints text status sink sink' result

@@ -1,10 +1,1 @@
-mod Heads
 mod Keeps
-mod Marking
-mod Pieces
-mod Recording
-mod Told
-mod Totals
-mod Begins
-mod Runs
-mod Making

@@ -2,7 +2,7 @@
 use Rattle.std.specs.Prelude.{ℕ, ◌≡◌, ◌⊎◌, List, Option, Some, Ok}
 use Rattle.acq_script.specs.Script.{script_of}
 use Rattle.acq_script.specs.declared.script.Script.{Script}
-use Rattle.mdf_run.specs.Words.{AsksRecord}
+use Rattle.mdf_command.specs.Words.{AsksRecord}
 
 -- Where the words ask for a recording, and the source tells its bytes, which are a script, this holds of the script.
 abbrev pub OfRecording : List (List ℕ) → Option (List ℕ) → (Script → Type 0) → Type 0

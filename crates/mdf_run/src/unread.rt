@@ -1,10 +1,9 @@
-ghost use Rattle.mdf_run.specs.declared.fault.Fault.TheVariants.{Memory};
-ghost use Rattle.mdf_run.specs.Faults.{fault_line, fault_status};
+ghost use Rattle.mdf_command.specs.declared.fault.Fault.TheVariants.{Memory};
+ghost use Rattle.mdf_command.specs.Faults.{fault_line, fault_status};
 ghost use Rattle.mdf_port.specs.State.{sink_state};
-ghost use Rattle.mdf_run.specs.Texts.{Prints};
+ghost use Rattle.mdf_command.specs.Texts.{Prints};
 
-use crate::fault::Fault;
-use crate::report::status_after;
+use mdf_command::{Fault, status_after};
 use mdf_port::Sink;
 
 /// Ends a program that found no memory for its command words: it prints the line of that, and answers the program's

@@ -1,10 +1,10 @@
 use Rattle.std.proofs.Common.{◌≡◌, ℕ, List, refl, subst}
 use Rattle.mdf_port.specs.State.{sink_state, source_state}
 use Rattle.mdf_disk.specs.State.{state_of}
-use Rattle.mdf_run.specs.Words.{Asks, opened, recorded, finalized, checked, described}
-use Rattle.mdf_run.specs.Commands.{request_of}
-use Rattle.mdf_run.specs.declared.command.Command.{Command}
-use Rattle.mdf_run.specs.declared.command.Command.TheVariants.{Record, Finalize}
+use Rattle.mdf_command.specs.Words.{Asks, opened, recorded, finalized, checked, described}
+use Rattle.mdf_command.specs.Commands.{request_of}
+use Rattle.mdf_command.specs.declared.command.Command.{Command}
+use Rattle.mdf_command.specs.declared.command.Command.TheVariants.{Record, Finalize}
 use Rattle.mdf_run.proofs.Keeps.{recording_keeps}
 use Rattle.mdf_run.proofs.program.run.Goals as goal
 

@@ -1,0 +1,129 @@
+-- The parts of a line, given one behind the other.
+use Rattle.std.proofs.Common.{◌≡◌, ◌≤◌, ◌<◌, ◌+◌, Result, Ok, Err, map, arith, ℕ, zero, suc, List, [], ◌∷◌, ◌++◌, length, take, drop, get_or, Option, Some, None, refl, sym, ◌∙◌, ap, subst, add-one, append_assoc, append-nil, take-append-drop}
+use Rattle.std.proofs.Math.Seq.{take-suc}
+use Rattle.std.proofs.lemmas.Grind.{flat_map-append}
+use Rattle.std.specs.Io.KnownBytes.{Appends}
+use Rattle.mdf_port.specs.State.{SinkState}
+use Rattle.std.specs.List.{flat_map}
+use Rattle.mdf_command.specs.Texts.{Gives, line, numbered, piece_text, pieces_text, shown}
+use Rattle.std.proofs.lemmas.List.Concat.{flat_map-cons}
+use Rattle.mdf_command.specs.declared.report.Piece.{Piece}
+
+-- known bytes that grow twice grow by both
+pub appends_both : (old mid new : Option (List ℕ)) (xs ys : List ℕ) → Appends old mid xs → Appends mid new ys → Appends old new (xs ++ ys)
+appends_both None mid new xs ys first second = tt
+appends_both (Some held) None new xs ys first second = absurd first
+appends_both (Some held) (Some more) None xs ys first second = absurd second
+appends_both (Some held) (Some more) (Some all) xs ys first second = second ∙ ap (λ zs. zs ++ ys) first ∙ append_assoc held xs ys
+
+pub appends_none : (held : Option (List ℕ)) → Appends held held []
+appends_none None = tt
+appends_none (Some held) = sym (append-nil held)
+
+-- a text behind a text that was given
+pub gives_behind : {E : Type 0} (xs ys : List ℕ) (old mid new : SinkState) (result : Result Unit E)
+    → Appends old.held mid.held xs → old.faults ≤ mid.faults → Gives ys mid new result → Gives (xs ++ ys) old new result
+gives_behind xs ys old mid new (Ok done) first later gives = record {
+  ok = appends_both old.held mid.held new.held xs ys first gives.ok;
+  err = tt;
+  cause = record { later = omega (arith, gives.cause.later); failed = tt };
+}
+gives_behind xs ys old mid new (Err e) first later gives = record {
+  ok = tt;
+  err = let front = gives.err in
+      (xs ++ front.0, (front.1.0, append_assoc xs front.0 front.1.0 ∙ ap (λ zs. xs ++ zs) front.1.1), appends_both old.held mid.held new.held xs front.0 first front.2);
+  cause = record { later = omega (arith, gives.cause.later); failed = omega (arith, gives.cause.failed) };
+}
+
+-- a longer text, of which giving the first part failed
+pub gives_failed : {E F : Type 0} (xs rest : List ℕ) (old new : SinkState) (e : E) (f : F)
+    → Gives xs old new (Err e) → Gives (xs ++ rest) old new (Err f)
+gives_failed xs rest old new e f gives = record {
+  ok = tt;
+  err = let front = gives.err in
+      (front.0, (front.1.0 ++ rest, sym (append_assoc front.0 front.1.0 rest) ∙ ap (λ zs. zs ++ rest) front.1.1), front.2);
+  cause = record { later = gives.cause.later; failed = gives.cause.failed };
+}
+
+-- the same text, written in another way
+pub gives_same : {E : Type 0} (xs ys : List ℕ) (old new : SinkState) (result : Result Unit E)
+    → xs ≡ ys → Gives xs old new result → Gives ys old new result
+gives_same xs ys old new result same gives = subst (λ text. Gives text old new result) same gives
+
+-- a line is its parts and LF
+pub line-pieces : (pieces : List Piece) → line (map piece_text pieces) ≡ pieces_text pieces ++ 10 ∷ []
+line-pieces [] = refl
+line-pieces (piece ∷ pieces) =
+    ap (λ zs. piece_text piece ++ zs) (line-pieces pieces) ∙ sym (append_assoc (piece_text piece) (pieces_text pieces) (10 ∷ []))
+    ∙ ap (λ zs. zs ++ 10 ∷ []) (sym (flat_map-cons piece_text piece pieces))
+
+-- the texts of the items up to one, of that one, and of those behind it
+module _ {A : Type 0} (text : A → List ℕ) (items : List A) (i : ℕ) (d : A) (within : i < length items) where
+  pub each_more : flat_map text (take (i + 1) items) ≡ flat_map text (take i items) ++ text (get_or items i d)
+  each_more =
+      ap (flat_map text) (ap (λ n. take n items) (add-one i) ∙ take-suc items i d within) ∙ flat_map-append text (take i items) (get_or items i d ∷ [])
+      ∙ ap (λ last. flat_map text (take i items) ++ last) (append-nil (text (get_or items i d)))
+
+  pub each_around : flat_map text items ≡ flat_map text (take i items) ++ (text (get_or items i d) ++ flat_map text (drop (i + 1) items))
+  each_around =
+      sym (ap (flat_map text) (take-append-drop (i + 1) items)) ∙ flat_map-append text (take (i + 1) items) (drop (i + 1) items)
+      ∙ ap (λ front. front ++ flat_map text (drop (i + 1) items)) each_more
+      ∙ append_assoc (flat_map text (take i items)) (text (get_or items i d)) (flat_map text (drop (i + 1) items))
+
+pub pieces_more : (pieces : List Piece) (i : ℕ) (d : Piece) → i < length pieces
+    → pieces_text (take (i + 1) pieces) ≡ pieces_text (take i pieces) ++ piece_text (get_or pieces i d)
+pieces_more pieces i d within = each_more piece_text pieces i d within
+
+pub pieces_around : (pieces : List Piece) (i : ℕ) (d : Piece) → i < length pieces
+    → pieces_text pieces ≡ pieces_text (take i pieces) ++ (piece_text (get_or pieces i d) ++ pieces_text (drop (i + 1) pieces))
+pieces_around pieces i d within = each_around piece_text pieces i d within
+
+pub bytes_more : (bytes : List ℕ) (i d : ℕ) → i < length bytes
+    → flat_map shown (take (i + 1) bytes) ≡ flat_map shown (take i bytes) ++ shown (get_or bytes i d)
+bytes_more bytes i d within = each_more shown bytes i d within
+
+pub bytes_around : (bytes : List ℕ) (i d : ℕ) → i < length bytes
+    → flat_map shown bytes ≡ flat_map shown (take i bytes) ++ (shown (get_or bytes i d) ++ flat_map shown (drop (i + 1) bytes))
+bytes_around bytes i d within = each_around shown bytes i d within
+
+-- the same of texts with numbers
+module _ {A : Type 0} (text : ℕ → A → List ℕ) where
+  more_from : (from : ℕ) (xs : List A) (i : ℕ) (d : A) → i < length xs
+      → numbered text from (take (suc i) xs) ≡ numbered text from (take i xs) ++ text (from + i) (get_or xs i d)
+  more_from from [] i d within = absurd (omega (arith, within))
+  more_from from (x ∷ xs) zero d within = let none : from ≡ from + 0 = omega arith in append-nil (text from x) ∙ ap (λ k. text k x) none
+  more_from from (x ∷ xs) (suc i) d within =
+      let next : from + 1 + i ≡ from + suc i = omega arith in
+      ap (λ rest. text from x ++ rest) (more_from (from + 1) xs i d (omega (arith, within)) ∙ ap (λ k. numbered text (from + 1) (take i xs) ++ text k (get_or xs i d)) next)
+      ∙ sym (append_assoc (text from x) (numbered text (from + 1) (take i xs)) (text (from + suc i) (get_or xs i d)))
+
+  around_from : (from : ℕ) (xs : List A) (i : ℕ) (d : A) → i < length xs
+      → numbered text from xs ≡ numbered text from (take i xs) ++ (text (from + i) (get_or xs i d) ++ numbered text (from + suc i) (drop (suc i) xs))
+  around_from from [] i d within = absurd (omega (arith, within))
+  around_from from (x ∷ xs) zero d within =
+      let none : from ≡ from + 0 = omega arith in
+      let next : from + 1 ≡ from + suc zero = omega arith in
+      ap (λ k. text k x ++ numbered text (from + 1) xs) none ∙ ap (λ k. text (from + 0) x ++ numbered text k xs) next
+  around_from from (x ∷ xs) (suc i) d within =
+      let next : from + 1 + i ≡ from + suc i = omega arith in
+      let later : from + 1 + suc i ≡ from + suc (suc i) = omega arith in
+      ap (λ rest. text from x ++ rest) (around_from (from + 1) xs i d (omega (arith, within))
+      ∙ ap (λ k. numbered text (from + 1) (take i xs) ++ (text k (get_or xs i d) ++ numbered text (from + 1 + suc i) (drop (suc i) xs))) next
+      ∙ ap (λ k. numbered text (from + 1) (take i xs) ++ (text (from + suc i) (get_or xs i d) ++ numbered text k (drop (suc i) xs))) later)
+      ∙ sym (append_assoc (text from x) (numbered text (from + 1) (take i xs)) (text (from + suc i) (get_or xs i d) ++ numbered text (from + suc (suc i)) (drop (suc i) xs)))
+
+  pub numbered_more : (xs : List A) (i : ℕ) (d : A) → i < length xs → numbered text 0 (take (i + 1) xs) ≡ numbered text 0 (take i xs) ++ text i (get_or xs i d)
+  numbered_more xs i d within =
+      let none : 0 + i ≡ i = omega arith in
+      ap (λ k. numbered text 0 (take k xs)) (add-one i) ∙ more_from 0 xs i d within ∙ ap (λ k. numbered text 0 (take i xs) ++ text k (get_or xs i d)) none
+
+  pub numbered_around : (xs : List A) (i : ℕ) (d : A) → i < length xs
+      → numbered text 0 xs ≡ numbered text 0 (take i xs) ++ (text i (get_or xs i d) ++ numbered text (0 + suc i) (drop (suc i) xs))
+  numbered_around xs i d within =
+      let none : 0 + i ≡ i = omega arith in
+      around_from 0 xs i d within ∙ ap (λ k. numbered text 0 (take i xs) ++ (text k (get_or xs i d) ++ numbered text (0 + suc i) (drop (suc i) xs))) none
+
+-- a list with an item has a first one
+pub first_of : {A : Type 0} (xs : List A) (i : ℕ) → i < length xs → A
+first_of [] i within = absurd (omega (arith, within))
+first_of (x ∷ xs) i within = x

@@ -1,0 +1,12 @@
+-- Which words a command comes from.
+use Rattle.mdf_command.specs.Words.{Request, opened, recorded, finalized, checked, described}
+use Rattle.mdf_command.specs.declared.command.Command.{Command}
+use Rattle.mdf_command.specs.declared.command.Command.TheVariants.{Opened, Record, Finalize, Check, Info}
+
+-- what a command was asked for with
+abbrev pub request_of : Command → Request
+request_of (Opened input) = opened input.now
+request_of (Record output) = recorded output.now
+request_of (Finalize input output) = finalized input.now output.now
+request_of (Check input) = checked input.now
+request_of (Info input) = described input.now

@@ -1,0 +1,101 @@
+-- The command words, without the program's name.
+use Rattle.std.specs.Prelude.{◌≡◌, ◌⊎◌, List, [], ◌∷◌, ℕ, Option, None, Some, codes}
+use Rattle.mdf_disk.specs.declared.role.Role.{Role}
+use Rattle.mdf_disk.specs.declared.role.Role.TheVariants.{Read, Create}
+use Rattle.mdf_command.specs.declared.command.Name.{Name}
+use Rattle.mdf_command.specs.declared.command.Name.TheVariants as name
+
+-- what the words may ask for
+pub data Request : Type 0 where
+  opened : (input : List ℕ) → Request
+  recorded : (output : List ℕ) → Request
+  finalized : (input output : List ℕ) → Request
+  checked : (input : List ℕ) → Request
+  described : (input : List ℕ) → Request
+
+-- the first word of each command
+abbrev pub name_text : Name → List ℕ
+name_text name.Opened = codes "opened"
+name_text name.Record = codes "record"
+name_text name.Finalize = codes "finalize"
+name_text name.Check = codes "check"
+name_text name.Info = codes "info"
+
+-- the word is that of this command, and of none
+abbrev pub Names : List ℕ → Name → Type 0
+Names word name = word ≡ name_text name
+
+abbrev pub NamesNothing : List ℕ → Type 0
+NamesNothing word = (name : Name) → ¬ Names word name
+
+-- which command it is, and its arguments
+abbrev pub name_of : Request → Name
+name_of (opened input) = name.Opened
+name_of (recorded output) = name.Record
+name_of (finalized input output) = name.Finalize
+name_of (checked input) = name.Check
+name_of (described input) = name.Info
+
+abbrev pub arguments_of : Request → List (List ℕ)
+arguments_of (opened input) = input ∷ []
+arguments_of (recorded output) = output ∷ []
+arguments_of (finalized input output) = input ∷ output ∷ []
+arguments_of (checked input) = input ∷ []
+arguments_of (described input) = input ∷ []
+
+-- the words that ask for it
+abbrev pub Asks : List (List ℕ) → Request → Type 0
+Asks words request = words ≡ name_text (name_of request) ∷ arguments_of request
+
+-- no command of the table
+abbrev pub IsUsage : List (List ℕ) → Type 0
+IsUsage words = (request : Request) → ¬ Asks words request
+
+-- `opened IN`
+abbrev pub AsksOpened : List (List ℕ) → List ℕ → Type 0
+AsksOpened words input = Asks words (opened input)
+
+-- `record OUT`
+abbrev pub AsksRecord : List (List ℕ) → List ℕ → Type 0
+AsksRecord words output = Asks words (recorded output)
+
+-- `finalize IN OUT`
+abbrev pub AsksFinalize : List (List ℕ) → List ℕ → List ℕ → Type 0
+AsksFinalize words input output = Asks words (finalized input output)
+
+-- `check IN`
+abbrev pub AsksCheck : List (List ℕ) → List ℕ → Type 0
+AsksCheck words input = Asks words (checked input)
+
+-- `info IN`
+abbrev pub AsksInfo : List (List ℕ) → List ℕ → Type 0
+AsksInfo words input = Asks words (described input)
+
+-- the file that it reads, and the file that it makes
+abbrev pub input_of : Request → Option (List ℕ)
+input_of (opened input) = Some input
+input_of (recorded output) = None
+input_of (finalized input output) = Some input
+input_of (checked input) = Some input
+input_of (described input) = Some input
+
+abbrev pub output_of : Request → Option (List ℕ)
+output_of (opened input) = None
+output_of (recorded output) = Some output
+output_of (finalized input output) = Some output
+output_of (checked input) = None
+output_of (described input) = None
+
+-- the words ask for a file to be made
+abbrev pub AsksToMake : List (List ℕ) → List ℕ → Type 0
+AsksToMake words output = (request : Request) × Asks words request × (output_of request ≡ Some output)
+
+-- the input disk was asked for nothing, or for the input that the words name, to be read
+abbrev pub AsksInput : List (List ℕ) → Option (List ℕ × Role) → Type 0
+AsksInput words asked = (asked ≡ None)
+    ⊎ ((request : Request) × (input : List ℕ) × Asks words request × (input_of request ≡ Some input) × (asked ≡ Some (input, Read)))
+
+-- the output disk was asked for nothing, or for the output that the words name, to be made
+abbrev pub AsksOutput : List (List ℕ) → Option (List ℕ × Role) → Type 0
+AsksOutput words asked = (asked ≡ None)
+    ⊎ ((request : Request) × (output : List ℕ) × Asks words request × (output_of request ≡ Some output) × (asked ≡ Some (output, Create)))

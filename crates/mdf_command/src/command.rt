@@ -1,0 +1,71 @@
+ghost use Rattle.std.specs.Prelude.{MatchOption};
+ghost use Rattle.mdf_command.specs.Words.{Asks, IsUsage, Names, NamesNothing};
+ghost use Rattle.mdf_command.specs.Commands.{request_of};
+
+use mdf_num::{Bytes, Rows};
+
+/// The first word of a command.
+#[derive(Clone, Copy)]
+pub enum Name {
+    Opened,
+    Record,
+    Finalize,
+    Check,
+    Info,
+}
+
+impl Name {
+    /// The command that this word names, if any.
+    fn of(word: &[u8]) -> Option<Name>
+        ensures { MatchOption result (NamesNothing word.now) (Names word.now) }
+    {
+        if word == b"opened".as_slice() {
+            return Some(Name::Opened);
+        }
+        if word == b"record".as_slice() {
+            return Some(Name::Record);
+        }
+        if word == b"finalize".as_slice() {
+            return Some(Name::Finalize);
+        }
+        if word == b"check".as_slice() {
+            return Some(Name::Check);
+        }
+        if word == b"info".as_slice() {
+            return Some(Name::Info);
+        }
+        None
+    }
+}
+
+/// What the command words ask for.
+#[derive(Clone, Copy)]
+pub enum Command<'a> {
+    /// `opened IN`
+    Opened { input: &'a Bytes },
+    /// `record OUT`
+    Record { output: &'a Bytes },
+    /// `finalize IN OUT`
+    Finalize { input: &'a Bytes, output: &'a Bytes },
+    /// `check IN`
+    Check { input: &'a Bytes },
+    /// `info IN`
+    Info { input: &'a Bytes },
+}
+
+/// The command that the words name, if any.
+pub fn command_of(words: &Rows<Bytes>) -> Option<Command<'_>>
+    ensures { MatchOption result (IsUsage words.now) (λ command. Asks words.now (request_of command)) }
+{
+    let [first, arguments @ ..] = words.as_slice() else {
+        return None;
+    };
+    match (Name::of(first.as_slice())?, arguments) {
+        (Name::Opened, [input]) => Some(Command::Opened { input }),
+        (Name::Record, [output]) => Some(Command::Record { output }),
+        (Name::Finalize, [input, output]) => Some(Command::Finalize { input, output }),
+        (Name::Check, [input]) => Some(Command::Check { input }),
+        (Name::Info, [input]) => Some(Command::Info { input }),
+        _ => None,
+    }
+}

@@ -1,0 +1,11 @@
+//! What the commands of the program have in common: the words that each is asked for by, the lines that are printed, and
+//! the faults with their lines and statuses.
+#![tactic(auto)]
+
+mod command;
+mod fault;
+mod report;
+
+pub use command::{Command, command_of};
+pub use fault::Fault;
+pub use report::{Piece, give_line, status_after};

@@ -1,0 +1,5 @@
+pub mod Opened
+pub mod Reading
+pub mod Check
+pub mod Info
+pub mod Question

@@ -1,0 +1,33 @@
+-- The command `opened IN`.
+use Rattle.std.specs.Prelude.{ℕ, ◌≤◌, List, [], ◌∷◌, length, codes, IfSome, Result, Ok, Err}
+use Rattle.std.specs.Fmt.{decimal}
+use Rattle.mdf_disk.specs.State.{DiskState}
+use Rattle.mdf_port.specs.State.{SinkState}
+use Rattle.mdf_gate.specs.Opened.{IsCountOf}
+use Rattle.mdf_gate.specs.declared.answer.Opened.{Opened}
+use Rattle.mdf_command.specs.Texts.{line, Prints}
+use Rattle.mdf_command.specs.Faults.{INPUT_LIMIT, InputFaultComes, fault_line, fault_status}
+use Rattle.mdf_command.specs.declared.fault.Fault.{Fault}
+
+-- the line with the number of the opened blocks and of their bytes
+abbrev pub opened_line : Opened → List ℕ
+opened_line count = line (codes "blocks " ∷ decimal count.blocks ∷ codes " bytes " ∷ decimal count.bytes ∷ [])
+
+-- The command ends with this count or this fault only where the file, if its disk tells it, has that count or that
+-- fault, or the disk's count of faults says that it failed.
+abbrev pub OpenedComes : DiskState → DiskState → Result Opened Fault → Type 0
+OpenedComes old new (Ok count) = IfSome old.content (λ file. IsCountOf file count × (length file ≤ INPUT_LIMIT))
+OpenedComes old new (Err fault) = InputFaultComes old new fault
+
+abbrev pub opened_text : Result Opened Fault → List ℕ
+opened_text (Ok count) = opened_line count
+opened_text (Err fault) = fault_line fault
+
+abbrev pub opened_status : Result Opened Fault → ℕ
+opened_status (Ok count) = 0
+opened_status (Err fault) = fault_status fault
+
+-- How the command ends, by what the disk of the input and the sink tell before and after.
+abbrev pub EndsOpened : DiskState → DiskState → SinkState → SinkState → ℕ → Type 0
+EndsOpened disk disk' sink sink' status =
+    (end : Result Opened Fault) × OpenedComes disk disk' end × Prints (opened_text end) (opened_status end) sink sink' status

@@ -1,0 +1,62 @@
+-- What the commands `check IN` and `info IN` read of a file.
+use Rattle.std.specs.Prelude.{ℕ, ◌≡◌, ◌<◌, ◌≤◌, ◌↔◌, List, length, IsTrue, IfSome, Result, Ok, Err}
+use Rattle.mdf_format.specs.Cause.{Rose}
+use Rattle.mdf_block.specs.Refusal.{Read, ◌>>=◌, Fails}
+use Rattle.mdf_head.specs.Ident.{identify}
+use Rattle.mdf_content.specs.Fault.{read_refusal}
+use Rattle.mdf_model.specs.Measurement.{measurement}
+use Rattle.mdf_valid.specs.Measurement.{IsMeasurement, IsValidFile}
+use Rattle.mdf_disk.specs.State.{DiskState}
+use Rattle.mdf_port.specs.State.{SinkState}
+use Rattle.mdf_command.specs.Texts.{Prints}
+use Rattle.mdf_command.specs.Faults.{INPUT_LIMIT, fault_line, fault_status}
+use Rattle.mdf_command.specs.declared.fault.Fault.{Fault}
+use Rattle.mdf_command.specs.declared.fault.Fault.TheVariants as fault
+use Rattle.mdf_inspect.specs.declared.reading.Reading.{Reading}
+
+-- the version of a file and its measurement, or the first reason to refuse it
+unfoldable pub reading : List ℕ → Read Reading
+reading file = do
+  id ← identify file
+  found ← measurement file
+  Ok (record { version = id.ver; measurement = found })
+
+-- The file could not be read only where this holds of the disk of the input before and after.
+abbrev pub ReadingFaultComes : DiskState → DiskState → Fault → Type 0
+ReadingFaultComes old new (fault.Gate refused) = ⊥
+ReadingFaultComes old new fault.Source = ⊥
+ReadingFaultComes old new fault.Device = Rose old.faults new.faults
+ReadingFaultComes old new (fault.InputOver size limit) =
+    (limit ≡ INPUT_LIMIT) × (limit < size) × IfSome old.content (λ file. size ≡ length file)
+ReadingFaultComes old new (fault.ScriptOver limit) = ⊥
+ReadingFaultComes old new (fault.SessionFull held size limit) = ⊥
+ReadingFaultComes old new fault.Memory = Unit {0}
+ReadingFaultComes old new (fault.Script number) = ⊥
+ReadingFaultComes old new (fault.Read refused) =
+    IfSome old.content (λ file. Fails (read_refusal refused) (reading file) × (length file ≤ INPUT_LIMIT))
+
+-- What is read of a file is its measurement, and it is strict exactly where the file is valid.
+pub record IsReading (found : Reading) (file : List ℕ) : Type 0 where
+  pub is_read : reading file ≡ Ok found
+  pub measured : IsMeasurement file found.measurement.head found.measurement.history found.measurement.groups
+  pub valid : IsTrue found.measurement.strict ↔ IsValidFile file
+  pub short : length file ≤ INPUT_LIMIT
+
+-- This was read, or the file could not be read, only where the disk of the input says so before and after.
+abbrev pub ReadingComes : DiskState → DiskState → Result Reading Fault → Type 0
+ReadingComes old new (Ok found) = IfSome old.content (IsReading found)
+ReadingComes old new (Err fault) = ReadingFaultComes old new fault
+
+abbrev pub reading_status : Result Reading Fault → ℕ
+reading_status (Ok found) = 0
+reading_status (Err fault) = fault_status fault
+
+-- what a command prints: this text of a file that was read, or why it was not
+abbrev pub answer_text : (Reading → List ℕ) → Result Reading Fault → List ℕ
+answer_text text (Ok found) = text found
+answer_text text (Err fault) = fault_line fault
+
+-- How a command that prints this text of a file ends, by what the disk of the input and the sink tell before and after.
+abbrev pub EndsReading : (Reading → List ℕ) → DiskState → DiskState → SinkState → SinkState → ℕ → Type 0
+EndsReading text disk disk' sink sink' status =
+    (end : Result Reading Fault) × ReadingComes disk disk' end × Prints (answer_text text end) (reading_status end) sink sink' status

@@ -1,0 +1,109 @@
+ghost use Rattle.std.specs.Prelude.{◌≡◌, ◌<◌, ◌≤◌, length, slice_index_or};
+ghost use Rattle.mdf_model.specs.declared.part.Measure.{Measure};
+ghost use Rattle.mdf_port.specs.State.{sink_state};
+ghost use Rattle.mdf_command.specs.Texts.{Gives, numbered, text_of};
+ghost use Rattle.mdf_inspect.specs.Info.{contents_text, group_line, total, total_line, version_line};
+
+use crate::reading::Reading;
+use mdf_block::Note;
+use mdf_command::Piece::{Name, Number, Sum, Text};
+use mdf_command::give_line;
+use mdf_model::Measurement;
+use mdf_num::Failed;
+use mdf_port::Sink;
+
+/// The text of a name, which is empty where there is none.
+fn text_of(name: &Note) -> &[u8]
+    ensures { result.now ≡ text_of name.now }
+{
+    match name {
+        Note::Nothing => &[],
+        Note::Plain(text) => text.as_slice(),
+        Note::Xml(text) => text.as_slice(),
+    }
+}
+
+/// Gives the line of a group.
+fn give_group<K: Sink>(sink: &mut K, found: &Measurement, group: u32) -> Result<(), Failed>
+    requires { group < length found.now.groups }
+    ensures { (d : Measure) → Gives (group_line group (slice_index_or found.now.groups group d))
+        (sink_state K.Sink sink.old) (sink_state K.Sink sink.new) result }
+{
+    let row = &found.part(group).row;
+    give_line(
+        sink,
+        &[
+            Text(b"group "),
+            Number(u64::from(group)),
+            Text(b" "),
+            Name(text_of(&row.name)),
+            Text(b" channels "),
+            Number(row.channels.len()),
+            Text(b" samples "),
+            Number(found.samples(group)),
+        ],
+    )
+}
+
+/// Gives the lines of the groups.
+fn give_groups<K: Sink>(sink: &mut K, found: &Measurement) -> Result<(), Failed>
+    ensures { Gives (numbered group_line 0 found.now.groups) (sink_state K.Sink sink.old) (sink_state K.Sink sink.new) result }
+{
+    for group in 0..found.groups() {
+        give_group(sink, found, group)?;
+    }
+    Ok(())
+}
+
+/// How many samples a group has.
+fn samples_of(found: &Measurement, group: u32) -> u128
+    requires { group < length found.now.groups }
+    ensures count { (d : Measure) → result ≡ (slice_index_or found.now.groups group d).count }
+    ensures small { result ≤ 18446744073709551615 }
+{
+    u128::from(found.samples(group))
+}
+
+/// How many samples all groups have.
+fn total(found: &Measurement) -> u128
+    ensures { result ≡ total found.now.groups }
+{
+    let mut total = 0u128;
+    for group in 0..found.groups() {
+        total += samples_of(found, group);
+    }
+    total
+}
+
+/// Gives the line of all groups.
+fn give_total<K: Sink>(sink: &mut K, found: &Measurement) -> Result<(), Failed>
+    ensures { Gives (total_line found.now) (sink_state K.Sink sink.old) (sink_state K.Sink sink.new) result }
+{
+    give_line(
+        sink,
+        &[
+            Text(b"groups "),
+            Number(u64::from(found.groups())),
+            Text(b" samples "),
+            Sum(total(found)),
+            Text(b" dropped "),
+            Number(found.dropped()),
+        ],
+    )
+}
+
+/// Gives the line of the version.
+fn give_version<K: Sink>(sink: &mut K, version: u16) -> Result<(), Failed>
+    ensures { Gives (version_line version) (sink_state K.Sink sink.old) (sink_state K.Sink sink.new) result }
+{
+    give_line(sink, &[Text(b"version "), Number(u64::from(version))])
+}
+
+/// Gives the lines on what a file holds.
+pub fn give_contents<K: Sink>(sink: &mut K, found: &Reading) -> Result<(), Failed>
+    ensures { Gives (contents_text found.now) (sink_state K.Sink sink.old) (sink_state K.Sink sink.new) result }
+{
+    give_version(sink, found.version)?;
+    give_groups(sink, &found.measurement)?;
+    give_total(sink, &found.measurement)
+}

@@ -1,0 +1,77 @@
+ghost use Rattle.std.specs.Prelude.{◌≡◌, ◌⊎◌, ◌↔◌, IsTrue, IfOk, Some, None};
+ghost use Rattle.mdf_block.specs.Refusal.{GivesOf};
+ghost use Rattle.mdf_head.specs.Ident.{identify};
+ghost use Rattle.mdf_valid.specs.Measurement.{IsMeasurement, IsValidFile};
+ghost use Rattle.mdf_content.specs.Fault.{read_refusal};
+ghost use Rattle.mdf_disk.specs.State.{state_of};
+ghost use Rattle.mdf_disk.specs.declared.role.Role.TheVariants.{Read};
+ghost use Rattle.mdf_inspect.specs.Reading.{ReadingComes, reading, reading_status};
+
+use mdf_command::Fault;
+use mdf_content::ReadFault;
+use mdf_disk::{Disk, Role, read_whole};
+use mdf_head::{Ident, IdentFault, ident};
+use mdf_model::Measurement;
+use mdf_num::Bytes;
+use mdf_valid::read_file;
+use std::alloc::Global;
+
+/// How many bytes an input file has at most.
+const INPUT_LIMIT: u64 = 536_870_912;
+
+/// What is read of a finalized file.
+#[derive(Drop)]
+pub struct Reading {
+    /// The version of the format, times 100.
+    pub version: u16,
+    pub measurement: Measurement,
+}
+
+/// What the first 64 bytes say, with the faults of reading.
+fn ident_of(bytes: &[u8]) -> Result<Ident, ReadFault>
+    ensures { GivesOf read_refusal result (identify bytes.now) }
+{
+    match ident(bytes) {
+        Ok(id) => Ok(id),
+        Err(IdentFault::NotMdf) => Err(ReadFault::NotMdf),
+        Err(IdentFault::Version { ver }) => Err(ReadFault::Version { ver }),
+    }
+}
+
+/// What is read of these bytes.
+#[tactic(auto, unfolding(crate::specs::Reading::reading))]
+fn reading_of(alloc: Global, bytes: &[u8]) -> Result<Reading, ReadFault>
+    ensures exact { GivesOf read_refusal result (reading bytes.now) }
+    ensures measured { IfOk result (λ found. IsMeasurement bytes.now found.measurement.head found.measurement.history found.measurement.groups) }
+    ensures valid { IfOk result (λ found. IsTrue found.measurement.strict ↔ IsValidFile bytes.now) }
+{
+    let id = ident_of(bytes)?;
+    let measurement = read_file(alloc, bytes)?;
+    Ok(Reading {
+        version: id.ver,
+        measurement,
+    })
+}
+
+/// Reads the file of this name.
+pub fn read_input<A: Disk>(alloc: Global, input: &Bytes, first: &mut A) -> Result<Reading, Fault>
+    requires { A.asked first.old ≡ None }
+    ensures comes { ReadingComes (state_of A.Disk first.old) (state_of A.Disk first.new) result }
+    ensures asked { (A.asked first.new ≡ None) ⊎ (A.asked first.new ≡ Some (input.now, Read)) }
+    ensures content { A.content first.new ≡ A.content first.old }
+    ensures untouched { A.asked first.new ≡ None → first.new ≡ first.old }
+{
+    first.attach(input.copy()?, Role::Read)?;
+    let bytes = read_whole(alloc, first, INPUT_LIMIT)?;
+    Ok(reading_of(alloc, bytes.as_slice())?)
+}
+
+/// The status with which a command on a file ends.
+pub fn status(end: &Result<Reading, Fault>) -> u8
+    ensures { result ≡ reading_status end.now }
+{
+    match end {
+        Ok(_) => 0,
+        Err(fault) => fault.status(),
+    }
+}

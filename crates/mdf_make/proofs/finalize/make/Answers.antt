@@ -1,0 +1,58 @@
+use Rattle.std.proofs.Common.{◌∙◌, ap, refl, arith}
+use Rattle.std.proofs.lemmas.Result.{err_from_is_err_and}
+use Rattle.mdf_disk.specs.State.{state_of}
+use Rattle.mdf_make.proofs.Making.{make_fault, make_leaves, still_nothing, still_no_mdf}
+use Rattle.mdf_make.proofs.finalize.make.Goals as goal
+
+pub returns-in_err-copy-clause-comes : goal.returns-in_err-copy-clause-comes
+returns-in_err-copy-clause-comes g c =
+    let disk = g.C.Disk in
+    let laws = g.met.C.Disk in
+    let out = c.args.out.now in
+    let p = err_from_is_err_and c.from_residual.result c.from_residual.ensures.1 in
+    rw (p.1, p.2) (still_nothing (disk.story out) (disk.story out) (disk.content out) (disk.moment out) (laws.agrees out)
+    (laws.unattached out (laws.unasked out c.requires)) refl)
+
+pub returns-in_err-copy-clause-any_moment : goal.returns-in_err-copy-clause-any_moment
+returns-in_err-copy-clause-any_moment g c =
+    let disk = g.C.Disk in
+    let laws = g.met.C.Disk in
+    let out = c.args.out.now in
+    still_no_mdf c.args.file c.args.now_ns (disk.story out) (disk.story out) (disk.content out) (disk.moment out) (laws.agrees out)
+    (laws.unattached out (laws.unasked out c.requires)) refl
+
+pub returns-in_err-attach-clause-any_moment : goal.returns-in_err-attach-clause-any_moment
+returns-in_err-attach-clause-any_moment g c =
+    let disk = g.C.Disk in
+    let laws = g.met.C.Disk in
+    let out = c.args.out.now in
+    still_no_mdf c.args.file c.args.now_ns (disk.story out) (disk.story c.attach.new.self) (disk.content out) (disk.moment out) (laws.agrees out)
+    (laws.unattached out (laws.unasked out c.requires)) c.attach.ensures.story
+
+pub returns-in_err-finalize-clause-comes : goal.returns-in_err-finalize-clause-comes
+returns-in_err-finalize-clause-comes g c =
+    let disk = g.C.Disk in
+    let laws = g.met.C.Disk in
+    let out = c.args.out.now in
+    let p = err_from_is_err_and c.from_residual-in_err-finalize.result c.from_residual-in_err-finalize.ensures.1 in
+    rw (p.1, p.2) (make_fault c.args.file c.args.now_ns (state_of disk out) (state_of disk c.attach.new.self) (state_of disk c.finalize.new.out)
+    (laws.agrees out) (laws.unattached out (laws.unasked out c.requires)) c.attach.ensures.story c.attach.ensures.cause.later
+    c.in_err-finalize.field-0.0 c.in_err-finalize.ensures.ends)
+
+pub returns-in_err-finalize-clause-any_moment : goal.returns-in_err-finalize-clause-any_moment
+returns-in_err-finalize-clause-any_moment g c =
+    let disk = g.C.Disk in
+    let laws = g.met.C.Disk in
+    let out = c.args.out.now in
+    make_leaves c.args.file c.args.now_ns (state_of disk out) (state_of disk c.attach.new.self) (state_of disk c.finalize.new.out)
+    (laws.agrees out) (laws.unattached out (laws.unasked out c.requires)) c.attach.ensures.story c.attach.ensures.cause.later
+    c.finalize.ensures.any_moment
+
+pub returns-clause-any_moment : goal.returns-clause-any_moment
+returns-clause-any_moment g c =
+    let disk = g.C.Disk in
+    let laws = g.met.C.Disk in
+    let out = c.args.out.now in
+    make_leaves c.args.file c.args.now_ns (state_of disk out) (state_of disk c.attach.new.self) (state_of disk c.finalize.new.out)
+    (laws.agrees out) (laws.unattached out (laws.unasked out c.requires)) c.attach.ensures.story c.attach.ensures.cause.later
+    c.finalize.ensures.any_moment

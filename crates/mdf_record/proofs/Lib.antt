@@ -1,0 +1,5 @@
+mod Heads
+mod Marking
+mod Begins
+pub mod Runs
+mod Recording

@@ -1,0 +1,286 @@
+-- A book that was driven, flushed and closed says how the recording ended.
+use Rattle.std.proofs.Common.{◌≡◌, ◌≤◌, inl, inr, ⊎_elim, ℕ, List, [], ◌∷◌, ◌++◌, length, Option, Some, None, Result, Ok, Err, true≢false, get_or, take, refl, sym, ◌∙◌, ap, subst, arith, length-append}
+use Rattle.std.specs.Prelude.{slice_get, is_some, IsOk, IfSome}
+use Rattle.std.proofs.lemmas.Option.{slice_get_cases}
+use Rattle.std.proofs.Math.Seq.{get_or-append_seam}
+use Rattle.std.proofs.lemmas.List.{take_all}
+use Rattle.mdf_disk.specs.Story.{Story, Agrees, IsFresh, LeftSince}
+use Rattle.mdf_disk.specs.Crash.{Adds, HoldsSince}
+use Rattle.mdf_disk.proofs.Crash.{adds_none}
+use Rattle.mdf_disk.specs.declared.role.Role.TheVariants.{Create}
+use Rattle.book_owned.specs.Members.{DiskOf}
+use Rattle.book_owned.specs.declared.view.Shown.{Ghosts as ViewOf}
+use Rattle.mdf_disk.specs.State.{DiskState, state_of}
+use Rattle.mdf_port.specs.State.{SourceState}
+use Rattle.mdf_format.specs.Cause.{Rose}
+use Rattle.mdf_layout.specs.Record.{cost_of, history_cost}
+use Rattle.mdf_layout.specs.Stock.{Stock}
+use Rattle.mdf_layout.specs.declared.sample.Sample.{Sample}
+use Rattle.mdf_gate.specs.Gated.{Gated}
+use Rattle.mdf_gate.specs.Images.{head_of, IsBegun}
+use Rattle.mdf_gate.proofs.Begun.{begun_holds}
+use Rattle.book_owned.specs.Account.{Account, Steps, Terms}
+use Rattle.book_owned.specs.Begun.{HasBegun}
+use Rattle.book_owned.specs.Kept.{HoldsDurable, IsKept}
+use Rattle.mdf_gate.specs.Carried.{IsCarried, IsEncoded}
+use Rattle.book_owned.specs.Marks.{durable}
+use Rattle.book_owned.specs.declared.view.NoView.{NoView}
+use Rattle.acq_script.specs.Tasks.{samples_of}
+use Rattle.acq_script.specs.declared.script.Script.{Script}
+use Rattle.acq_script.specs.declared.script.Task.{Task}
+use Rattle.mdf_record.specs.Sources.{AllRan, HasNext, Ran, RanAll}
+use Rattle.mdf_record.specs.Finish.{FileFaultComes, Finishes, FinishEnds, IsAllDurable, IsUnmade}
+use Rattle.mdf_record.specs.Record.{AreAccepted, AreEnds, CloseComes, IsComplete, IsFull, IsNext, IsRecorded, IsSaved, IsShort, Outcome, SourceComes, outcome}
+use Rattle.mdf_record.specs.Head.{script_head}
+use Rattle.mdf_record.specs.Script.{SaysScript}
+use Rattle.mdf_record.specs.Recorded.{Closes, HasRun, RunComes, RecordComes}
+use Rattle.mdf_record.specs.declared.drive.End.{End}
+use Rattle.mdf_record.specs.declared.drive.End.TheVariants as end_
+use Rattle.mdf_command.specs.declared.fault.Fault.{Fault}
+use Rattle.mdf_command.specs.declared.fault.Fault.TheVariants as fault
+use Rattle.mdf_record.specs.declared.record.Recorded.{Recorded}
+use Rattle.mdf_record.specs.declared.record.RecordEnd.{RecordEnd}
+use Rattle.mdf_record.specs.declared.record.RecordEnd.TheVariants.{Refused, Closed}
+use Rattle.mdf_record.proofs.Marking.{samples_of-append}
+use Rattle.mdf_record.proofs.Runs.{RanAt, accepted-length, all_later, all_room, each_done, first_full, hows-length, own_begins, own_flushes, ran_of, whole_ran, worst_err}
+
+-- the element at a seam
+at_seam : {A : Type 0} (xs : List A) (y : A) (ys : List A) → slice_get (xs ++ y ∷ ys) (length xs) ≡ Some y
+at_seam xs y ys = ⊎_elim
+    (λ there. there.2 ∙ ap Some (sym there.3 ∙ get_or-append_seam xs y ys there.0))
+    (λ past. absurd (omega (arith, past.0, length-append xs (y ∷ ys))))
+    (slice_get_cases (xs ++ y ∷ ys) (length xs)).1
+
+module _ {D N : Type 0} (tells : DiskOf D) (shows : ViewOf NoView N)
+    (script : Script) (file : Gated D) (view : NoView)
+    (begun driven flushed : Account D NoView) (accepted : Stock ℕ) (result : Result Unit End) (problem : Option Fault) (recorded : Recorded D)
+    (begins : HasBegun tells shows file script.plan.shapes script.plan.block script.plan.session view begun)
+    (more : List Sample) (steps : Steps begun driven more) (ran : RanAll script.plan.owners driven script.lists accepted.items result)
+    (finishes : Finishes driven flushed result problem) (closes : Closes tells flushed accepted problem recorded) where
+  abbrev head : List ℕ
+  head = head_of (tells.story file.disk) file.first
+
+  abbrev owners : List ℕ
+  owners = script.plan.owners
+
+  abbrev terms : Terms
+  terms = record {
+    layouts = script.plan.shapes;
+    block_limit = script.plan.block;
+    session_limit = script.plan.session;
+    which = shows.which view;
+    head = head;
+    start = file.start;
+    faults = file.faults;
+    told = is_some (tells.story file.disk);
+    asked = tells.asked file.disk;
+  }
+
+  terms_are : flushed.terms ≡ terms
+  terms_are = finishes.steps.terms ∙ steps.terms ∙ begins.terms
+
+  -- each source, in the book as it is at the end
+  all : AllRan owners flushed 0 script.lists accepted.items ran.hows
+  all = all_later driven flushed [] finishes.steps owners 0 script.lists accepted.items ran.hows (λ s low high. refl) ran.each
+
+  at_source : (s : ℕ) (tasks : List Task) → slice_get script.lists s ≡ Some tasks → RanAt owners flushed s tasks accepted.items ran.hows s
+  at_source s tasks there = ran_of owners flushed script.lists accepted.items ran.hows all s tasks there
+
+  kept : IsKept terms (state_of tells flushed.disk) flushed.history flushed.marks
+  kept = subst (λ t. IsKept t (state_of tells flushed.disk) flushed.history flushed.marks) terms_are closes.kept
+
+  abbrev left : Outcome
+  left = outcome tells flushed.disk flushed.history flushed.marks
+
+  recorded_is : IsRecorded script head file.start left
+  recorded_is = record {
+    marks_hold = kept.marks_hold;
+    start_holds = kept.start_holds;
+    marks_rise = kept.marks_rise;
+    own_prefix = λ s tasks there. let at = at_source s tasks there in own_begins owners flushed s tasks at.n at.how at.ran;
+    flush_lines = λ s tasks there. let at = at_source s tasks there in own_flushes owners flushed s tasks at.n at.how at.ran;
+  }
+
+  accepted_are : AreAccepted script left accepted.items
+  accepted_are = record {
+    count = accepted-length owners flushed 0 script.lists accepted.items ran.hows all;
+    each = λ s tasks there. let at = at_source s tasks there in at.accepted_is ∙ ap Some (at.ran.counted ∙ ap length (sym at.ran.own));
+  }
+
+  -- the file carries all of the history where all of it is durable
+  saved : IsAllDurable flushed → IsSaved script.plan left
+  saved all = record {
+    all_durable = all.1;
+    holds = subst (λ samples. IfSome (tells.content flushed.disk) (λ disk. IsCarried script.plan.shapes disk samples × IsEncoded script.plan.shapes disk samples))
+        (ap (λ n. take n flushed.history) all.1 ∙ take_all (length flushed.history) flushed.history (omega arith))
+        (subst (λ (t : Terms). IfSome (tells.content flushed.disk) (HoldsDurable t flushed.history flushed.marks)) terms_are (closes.holds all.0));
+  }
+
+  -- all tasks were done
+  completes : (r : Result Unit End) → result ≡ r → IsOk r → IsAllDurable flushed → IsComplete script left
+  completes (Ok u) is ok durable_all = record {
+    whole = λ s tasks there.
+        let at = at_source s tasks there in
+        let ran_all = whole_ran owners flushed s tasks at.n at.how (each_done ran.hows u (sym is ∙ ran.told) s at.how at.how_is) at.ran in
+        record { history_is = ran_all.0; flush_lines = ran_all.1 };
+    cost = subst (λ (t : Terms). history_cost t.layouts flushed.history ≤ t.session_limit) terms_are closes.within;
+    saved = saved durable_all;
+  }
+  completes (Err e) is ok durable_all = absurd (true≢false (sym ok))
+
+  -- how a source ended, where the disk did not fail
+  next_there : (s : ℕ) (tasks : List Task) (n : ℕ) (how : Result Unit End) (r : Ran owners flushed s tasks n how) (sample : Sample) → HasNext r.rest sample → IsNext script left s tasks sample
+  next_there s tasks n how r sample next =
+      ap (λ own. slice_get (samples_of tasks) (length own)) r.own
+      ∙ ap (λ ss. slice_get ss (length (samples_of r.done)))
+      (ap samples_of (sym r.parts) ∙ samples_of-append r.done r.rest ∙ ap (λ ts. samples_of r.done ++ samples_of ts) next.rest_is)
+      ∙ at_seam (samples_of r.done) sample (samples_of next.later)
+
+  source_comes : IsAllDurable flushed → (s : ℕ) (tasks : List Task) (n : ℕ) (how : Result Unit End) → Ran owners flushed s tasks n how → SourceComes script left s tasks how
+  source_comes durable_all s tasks n (Ok u) r = let whole = whole_ran owners flushed s tasks n (Ok u) tt r in record { history_is = whole.0; flush_lines = whole.1 }
+  source_comes durable_all s tasks n (Err (end_.SessionFull held size limit)) r = record {
+    sample = r.ends.sample;
+    next = next_there s tasks n (Err (end_.SessionFull held size limit)) r r.ends.sample r.ends.next;
+    before = r.before;
+    begins = r.begins;
+    all_own = r.all_own;
+    held_is = r.ends.held_is ∙ ap (λ (t : Terms). history_cost t.layouts r.before) terms_are;
+    size_is = r.ends.size_is ∙ ap (λ (t : Terms). cost_of t.layouts r.ends.sample) terms_are;
+    limit_is = r.ends.limit_is ∙ ap (λ (t : Terms). t.session_limit) terms_are;
+    over = r.ends.over;
+  }
+  source_comes durable_all s tasks n (Err end_.Stopped) r = absurd (true≢false (sym r.ends ∙ durable_all.0))
+  source_comes durable_all s tasks n (Err end_.Memory) r = (r.ends.0, next_there s tasks n (Err end_.Memory) r r.ends.0 r.ends.1)
+
+  ends_are : IsAllDurable flushed → AreEnds script left ran.hows
+  ends_are durable_all = record {
+    count = hows-length owners flushed 0 script.lists accepted.items ran.hows all;
+    each = λ s tasks there. let at = at_source s tasks there in
+        subst (λ found. IfSome found (SourceComes script left s tasks)) (sym at.how_is) (source_comes durable_all s tasks at.n at.how at.ran);
+    saved = saved durable_all;
+  }
+
+  -- the first source that had no room
+  fills : (held size limit : ℕ) → result ≡ Err (end_.SessionFull held size limit) → IsAllDurable flushed → IsFull script left held size limit
+  fills held size limit is durable_all =
+      let found = first_full ran.hows held size limit (sym ran.told ∙ is) in
+      record { ends = ran.hows; are = ends_are durable_all; source = found.source; told = found.told; first = found.first }
+
+  -- a source for whose sample memory was wanted
+  wants : result ≡ Err end_.Memory → IsAllDurable flushed → IsShort script left
+  wants is durable_all =
+      let found = worst_err ran.hows end_.Memory (sym ran.told ∙ is) in
+      record { ends = ran.hows; are = ends_are durable_all; source = found.0; wanted = found.1; room = all_room ran.hows (sym ran.told ∙ is) }
+
+  ended : (problem' : Option Fault) → FinishEnds flushed result problem' → CloseComes script file.faults left problem'
+  ended None ends = completes result refl ends.0 ends.1
+  ended (Some (fault.Gate refused)) ends = absurd ends
+  ended (Some fault.Source) ends = absurd ends
+  ended (Some fault.Device) ends = subst (λ (t : Terms). Rose t.faults (tells.faults flushed.disk)) terms_are (closes.cause ends)
+  ended (Some (fault.InputOver size limit)) ends = absurd ends
+  ended (Some (fault.ScriptOver limit)) ends = absurd ends
+  ended (Some (fault.SessionFull held size limit)) ends = fills held size limit ends.0 ends.1
+  ended (Some fault.Memory) ends = wants ends.0 ends.1
+  ended (Some (fault.Script number)) ends = absurd ends
+  ended (Some (fault.Read refused)) ends = absurd ends
+
+  pub has_run : HasRun tells script file (outcome tells recorded.out recorded.history.items recorded.marks.items) recorded.end
+  has_run = record {
+    comes = rw (closes.end_is) (record {
+      recorded = rw (closes.disk, closes.history, closes.marks) recorded_is;
+      accepted_is = rw (closes.disk, closes.history, closes.marks) accepted_are;
+      samples_is = ap length (sym closes.history);
+      durable_is = ap durable (sym closes.marks);
+      comes = rw (closes.disk, closes.history, closes.marks) (ended problem finishes.ends);
+    });
+    asked_is = ap tells.asked closes.disk ∙ closes.asked_is ∙ ap (λ (t : Terms). t.asked) terms_are;
+    told = ap (λ d. is_some (tells.story d)) closes.disk ∙ closes.told ∙ ap (λ (t : Terms). t.told) terms_are;
+  }
+
+-- of a story that is not told nothing is known to be left
+none_left : (s : Option Story) (t : ℕ) (file : List ℕ) → s ≡ None → ¬ LeftSince s t file
+none_left s t file is may = absurd (subst (λ r. LeftSince r t file) is may)
+
+-- of a disk that tells its story the head and the moment of the start are known; of another nothing is said
+recorded_told : (script : Script) (front front' : List ℕ) (s middle first : Option Story) (start start' : ℕ) (outcome' : Outcome) → outcome'.disk.story ≡ s
+    → is_some s ≡ is_some middle → is_some middle ≡ is_some first → IfSome middle (λ _. front ≡ front') → IfSome first (λ _. start ≡ start')
+    → IsRecorded script front start outcome' → IsRecorded script front' start' outcome'
+recorded_told script front front' None middle first start start' outcome' is told told' front_is start_is recorded = record {
+  marks_hold = λ k mark within. let hold = recorded.marks_hold k mark within in
+      record { past = hold.past; within = hold.within; carries = λ file may. absurd (none_left outcome'.disk.story (get_or outcome'.marks k mark).moment file is may) };
+  start_holds = λ file may. absurd (none_left outcome'.disk.story start' file is may);
+  marks_rise = recorded.marks_rise;
+  own_prefix = recorded.own_prefix;
+  flush_lines = recorded.flush_lines;
+}
+recorded_told script front front' (Some s) (Some middle) (Some first) start start' outcome' is told told' front_is start_is recorded =
+    subst (λ h. IsRecorded script h start' outcome') front_is (subst (λ n. IsRecorded script front n outcome') start_is recorded)
+recorded_told script front front' (Some s) None first start start' outcome' is told told' front_is start_is recorded = absurd (true≢false told)
+recorded_told script front front' (Some s) (Some middle) None start start' outcome' is told told' front_is start_is recorded = absurd (true≢false told')
+
+-- a fault of the disk since an earlier count
+close_earlier : (script : Script) (earlier faults : ℕ) (left : Outcome) (problem : Option Fault) → earlier ≤ faults
+    → CloseComes script faults left problem → CloseComes script earlier left problem
+close_earlier script earlier faults left None later comes = comes
+close_earlier script earlier faults left (Some (fault.Gate refused)) later comes = comes
+close_earlier script earlier faults left (Some fault.Source) later comes = comes
+close_earlier script earlier faults left (Some fault.Device) later comes = omega (arith, later, comes)
+close_earlier script earlier faults left (Some (fault.InputOver size limit)) later comes = comes
+close_earlier script earlier faults left (Some (fault.ScriptOver limit)) later comes = comes
+close_earlier script earlier faults left (Some (fault.SessionFull held size limit)) later comes = comes
+close_earlier script earlier faults left (Some fault.Memory) later comes = comes
+close_earlier script earlier faults left (Some (fault.Script number)) later comes = comes
+close_earlier script earlier faults left (Some (fault.Read refused)) later comes = comes
+
+-- what was recorded into a file that was made on a disk
+pub record_comes : {C : Type 0} (tells : DiskOf C) (source source' : SourceState) (name : List ℕ) (now : ℕ) (out : C) (script : Script) (file : Gated C) (left : Outcome) (end : RecordEnd)
+    → SaysScript source script → tells.asked file.disk ≡ Some (name, Create) → HoldsSince (tells.story file.disk) (tells.moment out) (IsBegun (script_head now script))
+    → IfSome (tells.story file.disk) (λ _. head_of (tells.story file.disk) file.first ≡ script_head now script) → is_some (tells.story file.disk) ≡ is_some (tells.story out)
+    → IfSome (tells.story out) (λ _. file.start ≡ tells.moment out) → tells.faults out ≤ file.faults → HasRun tells script file left end
+    → RecordComes source source' name now (state_of tells out) left end
+record_comes tells source source' name now out script file left end says asked_is begun head_is told start_is later run = of_end end run.comes where
+  of_end : (e : RecordEnd) → RunComes script (state_of tells file.disk) (head_of (tells.story file.disk) file.first) file.start file.faults left e
+      → RecordComes source source' name now (state_of tells out) left e
+  of_end (Refused problem) comes = record {
+    history = comes.2;
+    marks = comes.3;
+    comes = inr (record {
+      script = script;
+      says = says;
+      begun = subst (λ (d : DiskState). HoldsSince d.story (tells.moment out) (IsBegun (script_head now script))) (sym comes.1) begun;
+      comes = subst (FileFaultComes (state_of tells out) left.disk) (sym comes.0) tt;
+      asked_is = inr (run.asked_is ∙ asked_is);
+    });
+  }
+  of_end (Closed accepted samples last problem) comes = record {
+    script = script;
+    says = says;
+    recorded = recorded_told script (head_of (tells.story file.disk) file.first) (script_head now script) left.disk.story (tells.story file.disk) (tells.story out)
+        file.start (tells.moment out) left refl run.told told head_is start_is comes.recorded;
+    accepted_is = comes.accepted_is;
+    samples_is = comes.samples_is;
+    durable_is = comes.durable_is;
+    comes = close_earlier script (tells.faults out) file.faults left problem later comes.comes;
+    asked_is = run.asked_is ∙ asked_is;
+  }
+
+-- a disk that was asked for something was not asked for nothing
+pub was_asked : {X : Type 0} (asked : Option X) (x : X) → asked ≡ Some x → ¬ (asked ≡ None)
+was_asked asked x is none = cc
+
+-- what a crash leaves of a disk that was asked for nothing, and then was attached
+pub begun_since : (head : List ℕ) (story attached now : Option Story) (content : Option (List ℕ)) (clock : ℕ) → Agrees story content clock → IsFresh story
+    → attached ≡ story → Adds attached now (IsBegun head) → HoldsSince now clock (IsBegun head)
+begun_since head story attached now content clock agrees fresh same adds =
+    begun_holds head story now content clock agrees fresh (subst (λ s. Adds s now (IsBegun head)) same adds)
+
+-- of a disk that was asked for nothing a crash leaves no MDF file
+pub fresh_begun : (head : List ℕ) (story : Option Story) (content : Option (List ℕ)) (clock : ℕ) → Agrees story content clock → IsFresh story
+    → HoldsSince story clock (IsBegun head)
+fresh_begun head story content clock agrees fresh = begun_since head story story story content clock agrees fresh refl (adds_none story (IsBegun head))
+
+-- on a disk that was asked for nothing no file was made, for want of memory
+pub unmade : {C : Type 0} (tells : DiskOf C) (name head : List ℕ) (out : C) → tells.asked out ≡ None → Agrees (tells.story out) (tells.content out) (tells.moment out)
+    → IsFresh (tells.story out) → IsUnmade name head (state_of tells out) (state_of tells out) fault.Memory
+unmade tells name head out asked agrees fresh =
+    record { asked_is = inl asked; begun = fresh_begun head (tells.story out) (tells.content out) (tells.moment out) agrees fresh; comes = tt }

@@ -1,0 +1,58 @@
+use Rattle.std.proofs.Common.{◌∙◌, ap, inr, subst, Some, arith}
+use Rattle.mdf_disk.specs.declared.role.Role.TheVariants.{Create}
+use Rattle.mdf_disk.specs.Crash.{Adds}
+use Rattle.mdf_disk.proofs.Crash.{adds_none}
+use Rattle.mdf_gate.specs.Images.{IsBegun}
+use Rattle.mdf_spell.specs.Recording.{head_file}
+use Rattle.mdf_record.proofs.Recording.{begun_since, unmade}
+use Rattle.mdf_record.proofs.record.create.Goals as goal
+
+pub returns-in_default-clause-refused : goal.returns-in_default-clause-refused
+returns-in_default-clause-refused g c =
+    let laws = g.met.C.Disk in
+    unmade g.C.Disk c.args.name.now (head_file c.args.now_ns c.args.rows.now) c.args.out c.requires.asked (laws.agrees c.args.out) (laws.unattached c.args.out (laws.unasked c.args.out c.requires.asked))
+
+pub returns-in_default-copy-clause-refused : goal.returns-in_default-copy-clause-refused
+returns-in_default-copy-clause-refused g c =
+    let laws = g.met.C.Disk in
+    unmade g.C.Disk c.args.name.now (head_file c.args.now_ns c.args.rows.now) c.args.out c.requires.asked (laws.agrees c.args.out) (laws.unattached c.args.out (laws.unasked c.args.out c.requires.asked))
+
+pub returns-in_default-attach-clause-refused : goal.returns-in_default-attach-clause-refused
+returns-in_default-attach-clause-refused g c =
+    let disk = g.C.Disk in
+    let laws = g.met.C.Disk in
+    let out = c.args.out in
+    let made = c.attach.new.self in
+    let head = head_file c.args.now_ns c.args.rows.now in
+    record {
+      asked_is = inr (c.attach.ensures.asked ∙ ap (λ n. Some (n, Create)) c.in-Ok-copy.ensures);
+      begun = begun_since head (disk.story out) (disk.story made) (disk.story made) (disk.content out) (disk.moment out)
+          (laws.agrees out) (laws.unattached out (laws.unasked out c.requires.asked)) c.attach.ensures.story (adds_none (disk.story made) (IsBegun head));
+      comes = c.in_default-attach.ensures.cause.failed;
+    }
+
+pub returns-in-Ok-made-clause-begun : goal.returns-in-Ok-made-clause-begun
+returns-in-Ok-made-clause-begun g c =
+    let disk = g.C.Disk in
+    let laws = g.met.C.Disk in
+    let out = c.args.out in
+    let made = c.attach.new.self in
+    let after = c.in-Ok-made.file.disk in
+    begun_since (head_file c.args.now_ns c.args.rows.now) (disk.story out) (disk.story made) (disk.story after) (disk.content out) (disk.moment out)
+    (laws.agrees out) (laws.unattached out (laws.unasked out c.requires.asked)) c.attach.ensures.story
+    (subst (λ h. Adds (disk.story made) (disk.story after) (IsBegun h)) (c.as_slice.ensures ∙ c.in-Ok.ensures.head) c.in-Ok-made.ensures.any_moment)
+
+pub returns-in-Err-clause-refused : goal.returns-in-Err-clause-refused
+returns-in-Err-clause-refused g c =
+    let disk = g.C.Disk in
+    let laws = g.met.C.Disk in
+    let out = c.args.out in
+    let made = c.attach.new.self in
+    let after = c.in-Err.out in
+    record {
+      asked_is = inr (c.in-Err.ensures.asked ∙ c.attach.ensures.asked ∙ ap (λ n. Some (n, Create)) c.in-Ok-copy.ensures);
+      begun = begun_since (head_file c.args.now_ns c.args.rows.now) (disk.story out) (disk.story made) (disk.story after) (disk.content out) (disk.moment out)
+          (laws.agrees out) (laws.unattached out (laws.unasked out c.requires.asked)) c.attach.ensures.story
+          (subst (λ h. Adds (disk.story made) (disk.story after) (IsBegun h)) (c.as_slice.ensures ∙ c.in-Ok.ensures.head) c.in-Err.ensures.any_moment);
+      comes = omega (arith, c.attach.ensures.cause.later, c.in-Err.ensures.cause.failed);
+    }

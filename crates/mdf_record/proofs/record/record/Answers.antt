@@ -1,0 +1,53 @@
+use Rattle.std.proofs.Common.{◌∙◌, ap, inl, inr, sym, subst}
+use Rattle.mdf_disk.specs.Crash.{HoldsSince}
+use Rattle.mdf_disk.specs.State.{state_of}
+use Rattle.mdf_gate.specs.Images.{IsBegun}
+use Rattle.mdf_record.proofs.Recording.{fresh_begun, record_comes, was_asked}
+use Rattle.mdf_record.proofs.record.record.Goals as goal
+
+pub returns-in-Err : goal.returns-in-Err
+returns-in-Err g c =
+    let k = c.refused.ensures in
+    let story = g.C.Disk.story c.args.out in
+    record {
+      comes = rw k.end (record {
+        history = k.history;
+        marks = k.marks;
+        comes = inl (record {
+          comes = c.in-Err.ensures.fault;
+          same = ap (state_of g.C.Disk) k.out;
+          begun = λ head. subst (λ d. HoldsSince (g.C.Disk.story d) (g.C.Disk.moment c.args.out) (IsBegun head)) (sym k.out)
+              (fresh_begun head story (g.C.Disk.content c.args.out) (g.C.Disk.moment c.args.out) (g.met.C.Disk.agrees c.args.out)
+              (g.met.C.Disk.unattached c.args.out (g.met.C.Disk.unasked c.args.out c.requires)));
+        });
+      });
+      untouched = λ none. k.out;
+    }
+
+pub returns-in-Ok-create : goal.returns-in-Ok-create
+returns-in-Ok-create g c =
+    let h = c.in-Ok-create.ensures in
+    record {
+      comes = record_comes g.C.Disk _ _ _ c.args.now_ns c.args.out c.in-Ok.script c.in-Ok-create.file _ _
+          c.in-Ok.ensures.says h.asked h.begun h.head h.told h.start h.faults c.record_into.ensures.recorded;
+      untouched = λ none. absurd (was_asked _ _ (c.record_into.ensures.recorded.asked_is ∙ h.asked) none);
+    }
+
+pub returns-in-Err-create : goal.returns-in-Err-create
+returns-in-Err-create g c =
+    let h = c.in-Err-create.ensures.refused in
+    let k = c.refused-in-Err-create.ensures in
+    record {
+      comes = rw k.end (record {
+        history = k.history;
+        marks = k.marks;
+        comes = inr (record {
+          script = c.in-Ok.script;
+          says = c.in-Ok.ensures.says;
+          begun = rw k.out h.begun;
+          comes = rw k.out h.comes;
+          asked_is = rw k.out h.asked_is;
+        });
+      });
+      untouched = λ none. k.out ∙ c.in-Err-create.ensures.untouched (ap g.C.Disk.asked (sym k.out) ∙ none);
+    }

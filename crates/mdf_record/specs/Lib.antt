@@ -1,0 +1,7 @@
+pub mod Head
+pub mod Drive
+pub mod Sources
+pub mod Script
+pub mod Finish
+pub mod Record
+pub mod Recorded

@@ -1,0 +1,159 @@
+-- The command `record OUT`.
+use Rattle.std.specs.Prelude.{ℕ, ◌≡◌, ◌+◌, ◌≤◌, ◌<◌, List, [], ◌∷◌, ◌++◌, length, codes, slice_get, take, All, Option, Some, None, IfSome, is_some, Result, Ok, Err}
+use Rattle.std.specs.Fmt.{decimal}
+use mathlib.Core.List.{IsPrefix}
+use Rattle.mdf_format.specs.Cause.{Rose}
+use Rattle.mdf_disk.specs.State.{DiskState, state_of}
+use Rattle.book_owned.specs.Members.{DiskOf}
+use Rattle.mdf_layout.specs.History.{source_samples}
+use Rattle.mdf_layout.specs.Record.{cost_of, history_cost}
+use Rattle.mdf_layout.specs.declared.sample.Sample.{Sample}
+use Rattle.mdf_gate.specs.Carried.{IsCarried, IsEncoded}
+use Rattle.book_owned.specs.Marks.{durable, AreRising}
+use Rattle.book_owned.specs.Kept.{MarksHold, StartHolds}
+use Rattle.book_owned.specs.declared.mark.Mark.{Mark}
+use Rattle.acq_script.specs.Tasks.{samples_of}
+use Rattle.acq_script.specs.declared.script.Plan.{Plan}
+use Rattle.acq_script.specs.declared.script.Script.{Script}
+use Rattle.acq_script.specs.declared.script.Task.{Task}
+use Rattle.mdf_command.specs.Texts.{line, numbered}
+use Rattle.mdf_command.specs.Faults.{fault_line, fault_status}
+use Rattle.mdf_record.specs.Sources.{AreOwnMarked, HadRoom}
+use Rattle.mdf_record.specs.declared.drive.End.{End}
+use Rattle.mdf_record.specs.declared.drive.End.TheVariants as end_
+use Rattle.mdf_command.specs.declared.fault.Fault.{Fault}
+use Rattle.mdf_command.specs.declared.fault.Fault.TheVariants as fault
+use Rattle.mdf_record.specs.declared.record.RecordEnd.{RecordEnd}
+use Rattle.mdf_record.specs.declared.record.RecordEnd.TheVariants.{Refused, Closed}
+
+-- the line of a source: how many samples it accepted
+abbrev pub source_line : ℕ → ℕ → List ℕ
+source_line source n = line (codes "source " ∷ decimal source ∷ codes " accepted " ∷ decimal n ∷ [])
+
+-- the lines on the recording
+abbrev pub summary_text : List ℕ → ℕ → ℕ → List ℕ
+summary_text accepted samples durable =
+    numbered source_line 0 accepted ++ line (codes "samples " ∷ decimal samples ∷ codes " durable " ∷ decimal durable ∷ [])
+
+abbrev pub fault_text : Option Fault → List ℕ
+fault_text None = []
+fault_text (Some fault) = fault_line fault
+
+abbrev pub fault_code : Option Fault → ℕ
+fault_code None = 0
+fault_code (Some fault) = fault_status fault
+
+abbrev pub record_text : RecordEnd → List ℕ
+record_text (Refused fault) = fault_line fault
+record_text (Closed accepted samples durable fault) = summary_text accepted.items samples durable ++ fault_text fault
+
+abbrev pub record_status : RecordEnd → ℕ
+record_status (Refused fault) = fault_status fault
+record_status (Closed accepted samples durable fault) = fault_code fault
+
+-- what a recording leaves: its disk, as that tells it, the samples that were accepted, in order, and the marks
+pub record Outcome : Type 0 where
+  pub disk : DiskState
+  pub history : List Sample
+  pub marks : List Mark
+
+-- that of a disk, some samples and some marks. In a clause of code that is generic in C: Disk it is `outcome C.Disk out history marks`
+abbrev pub outcome : {C : Type 0} → DiskOf C → C → List Sample → List Mark → Outcome
+outcome tells out history marks = record { disk = state_of tells out; history = history; marks = marks }
+
+-- All that was accepted is durable, and the file, where its disk tells it, carries just that, with the bits of no channel
+-- 0.
+pub record IsSaved (plan : Plan) (left : Outcome) : Type 0 where
+  pub all_durable : durable left.marks ≡ length left.history
+  pub holds : IfSome left.disk.content (λ file. IsCarried plan.shapes file left.history × IsEncoded plan.shapes file left.history)
+
+-- this holds of each source of the script and its tasks
+abbrev pub OfSources : Script → (ℕ → List Task → Type 0) → Type 0
+OfSources script P = (source : ℕ) (tasks : List Task) → slice_get script.lists source ≡ Some tasks → P source tasks
+
+-- just the samples of each source's tasks that were accepted are its own, and so many they are
+pub record AreAccepted (script : Script) (left : Outcome) (accepted : List ℕ) : Type 0 where
+  pub count : length accepted ≡ length script.lists
+  pub each : OfSources script (λ source tasks. slice_get accepted source ≡ Some (length (source_samples script.plan.owners left.history source)))
+
+-- all of a source's samples were accepted, and each of its flushes has its mark
+pub record IsWhole (script : Script) (left : Outcome) (source : ℕ) (tasks : List Task) : Type 0 where
+  pub history_is : source_samples script.plan.owners left.history source ≡ samples_of tasks
+  pub flush_lines : AreOwnMarked script.plan.owners source left.history left.marks (λ n. Unit {0}) [] tasks
+
+-- The whole script was recorded and saved, each flush has its mark, and the samples cost no more than the session limit.
+pub record IsComplete (script : Script) (left : Outcome) : Type 0 where
+  pub whole : OfSources script (λ source tasks. IsWhole script left source tasks)
+  pub cost : history_cost script.plan.shapes left.history ≤ script.plan.session
+  pub saved : IsSaved script.plan left
+
+-- the first sample of a source that was not accepted
+abbrev pub IsNext : Script → Outcome → ℕ → List Task → Sample → Type 0
+IsNext script left source tasks sample =
+    slice_get (samples_of tasks) (length (source_samples script.plan.owners left.history source)) ≡ Some sample
+
+-- The next sample of a source would have passed the session limit, behind a beginning of the history that has all of the
+-- source's own samples.
+pub record LackedRoom (script : Script) (left : Outcome) (source : ℕ) (tasks : List Task) (held size limit : ℕ) : Type 0 where
+  pub sample : Sample
+  pub next : IsNext script left source tasks sample
+  pub before : List Sample
+  pub begins : IsPrefix before left.history
+  pub all_own : source_samples script.plan.owners before source ≡ source_samples script.plan.owners left.history source
+  pub held_is : held ≡ history_cost script.plan.shapes before
+  pub size_is : size ≡ cost_of script.plan.shapes sample
+  pub limit_is : limit ≡ script.plan.session
+  pub over : limit < held + size
+
+-- How a source ends where the disk did not fail: all was done, its next sample had no room, or memory was wanted for it.
+abbrev pub SourceComes : Script → Outcome → ℕ → List Task → Result Unit End → Type 0
+SourceComes script left source tasks (Ok done) = IsWhole script left source tasks
+SourceComes script left source tasks (Err (end_.SessionFull held size limit)) = LackedRoom script left source tasks held size limit
+SourceComes script left source tasks (Err end_.Stopped) = ⊥
+SourceComes script left source tasks (Err end_.Memory) = (sample : Sample) × IsNext script left source tasks sample
+
+-- these are the ends of the sources, in the order of their numbers, and all that was accepted is saved
+pub record AreEnds (script : Script) (left : Outcome) (ends : List (Result Unit End)) : Type 0 where
+  pub count : length ends ≡ length script.lists
+  pub each : OfSources script (λ source tasks. IfSome (slice_get ends source) (SourceComes script left source tasks))
+  pub saved : IsSaved script.plan left
+
+-- The numbers are those of the first source that had no room.
+pub record IsFull (script : Script) (left : Outcome) (held size limit : ℕ) : Type 0 where
+  pub ends : List (Result Unit End)
+  pub are : AreEnds script left ends
+  pub source : ℕ
+  pub told : slice_get ends source ≡ Some (Err (end_.SessionFull held size limit))
+  pub first : All HadRoom (take source ends)
+
+-- All sources had room, but memory was wanted for the next sample of one.
+pub record IsShort (script : Script) (left : Outcome) : Type 0 where
+  pub ends : List (Result Unit End)
+  pub are : AreEnds script left ends
+  pub source : ℕ
+  pub wanted : slice_get ends source ≡ Some (Err end_.Memory)
+  pub room : All HadRoom ends
+
+-- How a recording that was begun ends, where the disk's count of faults was `faults` before: all was done, the disk failed,
+-- the session is full, or memory was wanted. All that was accepted is saved but where the disk failed.
+abbrev pub CloseComes : Script → ℕ → Outcome → Option Fault → Type 0
+CloseComes script faults left None = IsComplete script left
+CloseComes script faults left (Some (fault.Gate refused)) = ⊥
+CloseComes script faults left (Some fault.Source) = ⊥
+CloseComes script faults left (Some fault.Device) = Rose faults left.disk.faults
+CloseComes script faults left (Some (fault.InputOver size limit)) = ⊥
+CloseComes script faults left (Some (fault.ScriptOver limit)) = ⊥
+CloseComes script faults left (Some (fault.SessionFull held size limit)) = IsFull script left held size limit
+CloseComes script faults left (Some fault.Memory) = IsShort script left
+CloseComes script faults left (Some (fault.Script number)) = ⊥
+CloseComes script faults left (Some (fault.Read refused)) = ⊥
+
+-- What a recording of this script keeps, whatever happened: of its marks, of what a crash since its start may leave, and of
+-- the samples and the flushes of each source.
+pub record IsRecorded (script : Script) (head : List ℕ) (start : ℕ) (left : Outcome) : Type 0 where
+  pub marks_hold : MarksHold script.plan.shapes head left.disk.story left.disk.moment left.history left.marks
+  pub start_holds : StartHolds script.plan.shapes head left.disk.story start left.history
+  pub marks_rise : AreRising (is_some left.disk.story) left.marks
+  pub own_prefix : OfSources script (λ source tasks. IsPrefix (source_samples script.plan.owners left.history source) (samples_of tasks))
+  pub flush_lines : OfSources script (λ source tasks. AreOwnMarked script.plan.owners source left.history left.marks
+      (λ n. n < length (source_samples script.plan.owners left.history source)) [] tasks)

@@ -1,0 +1,346 @@
+ghost use Rattle.std.specs.Prelude.{◌≡◌, ◌≤◌, ◌∷◌, [], true, List, ℕ, length, All, Some, None, is_some, IfSome, IfOk, IfErr};
+ghost use Rattle.mdf_disk.specs.Crash.{HoldsSince};
+ghost use Rattle.mdf_disk.specs.State.{state_of};
+ghost use Rattle.mdf_disk.specs.declared.role.Role.TheVariants.{Create};
+ghost use Rattle.mdf_gate.specs.Images.{IsBegun, head_of};
+ghost use Rattle.book_owned.specs.Begun.{IsNewFile};
+ghost use Rattle.acq_script.specs.Stage.{IsScript};
+ghost use Rattle.mdf_spell.specs.Recording.{head_file};
+ghost use Rattle.mdf_group.specs.Recordable.{AreRecordable};
+ghost use Rattle.mdf_record.specs.Script.{SaysScript, ScriptFaultComes};
+ghost use Rattle.mdf_record.specs.Finish.{IsUnmade, Finishes};
+ghost use Rattle.mdf_port.specs.State.{sink_state, source_state};
+ghost use Rattle.mdf_command.specs.Texts.{Gives, Prints, numbered};
+ghost use Rattle.mdf_record.specs.Record.{fault_text, outcome, record_status, record_text, source_line, summary_text};
+ghost use Rattle.mdf_record.specs.Recorded.{RecordComes, Closes, HasRun};
+
+use crate::drive::End;
+use crate::gate::Gate;
+use crate::head::head_for;
+use crate::sources::{Accepted, drive_all};
+use acq_script::{Plan, Script, read_script};
+use book_owned::{Book, Flush, Marks, NoView};
+use mdf_command::Piece::{Number, Text};
+use mdf_command::{Fault, give_line, status_after};
+use mdf_disk::{Disk, Role};
+use mdf_gate::GatedFile;
+use mdf_group::GroupRow;
+use mdf_layout::Samples;
+use mdf_num::{Bytes, Failed, Memory, Rows};
+use mdf_port::{Sink, Source, take_all};
+use std::alloc::Global;
+use std::sync::Wait;
+use std::thread::Threads;
+
+/// How many bytes a script has at most.
+const SCRIPT_LIMIT: u64 = 67_108_864;
+
+/// How a recording ended.
+#[derive(Drop)]
+pub enum RecordEnd {
+    /// No book was begun.
+    Refused(Fault),
+    /// A book was begun and closed: how many samples of each source it accepted, how many in all, how many of them are
+    /// durable, and what went wrong, if anything did.
+    Closed {
+        accepted: Accepted,
+        samples: u64,
+        durable: u64,
+        fault: Option<Fault>,
+    },
+}
+
+/// What a recording leaves.
+pub struct Recorded<C> {
+    pub end: RecordEnd,
+    pub out: C,
+    /// The accepted samples, and the marks.
+    pub history: Samples,
+    pub marks: Marks,
+}
+
+/// A recording that was not begun.
+fn refused<C>(alloc: Global, fault: Fault, out: C) -> Recorded<C>
+    ensures end { result.end ≡ RecordEnd.Refused fault }
+    ensures out { result.out ≡ out }
+    ensures history { result.history.items ≡ [] }
+    ensures marks { result.marks.items ≡ [] }
+{
+    Recorded {
+        end: RecordEnd::Refused(fault),
+        out,
+        history: Samples::empty(alloc),
+        marks: Marks::empty(alloc),
+    }
+}
+
+/// Reads the script of a source.
+fn read<S: Source>(alloc: Global, source: &mut S) -> Result<Script, Fault>
+    ensures says { IfOk result (SaysScript (source_state S.Source source.old)) }
+    ensures script { IfOk result IsScript }
+    ensures fault { IfErr result (ScriptFaultComes (source_state S.Source source.old) (source_state S.Source source.new)) }
+{
+    let bytes = take_all(alloc, source, SCRIPT_LIMIT)?;
+    Ok(read_script(alloc, bytes.as_slice())?)
+}
+
+/// Makes the file, with the head of a recording of these groups and no sample.
+fn create<C: Disk>(
+    alloc: Global,
+    name: &Bytes,
+    now_ns: u64,
+    rows: &Rows<GroupRow>,
+    mut out: C,
+) -> Result<GatedFile<C>, (Fault, C)>
+    requires asked { C.asked out ≡ None }
+    requires rows { AreRecordable rows.now }
+    ensures created { IfOk result (IsNewFile C.Disk) }
+    ensures head { IfOk result (λ file. IfSome (C.story file.disk) (λ _. head_of (C.story file.disk) file.first ≡ head_file now_ns rows.now)) }
+    ensures asked { IfOk result (λ file. C.asked file.disk ≡ Some (name.now, Create)) }
+    ensures begun { IfOk result (λ file. HoldsSince (C.story file.disk) (C.moment out) (IsBegun (head_file now_ns rows.now))) }
+    ensures told { IfOk result (λ file. is_some (C.story file.disk) ≡ is_some (C.story out)) }
+    ensures start { IfOk result (λ file. IfSome (C.story out) (λ _. file.start ≡ C.moment out)) }
+    ensures faults { IfOk result (λ file. C.faults out ≤ file.faults) }
+    ensures refused { IfErr result (λ refused. IsUnmade name.now (head_file now_ns rows.now) (state_of C.Disk out) (state_of C.Disk refused.1) refused.0) }
+    ensures untouched { IfErr result (λ refused. C.asked refused.1 ≡ None → refused.1 ≡ out) }
+{
+    let Ok(head) = head_for(alloc, now_ns, rows) else {
+        return Err((Fault::Memory, out));
+    };
+    let Ok(copy) = name.copy() else {
+        return Err((Fault::Memory, out));
+    };
+    let Ok(()) = out.attach(copy, Role::Create) else {
+        return Err((Fault::Device, out));
+    };
+    let made = GatedFile::create(out, head.as_slice());
+    drop(head);
+    match made {
+        Ok(file) => Ok(file),
+        Err((_, out)) => Err((Fault::Device, out)),
+    }
+}
+
+/// Room for the numbers of so many sources.
+fn room_for(alloc: Global, sources: u64) -> Result<Accepted, Memory>
+    ensures none { IfOk result (λ accepted. accepted.items ≡ []) }
+    ensures room { IfOk result (λ accepted. sources ≤ accepted.spare) }
+{
+    let mut accepted = Accepted::empty(alloc);
+    accepted.reserve(sources)?;
+    Ok(accepted)
+}
+
+/// Flushes the book a last time, unless it is stopped, and says what went wrong: a fault of the disk before all else.
+fn finish<R: Threads + Wait + Sync, C: Disk>(
+    rt: &R,
+    book: &mut Book<C, NoView>,
+    driven: Result<(), End>,
+) -> Option<Fault>
+    requires stopped { IfErr driven (λ end_. end_ ≡ End.Stopped → book.old.stopped ≡ true) }
+    ensures finishes { Finishes book.old book.new driven result }
+{
+    match book.flush(rt) {
+        Flush::DiskFault { .. } | Flush::Stopped { .. } => Some(Fault::Device),
+        Flush::Done { .. } => match driven {
+            Ok(()) => None,
+            Err(End::SessionFull { held, size, limit }) => {
+                Some(Fault::SessionFull { held, size, limit })
+            }
+            Err(End::Stopped) => Some(Fault::Device),
+            Err(End::Memory) => Some(Fault::Memory),
+        },
+    }
+}
+
+/// Records the tasks of a script into a file that was just created, and closes the book.
+fn record_into<R: Threads + Wait + Sync, C: Disk, G: Gate>(
+    rt: &R,
+    alloc: Global,
+    script: Script,
+    file: GatedFile<C>,
+    gate: &G,
+) -> Recorded<C>
+    requires script { IsScript script }
+    requires created { IsNewFile C.Disk file }
+    ensures recorded { HasRun C.Disk script file (outcome C.Disk result.out result.history.items result.marks.items) result.end }
+{
+    let Script { plan, lists } = script;
+    let Plan {
+        shapes,
+        rows: _,
+        owners: _,
+        sources: _,
+        block,
+        session,
+        live: _,
+    } = plan;
+    let Ok(mut accepted) = room_for(alloc, lists.len()) else {
+        return refused(alloc, Fault::Memory, file.into_disk());
+    };
+    let mut book = match Book::begin(alloc, file, shapes, block, session, NoView::new()) {
+        Ok(book) => book,
+        Err((_, file, _)) => return refused(alloc, Fault::Memory, file.into_disk()),
+    };
+    let driven = drive_all(rt, &mut book, lists.into_vec(), gate, &mut accepted);
+    let fault = finish(rt, &mut book, driven);
+    close(book, accepted, fault)
+}
+
+/// Closes the book.
+fn close<C: Disk>(book: Book<C, NoView>, accepted: Accepted, fault: Option<Fault>) -> Recorded<C>
+    ensures closes { Closes C.Disk book accepted fault result }
+{
+    let samples = book.history_len();
+    let durable = book.last_mark().through;
+    let _stopped = book.stopped();
+    let (out, history, marks, _) = book.close();
+    Recorded {
+        end: RecordEnd::Closed {
+            accepted,
+            samples,
+            durable,
+            fault,
+        },
+        out,
+        history,
+        marks,
+    }
+}
+
+/// Records the script of the source into a new file of this name.
+fn record<R: Threads + Wait + Sync, S: Source, C: Disk, G: Gate>(
+    rt: &R,
+    alloc: Global,
+    output: &Bytes,
+    now_ns: u64,
+    source: &mut S,
+    out: C,
+    gate: &G,
+) -> Recorded<C>
+    requires { C.asked out ≡ None }
+    ensures comes { RecordComes (source_state S.Source source.old) (source_state S.Source source.new) output.now now_ns (state_of C.Disk out)
+        (outcome C.Disk result.out result.history.items result.marks.items) result.end }
+    ensures untouched { C.asked result.out ≡ None → result.out ≡ out }
+{
+    let script = match read(alloc, source) {
+        Ok(script) => script,
+        Err(fault) => return refused(alloc, fault, out),
+    };
+    match create(alloc, output, now_ns, &script.plan.rows, out) {
+        Ok(file) => record_into(rt, alloc, script, file, gate),
+        Err((fault, out)) => refused(alloc, fault, out),
+    }
+}
+
+/// Gives a line for each source: how many of its samples were accepted.
+fn give_sources<K: Sink>(sink: &mut K, accepted: &[u64]) -> Result<(), Failed>
+    ensures { Gives (numbered source_line 0 accepted.now) (sink_state K.Sink sink.old) (sink_state K.Sink sink.new) result }
+{
+    for source in 0..accepted.len() {
+        give_line(
+            sink,
+            &[
+                Text(b"source "),
+                Number(source as u64),
+                Text(b" accepted "),
+                Number(accepted[source]),
+            ],
+        )?;
+    }
+    Ok(())
+}
+
+/// Gives the lines on the recording.
+fn give_summary<K: Sink>(
+    sink: &mut K,
+    accepted: &[u64],
+    samples: u64,
+    durable: u64,
+) -> Result<(), Failed>
+    ensures { Gives (summary_text accepted.now samples durable) (sink_state K.Sink sink.old) (sink_state K.Sink sink.new) result }
+{
+    give_sources(sink, accepted)?;
+    give_line(
+        sink,
+        &[
+            Text(b"samples "),
+            Number(samples),
+            Text(b" durable "),
+            Number(durable),
+        ],
+    )
+}
+
+/// Gives the line of a fault, if there is one.
+fn give_fault<K: Sink>(sink: &mut K, fault: &Option<Fault>) -> Result<(), Failed>
+    ensures { Gives (fault_text fault.now) (sink_state K.Sink sink.old) (sink_state K.Sink sink.new) result }
+{
+    match fault {
+        Some(fault) => fault.give(sink),
+        None => Ok(()),
+    }
+}
+
+/// Gives the lines with which the command ends.
+fn give_end<K: Sink>(sink: &mut K, end: &RecordEnd) -> Result<(), Failed>
+    ensures { Gives (record_text end.now) (sink_state K.Sink sink.old) (sink_state K.Sink sink.new) result }
+{
+    match end {
+        RecordEnd::Refused(fault) => fault.give(sink),
+        RecordEnd::Closed {
+            accepted,
+            samples,
+            durable,
+            fault,
+        } => {
+            give_summary(sink, accepted.rest(0), *samples, *durable)?;
+            give_fault(sink, fault)
+        }
+    }
+}
+
+/// The status with which the command ends.
+fn status(end: &RecordEnd) -> u8
+    ensures { result ≡ record_status end.now }
+{
+    match end {
+        RecordEnd::Refused(fault) => fault.status(),
+        RecordEnd::Closed {
+            fault: Some(fault),
+            ..
+        } => fault.status(),
+        RecordEnd::Closed { fault: None, .. } => 0,
+    }
+}
+
+/// `record OUT`: records the script of the source into a new file, and prints how many samples it holds. Answers the
+/// program's status too.
+pub fn run_record<R, S, K, C, G>(
+    rt: &R,
+    alloc: Global,
+    output: &Bytes,
+    now_ns: u64,
+    source: &mut S,
+    sink: &mut K,
+    out: C,
+    gate: &G,
+) -> (u8, Recorded<C>)
+where
+    R: Threads + Wait + Sync,
+    S: Source,
+    K: Sink,
+    C: Disk,
+    G: Gate,
+    requires { C.asked out ≡ None }
+    ensures comes { RecordComes (source_state S.Source source.old) (source_state S.Source source.new) output.now now_ns (state_of C.Disk out)
+        (outcome C.Disk result.1.out result.1.history.items result.1.marks.items) result.1.end }
+    ensures untouched { C.asked result.1.out ≡ None → result.1.out ≡ out }
+    ensures printed { Prints (record_text result.1.end) (record_status result.1.end)
+        (sink_state K.Sink sink.old) (sink_state K.Sink sink.new) result.0 }
+{
+    let recorded = record(rt, alloc, output, now_ns, source, out, gate);
+    let given = give_end(sink, &recorded.end);
+    let status = status_after(given, status(&recorded.end));
+    (status, recorded)
+}
