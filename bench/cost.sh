@@ -36,3 +36,12 @@ cost() {
     valgrind --tool=callgrind --callgrind-out-file="$work/counts" "$@" < "$input" > "$work/said" 2> "$work/told"
     grep -m1 -E '^(summary|totals):' "$work/counts" | awk '{ print $2 }'
 }
+
+# The most memory that a program holds, in bytes.
+#
+# usage: peak PROGRAM WORD...
+peak() {
+    python3 -c 'import resource, subprocess, sys
+subprocess.run(sys.argv[1:], check=True, stdout=subprocess.DEVNULL)
+print(1024 * resource.getrusage(resource.RUSAGE_CHILDREN).ru_maxrss)' "$@"
+}

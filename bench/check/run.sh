@@ -24,7 +24,7 @@ checker="$top/crates/mdf_cli/out/mdf_cli"
 # compares both on a file of this shape and size, by this measure of what a program costs
 compare() {
     local file="$work/$1.mf4" measure="$3" ours twin
-    python3 "$here/make.py" "$1" "$2" "$file"
+    python3 "$here/../make.py" "$1" "$2" "$file"
     "$checker" check "$file" > "$work/ours"
     "$work/twin" "$file" > "$work/twins"
     cmp "$work/ours" "$work/twins"

@@ -1,24 +1,30 @@
-"""Makes a finalized file of about so many bytes to try `check` on.
+"""Makes a file of about so many bytes to try the program on.
 
 usage: make.py SHAPE BYTES OUT
 
-Its records lie in data blocks (DTBLOCK) of 4,000,000 bytes, the last a shorter one, which a chain of lists (DLBLOCK) of at most
-50 names, so some records lie across two blocks. SHAPE is one of
+SHAPE is one of
 
-sorted    one channel group without record ids: a time (a float of 64 bits) and four numbers of 16 bits
-unsorted  ids of 1 byte and three channel groups: a time and values of 8 and of 12 bytes in turns, these values, and a time
-          and four numbers of 16 bits
+sorted     a finalized file of one channel group without record ids: a time (a float of 64 bits) and four numbers of 16 bits
+unsorted   a finalized file with ids of 1 byte and three channel groups: a time and values of 8 and of 12 bytes in turns, these
+           values, and a time and four numbers of 16 bits
+recording  a recording of the groups of `unsorted`, as `record` leaves it behind its last flush
+
+The records of a finalized file lie in data blocks (DTBLOCK) of 4,000,000 bytes, the last a shorter one, which a chain of lists
+(DLBLOCK) of at most 50 names, so some records lie across two blocks. Those of a recording lie in blocks of whole records of at
+most 65,536 bytes, one behind the other, with a byte 0 behind the last.
 """
 
 import itertools
 import struct
 import sys
 
-PART = 4_000_000
 LISTED = 50
+ALL = 98  # the records of `both`
 
 shape, size, out = sys.argv[1], int(sys.argv[2]), open(sys.argv[3], "wb")
-head = bytearray(b"MDF     4.10    example " + bytes(4) + struct.pack("<H", 410) + bytes(34))
+is_recording = shape == "recording"
+mark, flags, PART = (b"UnFinMF ", (33, 1), 65_536 // ALL * ALL) if is_recording else (b"MDF     ", (0, 0), 4_000_000)
+head = bytearray(mark + b"4.10    example " + bytes(4) + struct.pack("<H30x2H", 410, *flags))
 
 
 def block(name, links, body):
@@ -79,12 +85,13 @@ if shape == "sorted":
     id_size, count = 0, size // 16
     first = group(0, timed(numbers()), "numbers", 0, count, 0, 16)
     total, records = 16 * count, map(plain, range(count))
-elif shape == "unsorted":
-    id_size, count = 1, size // 98
-    first = group(0, timed(numbers()), "numbers", 3, 2 * count, 0, 16)
-    first = values = group(first, 0, "values", 2, 2 * count, 1, 0)
-    first = group(first, timed(channel(0, "v", 1, 10, 8, 64, values)), "timed", 1, 2 * count, 0, 16)
-    total, records = 98 * count, map(both, range(count))
+elif shape in ("unsorted", "recording"):
+    id_size, count = 1, size // ALL
+    said = 0 if is_recording else 2 * count
+    first = group(0, timed(numbers()), "numbers", 3, said, 0, 16)
+    first = values = group(first, 0, "values", 2, said, 1, 0)
+    first = group(first, timed(channel(0, "v", 1, 10, 8, 64, values)), "timed", 1, said, 0, 16)
+    total, records = ALL * count, map(both, range(count))
 else:
     sys.exit(__doc__)
 
@@ -104,8 +111,18 @@ def taken(length):
     return part
 
 
+def data(length):
+    """The next data block, and what fills it up to an address that 8 divides."""
+    return block(b"DT", [], taken(length)) + bytes(-length % 8)
+
+
 at = len(head)
 lengths = [min(PART, total - place) for place in range(0, total, PART)]
+if is_recording:
+    for length in lengths:
+        out.write(data(length))
+    out.write(b"\0")
+    sys.exit()
 for k in range(0, len(lengths), LISTED):
     listed = lengths[k : k + LISTED]
     behind = at + 24 + 8 * (1 + len(listed)) + 8 + 8 * len(listed)
@@ -114,4 +131,4 @@ for k in range(0, len(lengths), LISTED):
     at = places.pop()
     out.write(block(b"DL", [at if k + LISTED < len(lengths) else 0, *places], body))
     for length in listed:
-        out.write(block(b"DT", [], taken(length)) + bytes(-length % 8))
+        out.write(data(length))
