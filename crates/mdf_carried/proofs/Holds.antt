@@ -129,15 +129,38 @@ no_group = record {
   channels = [];
 }
 
+-- a channel of variable length has its values at one of the addresses
+name_of : (at : ℕ → ℕ) (n : ℕ) (xs : List ChannelRow) → NameFrom at n (filter is_of_values xs)
+    → (j : ℕ) (x : ChannelRow) → slice_get xs j ≡ Some x → is_of_values x ≡ true
+    → (m : ℕ) × (x.values ≡ at m) × (m < n + length (filter is_of_values xs))
+name_of at n [] named j x there is = let wrong : ◌≡◌ {A = Option ChannelRow} None (Some x) = there in cc
+name_of at n (first ∷ xs) named zero x there is =
+    let same : first ≡ x = same_Some first x there in
+    let all = cond-true (is_of_values first) (first ∷ filter is_of_values xs) (filter is_of_values xs) (ap is_of_values same ∙ is) in
+    let here = subst (NameFrom at n) all named in
+    (n, ap (λ (c : ChannelRow). c.values) (sym same) ∙ here.0, omega (arith, ap length all))
+name_of at n (first ∷ xs) named (suc j) x there is =
+    let more = filter is_of_values xs in
+    elim (two_ways (is_of_values first)) [
+      | inl passes ↦
+          let all = cond-true (is_of_values first) (first ∷ more) more passes in
+          let rest = name_of at (n + 1) xs (subst (NameFrom at n) all named).1 j x there is in
+          (rest.0, rest.1, omega (arith, rest.2, ap length all))
+      | inr drops ↦
+          let all = cond-false (is_of_values first) (first ∷ more) more drops in
+          let rest = name_of at n xs (subst (NameFrom at n) all named) j x there is in
+          (rest.0, rest.1, omega (arith, rest.2, ap length all))
+    ]
+
 module _ (file : List ℕ) (layouts : List Layout) (row : DataRow) (is : IsRecorded layouts row) (pieces : List Piece)
     (each : AllByRecursion (IsPiece layouts) pieces) (samples : List Sample) (read : samples_from layouts pieces [] pieces ≡ Some samples) where
   abbrev records : List Record
   records = map (record_of (length layouts)) pieces
 
-  -- the values of channel of variable length number n are the records of their group
-  values_are : (n : ℕ) (channel : ChannelRow) → channel.values ≡ is.at n → n < length is.back
-      → IsValuesOf file row records channel.values (values_group row.groups channel.values 0) (stream_of pieces (length layouts + 1 + n))
-  values_are n channel named below =
+  -- channel of variable length number n names the group of values with this number
+  names_found : (n : ℕ) (channel : ChannelRow) → channel.values ≡ is.at n → n < length is.back
+      → values_group row.groups channel.values 0 ≡ Some (length layouts + n)
+  names_found n channel named below =
       let count = length layouts in
       let many = fronts_many is.at 0 is.front layouts is.fronts in
       let k = count + n in
@@ -147,12 +170,18 @@ module _ (file : List ℕ) (layouts : List Layout) (row : DataRow) (is : IsRecor
       ∙ back_get is.front is.back k no_group (omega (arith, many))
       ∙ ap (λ (m : ℕ). get_or is.back m no_group) (omega (arith, many)) in
       let at_n : is.at (0 + n) ≡ channel.values = ap is.at (zero_on n) ∙ sym named in
-      let found : values_group row.groups channel.values 0 ≡ Some k =
       found_at row.groups channel.values 0 k no_group (omega (arith, groups_many layouts row is, is.many, below))
       (ap (λ (g : GroupRow). g.at) same ∙ here.0 ∙ at_n) (ap is_variable same ∙ here.1) is.apart
-      ∙ ap Some (zero_on k) in
+      ∙ ap Some (zero_on k)
+
+  -- the records of that group are its values
+  values_are : (n : ℕ) (channel : ChannelRow) → channel.values ≡ is.at n → n < length is.back
+      → IsValuesOf file row records channel.values (values_group row.groups channel.values 0) (stream_of pieces (length layouts + 1 + n))
+  values_are n channel named below =
+      let count = length layouts in
+      let k = count + n in
       let id : k + 1 ≡ count + 1 + n = omega arith in
-      subst (λ (group : Option ℕ). IsValuesOf file row records channel.values group (stream_of pieces (count + 1 + n))) (sym found)
+      subst (λ (group : Option ℕ). IsValuesOf file row records channel.values group (stream_of pieces (count + 1 + n))) (sym (names_found n channel named below))
       (ap (stream_of pieces) (sym id)
       ∙ sym (value_bodies layouts k pieces (omega arith) each)
       ∙ ap (λ (m : ℕ). joined (bodies m records k)) (sym is.id_size))
@@ -203,7 +232,7 @@ module _ (file : List ℕ) (layouts : List Layout) (row : DataRow) (is : IsRecor
   values_before (suc k) layout (first ∷ rest) laid =
       omega (arith, sum_by-cons values_in first rest, sum_by-cons values_in first (take k rest), values_before k layout rest laid)
 
-  group_holds : (k : ℕ) (group : GroupRow) (layout : Layout) → slice_get is.front k ≡ Some group → slice_get layouts k ≡ Some layout
+  pub group_holds : (k : ℕ) (group : GroupRow) (layout : Layout) → slice_get is.front k ≡ Some group → slice_get layouts k ≡ Some layout
       → IsGroupContents file row records (k, group) (contents k layout)
   group_holds k group layout there laid =
       let here = front_at is.at 0 k is.front layouts group layout is.fronts there laid in
@@ -280,3 +309,18 @@ module _ (file : List ℕ) (layouts : List Layout) (row : DataRow) (is : IsRecor
       let place : k ≡ 0 + k = sym (zero_on k) in
       subst (λ (c : Contents). IsGroupContents file row records (0 + k, group) c) same
       (subst (λ (n : ℕ). IsGroupContents file row records (n, group) (contents_at layouts pieces n layout)) place (group_holds k group layout there laid))))
+
+  -- each channel of variable length of a group names a group of values
+  pub named_in : (k : ℕ) (group : GroupRow) (layout : Layout) → slice_get is.front k ≡ Some group → slice_get layouts k ≡ Some layout
+      → (j : ℕ) (channel : ChannelRow) → slice_get group.channels j ≡ Some channel → is_of_values channel ≡ true
+      → (named : ℕ) × (values_group row.groups channel.values 0 ≡ Some named)
+  named_in k group layout there laid j channel known variable =
+      let here = front_at is.at 0 k is.front layouts group layout is.fronts there laid in
+      let channels = filter is_of_values group.channels in
+      let fields : length channels ≡ values_in layout =
+      sym (length-map channels field_of)
+      ∙ ap length (sym (variable_fields group.channels))
+      ∙ ap (λ (cs : List ChannelRow). length (variables (map field_of cs))) (sym (cond-false (is_variable group) [] group.channels here.samples))
+      ∙ ap values_in here.layout_is in
+      let one = name_of is.at (0 + all_values (take k layouts)) group.channels here.named j channel known variable in
+      (length layouts + one.0, names_found one.0 channel one.1 (omega (arith, one.2, fields, is.many, values_before k layout layouts laid)))

@@ -7,3 +7,9 @@ pub mod Holds
 pub mod Sampled
 pub mod Placed
 pub mod Carried
+pub mod Splits
+pub mod Opened
+pub mod Laid
+pub mod Kept
+pub mod Trees
+pub mod Sessions
