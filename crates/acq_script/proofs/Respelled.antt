@@ -26,15 +26,15 @@ use Rattle.acq_script.specs.Draft.{channel_row, drawn, with_channel, group_row}
 use Rattle.script_line.specs.Line as said
 use Rattle.script_line.specs.Line.{line_of, worded, worded_plan, group_of, channel_of, channel_with, marks_of, inval_of, one_number, block_of, session_of, flush_of, alone}
 use Rattle.acq_script.specs.Plan.{layout_of, TaskFits}
-use Rattle.acq_script.specs.Sketch.{limits_of, sketch_with, counted, channel_in, plan_with, script_with}
+use Rattle.acq_script.specs.Sketch.{opening_of, sketch_with, counted, channel_in, plan_with, script_with}
 use Rattle.acq_script.specs.Stage.{step, admitted, with_task}
 use Rattle.acq_script.specs.Script.{read_from, script_of}
-use Rattle.acq_script.specs.Spelled.{Channel, Spelling, limit_lines, group_words, channel_words, value_word, task_words, line_with, text_with, spelled, word_form, word_rows, sketch_of, script_said, IsSpellable}
+use Rattle.acq_script.specs.Spelled.{Channel, Spelling, limit_lines, live_lines, group_words, channel_words, value_word, task_words, line_with, text_with, spelled, word_form, word_rows, sketch_of, script_said, IsSpellable}
 use Rattle.acq_script.specs.declared.script.Plan.{Plan}
 use Rattle.acq_script.specs.declared.script.Script.{Script}
 use Rattle.acq_script.specs.declared.script.Task.{Task}
 use Rattle.acq_script.specs.declared.script.Task.TheVariants as task
-use Rattle.acq_script.specs.declared.sketch.Limits.{Limits}
+use Rattle.acq_script.specs.declared.sketch.Opening.{Opening}
 use Rattle.acq_script.specs.declared.stage.Stage.{Stage}
 use Rattle.acq_script.specs.declared.stage.Stage.TheVariants.{Empty, Planned, Running, Ended}
 use Rattle.script_line.proofs.Parts.{some_part}
@@ -111,33 +111,33 @@ row_at channel free = channel_row channel.name (word_form channel.master) free 0
 more_room : (a b : Bool) → a ≡ true → b ≡ true → (a && b) ≡ true
 more_room a b first second = ap (λ x. x && b) first ∙ second
 
-admitted_channel : (limits : Limits) (name : List ℕ) (rows : List ChannelRow) (n free : ℕ) (had unit : Bool) (channel : Channel) → n < 256 → length rows ≡ n → not (had && channel.master) ≡ true
-    → channel_in (sketch_of limits name rows n free had unit) channel.name (word_form channel.master) ≡ Some (sketch_of limits name (rows ++ row_at channel free ∷ []) (n + 1) (free + 64) (had || channel.master) true)
-admitted_channel limits name rows n free had unit channel room long one =
-    let old = sketch_of limits name rows n free had unit in
+admitted_channel : (opening : Opening) (name : List ℕ) (rows : List ChannelRow) (n free : ℕ) (had unit : Bool) (channel : Channel) → n < 256 → length rows ≡ n → not (had && channel.master) ≡ true
+    → channel_in (sketch_of opening name rows n free had unit) channel.name (word_form channel.master) ≡ Some (sketch_of opening name (rows ++ row_at channel free ∷ []) (n + 1) (free + 64) (had || channel.master) true)
+admitted_channel opening name rows n free had unit channel room long one =
+    let old = sketch_of opening name rows n free had unit in
     let form = word_form channel.master in
     let more = drawn old.draft channel.name form in
     ap (λ b. cond b (option_map (sketch_with old (counted old.counts form)) (with_channel old.draft channel.name form)) None) (more_room (nat_lt n 1024) true (lt-ltb n 1024 (omega (arith, room))) refl)
     ∙ ap (λ b. option_map (sketch_with old (counted old.counts form)) (cond b (Some more) None))
     (more_room (nat_lt (length rows) 256) (not (had && channel.master)) (lt-ltb (length rows) 256 (omega (arith, room, long))) one)
 
-channels_read : (limits : Limits) (name : List ℕ) (rows all : List ChannelRow) (n m free e : ℕ) (had unit : Bool) (channels : List Channel) (line : ℕ) (lines : List (List (List ℕ))) (script : Script) → length rows ≡ n → n + length channels ≡ m → m ≤ 256 → free + 64 * length channels ≡ e → rows ++ word_rows free channels ≡ all → cond had 1 0 + count_by (λ c. c.master) channels ≤ 1 → All (λ c. is_name c.name ≡ true) channels → ((had unit : Bool) (line : ℕ) → reads (Planned (sketch_of limits name all m e had unit)) line lines ≡ Ok script) → reads (Planned (sketch_of limits name rows n free had unit)) line (map channel_words channels ++ lines) ≡ Ok script
-channels_read limits name rows all n m free e had unit [] line lines script long count few bits are one names follow =
+channels_read : (opening : Opening) (name : List ℕ) (rows all : List ChannelRow) (n m free e : ℕ) (had unit : Bool) (channels : List Channel) (line : ℕ) (lines : List (List (List ℕ))) (script : Script) → length rows ≡ n → n + length channels ≡ m → m ≤ 256 → free + 64 * length channels ≡ e → rows ++ word_rows free channels ≡ all → cond had 1 0 + count_by (λ c. c.master) channels ≤ 1 → All (λ c. is_name c.name ≡ true) channels → ((had unit : Bool) (line : ℕ) → reads (Planned (sketch_of opening name all m e had unit)) line lines ≡ Ok script) → reads (Planned (sketch_of opening name rows n free had unit)) line (map channel_words channels ++ lines) ≡ Ok script
+channels_read opening name rows all n m free e had unit [] line lines script long count few bits are one names follow =
     let same : m ≡ n = omega (arith, count) in
     let end_ : e ≡ free = omega (arith, bits) in
     let rows_same : all ≡ rows = sym are ∙ append-nil rows in
-    subst (λ r. reads (Planned (sketch_of limits name r n free had unit)) line lines ≡ Ok script) rows_same
-    (subst (λ k. reads (Planned (sketch_of limits name all k free had unit)) line lines ≡ Ok script) same
-    (subst (λ k. reads (Planned (sketch_of limits name all m k had unit)) line lines ≡ Ok script) end_ (follow had unit line)))
-channels_read limits name rows all n m free e had unit (channel ∷ channels) line lines script long count few bits are one names follow =
+    subst (λ r. reads (Planned (sketch_of opening name r n free had unit)) line lines ≡ Ok script) rows_same
+    (subst (λ k. reads (Planned (sketch_of opening name all k free had unit)) line lines ≡ Ok script) same
+    (subst (λ k. reads (Planned (sketch_of opening name all m k had unit)) line lines ≡ Ok script) end_ (follow had unit line)))
+channels_read opening name rows all n m free e had unit (channel ∷ channels) line lines script long count few bits are one names follow =
     let ok : is_name channel.name ≡ true = All-head (λ (c : Channel). is_name c.name ≡ true) channel channels names in
     let more : count_by (λ c. c.master) (channel ∷ channels) ≡ cond channel.master 1 0 + count_by (λ c. c.master) channels = sum_by-cons (λ (c : Channel). cond c.master 1 0) channel channels in
     let master : (not (had && channel.master) ≡ true) × (cond (had || channel.master) 1 0 + count_by (λ c. c.master) channels ≤ 1) = one_master had channel.master (count_by (λ c. c.master) channels) (subst (λ k. cond had 1 0 + k ≤ 1) more one) in
     let row = row_at channel free in
-    one_line (Planned (sketch_of limits name rows n free had unit)) line (channel_words channel) (map channel_words channels ++ lines) (said.Channel channel.name (word_form channel.master)) (Planned (sketch_of limits name (rows ++ row ∷ []) (n + 1) (free + 64) (had || channel.master) true)) script
+    one_line (Planned (sketch_of opening name rows n free had unit)) line (channel_words channel) (map channel_words channels ++ lines) (said.Channel channel.name (word_form channel.master)) (Planned (sketch_of opening name (rows ++ row ∷ []) (n + 1) (free + 64) (had || channel.master) true)) script
     (channel_are channel.name channel.master ok) (channel_says channel.name channel.master ok)
-    (ap (option_map Planned) (admitted_channel limits name rows n free had unit channel (omega (arith, count, few)) long master.0))
-    (channels_read limits name (rows ++ row ∷ []) all (n + 1) m (free + 64) e (had || channel.master) true channels (line + 1) lines script (length-append rows (row ∷ []) ∙ omega (arith, long)) (omega (arith, count)) few (omega (arith, bits))
+    (ap (option_map Planned) (admitted_channel opening name rows n free had unit channel (omega (arith, count, few)) long master.0))
+    (channels_read opening name (rows ++ row ∷ []) all (n + 1) m (free + 64) e (had || channel.master) true channels (line + 1) lines script (length-append rows (row ∷ []) ∙ omega (arith, long)) (omega (arith, count)) few (omega (arith, bits))
     (append_assoc rows (row ∷ []) (word_rows (free + 64) channels) ∙ are) master.1
     (All-tail (λ (c : Channel). is_name c.name ≡ true) channel channels names) follow)
 
@@ -213,11 +213,11 @@ only_layout one layout zero e = (refl, cc)
 only_layout one layout (suc group) e = absurd (cc)
 
 -- the plan of the one group, its layout, and the script of what was done
-abbrev plan_at : Limits → List ℕ → List ChannelRow → ℕ → ℕ → Plan
-plan_at limits name rows n free = plan_with (sketch_of limits name rows n free false false)
+abbrev plan_at : Opening → List ℕ → List ChannelRow → ℕ → ℕ → Plan
+plan_at opening name rows n free = plan_with (sketch_of opening name rows n free false false)
 
-abbrev layout_at : Limits → List ℕ → List ChannelRow → ℕ → ℕ → Layout
-layout_at limits name rows n free = layout_of (group_row (sketch_of limits name rows n free false false).draft)
+abbrev layout_at : Opening → List ℕ → List ChannelRow → ℕ → ℕ → Layout
+layout_at opening name rows n free = layout_of (group_row (sketch_of opening name rows n free false false).draft)
 
 abbrev script_at : Plan → List Task → Script
 script_at plan tasks = record { plan = plan; lists = tasks ∷ [] }
@@ -229,12 +229,12 @@ record IsTaken (plan : Plan) (done : List Task) (does : Task) : Type 0 where
   line : line_of (line_with (task_words does)) ≡ Some says
   steps : step (Running (script_at plan done)) says ≡ Some (Running (script_at plan (done ++ does ∷ [])))
 
-sample_taken : (limits : Limits) (name : List ℕ) (rows : List ChannelRow) (n free : ℕ) (done : List Task) (sample : Sample) → AllByRecursion IsWord (map field_of rows)
-    → TaskFits (plan_at limits name rows n free) (task.Sample sample) → IsTaken (plan_at limits name rows n free) done (task.Sample sample)
+sample_taken : (opening : Opening) (name : List ℕ) (rows : List ChannelRow) (n free : ℕ) (done : List Task) (sample : Sample) → AllByRecursion IsWord (map field_of rows)
+    → TaskFits (plan_at opening name rows n free) (task.Sample sample) → IsTaken (plan_at opening name rows n free) done (task.Sample sample)
 unfolding worded_plan worded
-sample_taken limits name rows n free done sample words fits =
-    let plan = plan_at limits name rows n free in
-    let layout = layout_at limits name rows n free in
+sample_taken opening name rows n free done sample words fits =
+    let plan = plan_at opening name rows n free in
+    let layout = layout_at opening name rows n free in
     let script = script_at plan done in
     let both : (sample.group ≡ 0) × (fits.0.layout ≡ layout) = only_layout layout fits.0.layout sample.group fits.0.known in
     let read : AreRead layout.rows sample.values = entries_read layout.rows sample.values words (subst (λ (l : Layout). AreEntriesOf l.rows sample.values) both.1 fits.0.entries) in
@@ -249,9 +249,9 @@ sample_taken limits name rows n free done sample words fits =
           ∙ ap (λ s. Some (Running (with_task script (slice_index (0 ∷ []) s) (task.Sample sample)))) both.0;
     }
 
-flush_taken : (limits : Limits) (name : List ℕ) (rows : List ChannelRow) (n free : ℕ) (done : List Task) → IsTaken (plan_at limits name rows n free) done task.Flush
+flush_taken : (opening : Opening) (name : List ℕ) (rows : List ChannelRow) (n free : ℕ) (done : List Task) → IsTaken (plan_at opening name rows n free) done task.Flush
 unfolding worded_plan worded flush_of one_number
-flush_taken limits name rows n free done =
+flush_taken opening name rows n free done =
     let are : AreWords (task_words task.Flush) = two (codes "!") (codes "0") (literal (codes "!") refl) (literal (codes "0") refl) in record {
       says = said.Flush 0;
       are = are;
@@ -259,21 +259,21 @@ flush_taken limits name rows n free done =
       steps = refl;
     }
 
-task_taken : (limits : Limits) (name : List ℕ) (rows : List ChannelRow) (n free : ℕ) (done : List Task) (does : Task) → AllByRecursion IsWord (map field_of rows)
-    → TaskFits (plan_at limits name rows n free) does → IsTaken (plan_at limits name rows n free) done does
-task_taken limits name rows n free done (task.Sample sample) words fits = sample_taken limits name rows n free done sample words fits
-task_taken limits name rows n free done task.Flush words fits = flush_taken limits name rows n free done
+task_taken : (opening : Opening) (name : List ℕ) (rows : List ChannelRow) (n free : ℕ) (done : List Task) (does : Task) → AllByRecursion IsWord (map field_of rows)
+    → TaskFits (plan_at opening name rows n free) does → IsTaken (plan_at opening name rows n free) done does
+task_taken opening name rows n free done (task.Sample sample) words fits = sample_taken opening name rows n free done sample words fits
+task_taken opening name rows n free done task.Flush words fits = flush_taken opening name rows n free done
 
-tasks_read : (limits : Limits) (name : List ℕ) (rows : List ChannelRow) (n free : ℕ) (done tasks : List Task) (line : ℕ) (lines : List (List (List ℕ))) (script : Script) → AllByRecursion IsWord (map field_of rows)
-    → All (TaskFits (plan_at limits name rows n free)) tasks → ((line : ℕ) → reads (Running (script_at (plan_at limits name rows n free) (done ++ tasks))) line lines ≡ Ok script)
-    → reads (Running (script_at (plan_at limits name rows n free) done)) line (map task_words tasks ++ lines) ≡ Ok script
-tasks_read limits name rows n free done [] line lines script words fit follow =
-    subst (λ all. reads (Running (script_at (plan_at limits name rows n free) all)) line lines ≡ Ok script) (append-nil done) (follow line)
-tasks_read limits name rows n free done (does ∷ tasks) line lines script words fit follow =
-    let plan = plan_at limits name rows n free in
-    let taken : IsTaken plan done does = task_taken limits name rows n free done does words (All-head (TaskFits plan) does tasks fit) in
+tasks_read : (opening : Opening) (name : List ℕ) (rows : List ChannelRow) (n free : ℕ) (done tasks : List Task) (line : ℕ) (lines : List (List (List ℕ))) (script : Script) → AllByRecursion IsWord (map field_of rows)
+    → All (TaskFits (plan_at opening name rows n free)) tasks → ((line : ℕ) → reads (Running (script_at (plan_at opening name rows n free) (done ++ tasks))) line lines ≡ Ok script)
+    → reads (Running (script_at (plan_at opening name rows n free) done)) line (map task_words tasks ++ lines) ≡ Ok script
+tasks_read opening name rows n free done [] line lines script words fit follow =
+    subst (λ all. reads (Running (script_at (plan_at opening name rows n free) all)) line lines ≡ Ok script) (append-nil done) (follow line)
+tasks_read opening name rows n free done (does ∷ tasks) line lines script words fit follow =
+    let plan = plan_at opening name rows n free in
+    let taken : IsTaken plan done does = task_taken opening name rows n free done does words (All-head (TaskFits plan) does tasks fit) in
     one_line (Running (script_at plan done)) line (task_words does) (map task_words tasks ++ lines) taken.says (Running (script_at plan (done ++ does ∷ []))) script taken.are taken.line taken.steps
-    (tasks_read limits name rows n free (done ++ does ∷ []) tasks (line + 1) lines script words (All-tail (TaskFits plan) does tasks fit)
+    (tasks_read opening name rows n free (done ++ does ∷ []) tasks (line + 1) lines script words (All-tail (TaskFits plan) does tasks fit)
     (λ line. subst (λ all. reads (Running (script_at plan all)) line lines ≡ Ok script) (sym (append_assoc done (does ∷ []) tasks)) (follow line)))
 
 -- the lines `begin` and `end`
@@ -290,11 +290,11 @@ end_read script line =
     one_line (Running script) line (codes "end" ∷ []) [] said.End (Ended script) script (one (codes "end") (literal (codes "end") refl)) end_says refl
     (at_end (Ended script) (line + 1) [])
 
-begin_read : (limits : Limits) (name : List ℕ) (rows : List ChannelRow) (n free : ℕ) (had unit : Bool) (line : ℕ) (lines : List (List (List ℕ))) (script : Script) → 1 ≤ length rows
-    → reads (Running (script_at (plan_at limits name rows n free) [])) (line + 1) lines ≡ Ok script → reads (Planned (sketch_of limits name rows n free had unit)) line ((codes "begin" ∷ []) ∷ lines) ≡ Ok script
-begin_read limits name rows n free had unit line lines script some follows =
-    one_line (Planned (sketch_of limits name rows n free had unit)) line (codes "begin" ∷ []) lines said.Begin (Running (script_at (plan_at limits name rows n free) [])) script (one (codes "begin") (literal (codes "begin") refl)) begin_says
-    (ap (λ b. option_map Running (cond b (Some (script_with (sketch_of limits name rows n free had unit))) None)) (lt-ltb 0 (length rows) (omega (arith, some)))) follows
+begin_read : (opening : Opening) (name : List ℕ) (rows : List ChannelRow) (n free : ℕ) (had unit : Bool) (line : ℕ) (lines : List (List (List ℕ))) (script : Script) → 1 ≤ length rows
+    → reads (Running (script_at (plan_at opening name rows n free) [])) (line + 1) lines ≡ Ok script → reads (Planned (sketch_of opening name rows n free had unit)) line ((codes "begin" ∷ []) ∷ lines) ≡ Ok script
+begin_read opening name rows n free had unit line lines script some follows =
+    one_line (Planned (sketch_of opening name rows n free had unit)) line (codes "begin" ∷ []) lines said.Begin (Running (script_at (plan_at opening name rows n free) [])) script (one (codes "begin") (literal (codes "begin") refl)) begin_says
+    (ap (λ b. option_map Running (cond b (Some (script_with (sketch_of opening name rows n free had unit))) None)) (lt-ltb 0 (length rows) (omega (arith, some)))) follows
 
 -- the lines of the limits
 abbrev pub IsSaidLimit : ℕ → Option ℕ → Type 0
@@ -319,19 +319,29 @@ in_range : (limit most : ℕ) (changed : Option Stage) → 1 ≤ limit → limit
 in_range limit most changed low high =
     ap (λ b. cond (b && nat_le limit most) changed None) (le-leb 1 limit low) ∙ ap (λ b. cond b changed None) (le-leb limit most high)
 
-block_read : (block : Option ℕ) (lines : List (List (List ℕ))) (script : Script) → IsSaidLimit 16777216 block → ((line : ℕ) → reads (Empty block None) line lines ≡ Ok script) → (line : ℕ) → reads (Empty None None) line (limit_lines (codes "block") block ++ lines) ≡ Ok script
+block_read : (block : Option ℕ) (lines : List (List (List ℕ))) (script : Script) → IsSaidLimit 16777216 block → ((line : ℕ) → reads (Empty block None false) line lines ≡ Ok script) → (line : ℕ) → reads (Empty None None false) line (limit_lines (codes "block") block ++ lines) ≡ Ok script
 block_read None lines script is follow line = follow line
 block_read (Some limit) lines script is follow line =
-    one_line (Empty None None) line (codes "block" ∷ decimal limit ∷ []) lines (said.Block limit) (Empty (Some limit) None) script
+    one_line (Empty None None false) line (codes "block" ∷ decimal limit ∷ []) lines (said.Block limit) (Empty (Some limit) None false) script
     (limit_are (codes "block") limit (literal (codes "block") refl) (omega (arith, is.1))) (block_says limit (omega (arith, is.1)))
-    (in_range limit 16777216 (Some (Empty (Some limit) None)) is.0 is.1) (follow (line + 1))
+    (in_range limit 16777216 (Some (Empty (Some limit) None false)) is.0 is.1) (follow (line + 1))
 
-session_read : (block session : Option ℕ) (lines : List (List (List ℕ))) (script : Script) → IsSaidLimit 268435456 session → ((line : ℕ) → reads (Empty block session) line lines ≡ Ok script) → (line : ℕ) → reads (Empty block None) line (limit_lines (codes "session") session ++ lines) ≡ Ok script
+session_read : (block session : Option ℕ) (lines : List (List (List ℕ))) (script : Script) → IsSaidLimit 268435456 session → ((line : ℕ) → reads (Empty block session false) line lines ≡ Ok script) → (line : ℕ) → reads (Empty block None false) line (limit_lines (codes "session") session ++ lines) ≡ Ok script
 session_read block None lines script is follow line = follow line
 session_read block (Some limit) lines script is follow line =
-    one_line (Empty block None) line (codes "session" ∷ decimal limit ∷ []) lines (said.Session limit) (Empty block (Some limit)) script
+    one_line (Empty block None false) line (codes "session" ∷ decimal limit ∷ []) lines (said.Session limit) (Empty block (Some limit) false) script
     (limit_are (codes "session") limit (literal (codes "session") refl) (omega (arith, is.1))) (session_says limit (omega (arith, is.1)))
-    (in_range limit 268435456 (Some (Empty block (Some limit))) is.0 is.1) (follow (line + 1))
+    (in_range limit 268435456 (Some (Empty block (Some limit) false)) is.0 is.1) (follow (line + 1))
+
+live_says : line_of (line_with (codes "live" ∷ [])) ≡ Some said.Live
+unfolding worded_plan alone
+live_says = line_said 108 (codes "ive") [] refl (one (codes "live") (literal (codes "live") refl))
+
+live_read : (block session : Option ℕ) (live : Bool) (lines : List (List (List ℕ))) (script : Script) → ((line : ℕ) → reads (Empty block session live) line lines ≡ Ok script) → (line : ℕ) → reads (Empty block session false) line (live_lines live ++ lines) ≡ Ok script
+live_read block session false lines script follow line = follow line
+live_read block session true lines script follow line =
+    one_line (Empty block session false) line (codes "live" ∷ []) lines said.Live (Empty block session true) script
+    (one (codes "live") (literal (codes "live") refl)) live_says refl (follow (line + 1))
 
 -- as many rows as channels
 length-word_rows : (bit : ℕ) (channels : List Channel) → length (word_rows bit channels) ≡ length channels
@@ -339,18 +349,19 @@ length-word_rows bit [] = refl
 length-word_rows bit (channel ∷ channels) = ap suc (length-word_rows (bit + 64) channels)
 
 -- the whole
-group_read : (s : Spelling) → IsSpellable s → (line : ℕ) → reads (Empty s.block s.session) line (group_words s.name ∷ (map channel_words s.channels ++ (codes "begin" ∷ []) ∷ (map task_words s.tasks ++ (codes "end" ∷ []) ∷ []))) ≡ Ok (script_said s)
+group_read : (s : Spelling) → IsSpellable s → (line : ℕ) → reads (Empty s.block s.session s.live) line (group_words s.name ∷ (map channel_words s.channels ++ (codes "begin" ∷ []) ∷ (map task_words s.tasks ++ (codes "end" ∷ []) ∷ []))) ≡ Ok (script_said s)
 group_read s is line =
     let behind : List (List (List ℕ)) = (codes "begin" ∷ []) ∷ (map task_words s.tasks ++ (codes "end" ∷ []) ∷ []) in
-    let limits : Limits = limits_of s.block s.session in
+    let opening : Opening = opening_of s.block s.session s.live in
     let rows = word_rows 0 s.channels in
     let n = length s.channels in
-    one_line (Empty s.block s.session) line (group_words s.name) (map channel_words s.channels ++ behind) (said.Group 0 s.name) (Planned (sketch_of limits s.name [] 0 0 false false)) (script_said s) (group_are s.name is.name) (group_says s.name is.name) refl
-    (channels_read limits s.name [] rows 0 n 0 (64 * n) false false s.channels (line + 1) behind (script_said s) refl (omega arith) is.few (omega arith) refl (omega (arith, is.master)) is.names
-    (λ had unit line. begin_read limits s.name rows n (64 * n) had unit line (map task_words s.tasks ++ (codes "end" ∷ []) ∷ []) (script_said s) (omega (arith, is.some, length-word_rows 0 s.channels))
-    (tasks_read limits s.name rows n (64 * n) [] s.tasks (line + 1) ((codes "end" ∷ []) ∷ []) (script_said s) (word_fields 0 s.channels) is.tasks (λ line. end_read (script_said s) line))))
+    one_line (Empty s.block s.session s.live) line (group_words s.name) (map channel_words s.channels ++ behind) (said.Group 0 s.name) (Planned (sketch_of opening s.name [] 0 0 false false)) (script_said s) (group_are s.name is.name) (group_says s.name is.name) refl
+    (channels_read opening s.name [] rows 0 n 0 (64 * n) false false s.channels (line + 1) behind (script_said s) refl (omega arith) is.few (omega arith) refl (omega (arith, is.master)) is.names
+    (λ had unit line. begin_read opening s.name rows n (64 * n) had unit line (map task_words s.tasks ++ (codes "end" ∷ []) ∷ []) (script_said s) (omega (arith, is.some, length-word_rows 0 s.channels))
+    (tasks_read opening s.name rows n (64 * n) [] s.tasks (line + 1) ((codes "end" ∷ []) ∷ []) (script_said s) (word_fields 0 s.channels) is.tasks (λ line. end_read (script_said s) line))))
 
 pub spelled_back : (s : Spelling) → IsSpellable s → script_of (spelled s) ≡ Ok (script_said s)
 spelled_back s is =
     block_read s.block _ (script_said s) is.block
-    (session_read s.block s.session _ (script_said s) is.session (group_read s is)) 1
+    (session_read s.block s.session _ (script_said s) is.session
+    (live_read s.block s.session s.live _ (script_said s) (group_read s is))) 1

@@ -26,11 +26,11 @@ use Rattle.script_line.specs.Text.{is_name}
 use Rattle.script_line.specs.Line.{IsForm}
 use Rattle.acq_script.specs.Draft.{drawn, with_channel, with_unit, group_row}
 use Rattle.acq_script.specs.Plan.{layout_of, HasPlace, IsGroup, IsPlan, AreLimits, MOST_SOURCES, TaskFits, IsTaskOf}
-use Rattle.acq_script.specs.Sketch.{limits_of, first_of, first_sketch, more_sources, grouped, with_group, has_room, counted, sketch_with, channel_in, unit_in, all_rows, plan_with, script_with, begun, IsDraft, IsSketch}
+use Rattle.acq_script.specs.Sketch.{opening_of, first_of, first_sketch, more_sources, grouped, with_group, has_room, counted, sketch_with, channel_in, unit_in, all_rows, plan_with, script_with, begun, IsDraft, IsSketch}
 use Rattle.acq_script.specs.Stage.{IsLimit, IsScript}
 use Rattle.script_line.specs.declared.line.ChannelForm.{ChannelForm}
 use Rattle.acq_script.specs.declared.draft.Draft.{Draft}
-use Rattle.acq_script.specs.declared.sketch.Limits.{Limits}
+use Rattle.acq_script.specs.declared.sketch.Opening.{Opening}
 use Rattle.acq_script.specs.declared.sketch.Sketch.{Sketch}
 use Rattle.acq_script.specs.declared.script.Script.{Script}
 use Rattle.script_line.proofs.Entries.{kept, mapped}
@@ -41,16 +41,16 @@ low_limit : (most default_ : ℕ) (o : Option ℕ) → IsLimit most o → 1 ≤ 
 low_limit most default_ None is some few = (some, few)
 low_limit most default_ (Some limit) is some few = is
 
-pub limits_are : (block session : Option ℕ) → IsLimit 16777216 block → IsLimit 268435456 session → AreLimits (limits_of block session).block (limits_of block session).session
-limits_are block session one two =
+pub opening_is : (block session : Option ℕ) (live : Bool) → IsLimit 16777216 block → IsLimit 268435456 session → AreLimits (opening_of block session live).block (opening_of block session live).session
+opening_is block session live one two =
     let first = low_limit 16777216 65536 block one (omega arith) (omega arith) in
     let second = low_limit 268435456 268435456 session two (omega arith) (omega arith) in
     record { block_low = first.0; block_high = first.1; session_low = second.0; session_high = second.1 }
 
-pub first_is : (limits : Limits) (source : ℕ) (name : List ℕ) (sketch : Sketch) → AreLimits limits.block limits.session → is_name name ≡ true → first_sketch limits source name ≡ Some sketch → IsSketch sketch
-first_is limits source name sketch are ok e =
-    let both : (nat_lt source MOST_SOURCES ≡ true) × (Some (first_of limits source name) ≡ Some sketch) = kept (nat_lt source MOST_SOURCES) (Some (first_of limits source name)) sketch e in
-    let same : first_of limits source name ≡ sketch = cc in
+pub first_is : (opening : Opening) (source : ℕ) (name : List ℕ) (sketch : Sketch) → AreLimits opening.block opening.session → is_name name ≡ true → first_sketch opening source name ≡ Some sketch → IsSketch sketch
+first_is opening source name sketch are ok e =
+    let both : (nat_lt source MOST_SOURCES ≡ true) × (Some (first_of opening source name) ≡ Some sketch) = kept (nat_lt source MOST_SOURCES) (Some (first_of opening source name)) sketch e in
+    let same : first_of opening source name ≡ sketch = cc in
     let low : source < MOST_SOURCES = ltb-true _ _ both.0 in
     subst IsSketch same (record {
       limits = are;
@@ -364,7 +364,6 @@ plan_is sketch is some =
       some_sources = is.sources.0;
       few_sources = is.sources.1;
       limits = is.limits;
-      live = refl;
     }
 
 pub begun_is : (sketch : Sketch) (script : Script) → IsSketch sketch → begun sketch ≡ Some script → IsScript script

@@ -1,5 +1,5 @@
 -- What holds of every stage of a script.
-use Rattle.std.proofs.Common.{◌≡◌, ◌∙◌, sym, ap, subst, ℕ, ◌<◌, ◌≤◌, inl, inr, Bool, true, Option, Some, List, [], ◌∷◌, ◌++◌, length, get_or, refl, arith}
+use Rattle.std.proofs.Common.{◌≡◌, ◌∙◌, sym, ap, subst, ℕ, ◌<◌, ◌≤◌, inl, inr, Bool, true, Option, Some, List, [], ◌∷◌, ◌++◌, length, get_or, refl, arith, false}
 use Rattle.std.specs.Prelude.{nat_lt, nat_le, ◌&&◌, All, slice_get, slice_index, is_none}
 use Rattle.std.specs.Option.{option_map}
 use Rattle.std.proofs.lemmas.Bool.{leb-true, ltb-true, and_parts, cases_eq}
@@ -14,7 +14,7 @@ use Rattle.script_line.specs.Value.{entries_of}
 use Rattle.script_line.specs.Line as said
 use Rattle.script_line.specs.Line.{IsSaid}
 use Rattle.acq_script.specs.Plan.{TaskFits, IsTaskOf, layout_of}
-use Rattle.acq_script.specs.Sketch.{limits_of, first_sketch, with_group, channel_in, unit_in, begun, IsSketch}
+use Rattle.acq_script.specs.Sketch.{opening_of, first_sketch, with_group, channel_in, unit_in, begun, IsSketch}
 use Rattle.acq_script.specs.Stage.{sample_of, list_with, with_task, admitted, with_sample, with_flush, empty, planned, running, step, IsScript, IsLimit, Sound}
 use Rattle.acq_script.specs.declared.script.Script.{Script}
 use Rattle.acq_script.specs.declared.script.Task.{Task}
@@ -24,7 +24,7 @@ use Rattle.acq_script.specs.declared.stage.Stage.{Stage}
 use Rattle.acq_script.specs.declared.stage.Stage.TheVariants.{Empty, Planned, Running, Ended}
 use Rattle.script_line.proofs.Entries.{kept, mapped, then_some, entries_fit}
 use Rattle.acq_script.proofs.Layings.{only_one}
-use Rattle.acq_script.proofs.Sketches.{limits_are, first_is, group_more, channel_more, unit_more, begun_is, long_mapped}
+use Rattle.acq_script.proofs.Sketches.{opening_is, first_is, group_more, channel_more, unit_more, begun_is, long_mapped}
 
 -- the sample that words are fits the layouts
 pub sample_fits : (layouts : List Layout) (group : ℕ) (words : List (List ℕ)) (sample : Sample) → sample_of layouts group words ≡ Some sample → SampleFits layouts sample
@@ -90,18 +90,20 @@ in_range first limit most e =
 some_is : {A : Type 0} (P : A → Type 0) (x y : A) → P x → Some x ≡ Some y → P y
 some_is P x y here e = let same : x ≡ y = cc in subst P same here
 
-empty_sound : (block session : Option ℕ) (line : said.Line) (stage : Stage) → IsLimit 16777216 block × IsLimit 268435456 session → IsSaid line → empty block session line ≡ Some stage → Sound stage
-empty_sound block session said.Passed stage is ok e = some_is Sound (Empty block session) stage is e
-empty_sound block session (said.Block limit) stage is ok e =
-    let both = kept (is_none block && nat_le 1 limit && nat_le limit 16777216) (Some (Empty (Some limit) session)) stage e in
-    some_is Sound (Empty (Some limit) session) stage (in_range (is_none block) limit 16777216 both.0, is.1) both.1
-empty_sound block session (said.Session limit) stage is ok e =
-    let both = kept (is_none session && nat_le 1 limit && nat_le limit 268435456) (Some (Empty block (Some limit))) stage e in
-    some_is Sound (Empty block (Some limit)) stage (is.0, in_range (is_none session) limit 268435456 both.0) both.1
-empty_sound block session (said.Group source name) stage is ok e =
-    let found = mapped Planned (first_sketch (limits_of block session) source name) stage e in
-    subst Sound found.2 (first_is (limits_of block session) source name found.0 (limits_are block session is.0 is.1) ok found.1)
-empty_sound block session _ stage is ok e = absurd (cc)
+empty_sound : (block session : Option ℕ) (live : Bool) (line : said.Line) (stage : Stage) → IsLimit 16777216 block × IsLimit 268435456 session → IsSaid line → empty block session live line ≡ Some stage → Sound stage
+empty_sound block session live said.Passed stage is ok e = some_is Sound (Empty block session live) stage is e
+empty_sound block session live (said.Block limit) stage is ok e =
+    let both = kept (is_none block && nat_le 1 limit && nat_le limit 16777216) (Some (Empty (Some limit) session live)) stage e in
+    some_is Sound (Empty (Some limit) session live) stage (in_range (is_none block) limit 16777216 both.0, is.1) both.1
+empty_sound block session live (said.Session limit) stage is ok e =
+    let both = kept (is_none session && nat_le 1 limit && nat_le limit 268435456) (Some (Empty block (Some limit) live)) stage e in
+    some_is Sound (Empty block (Some limit) live) stage (is.0, in_range (is_none session) limit 268435456 both.0) both.1
+empty_sound block session true said.Live stage is ok e = absurd (cc)
+empty_sound block session false said.Live stage is ok e = some_is Sound (Empty block session true) stage is e
+empty_sound block session live (said.Group source name) stage is ok e =
+    let found = mapped Planned (first_sketch (opening_of block session live) source name) stage e in
+    subst Sound found.2 (first_is (opening_of block session live) source name found.0 (opening_is block session live is.0 is.1) ok found.1)
+empty_sound block session live _ stage is ok e = absurd (cc)
 
 planned_sound : (sketch : Sketch) (line : said.Line) (stage : Stage) → IsSketch sketch → IsSaid line → planned sketch line ≡ Some stage → Sound stage
 planned_sound sketch said.Passed stage is ok e = some_is Sound (Planned sketch) stage is e
@@ -126,7 +128,7 @@ running_sound script _ stage is e = absurd (cc)
 
 -- what a line makes of a sound stage is sound
 pub step_sound : (stage changed : Stage) (line : said.Line) → Sound stage → IsSaid line → step stage line ≡ Some changed → Sound changed
-step_sound (Empty block session) changed line is ok e = empty_sound block session line changed is ok e
+step_sound (Empty block session live) changed line is ok e = empty_sound block session live line changed is ok e
 step_sound (Planned sketch) changed line is ok e = planned_sound sketch line changed is ok e
 step_sound (Running script) changed line is ok e = running_sound script line changed is e
 step_sound (Ended script) changed line is ok e = absurd (cc)

@@ -1,5 +1,5 @@
 -- The plan of a script.
-use Rattle.std.specs.Prelude.{ℕ, ◌≡◌, ◌≢◌, ◌+◌, ◌/◌, ◌≤◌, ◌<◌, false, List, length, map, sum_by, All, AllPairs, slice_index}
+use Rattle.std.specs.Prelude.{ℕ, ◌≡◌, ◌≢◌, ◌+◌, ◌/◌, ◌≤◌, ◌<◌, List, length, map, sum_by, All, AllPairs, slice_index}
 use Rattle.mdf_format.specs.Field.{HasBit}
 use Rattle.mdf_format.specs.Row.{RowNumbers, form_of, spot_of_row, IsPlaced, UsesInval}
 use Rattle.mdf_group.specs.Recordable.{numbers_of, ArePlaced, AreRecordable}
@@ -72,7 +72,6 @@ pub record IsPlan (plan : Plan) : Type 0 where
   pub some_sources : 1 ≤ plan.sources
   pub few_sources : plan.sources ≤ MOST_SOURCES
   pub limits : AreLimits plan.block plan.session
-  pub live : plan.live ≡ false
 
 -- a sample that the plan has room for; a flush always is
 abbrev pub TaskFits : Plan → Task → Type 0

@@ -1,5 +1,5 @@
 -- What a script says, or its first line that no rule admits.
-use Rattle.std.specs.Prelude.{ℕ, ◌≡◌, ◌+◌, List, [], ◌∷◌, Result, Ok, Err, None}
+use Rattle.std.specs.Prelude.{ℕ, ◌≡◌, ◌+◌, List, [], ◌∷◌, Result, Ok, Err, None, false}
 use Rattle.std.specs.Option.{option_and_then, ok_or}
 use Rattle.script_line.specs.Text.{lines_of}
 use Rattle.script_line.specs.Line.{line_of}
@@ -36,7 +36,7 @@ read_from stage line (text ∷ next ∷ more) = do
 -- the script that bytes are, or the number of their first line that no rule admits after the lines before it, counted
 -- from 1
 abbrev pub script_of : List ℕ → Result Script ℕ
-script_of bytes = read_from (Empty None None) 1 (lines_of bytes)
+script_of bytes = read_from (Empty None None false) 1 (lines_of bytes)
 
 -- an answer is what is found, or the first line that is not admitted; want of memory says nothing of the script
 abbrev pub FaultIs : {A : Type 0} → ScriptFault → Result A ℕ → Type 0

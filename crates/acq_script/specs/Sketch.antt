@@ -1,5 +1,5 @@
 -- A plan whose groups are being named.
-use Rattle.std.specs.Prelude.{ℕ, ◌≡◌, ◌≤◌, ◌<◌, ◌+◌, ◌*◌, Bool, false, ◌&&◌, not, nat_le, nat_lt, if◌then◌else◌, List, [], ◌∷◌, ◌++◌, length, map, filter, sum_by, replicate, All, Option, Some, None, unwrap_or}
+use Rattle.std.specs.Prelude.{ℕ, ◌≡◌, ◌≤◌, ◌<◌, ◌+◌, ◌*◌, Bool, ◌&&◌, not, nat_le, nat_lt, if◌then◌else◌, List, [], ◌∷◌, ◌++◌, length, map, filter, sum_by, replicate, All, Option, Some, None, unwrap_or}
 use Rattle.std.specs.Option.{option_map}
 use Rattle.std.specs.List.{AllByRecursion}
 use Rattle.mdf_group.specs.Recordable.{numbers_of, is_of_values, IsShortText, IsRecordableChannel, IsRecordableGroup}
@@ -8,28 +8,28 @@ use Rattle.acq_script.specs.Draft.{new_draft, with_channel, with_unit, group_row
 use Rattle.acq_script.specs.Plan.{AreLimits, AreLaid, MOST_SOURCES, layout_of}
 use Rattle.script_line.specs.declared.line.ChannelForm.{ChannelForm}
 use Rattle.acq_script.specs.declared.draft.Draft.{Draft}
-use Rattle.acq_script.specs.declared.sketch.Limits.{Limits}
+use Rattle.acq_script.specs.declared.sketch.Opening.{Opening}
 use Rattle.acq_script.specs.declared.sketch.Counts.{Counts}
 use Rattle.acq_script.specs.declared.sketch.Sketch.{Sketch}
 use Rattle.acq_script.specs.declared.script.Plan.{Plan}
 use Rattle.acq_script.specs.declared.script.Script.{Script}
 
--- the limits where the script says them
-abbrev pub limits_of : Option ℕ → Option ℕ → Limits
-limits_of block session = record { block = unwrap_or block 65536; session = unwrap_or session 268435456 }
+-- what stands before the first group: the limits where the script says them, and whether it says `live`
+abbrev pub opening_of : Option ℕ → Option ℕ → Bool → Opening
+opening_of block session live = record { block = unwrap_or block 65536; session = unwrap_or session 268435456; live = live }
 
 -- the plan of a first group
-abbrev pub first_of : Limits → ℕ → List ℕ → Sketch
-first_of limits source name = record {
-  limits = limits;
+abbrev pub first_of : Opening → ℕ → List ℕ → Sketch
+first_of opening source name = record {
+  opening = opening;
   counts = record { channels = 0; variable = 0; sources = source + 1 };
   owners = source ∷ [];
   rows = [];
   draft = new_draft name;
 }
 
-abbrev pub first_sketch : Limits → ℕ → List ℕ → Option Sketch
-first_sketch limits source name = if nat_lt source MOST_SOURCES then Some (first_of limits source name) else None
+abbrev pub first_sketch : Opening → ℕ → List ℕ → Option Sketch
+first_sketch opening source name = if nat_lt source MOST_SOURCES then Some (first_of opening source name) else None
 
 -- the sources with one more
 abbrev pub more_sources : ℕ → ℕ → ℕ
@@ -38,7 +38,7 @@ more_sources sources source = if nat_le sources source then source + 1 else sour
 -- the next group, where the last one has a channel: there are at most 64
 abbrev pub grouped : Sketch → ℕ → List ℕ → Sketch
 grouped sketch source name = record {
-  limits = sketch.limits;
+  opening = sketch.opening;
   counts = record {
     channels = sketch.counts.channels;
     variable = sketch.counts.variable;
@@ -67,7 +67,7 @@ counted counts form = record {
 
 abbrev pub sketch_with : Sketch → Counts → Draft → Sketch
 sketch_with sketch counts draft = record {
-  limits = sketch.limits;
+  opening = sketch.opening;
   counts = counts;
   owners = sketch.owners;
   rows = sketch.rows;
@@ -92,9 +92,9 @@ plan_with sketch = record {
   rows = all_rows sketch;
   owners = sketch.owners;
   sources = sketch.counts.sources;
-  block = sketch.limits.block;
-  session = sketch.limits.session;
-  live = false;
+  block = sketch.opening.block;
+  session = sketch.opening.session;
+  live = sketch.opening.live;
 }
 
 abbrev pub script_with : Sketch → Script
@@ -114,7 +114,7 @@ pub record IsDraft (draft : Draft) : Type 0 where
 
 -- and of the plan so far
 pub record IsSketch (sketch : Sketch) : Type 0 where
-  pub limits : AreLimits sketch.limits.block sketch.limits.session
+  pub limits : AreLimits sketch.opening.block sketch.opening.session
   pub few : length sketch.rows ≤ 63
   pub each : AllByRecursion IsRecordableGroup sketch.rows
   pub draft : IsDraft sketch.draft

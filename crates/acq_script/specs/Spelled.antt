@@ -7,10 +7,10 @@ use Rattle.mdf_layout.specs.declared.sample.Value.TheVariants as value
 use Rattle.script_line.specs.Text.{is_name}
 use Rattle.script_line.specs.Kind.{packed}
 use Rattle.acq_script.specs.Draft.{channel_row}
-use Rattle.acq_script.specs.Sketch.{limits_of, plan_with}
+use Rattle.acq_script.specs.Sketch.{opening_of, plan_with}
 use Rattle.acq_script.specs.Plan.{TaskFits}
 use Rattle.script_line.specs.declared.line.ChannelForm.{ChannelForm}
-use Rattle.acq_script.specs.declared.sketch.Limits.{Limits}
+use Rattle.acq_script.specs.declared.sketch.Opening.{Opening}
 use Rattle.acq_script.specs.declared.sketch.Sketch.{Sketch}
 use Rattle.acq_script.specs.declared.script.Plan.{Plan}
 use Rattle.acq_script.specs.declared.script.Script.{Script}
@@ -51,20 +51,26 @@ abbrev pub limit_lines : List ℕ → Option ℕ → List (List (List ℕ))
 limit_lines word None = []
 limit_lines word (Some limit) = (word ∷ decimal limit ∷ []) ∷ []
 
--- what a script is spelled for: the limits that it says, a group of this name and these channels of 64-bit numbers, and
--- what its source does
+-- the line `live`, where it is said
+abbrev pub live_lines : Bool → List (List (List ℕ))
+live_lines true = (codes "live" ∷ []) ∷ []
+live_lines false = []
+
+-- what a script is spelled for: the limits that it says, whether it says `live`, a group of this name and these channels of
+-- 64-bit numbers, and what its source does
 pub record Spelling : Type 0 where
   pub block : Option ℕ
   pub session : Option ℕ
+  pub live : Bool
   pub name : List ℕ
   pub channels : List Channel
   pub tasks : List Task
 
 abbrev pub spelled : Spelling → List ℕ
 spelled s = text_with (limit_lines (codes "block") s.block ++ (limit_lines (codes "session") s.session
-    ++ group_words s.name ∷ (map channel_words s.channels
+    ++ (live_lines s.live ++ group_words s.name ∷ (map channel_words s.channels
     ++ (codes "begin" ∷ []) ∷ (map task_words s.tasks
-    ++ (codes "end" ∷ []) ∷ []))))
+    ++ (codes "end" ∷ []) ∷ [])))))
 
 -- a 64-bit number, and such channels from this bit on
 abbrev pub word_form : Bool → ChannelForm
@@ -75,9 +81,9 @@ word_rows bit [] = []
 word_rows bit (channel ∷ channels) = channel_row channel.name (word_form channel.master) bit 0 ∷ word_rows (bit + 64) channels
 
 -- the one group of source 0 with these rows, so many, up to this bit
-abbrev pub sketch_of : Limits → List ℕ → List ChannelRow → ℕ → ℕ → Bool → Bool → Sketch
-sketch_of limits name rows n free master unit = record {
-  limits = limits;
+abbrev pub sketch_of : Opening → List ℕ → List ChannelRow → ℕ → ℕ → Bool → Bool → Sketch
+sketch_of opening name rows n free master unit = record {
+  opening = opening;
   counts = record { channels = n; variable = 0; sources = 1 };
   owners = 0 ∷ [];
   rows = [];
@@ -86,7 +92,7 @@ sketch_of limits name rows n free master unit = record {
 
 -- its plan, and the script
 abbrev pub plan_said : Spelling → Plan
-plan_said s = plan_with (sketch_of (limits_of s.block s.session) s.name (word_rows 0 s.channels) (length s.channels) (64 * length s.channels) false false)
+plan_said s = plan_with (sketch_of (opening_of s.block s.session s.live) s.name (word_rows 0 s.channels) (length s.channels) (64 * length s.channels) false false)
 
 abbrev pub script_said : Spelling → Script
 script_said s = record { plan = plan_said s; lists = s.tasks ∷ [] }

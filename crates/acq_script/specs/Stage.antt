@@ -1,5 +1,5 @@
 -- The rules of a script: which line may stand behind which.
-use Rattle.std.specs.Prelude.{ℕ, ◌≡◌, ◌≤◌, ◌<◌, ◌&&◌, nat_le, nat_lt, if◌then◌else◌, List, [], ◌∷◌, ◌++◌, length, All, slice_get, slice_index, slice_set, Option, Some, None, is_none}
+use Rattle.std.specs.Prelude.{ℕ, ◌≡◌, ◌≤◌, ◌<◌, Bool, true, ◌&&◌, nat_le, nat_lt, if◌then◌else◌, List, [], ◌∷◌, ◌++◌, length, All, slice_get, slice_index, slice_set, Option, Some, None, is_none}
 use Rattle.std.specs.List.{slice_index_or}
 use Rattle.std.specs.Option.{option_map, option_and_then}
 use Rattle.mdf_layout.specs.Layout.{Layout}
@@ -8,7 +8,7 @@ use Rattle.mdf_layout.specs.declared.sample.Sample.{Sample}
 use Rattle.script_line.specs.Line as said
 use Rattle.script_line.specs.Value.{entries_of}
 use Rattle.acq_script.specs.Plan.{IsPlan, TaskFits, IsTaskOf}
-use Rattle.acq_script.specs.Sketch.{IsSketch, limits_of, first_sketch, with_group, channel_in, unit_in, begun}
+use Rattle.acq_script.specs.Sketch.{IsSketch, opening_of, first_sketch, with_group, channel_in, unit_in, begun}
 use Rattle.acq_script.specs.declared.script.Script.{Script}
 use Rattle.acq_script.specs.declared.script.Task.{Task}
 use Rattle.acq_script.specs.declared.script.Task.TheVariants as task
@@ -17,13 +17,17 @@ use Rattle.acq_script.specs.declared.stage.Stage.{Stage}
 use Rattle.acq_script.specs.declared.stage.Stage.TheVariants.{Empty, Planned, Running, Ended}
 
 -- the limits, each at most once: 1 to 16,777,216 data bytes of a block, and 1 to 268,435,456 for what the samples cost
-abbrev pub with_block : Option ℕ → Option ℕ → ℕ → Option Stage
-with_block block session limit =
-    if is_none block && nat_le 1 limit && nat_le limit 16777216 then Some (Empty (Some limit) session) else None
+abbrev pub with_block : Option ℕ → Option ℕ → Bool → ℕ → Option Stage
+with_block block session live limit =
+    if is_none block && nat_le 1 limit && nat_le limit 16777216 then Some (Empty (Some limit) session live) else None
 
-abbrev pub with_session : Option ℕ → Option ℕ → ℕ → Option Stage
-with_session block session limit =
-    if is_none session && nat_le 1 limit && nat_le limit 268435456 then Some (Empty block (Some limit)) else None
+abbrev pub with_session : Option ℕ → Option ℕ → Bool → ℕ → Option Stage
+with_session block session live limit =
+    if is_none session && nat_le 1 limit && nat_le limit 268435456 then Some (Empty block (Some limit) live) else None
+
+-- `live`, at most once
+abbrev pub with_live : Option ℕ → Option ℕ → Bool → Option Stage
+with_live block session live = if live then None else Some (Empty block session true)
 
 -- the sample of a group whose entries words are
 abbrev pub sample_of : List Layout → ℕ → List (List ℕ) → Option Sample
@@ -49,13 +53,14 @@ with_sample script group words = option_and_then (admitted script) (sample_of sc
 abbrev pub with_flush : Script → ℕ → Option Script
 with_flush script source = if nat_lt source script.plan.sources then Some (with_task script source task.Flush) else None
 
--- what a line makes of the limits, of a plan, and of a script
-abbrev pub empty : Option ℕ → Option ℕ → said.Line → Option Stage
-empty block session said.Passed = Some (Empty block session)
-empty block session (said.Block limit) = with_block block session limit
-empty block session (said.Session limit) = with_session block session limit
-empty block session (said.Group source name) = option_map Planned (first_sketch (limits_of block session) source name)
-empty block session _ = None
+-- what a line makes of what stands before the first group, of a plan, and of a script
+abbrev pub empty : Option ℕ → Option ℕ → Bool → said.Line → Option Stage
+empty block session live said.Passed = Some (Empty block session live)
+empty block session live (said.Block limit) = with_block block session live limit
+empty block session live (said.Session limit) = with_session block session live limit
+empty block session live said.Live = with_live block session live
+empty block session live (said.Group source name) = option_map Planned (first_sketch (opening_of block session live) source name)
+empty block session live _ = None
 
 abbrev pub planned : Sketch → said.Line → Option Stage
 planned sketch said.Passed = Some (Planned sketch)
@@ -74,7 +79,7 @@ running script _ = None
 
 -- what a line makes of the lines before it; None where no rule admits it there
 abbrev pub step : Stage → said.Line → Option Stage
-step (Empty block session) line = empty block session line
+step (Empty block session live) line = empty block session live line
 step (Planned sketch) line = planned sketch line
 step (Running script) line = running script line
 step (Ended script) line = None
@@ -93,7 +98,7 @@ IsLimit most (Some limit) = (1 ≤ limit) × (limit ≤ most)
 
 -- what holds of every stage
 abbrev pub Sound : Stage → Type 0
-Sound (Empty block session) = IsLimit 16777216 block × IsLimit 268435456 session
+Sound (Empty block session live) = IsLimit 16777216 block × IsLimit 268435456 session
 Sound (Planned sketch) = IsSketch sketch
 Sound (Running script) = IsScript script
 Sound (Ended script) = IsScript script

@@ -52,6 +52,7 @@ fn script_of(alloc: Global, bytes: &[u8]) -> Result<Script, ScriptFault>
     let mut stage = Stage::Empty {
         block: None,
         session: None,
+        live: false,
     };
     let mut line = 1;
     let (mut text, mut rest) = cut(bytes, b'\n');

@@ -3,7 +3,7 @@ ghost use Rattle.std.specs.Prelude.{◌≡◌, ◌≤◌, ◌<◌, All, length, 
 ghost use Rattle.mdf_group.specs.Recordable.{numbers_of};
 ghost use Rattle.mdf_layout.specs.Row.{field_row};
 ghost use Rattle.acq_script.specs.Done.{done_as};
-ghost use Rattle.acq_script.specs.Sketch.{IsSketch, limits_of, first_sketch, with_group, channel_in, unit_in, plan_with, begun, more_sources, has_room, counted};
+ghost use Rattle.acq_script.specs.Sketch.{IsSketch, opening_of, first_sketch, with_group, channel_in, unit_in, plan_with, begun, more_sources, has_room, counted};
 ghost use Rattle.script_line.specs.Line.{IsForm};
 ghost use Rattle.script_line.specs.Text.{is_name};
 ghost use Rattle.acq_script.specs.Plan.{layout_of, HasPlace};
@@ -37,13 +37,15 @@ const BLOCK: u32 = 65_536;
 /// What the samples cost in all at most where the script says nothing of it.
 const SESSION: u64 = 268_435_456;
 
-/// The limits of a recording.
+/// What the lines before the first group say.
 #[derive(Clone, Copy)]
-pub(crate) struct Limits {
+pub(crate) struct Opening {
     /// How many data bytes a block of records has at most.
     pub block: u32,
     /// What the samples cost in all at most.
     pub session: u64,
+    /// Whether samples are shown while the recording is made.
+    pub live: bool,
 }
 
 /// What there is of all groups.
@@ -58,7 +60,7 @@ pub(crate) struct Counts {
 /// A plan whose groups are being named.
 #[derive(Drop)]
 pub(crate) struct Sketch {
-    pub limits: Limits,
+    pub opening: Opening,
     pub counts: Counts,
     /// The source of each group.
     pub owners: Bytes,
@@ -68,24 +70,25 @@ pub(crate) struct Sketch {
     pub draft: Draft,
 }
 
-/// These limits where the script says them.
-pub(crate) fn limits_of(block: Option<u32>, session: Option<u64>) -> Limits
-    ensures { result ≡ limits_of block session }
+/// These limits where the script says them, and whether it says `live`.
+pub(crate) fn opening_of(block: Option<u32>, session: Option<u64>, live: bool) -> Opening
+    ensures { result ≡ opening_of block session live }
 {
-    Limits {
+    Opening {
         block: block.unwrap_or(BLOCK),
         session: session.unwrap_or(SESSION),
+        live,
     }
 }
 
 /// The plan of the first group, of this source and name, if they are admitted.
 pub(crate) fn first_sketch(
     alloc: Global,
-    limits: Limits,
+    opening: Opening,
     source: u64,
     name: &[u8],
 ) -> Result<Option<Sketch>, Memory>
-    ensures { IfOk result (λ found. found ≡ first_sketch limits source name.now) }
+    ensures { IfOk result (λ found. found ≡ first_sketch opening source name.now) }
 {
     if source >= MOST_SOURCES {
         return Ok(None);
@@ -93,7 +96,7 @@ pub(crate) fn first_sketch(
     let owners = Bytes::from_slice(alloc, &[source as u8])?;
     let draft = new_draft(alloc, name)?;
     Ok(Some(Sketch {
-        limits,
+        opening,
         counts: Counts {
             channels: 0,
             variable: 0,
@@ -261,7 +264,7 @@ fn plan_of(alloc: Global, sketch: Sketch) -> Result<Plan, Memory>
     ensures { IfOk result (λ plan. plan ≡ plan_with sketch) }
 {
     let Sketch {
-        limits,
+        opening,
         counts,
         owners,
         rows,
@@ -275,9 +278,9 @@ fn plan_of(alloc: Global, sketch: Sketch) -> Result<Plan, Memory>
         rows,
         owners,
         sources: counts.sources,
-        block: limits.block,
-        session: limits.session,
-        live: false,
+        block: opening.block,
+        session: opening.session,
+        live: opening.live,
     })
 }
 

@@ -7,10 +7,10 @@ ghost use Rattle.script_line.specs.Line.{IsSaid, IsForm};
 ghost use Rattle.script_line.specs.View.{seen};
 ghost use Rattle.acq_script.specs.declared.stage.Stage.TheVariants.{Planned, Running};
 ghost use Rattle.acq_script.specs.Done.{done_as};
-ghost use Rattle.acq_script.specs.Stage.{Sound, with_block, with_session, step};
+ghost use Rattle.acq_script.specs.Stage.{Sound, with_block, with_session, with_live, step};
 
 use crate::script::Script;
-use crate::sketch::{Sketch, add_channel, add_group, add_unit, begun, first_sketch, limits_of};
+use crate::sketch::{Sketch, add_channel, add_group, add_unit, begun, first_sketch, opening_of};
 use crate::task::{add_flush, add_sample};
 use mdf_num::Memory;
 use script_line::{ChannelForm, Line};
@@ -26,10 +26,11 @@ const MOST_SESSION: u64 = 268_435_456;
 /// What the lines so far make.
 #[derive(Drop)]
 pub(crate) enum Stage {
-    /// No group yet; the limits that were said.
+    /// No group yet; the limits that were said, and whether `live` was.
     Empty {
         block: Option<u32>,
         session: Option<u64>,
+        live: bool,
     },
     /// A plan whose groups are being named.
     Planned {
@@ -45,9 +46,9 @@ pub(crate) enum Stage {
     },
 }
 
-/// What the limit of a block makes of the limits before it, if it is admitted.
-fn with_block(block: Option<u32>, session: Option<u64>, limit: u64) -> Option<Stage>
-    ensures { result ≡ with_block block session limit }
+/// What the limit of a block makes of the lines before it, if it is admitted.
+fn with_block(block: Option<u32>, session: Option<u64>, live: bool, limit: u64) -> Option<Stage>
+    ensures { result ≡ with_block block session live limit }
 {
     if block.is_some() || limit < 1 || limit > MOST_BLOCK {
         return None;
@@ -55,12 +56,13 @@ fn with_block(block: Option<u32>, session: Option<u64>, limit: u64) -> Option<St
     Some(Stage::Empty {
         block: Some(limit as u32),
         session,
+        live,
     })
 }
 
-/// What the limit of the samples' cost makes of the limits before it, if it is admitted.
-fn with_session(block: Option<u32>, session: Option<u64>, limit: u64) -> Option<Stage>
-    ensures { result ≡ with_session block session limit }
+/// What the limit of the samples' cost makes of the lines before it, if it is admitted.
+fn with_session(block: Option<u32>, session: Option<u64>, live: bool, limit: u64) -> Option<Stage>
+    ensures { result ≡ with_session block session live limit }
 {
     if session.is_some() || limit < 1 || limit > MOST_SESSION {
         return None;
@@ -68,6 +70,21 @@ fn with_session(block: Option<u32>, session: Option<u64>, limit: u64) -> Option<
     Some(Stage::Empty {
         block,
         session: Some(limit),
+        live,
+    })
+}
+
+/// What the line `live` makes of the lines before it, if it is admitted.
+fn with_live(block: Option<u32>, session: Option<u64>, live: bool) -> Option<Stage>
+    ensures { result ≡ with_live block session live }
+{
+    if live {
+        return None;
+    }
+    Some(Stage::Empty {
+        block,
+        session,
+        live: true,
     })
 }
 
@@ -113,6 +130,7 @@ fn taken(stage: &mut Stage) -> Stage
         Stage::Empty {
             block: None,
             session: None,
+            live: false,
         },
     )
 }
@@ -131,10 +149,15 @@ fn pass(stage: &Stage) -> bool
 fn limit_block(stage: &mut Stage, limit: u64) -> bool
     ensures { step stage.old (said.Block limit) ≡ done_as result stage.new }
 {
-    let Stage::Empty { block, session } = stage else {
+    let Stage::Empty {
+        block,
+        session,
+        live,
+    } = stage
+    else {
         return false;
     };
-    let found = with_block(*block, *session, limit);
+    let found = with_block(*block, *session, *live, limit);
     put(stage, found)
 }
 
@@ -142,10 +165,31 @@ fn limit_block(stage: &mut Stage, limit: u64) -> bool
 fn limit_session(stage: &mut Stage, limit: u64) -> bool
     ensures { step stage.old (said.Session limit) ≡ done_as result stage.new }
 {
-    let Stage::Empty { block, session } = stage else {
+    let Stage::Empty {
+        block,
+        session,
+        live,
+    } = stage
+    else {
         return false;
     };
-    let found = with_session(*block, *session, limit);
+    let found = with_session(*block, *session, *live, limit);
+    put(stage, found)
+}
+
+/// Makes of a stage what the line `live` makes of it.
+fn show_live(stage: &mut Stage) -> bool
+    ensures { step stage.old said.Live ≡ done_as result stage.new }
+{
+    let Stage::Empty {
+        block,
+        session,
+        live,
+    } = stage
+    else {
+        return false;
+    };
+    let found = with_live(*block, *session, *live);
     put(stage, found)
 }
 
@@ -155,9 +199,13 @@ fn begin_group(alloc: Global, stage: &mut Stage, source: u64, name: &[u8]) -> Re
     ensures { IfOk result (λ done. step stage.old (said.Group source name.now) ≡ done_as done stage.new) }
 {
     match stage {
-        Stage::Empty { block, session } => {
-            let limits = limits_of(*block, *session);
-            let found = first_sketch(alloc, limits, source, name)?;
+        Stage::Empty {
+            block,
+            session,
+            live,
+        } => {
+            let opening = opening_of(*block, *session, *live);
+            let found = first_sketch(alloc, opening, source, name)?;
             Ok(put(stage, planned_by(found)))
         }
         Stage::Planned { sketch } => add_group(alloc, sketch, source, name),
@@ -264,6 +312,7 @@ pub(crate) fn step(alloc: Global, stage: &mut Stage, line: Line<'_>) -> Result<b
         Line::Flush { source } => flush(alloc, stage, source),
         Line::Block { limit } => Ok(limit_block(stage, limit)),
         Line::Session { limit } => Ok(limit_session(stage, limit)),
+        Line::Live => Ok(show_live(stage)),
         Line::Group { source, name } => begin_group(alloc, stage, source, name),
         Line::Channel { name, form } => name_channel(alloc, stage, name, form),
         Line::Unit { name } => name_unit(alloc, stage, name),

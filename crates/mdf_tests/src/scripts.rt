@@ -13,7 +13,7 @@ const SCRIPTS: &[(&str, &str)] = &[
     ("\n", "line 2"),
     ("begin\n", "line 1"),
     ("channel t u64\n", "line 1"),
-    ("live\ngroup 0 g\n", "line 1"),
+    ("lives\ngroup 0 g\n", "line 1"),
     ("group 0 g\nbegin\n", "line 2"),
     ("group 0 g\ngroup 0 h\n", "line 2"),
     ("group 0 g\nchannel t u64\ngroup 0 h\n", "line 4"),
@@ -86,6 +86,27 @@ const LIMITS: &[(&str, &str)] = &[
     (
         "block 1\nsession 1\ngroup 0 g\nchannel t u64\nbegin\nend\n",
         "[0] 1 1 1 false 8:",
+    ),
+];
+
+// The line `live`, each with what is told of the script.
+const LIVE: &[(&str, &str)] = &[
+    ("live\n", "line 2"),
+    ("live 1\n", "line 1"),
+    ("live \n", "line 1"),
+    ("live\nlive\n", "line 2"),
+    ("live\n;\nblock 9\nsession 9\nlive\n", "line 5"),
+    ("group 0 g\nlive\n", "line 2"),
+    ("group 0 g\nchannel t u64\nlive\n", "line 3"),
+    ("group 0 g\nchannel t u64\nbegin\nlive\n", "line 4"),
+    ("group 0 g\nchannel t u64\nbegin\nend\nlive\n", "line 5"),
+    (
+        "live\ngroup 0 g\nchannel t u64\nbegin\n0 1\nend\n",
+        "[0] 1 65536 268435456 true 8: 1",
+    ),
+    (
+        "block 9\nlive\nsession 7\ngroup 0 g\nchannel t u64\ngroup 1 h\nchannel u u8\nbegin\nend\n",
+        "[0, 1] 2 9 7 true 8:",
     ),
 ];
 
@@ -251,8 +272,9 @@ fn scripts_are_told(rt: HostRuntime) -> Result<(), Fail> {
 }
 
 #[test]
-fn limits_are_told(rt: HostRuntime) -> Result<(), Fail> {
+fn lines_before_a_group_are_told(rt: HostRuntime) -> Result<(), Fail> {
     assert_eq!(rt; first_wrong(rt.alloc(), "", LIMITS)?, None);
+    assert_eq!(rt; first_wrong(rt.alloc(), "", LIVE)?, None);
     Ok(())
 }
 

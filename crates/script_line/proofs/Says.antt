@@ -184,9 +184,10 @@ unfolding worded_plan block_of session_of
 plan_said word words =
     if_both (λ o. IfSome o IsSaid) (bytes_eq word (codes "block")) _ _ (free_said said.Block (one_number words) (λ _. tt))
     (if_both (λ o. IfSome o IsSaid) (bytes_eq word (codes "session")) _ _ (free_said said.Session (one_number words) (λ _. tt))
+    (if_both (λ o. IfSome o IsSaid) (bytes_eq word (codes "live")) _ _ (alone_said said.Live words tt)
     (if_both (λ o. IfSome o IsSaid) (bytes_eq word (codes "group")) _ _ (groups_said words)
     (if_both (λ o. IfSome o IsSaid) (bytes_eq word (codes "channel")) _ _ (channels_said words)
-    (if_both (λ o. IfSome o IsSaid) (bytes_eq word (codes "unit")) _ _ (units_said words) (worded_said word words)))))
+    (if_both (λ o. IfSome o IsSaid) (bytes_eq word (codes "unit")) _ _ (units_said words) (worded_said word words))))))
 
 list_said : (words : List (List ℕ)) → IfSome (worded_list words) IsSaid
 list_said [] = tt

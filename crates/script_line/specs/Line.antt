@@ -16,6 +16,8 @@ pub data Line : Type 0 where
   -- how many data bytes a block has at most, and what the samples cost in all at most
   Block : ℕ → Line
   Session : ℕ → Line
+  -- samples are to be shown while the recording is made
+  Live : Line
   -- the source of the next group, and its name
   Group : ℕ → List ℕ → Line
   -- the name of the next channel, and what it says of its values
@@ -84,7 +86,7 @@ session_of words = option_map Session (one_number words)
 unfoldable pub flush_of : List (List ℕ) → Option Line
 flush_of words = option_map Flush (one_number words)
 
--- a line of one word
+-- `live`, `begin` or `end`
 unfoldable pub alone : Line → List (List ℕ) → Option Line
 alone line words = if is_end words then Some line else None
 
@@ -101,10 +103,11 @@ unfoldable pub worded_plan : List ℕ → List (List ℕ) → Option Line
 worded_plan word words =
     if bytes_eq word (codes "block") then block_of words
     else (if bytes_eq word (codes "session") then session_of words
+    else (if bytes_eq word (codes "live") then alone Live words
     else (if bytes_eq word (codes "group") then group_of words
     else (if bytes_eq word (codes "channel") then channel_of words
     else (if bytes_eq word (codes "unit") then unit_of words
-    else worded word words))))
+    else worded word words)))))
 
 abbrev pub worded_list : List (List ℕ) → Option Line
 worded_list [] = None

@@ -32,6 +32,8 @@ pub enum Line<'a> {
     Session {
         limit: u64,
     },
+    /// Samples are to be shown while the recording is made.
+    Live,
     /// The next group.
     Group {
         source: u64,
@@ -239,6 +241,9 @@ fn worded_plan<'a>(word: &[u8], words: Option<&'a [u8]>) -> Option<Line<'a>>
     }
     if word == b"session".as_slice() {
         return session_of(words);
+    }
+    if word == b"live".as_slice() {
+        return alone(Line::Live, words);
     }
     if word == b"group".as_slice() {
         return group_of(words);
