@@ -1,12 +1,14 @@
 ghost use Rattle.std.specs.Prelude.{◌≡◌, ℕ, List, map, Ok};
 ghost use Rattle.mdf_group.specs.declared.row.GroupRow.{GroupRow};
 ghost use Rattle.mdf_group.specs.Recordable.{AreRecordable};
+ghost use Rattle.mdf_layout.specs.Layout.{Layout};
 ghost use Rattle.mdf_layout.specs.declared.sample.Sample.{Sample};
 ghost use Rattle.mdf_content.specs.Layouts.{layout_of};
 ghost use Rattle.mdf_session.specs.Session.{SessionParts, session};
-ghost use Rattle.mdf_spell.specs.Recording.{FindsHead, FindsGroups, IsRecordingTree};
-ghost use Rattle.mdf_gate.specs.Carried.{IsCarried};
+ghost use Rattle.mdf_spell.specs.Recording.{head_file, FindsHead, FindsGroups, IsRecordingTree};
+ghost use Rattle.mdf_gate.specs.Carried.{Carries, IsCarried};
 ghost use Rattle.mdf_recovered.specs.Samples.{IsRecovered};
+ghost use Rattle.mdf_carried.specs.Recovers.{IsReadHead, Recovers};
 
 use mdf_layout::rules_are_tested;
 
@@ -27,4 +29,15 @@ pub fn what_is_carried_is_read()
         → IsCarried (map layout_of rows) file samples → (found : SessionParts) × (session file ≡ Ok found) }
 {
     rules_are_tested();
+}
+
+/// A law: a file that begins with the head of these rows, and carries a beginning of a history by their layouts, is read as a
+/// recording, and that beginning is recovered of it.
+pub fn what_is_carried_is_recovered()
+    ensures { (start : ℕ) (rows : List GroupRow) (layouts : List Layout) (history : List Sample) (through : ℕ) (file : List ℕ)
+        → AreRecordable rows → IsReadHead start rows → layouts ≡ map layout_of rows
+        → Carries layouts (head_file start rows) history through file → Recovers history through file }
+{
+    recovered_is_carried();
+    what_is_carried_is_read();
 }

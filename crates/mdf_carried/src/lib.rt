@@ -3,4 +3,4 @@
 
 mod law;
 
-pub use law::{recovered_is_carried, what_is_carried_is_read};
+pub use law::{recovered_is_carried, what_is_carried_is_read, what_is_carried_is_recovered};
