@@ -1,14 +1,14 @@
-//! A book of one group, whose records have 8 bytes behind the id, so that a block of 9 bytes holds one.
+//! A book of two groups, whose records have 8 bytes behind the id, so that a block of 9 bytes holds one.
 ghost use Rattle.std.specs.Prelude.{◌≡◌, ◌≤◌, true, [], All, IfOk, length};
 ghost use Rattle.mdf_layout.specs.Stored.{IsStored};
 ghost use Rattle.mdf_layout.specs.Written.{AreApart};
 ghost use Rattle.mdf_layout.specs.Record.{SampleFits, encoded_size};
 ghost use Rattle.mdf_gate.specs.Gated.{IsRecordingHead};
 ghost use Rattle.book_owned.specs.Begun.{IsNewFile};
-ghost use Rattle.book_shared_tests.specs.Words.{word_layout, word_layouts, IsOneGroup};
+ghost use Rattle.book_shared_tests.specs.Words.{word_layout, word_layouts, AreGroups};
 
 use crate::gates::{Gate, Slow};
-use book_owned::Book;
+use book_owned::{Book, NoView};
 use mdf_disk::{Disk, MemoryDisk, Role};
 use mdf_gate::{GatedFile, opened};
 use mdf_layout::{Entry, FieldKind, FieldRow, Sample, Shape, Shapes, Value, shape_of};
@@ -56,13 +56,19 @@ fn is_head(bytes: &[u8]) -> bool
     }
 }
 
-/// A recording of that head.
-fn recording<R: AllocGlobal + Abort>(rt: &R) -> Result<GatedFile<MemoryDisk>, Fail>
-    ensures { IfOk result (λ file. IsNewFile ⟦<MemoryDisk as Disk>⟧ file) }
+/// The disk of the tests.
+pub type TestDisk = Slow<MemoryDisk>;
+
+/// A recording of that head, on a disk whose syncs wait at the gate.
+fn recording<R: AllocGlobal + Abort>(rt: &R, gate: Arc<Gate>) -> Result<GatedFile<TestDisk>, Fail>
+    ensures { IfOk result (λ file. IsNewFile ⟦<TestDisk as Disk>⟧ file) }
 {
     let head = head();
     assert!(rt; is_head(&head));
-    let mut disk = MemoryDisk::new(rt.alloc());
+    let mut disk = Slow {
+        disk: MemoryDisk::new(rt.alloc()),
+        gate,
+    };
     disk.attach(Bytes::from_slice(rt.alloc(), b"file")?, Role::Create)?;
     match GatedFile::create(disk, &head) {
         Ok(file) => Ok(file),
@@ -73,7 +79,7 @@ fn recording<R: AllocGlobal + Abort>(rt: &R) -> Result<GatedFile<MemoryDisk>, Fa
 /// A channel of 64-bit unsigned numbers.
 pub fn word(alloc: Global) -> Result<Rows<FieldRow>, Memory>
     ensures stored { IfOk result (λ rows. All IsStored rows) }
-    ensures few { IfOk result (λ rows. length rows ≤ 128) }
+    ensures few { IfOk result (λ rows. length rows ≤ 64) }
 {
     let mut rows = Rows::empty(alloc);
     rows.push(FieldRow {
@@ -90,7 +96,7 @@ pub fn word(alloc: Global) -> Result<Rows<FieldRow>, Memory>
 
 /// The layout of these channels, which share no bit, in records of 8 bytes.
 fn shape<R: AllocGlobal + Abort>(rt: &R, rows: &Rows<FieldRow>) -> Result<Shape, Fail>
-    requires few { length rows.now ≤ 128 }
+    requires few { length rows.now ≤ 64 }
     ensures is { IfOk result (λ shape. shape ≡ word_layout rows.now) }
     ensures apart { IfOk result (λ shape. AreApart shape.rows) }
 {
@@ -99,31 +105,35 @@ fn shape<R: AllocGlobal + Abort>(rt: &R, rows: &Rows<FieldRow>) -> Result<Shape,
     Ok(shape)
 }
 
-/// The list of just this layout.
+/// The list of this layout, once for each of two groups.
 pub fn shapes<R: AllocGlobal + Abort>(rt: &R, rows: &Rows<FieldRow>) -> Result<Shapes, Fail>
     requires stored { All IsStored rows.now }
-    requires few { length rows.now ≤ 128 }
+    requires few { length rows.now ≤ 64 }
     ensures is { IfOk result (λ shapes. shapes ≡ word_layouts rows.now) }
-    ensures one { IfOk result IsOneGroup }
+    ensures groups { IfOk result AreGroups }
 {
     let mut shapes = Shapes::empty(rt.alloc());
+    shapes.push(shape(rt, rows)?)?;
     shapes.push(shape(rt, rows)?)?;
     Ok(shapes)
 }
 
-/// A book over a new file, whose view waits at the gate.
+/// The book of the tests.
+pub type TestBook = Book<TestDisk, NoView>;
+
+/// A book over a new file, on a disk whose syncs wait at the gate.
 pub fn book<R: AllocGlobal + Abort>(
     rt: &R,
     shapes: Shapes,
     gate: Arc<Gate>,
-) -> Result<Book<MemoryDisk, Slow>, Fail>
-    requires { IsOneGroup shapes }
+) -> Result<TestBook, Fail>
+    requires { AreGroups shapes }
     ensures layouts { IfOk result (λ book. book.terms.layouts ≡ shapes) }
     ensures limit { IfOk result (λ book. book.terms.block_limit ≡ 9) }
     ensures empty { IfOk result (λ book. book.history ≡ []) }
 {
-    let file = recording(rt)?;
-    match Book::begin(rt.alloc(), file, shapes, 9, 4096, Slow::new(gate)) {
+    let file = recording(rt, gate)?;
+    match Book::begin(rt.alloc(), file, shapes, 9, 4096, NoView::new()) {
         Ok(book) => Ok(book),
         Err((memory, file, _)) => {
             drop(file.into_disk());
@@ -132,14 +142,16 @@ pub fn book<R: AllocGlobal + Abort>(
     }
 }
 
-/// A sample of this number.
-pub fn sample(alloc: Global, number: u64) -> Result<Sample, Memory> {
+/// A sample of this group and number.
+pub fn sample(alloc: Global, group: u16, number: u64) -> Result<Sample, Memory>
+    ensures { IfOk result (λ sample. sample.group ≡ group) }
+{
     let mut values = Rows::empty(alloc);
     values.push(Entry {
         value: Value::Unsigned(number),
         valid: true,
     })?;
-    Ok(Sample { group: 0, values })
+    Ok(Sample { group, values })
 }
 
 /// Whether the sample is one of these layouts, and its record has room in an empty block.

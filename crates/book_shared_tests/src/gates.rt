@@ -1,103 +1,127 @@
-//! A view whose publishing waits at a gate.
+//! A disk whose syncs wait at a gate.
 ghost use Rattle.std.specs.Prelude.{◌≡◌};
 
-use book_owned::Shown;
-use mdf_layout::Sample;
-use mdf_num::Memory;
+use mdf_disk::{Disk, Role};
+use mdf_num::{Bytes, Failed};
 use std::alloc::Global;
+use std::sync::Arc;
 use std::sync::atomic::AtomicBool;
 use std::sync::atomic::Ordering::SeqCst;
-use std::sync::{Arc, Wait};
 use std::test::Fail;
-use std::thread::{Threads, yield_now};
+use std::thread::yield_now;
 
-/// What two threads tell each other: that a publishing has begun, and that it may end.
+/// What two threads tell each other: that syncs are to wait, that one does, and that it may go on.
 #[derive(Drop)]
 pub struct Gate {
+    /// How often a sync looks whether it may go on before it does all the same.
+    looks: u64,
+    shut: AtomicBool,
     entered: AtomicBool,
     answered: AtomicBool,
 }
 
-/// How often a thread looks at the gate before it goes on all the same.
-const LOOKS: u64 = 2_000_000;
+/// How often a thread looks for what another is to do before it goes on all the same.
+pub const LOOKS: u64 = 2_000_000;
 
-/// Waits until it is set, or so many looks have passed.
-fn wait_for(told: &AtomicBool) {
-    for _ in 0..LOOKS {
+/// Waits until it is set, and says so; or until so many looks have passed.
+pub fn wait_for(told: &AtomicBool, looks: u64) -> bool {
+    for _ in 0..looks {
         if told.load(SeqCst) {
-            return;
+            return true;
         }
         yield_now();
     }
+    false
 }
 
 impl Gate {
-    /// A gate that is open from the beginning, or one that `answer` opens.
-    pub fn new(alloc: Global, open: bool) -> Result<Arc<Gate>, Fail> {
+    /// A gate at which no sync waits yet.
+    pub fn new(alloc: Global, looks: u64) -> Result<Arc<Gate>, Fail> {
         let gate = Gate {
+            looks,
+            shut: AtomicBool::new(false),
             entered: AtomicBool::new(false),
-            answered: AtomicBool::new(open),
+            answered: AtomicBool::new(false),
         };
         Ok(Arc::new(alloc, gate)?)
     }
 
-    /// Waits until a publishing has begun.
-    pub fn wait_for_publishing(&self) {
-        wait_for(&self.entered);
+    /// Lets each later sync wait.
+    pub fn shut(&self) {
+        self.shut.store(true, SeqCst);
     }
 
-    /// Lets the publishing end.
+    /// Waits until a sync waits.
+    pub fn wait_for_sync(&self) {
+        let _entered = wait_for(&self.entered, LOOKS);
+    }
+
+    /// Lets the syncs go on.
     pub fn answer(&self) {
         self.answered.store(true, SeqCst);
     }
+
+    /// A sync passes.
+    fn pass(&self) {
+        if self.shut.load(SeqCst) {
+            self.entered.store(true, SeqCst);
+            let _answered = wait_for(&self.answered, self.looks);
+        }
+    }
 }
 
-/// A view that counts, and whose publishing waits at the gate.
+/// The disk under it, but a sync waits at the gate.
 #[derive(Drop)]
-pub struct Slow {
-    count: u64,
-    gate: Arc<Gate>,
+pub struct Slow<D> {
+    pub disk: D,
+    pub gate: Arc<Gate>,
 }
 
-impl Slow {
-    pub fn new(gate: Arc<Gate>) -> Slow
-        ensures { result.count ≡ 0 }
-    {
-        Slow { count: 0, gate }
-    }
-}
+impl<D: Disk> Disk for Slow<D> {
+    ghost asked = { λ slow. D.asked slow.disk };
 
-impl Shown for Slow {
-    ghost use Rattle.std.specs.Prelude.{◌≡◌, false, [], length};
+    ghost attached = { λ slow. D.attached slow.disk };
 
-    type Note = ();
+    ghost content = { λ slow. D.content slow.disk };
 
-    ghost may_want = { false };
+    ghost story = { λ slow. D.story slow.disk };
 
-    ghost shows = { λ view samples. length samples ≡ view.count };
+    ghost moment = { λ slow. D.moment slow.disk };
 
-    ghost hands = { λ view samples. samples ≡ [] };
+    ghost faults = { λ slow. D.faults slow.disk };
 
-    ghost count = { λ view. view.count };
+    ghost agrees = { λ slow. D.agrees slow.disk };
 
-    ghost which = { λ view. 0 };
+    ghost unasked = { λ slow. D.unasked slow.disk };
 
-    ghost tells = { λ note which shown. Unit {0} };
+    ghost unattached = { λ slow. D.unattached slow.disk };
 
-    fn publish<R: Threads + Wait + Sync>(
-        &mut self,
-        _rt: &R,
-        samples: &[Sample],
-    ) -> Result<(), Memory> {
-        self.gate.entered.store(true, SeqCst);
-        wait_for(&self.gate.answered);
-        self.count += samples.len() as u64;
-        Ok(())
+    fn attach(&mut self, name: Bytes, role: Role) -> Result<(), Failed> {
+        self.disk.attach(name, role)
     }
 
-    fn shown(&self) -> u64 {
-        self.count
+    fn size(&mut self) -> Result<u64, Failed> {
+        self.disk.size()
     }
 
-    fn told(&mut self) {}
+    fn read_at(&mut self, at: u64, buf: &mut [u8]) -> Result<(), Failed> {
+        self.disk.read_at(at, buf)
+    }
+
+    fn write_at(&mut self, at: u64, bytes: &[u8]) -> Result<(), Failed> {
+        self.disk.write_at(at, bytes)
+    }
+
+    fn sync(&mut self) -> Result<(), Failed> {
+        self.gate.pass();
+        self.disk.sync()
+    }
+
+    fn moment(&self) -> u64 {
+        self.disk.moment()
+    }
+
+    fn faults(&self) -> u64 {
+        self.disk.faults()
+    }
 }

@@ -1,4 +1,4 @@
-//! Tests of the shared book: a full block, and a seat that another has the turn of.
+//! Tests of the shared book and of the sources at work: a full block, a seat that another has the turn of, and two sources at once.
 #![tactic(auto)]
 
 #[cfg(test)]
@@ -11,3 +11,5 @@ mod seats;
 mod tasks;
 #[cfg(test)]
 mod turns;
+#[cfg(test)]
+mod workers;

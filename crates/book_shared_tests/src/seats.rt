@@ -4,15 +4,14 @@ ghost use Rattle.std.specs.Vec.{vec_capacity};
 ghost use Rattle.book_shared.specs.Seats.{new_seat, new_seats};
 ghost use Rattle.book_shared_tests.specs.Seated.{AreSeated};
 
-use crate::gates::Slow;
-use book_owned::{Book, Marks};
+use crate::books::{TestBook, TestDisk};
+use book_owned::{Marks, NoView};
 use book_shared::{SharedBook, SourceSeat};
-use mdf_disk::MemoryDisk;
 use mdf_num::Memory;
 use std::alloc::{AllocError, Global};
 use std::test::Fail;
 
-pub type Shared = SharedBook<MemoryDisk, Slow>;
+pub type Shared = SharedBook<TestDisk, NoView>;
 
 /// The seats of the two sources, and room to hand them back.
 #[derive(Drop)]
@@ -37,8 +36,8 @@ fn pair(book: &Shared, mut seats: Vec<SourceSeat>) -> (SourceSeat, SourceSeat)
     (first, second)
 }
 
-/// Shares a book, of which source 0 owns each group.
-pub fn share(alloc: Global, book: Book<MemoryDisk, Slow>) -> Result<(Shared, Seats), Fail>
+/// Shares a book, of which each source owns the group of its number.
+pub fn share(alloc: Global, book: TestBook) -> Result<(Shared, Seats), Fail>
     requires { book.history ≡ [] }
     ensures seated { IfOk result (λ begun. AreSeated book.terms begun.0 begun.1.first begun.1.second) }
     ensures room { IfOk result (λ begun. (begun.1.back.items ≡ []) × (2 ≤ vec_capacity begun.1.back)) }
@@ -46,7 +45,7 @@ pub fn share(alloc: Global, book: Book<MemoryDisk, Slow>) -> Result<(Shared, Sea
     let Ok(back) = Vec::with_capacity(alloc, 2) else {
         return Err(given_up(book));
     };
-    match SharedBook::begin(alloc, book, &[0], 2) {
+    match SharedBook::begin(alloc, book, &[0, 1], 2) {
         Ok((shared, seats)) => {
             let (first, second) = pair(&shared, seats);
             Ok((
@@ -63,13 +62,13 @@ pub fn share(alloc: Global, book: Book<MemoryDisk, Slow>) -> Result<(Shared, Sea
 }
 
 /// A book that is not shared, for want of memory.
-fn given_up(book: Book<MemoryDisk, Slow>) -> Fail {
+pub fn given_up(book: TestBook) -> Fail {
     drop(book.close());
     AllocError.into()
 }
 
 /// The numbers of samples that the marks go through.
-fn told(alloc: Global, count: u64, marks: &Marks) -> Result<String, Memory> {
+pub fn told(alloc: Global, count: u64, marks: &Marks) -> Result<String, Memory> {
     let mut told = format!(in alloc; "accepted {count} marks")?;
     for i in 0..marks.len() {
         if let Some(mark) = marks.get(i) {
@@ -94,8 +93,6 @@ pub fn close(alloc: Global, book: Shared, seats: Seats) -> Result<String, Memory
     } = seats;
     back.push_reserved(first);
     back.push_reserved(second);
-    let (disk, history, marks, view) = book.close(back).close();
-    drop(disk);
-    drop(view);
+    let (_, history, marks, _) = book.close(back).close();
     told(alloc, history.len(), &marks)
 }

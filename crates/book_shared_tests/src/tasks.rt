@@ -83,8 +83,22 @@ where
             let answer = shared.flush(rt, seat);
             Ok(format!(in rt.alloc(); "{answer:?}")?)
         }
-        Task::Try(number) => put(rt, shapes, shared, seat, sample(rt.alloc(), number)?, false),
-        Task::Append(number) => put(rt, shapes, shared, seat, sample(rt.alloc(), number)?, true),
+        Task::Try(number) => put(
+            rt,
+            shapes,
+            shared,
+            seat,
+            sample(rt.alloc(), 0, number)?,
+            false,
+        ),
+        Task::Append(number) => put(
+            rt,
+            shapes,
+            shared,
+            seat,
+            sample(rt.alloc(), 0, number)?,
+            true,
+        ),
     }
 }
 

@@ -5,7 +5,7 @@ ghost use Rattle.mdf_layout.specs.Record.{SampleFits, encoded_size};
 ghost use Rattle.book_shared_tests.specs.Seated.{IsSameSeat};
 
 use crate::books::{book, fits, sample, shapes, word};
-use crate::gates::Gate;
+use crate::gates::{Gate, LOOKS};
 use crate::seats::{Seats, Shared, close, share};
 use crate::tasks::{Task, feed, step, told_try};
 use book_owned::Flush;
@@ -25,7 +25,7 @@ where
 {
     let rows = word(rt.alloc())?;
     let checked_by = shapes(rt, &rows)?;
-    let gate = Gate::new(rt.alloc(), true)?;
+    let gate = Gate::new(rt.alloc(), LOOKS)?;
     let book = book(rt, shapes(rt, &rows)?, gate)?;
     let (shared, mut seats) = share(rt.alloc(), book)?;
     let answers = feed(rt, &checked_by, &shared, &mut seats.first, tasks);
@@ -67,26 +67,34 @@ where
     (seat, answer)
 }
 
-/// A try while the other seat publishes, which may end after it.
-fn try_meanwhile(
+/// A try or an append while the other seat flushes. The flush's syncs may go on when it is answered.
+fn put_meanwhile<R>(
+    rt: &R,
     shared: &Shared,
     gate: &Gate,
     mut seat: SourceSeat,
     sample: Sample,
+    waits: bool,
 ) -> (SourceSeat, Try)
+where
+    R: Threads + Wait + Sync,
     requires table { seat.table ≡ shared.now.table }
     requires owns { slice_index seat.know.basis.owners sample.group ≡ seat.number }
     requires fits { SampleFits seat.know.basis.terms.layouts sample }
     requires size { encoded_size seat.know.basis.terms.layouts sample ≤ seat.know.basis.terms.block_limit }
     ensures { IsSameSeat seat result.0 }
 {
-    gate.wait_for_publishing();
-    let answer = shared.try_append(&mut seat, sample);
+    gate.wait_for_sync();
+    let answer = if waits {
+        Try::Answered(shared.append(rt, &mut seat, sample))
+    } else {
+        shared.try_append(&mut seat, sample)
+    };
     gate.answer();
     (seat, answer)
 }
 
-/// The second seat flushes, and in the middle of it the first one tries. Tells both answers.
+/// The second seat flushes, and in the middle of it the first one tries or appends. Tells both answers.
 fn at_once<R>(
     rt: &R,
     shared: &Shared,
@@ -94,6 +102,7 @@ fn at_once<R>(
     first: SourceSeat,
     second: SourceSeat,
     sample: Sample,
+    waits: bool,
 ) -> (SourceSeat, SourceSeat, Flush<()>, Try)
 where
     R: Abort + Threads + Wait + Sync,
@@ -108,11 +117,11 @@ where
         requires { IsSync R.row × (second.table ≡ shared.now.table) }
         ensures { IsSameSeat second result.0 }
     { flush(rt, shared, second) };
-    let trying = move || -> (SourceSeat, Try)
-        requires { (first.table ≡ shared.now.table) × (slice_index first.know.basis.owners sample.group ≡ first.number) × SampleFits first.know.basis.terms.layouts sample × (encoded_size first.know.basis.terms.layouts sample ≤ first.know.basis.terms.block_limit) }
+    let putting = move || -> (SourceSeat, Try)
+        requires { IsSync R.row × (first.table ≡ shared.now.table) × (slice_index first.know.basis.owners sample.group ≡ first.number) × SampleFits first.know.basis.terms.layouts sample × (encoded_size first.know.basis.terms.layouts sample ≤ first.know.basis.terms.block_limit) }
         ensures { IsSameSeat first result.0 }
-    { try_meanwhile(shared, gate, first, sample) };
-    let ((second, flushed), (first, tried)) = join(rt, flushing, trying);
+    { put_meanwhile(rt, shared, gate, first, sample, waits) };
+    let ((second, flushed), (first, tried)) = join(rt, flushing, putting);
     (first, second, flushed, tried)
 }
 
@@ -137,14 +146,15 @@ fn joined(
     Ok(format!(in alloc; "{first}{second}{third}")?)
 }
 
-/// The first seat tries this sample while the second flushes, and once more behind it.
-fn tried_twice<R>(
+/// The first seat tries or appends this sample while the second flushes, and tries once more behind it.
+fn put_twice<R>(
     rt: &R,
     shapes: &Shapes,
     shared: &Shared,
     gate: &Gate,
     seats: Seats,
     sample: Sample,
+    waits: bool,
 ) -> (Seats, Result<String, Memory>)
 where
     R: AllocGlobal + Abort + Threads + Wait + Sync,
@@ -162,7 +172,9 @@ where
         second,
         back,
     } = seats;
-    let (mut first, second, flushed, tried) = at_once(rt, shared, gate, first, second, sample);
+    let (mut first, second, flushed, tried) = at_once(
+        rt, shared, gate, first, second, sample, waits,
+    );
     let both = told_both(rt.alloc(), &flushed, &tried);
     let after = step(rt, shapes, shared, &mut first, Task::Try(2));
     (
@@ -175,30 +187,42 @@ where
     )
 }
 
-/// Shares a book. Its first seat appends a sample, and tries another one while the second flushes.
-fn together<R>(rt: &R) -> Result<String, Fail>
+/// Shares a book. Its first seat appends a sample, and tries or appends another one while the second flushes, whose syncs
+/// look so often whether they may go on.
+fn together<R>(rt: &R, waits: bool, looks: u64) -> Result<String, Fail>
 where
     R: AllocGlobal + Abort + Threads + Wait + Sync,
 {
     let rows = word(rt.alloc())?;
     let checked_by = shapes(rt, &rows)?;
-    let gate = Gate::new(rt.alloc(), false)?;
+    let gate = Gate::new(rt.alloc(), looks)?;
     let theirs = Arc::try_clone(&gate)?;
-    let next = sample(rt.alloc(), 2)?;
+    let next = sample(rt.alloc(), 0, 2)?;
     let book = book(rt, shapes(rt, &rows)?, theirs)?;
     let (shared, mut seats) = share(rt.alloc(), book)?;
     let before = step(rt, &checked_by, &shared, &mut seats.first, Task::Append(1));
-    let (seats, answers) = tried_twice(rt, &checked_by, &shared, &gate, seats, next);
+    gate.shut();
+    let (seats, answers) = put_twice(rt, &checked_by, &shared, &gate, seats, next, waits);
     let end = close(rt.alloc(), shared, seats);
     Ok(joined(rt.alloc(), (before, answers, end))?)
 }
 
-// The word is 2 after the append and 3 while the flush has the turn.
+// The word is 2 after the append and 3 while the flush has the turn, which it has until the try is answered.
 #[test]
 fn a_seat_is_busy_while_another_flushes(rt: HostRuntime) -> Result<(), Fail> {
     assert_eq!(rt;
-        together(&rt)?.as_str(),
+        together(&rt, false, LOOKS)?.as_str(),
         "Accepted { place: 0 }Done { through: 1, shown: 1, note: () }\nbusy 3\nAccepted { place: 1 }accepted 2 marks 0 1"
+    );
+    Ok(())
+}
+
+// The append sleeps while the flush has the turn, and is woken when that is given back.
+#[test]
+fn an_append_waits_while_another_flushes(rt: HostRuntime) -> Result<(), Fail> {
+    assert_eq!(rt;
+        together(&rt, true, 20_000)?.as_str(),
+        "Accepted { place: 0 }Done { through: 1, shown: 1, note: () }\nAccepted { place: 1 }\nflush 9 9 9accepted 2 marks 0 1"
     );
     Ok(())
 }
