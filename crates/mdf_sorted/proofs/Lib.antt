@@ -6,3 +6,4 @@ mod Standing
 mod Holding
 mod Keeping
 mod Reading
+mod Sames

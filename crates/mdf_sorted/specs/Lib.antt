@@ -2,3 +2,4 @@ pub mod Sorted
 pub mod Places
 pub mod Kept
 pub mod Made
+pub mod Same

@@ -1,10 +1,12 @@
-ghost use Rattle.std.specs.Prelude.{ℕ, List};
+ghost use Rattle.std.specs.Prelude.{ℕ, ◌≡◌, List};
 ghost use Rattle.mdf_model.specs.declared.part.Measure.{Measure};
 ghost use Rattle.mdf_model.specs.Measurement.{Measured, with_content};
 ghost use Rattle.mdf_content.specs.Samples.{AreSamples};
 ghost use Rattle.mdf_spell.specs.Standing.{AreBytes};
 ghost use Rattle.mdf_valid.specs.Measurement.{IsMeasurement};
 ghost use Rattle.mdf_sorted.specs.Kept.{IsMeasureIn, StandsIn};
+ghost use Rattle.mdf_sorted.specs.Same.{SameMeasured};
+ghost use Rattle.mdf_sorted.specs.Sorted.{sorted_file};
 
 /// The measurement of a file stands in it.
 pub fn a_measurement_stands()
@@ -15,4 +17,9 @@ pub fn a_measurement_stands()
 pub fn other_records_stand()
     ensures { (file : List ℕ) (m : Measure) (count : ℕ) (content : List ℕ) (streams : List (List ℕ))
         → IsMeasureIn file m → AreSamples m.shape count content streams → IsMeasureIn file (with_content m count content streams) }
+{}
+
+/// Measurements that say the same have the same sorted file, byte by byte, whatever files they were read of.
+pub fn one_sorted_file()
+    ensures { (m other : Measured) (title : List ℕ) (now : ℕ) → SameMeasured m other → sorted_file m title now ≡ sorted_file other title now }
 {}
