@@ -131,4 +131,4 @@ pub step_sound : (stage changed : Stage) (line : said.Line) → Sound stage → 
 step_sound (Empty block session live) changed line is ok e = empty_sound block session live line changed is ok e
 step_sound (Planned sketch) changed line is ok e = planned_sound sketch line changed is ok e
 step_sound (Running script) changed line is ok e = running_sound script line changed is e
-step_sound (Ended script) changed line is ok e = absurd (cc)
+step_sound (Ended script) changed _ is ok e = absurd (cc)

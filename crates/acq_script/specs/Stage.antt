@@ -82,7 +82,7 @@ abbrev pub step : Stage → said.Line → Option Stage
 step (Empty block session live) line = empty block session live line
 step (Planned sketch) line = planned sketch line
 step (Running script) line = running script line
-step (Ended script) line = None
+step (Ended script) _ = None
 
 -- what holds of a script: a list for each source, of tasks that fit the plan and are the source's
 pub record IsScript (script : Script) : Type 0 where
