@@ -1,9 +1,9 @@
 -- A sorted file is valid, and has the measurement of which it is made.
 use Rattle.std.proofs.Common.{◌≡◌, ◌^◌, ◌<◌, ℕ, List, [], ◌∷◌, ◌++◌, map, refl, sym, ◌∙◌, ap, subst, inl, inr, arith, append-nil}
 use Rattle.std.specs.Prelude.{codes}
-use Rattle.std.specs.List.{AllByRecursion, AllZip}
+use Rattle.std.specs.List.{flat_map, AllByRecursion, AllZip}
 use Rattle.mdf_format.specs.Identification.{standard_flags, custom_flags}
-use Rattle.mdf_block.specs.Draft.{Placed, link_number, AllStand}
+use Rattle.mdf_block.specs.Draft.{Placed, link_number, block_bytes, written, AllStand}
 use Rattle.mdf_head.specs.declared.entry.History.{History}
 use Rattle.mdf_group.specs.declared.row.GroupRow.{GroupRow}
 use Rattle.mdf_tree.specs.Text.{IsText}
@@ -77,7 +77,7 @@ records_same blocks n (m ∷ rest) = (
   records_same blocks (past_part n m.part) rest,
 )
 
-pub sorted_kept : (source rest : List ℕ) (m : Measured) (title : List ℕ) (now : ℕ) → IsTitle title → now < 2 ^ 64 → StandsIn source m
+sorted_kept : (source rest : List ℕ) (m : Measured) (title : List ℕ) (now : ℕ) → IsTitle title → now < 2 ^ 64 → StandsIn source m
     → AllByRecursion (λ (one : Measure). one.count < 2 ^ 64) m.groups
     → AllStand (finalized_ident ++ rest) (sorted_blocks m title now) → IsSortedOf m title now (finalized_ident ++ rest)
 unfolding sorted_blocks
@@ -125,3 +125,13 @@ sorted_kept source rest m title now named in_time is fit all =
       same_rows = rows_same blocks n m.groups;
       same_records = records_same blocks n m.groups;
     }
+
+-- so are the bytes that are written of its blocks
+pub spelled_kept : (source bytes : List ℕ) (blocks : List Placed) (m : Measured) (title : List ℕ) (now : ℕ) → IsTitle title → now < 2 ^ 64
+    → StandsIn source m → AllByRecursion (λ (one : Measure). one.count < 2 ^ 64) m.groups → blocks ≡ sorted_blocks m title now
+    → bytes ≡ written finalized_ident blocks → AllStand bytes blocks → IsSortedOf m title now bytes
+spelled_kept source bytes blocks m title now named in_time stands fit placed is stand =
+    let all = sorted_blocks m title now in
+    let same : bytes ≡ written finalized_ident all = is ∙ ap (λ (given : List Placed). written finalized_ident given) placed in
+    let here = subst (λ (given : List ℕ). AllStand given all) same (subst (λ (given : List Placed). AllStand bytes given) placed stand) in
+    subst (IsSortedOf m title now) (sym same) (sorted_kept source (flat_map (block_bytes all) all) m title now named in_time stands fit here)

@@ -2,7 +2,7 @@ ghost use Rattle.std.specs.Prelude.{ℕ, ◌≡◌, ◌<◌, ◌^◌, ◌++◌, 
 ghost use Rattle.std.specs.List.{AllByRecursion};
 ghost use Rattle.mdf_model.specs.declared.part.Measure.{Measure};
 ghost use Rattle.mdf_sorted.specs.Kept.{StandsIn, IsSortedOf};
-ghost use Rattle.mdf_sorted.specs.Sorted.{IsTitle, measures_blocks, sorted_file};
+ghost use Rattle.mdf_sorted.specs.Sorted.{IsTitle, measures_blocks, sorted_blocks, sorted_file};
 
 use crate::group::place_part;
 use mdf_block::Draft;
@@ -31,6 +31,44 @@ fn place_groups(alloc: Global, draft: &mut Draft, measurement: &Measurement) -> 
     Ok(())
 }
 
+/// The blocks of the sorted file of a measurement.
+fn blocks_of(
+    alloc: Global,
+    measurement: &Measurement,
+    title: &str,
+    now_ns: u64,
+) -> Result<Draft, Memory>
+    ensures placed { IfOk result (λ blocks. blocks ≡ sorted_blocks measurement.now title.now now_ns) }
+    ensures fit { OnOk result (AllByRecursion (λ (m : Measure). m.count < 2 ^ 64) measurement.now.groups) }
+{
+    let mut draft = Draft::new(alloc);
+    let more = measurement.groups() > 0;
+    place_head(
+        alloc,
+        &mut draft,
+        measurement.head(),
+        measurement.history().as_slice(),
+        title,
+        now_ns,
+        more,
+    )?;
+    place_groups(alloc, &mut draft, measurement)?;
+    Ok(draft)
+}
+
+/// The same, where the measurement is given back to the allocator.
+fn blocks_from(
+    alloc: Global,
+    measurement: Measurement,
+    title: &str,
+    now_ns: u64,
+) -> Result<Draft, Memory>
+    ensures placed { IfOk result (λ blocks. blocks ≡ sorted_blocks measurement title.now now_ns) }
+    ensures fit { OnOk result (AllByRecursion (λ (m : Measure). m.count < 2 ^ 64) measurement.groups) }
+{
+    blocks_of(alloc, &measurement, title, now_ns)
+}
+
 /// The sorted file of a measurement: identification, header, the history with an entry of what was done at `now_ns` (ns since
 /// 1970) as its last, and a data group for each group of the measurement, in their order. Each has record id size 0, the
 /// comment of the data group from which the group came, its one channel group with as many cycles as it has records, one DT
@@ -48,17 +86,25 @@ pub fn spell_sorted(
     ensures written { IfOk result (λ bytes. bytes ≡ sorted_file measurement.now title.now now_ns) }
     ensures keeps { (file : List ℕ) → StandsIn file measurement.now → IfOk result (IsSortedOf measurement.now title.now now_ns) }
 {
-    let mut draft = Draft::new(alloc);
-    let more = measurement.groups() > 0;
-    place_head(
-        alloc,
-        &mut draft,
-        measurement.head(),
-        measurement.history().as_slice(),
-        title,
-        now_ns,
-        more,
-    )?;
-    place_groups(alloc, &mut draft, measurement)?;
-    draft.bytes(&FINALIZED_IDENT)
+    let blocks = blocks_of(alloc, measurement, title, now_ns)?;
+    blocks.bytes(&FINALIZED_IDENT)
+}
+
+/// The same, where the measurement is given back to the allocator before the file is made of its blocks: so its records are
+/// held twice and no more.
+///
+/// # Errors
+/// As `spell_sorted`.
+pub(crate) fn spell_from(
+    alloc: Global,
+    measurement: Measurement,
+    title: &str,
+    now_ns: u64,
+) -> Result<Bytes, Memory>
+    requires { IsTitle title.now }
+    ensures written { IfOk result (λ bytes. bytes ≡ sorted_file measurement title.now now_ns) }
+    ensures keeps { (file : List ℕ) → StandsIn file measurement → IfOk result (IsSortedOf measurement title.now now_ns) }
+{
+    let blocks = blocks_from(alloc, measurement, title, now_ns)?;
+    blocks.bytes(&FINALIZED_IDENT)
 }
