@@ -1,0 +1,5 @@
+mod Indexes
+mod Keepings
+mod Groups
+mod Standings
+mod Ends

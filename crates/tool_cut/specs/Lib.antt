@@ -1,0 +1,3 @@
+pub mod Master
+pub mod Kept
+pub mod Cut
