@@ -5,3 +5,4 @@ pub mod Sketches
 pub mod Sounds
 pub mod Spells
 pub mod Respelled
+pub mod Lines

@@ -1,0 +1,2 @@
+mod PlanText
+mod Fits
