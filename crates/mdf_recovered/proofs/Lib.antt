@@ -1,4 +1,4 @@
 mod Onces
 mod Opens
 mod Counts
-mod Founds
+pub mod Founds

@@ -1,2 +1,9 @@
 mod Sums
 mod Ends
+mod Fields
+mod Names
+mod Threads
+mod Plain
+mod Splits
+mod Measures
+mod Sessions

@@ -11,13 +11,15 @@ use Rattle.mdf_tool.specs.declared.made.Made.{Made}
 use Rattle.mdf_tool.specs.declared.made.Report.{Report}
 use Rattle.mdf_tool.specs.declared.fault.ToolFault.{ToolFault}
 use Rattle.mdf_tool.specs.declared.fault.ToolFault.TheVariants as tool
-use Rattle.tool_final.specs.Finalized.{IsSessionFile, IsMadeOf, report_for}
+use Rattle.tool_final.specs.Finalized.{IsSessionFile, report_for}
+use Rattle.tool_final.specs.Keeping.{IsFinalizedRecording}
 
 -- these bytes are the finalized session of this file, at a time in ns, and this is told of it
 pub record IsFinalizedOf (file : List ℕ) (now : ℕ) (bytes : List ℕ) (report : Report) : Type 0 where
   pub found : SessionParts
   pub is_read : session file ≡ Ok found
   pub bytes_are : IsSessionFile found now bytes
+  pub keeps : IsFinalizedRecording file now bytes
   pub report_is : report ≡ report_for found
 
 -- How it ends, by what the disk of the output tells before and after: the finalized session of the file is kept whole; or the

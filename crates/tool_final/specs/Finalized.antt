@@ -1,29 +1,35 @@
 -- The finalized file of a session, and what is told of it.
-use Rattle.std.specs.Prelude.{ℕ, ◌≡◌, ◌+◌, if◌then◌else◌, List, [], ◌∷◌, sum_by, Some, slice_get}
+use Rattle.std.specs.Prelude.{ℕ, ◌≡◌, ◌+◌, if◌then◌else◌, List, [], ◌∷◌, sum_by, Some, Ok, slice_get}
 use Rattle.mdf_group.specs.declared.row.GroupRow.{GroupRow}
 use Rattle.mdf_group.specs.declared.row.DataRow.{DataRow}
 use Rattle.mdf_group.specs.Group.{is_variable}
-use Rattle.mdf_session.specs.Session.{SessionParts}
+use Rattle.mdf_session.specs.Session.{SessionParts, session}
 use Rattle.mdf_spell.specs.declared.recovered.Recovered.{Recovered}
 use Rattle.mdf_spell.specs.Session.{session_file}
+use Rattle.mdf_spell.specs.Standing.{AreBytes}
 use Rattle.mdf_tool.specs.declared.made.Made.{Made}
 use Rattle.mdf_tool.specs.declared.made.Report.{Report}
+use Rattle.tool_final.specs.Keeping.{IsFinalizedRecording}
 
 -- what was recovered is what the session has, of its first data group
-pub record IsOfSession (session : SessionParts) (recovered : Recovered) : Type 0 where
-  pub head : recovered.head.now ≡ session.tree.head
-  pub history : recovered.history.now ≡ session.tree.history
-  pub row : slice_get session.tree.rows 0 ≡ Some recovered.row.now
-  pub counts : recovered.counts.now ≡ session.kept.counts
-  pub totals : recovered.totals.now ≡ session.kept.totals
-  pub content : recovered.content.now ≡ session.kept.content
-  pub streams : recovered.streams.now ≡ session.kept.streams
+pub record IsOfSession (read : SessionParts) (recovered : Recovered) : Type 0 where
+  pub head : recovered.head.now ≡ read.tree.head
+  pub history : recovered.history.now ≡ read.tree.history
+  pub row : slice_get read.tree.rows 0 ≡ Some recovered.row.now
+  pub counts : recovered.counts.now ≡ read.kept.counts
+  pub totals : recovered.totals.now ≡ read.kept.totals
+  pub content : recovered.content.now ≡ read.kept.content
+  pub streams : recovered.streams.now ≡ read.kept.streams
 
 -- these bytes are the finalized file of what was recovered, at a time in ns
-pub record IsSessionFile (session : SessionParts) (now : ℕ) (bytes : List ℕ) : Type 0 where
+pub record IsSessionFile (read : SessionParts) (now : ℕ) (bytes : List ℕ) : Type 0 where
   pub recovered : Recovered
-  pub is_of : IsOfSession session recovered
+  pub is_of : IsOfSession read recovered
   pub bytes_are : bytes ≡ session_file recovered now
+
+-- whatever file the session is read of, these bytes keep what it holds
+abbrev pub KeepsSession : SessionParts → ℕ → List ℕ → Type 0
+KeepsSession read now bytes = (file : List ℕ) → AreBytes file → session file ≡ Ok read → IsFinalizedRecording file now bytes
 
 -- the number of a group, which is 0 where it holds values of variable length
 abbrev pub counted : GroupRow → ℕ → ℕ
@@ -46,13 +52,14 @@ first_groups (row ∷ rows) = row.groups
 
 -- what is told of the finalized file: its groups and samples, and how many links of the recording were passed over
 abbrev pub report_for : SessionParts → Report
-report_for session = record {
-  groups = group_count (first_groups session.tree.rows);
-  samples = sample_count (first_groups session.tree.rows) session.kept.counts;
-  dropped = session.tree.dropped;
+report_for read = record {
+  groups = group_count (first_groups read.tree.rows);
+  samples = sample_count (first_groups read.tree.rows) read.kept.counts;
+  dropped = read.tree.dropped;
 }
 
 -- the finalized file and what is told of it
-pub record IsMadeOf (session : SessionParts) (now : ℕ) (made : Made) : Type 0 where
-  pub bytes_are : IsSessionFile session now made.bytes
-  pub report_is : made.report ≡ report_for session
+pub record IsMadeOf (read : SessionParts) (now : ℕ) (made : Made) : Type 0 where
+  pub bytes_are : IsSessionFile read now made.bytes
+  pub keeps : KeepsSession read now made.bytes
+  pub report_is : made.report ≡ report_for read

@@ -1,2 +1,3 @@
 pub mod Finalized
 pub mod Finalize
+pub mod Keeping

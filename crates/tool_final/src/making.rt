@@ -5,6 +5,7 @@ ghost use Rattle.mdf_disk.specs.Crash.{Adds};
 ghost use Rattle.mdf_disk.specs.State.{state_of};
 ghost use Rattle.mdf_seal.specs.Seal.{IsBlank};
 ghost use Rattle.mdf_session.specs.Session.{session};
+ghost use Rattle.mdf_spell.specs.Standing.{AreBytes};
 ghost use Rattle.tool_final.specs.Finalize.{FinalizeEnds, IsFinalizeImage};
 ghost use Rattle.tool_final.specs.Finalized.{IsMadeOf};
 
@@ -16,11 +17,20 @@ use mdf_session::{Session, read_session};
 use mdf_tool::{Made, Report, ToolFault, write_made};
 use std::alloc::Global;
 
+/// The session of these bytes.
+fn session_read(alloc: Global, bytes: &[u8]) -> Result<Session, ReadFault>
+    ensures exact { GivesOf read_refusal result (session bytes.now) }
+    ensures bytes { AreBytes bytes.now }
+{
+    read_session(alloc, bytes)
+}
+
 /// The session of a file, which is given back to the allocator before anything is made of it.
 fn session_of(alloc: Global, file: Bytes) -> Result<Session, ReadFault>
     ensures exact { GivesOf read_refusal result (session file) }
+    ensures bytes { AreBytes file }
 {
-    read_session(alloc, file.as_slice())
+    session_read(alloc, file.as_slice())
 }
 
 /// The finalized file of a session, and what is told of it.

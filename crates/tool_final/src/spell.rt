@@ -1,6 +1,6 @@
 ghost use Rattle.std.specs.Prelude.{◌≡◌, IfOk};
 ghost use Rattle.mdf_spell.specs.Counts.{IsCounted};
-ghost use Rattle.tool_final.specs.Finalized.{IsSessionFile, IsOfSession};
+ghost use Rattle.tool_final.specs.Finalized.{IsSessionFile, IsOfSession, KeepsSession};
 
 use mdf_num::{Bytes, Memory};
 use mdf_session::Session;
@@ -29,7 +29,8 @@ fn recovered_of<'a>(session: &'a Session) -> Recovered<'a>
 /// # Errors
 /// `Memory` where memory runs out, or where there are more than 2^30 blocks.
 pub fn spell_session(alloc: Global, session: &Session, now_ns: u64) -> Result<Bytes, Memory>
-    ensures { IfOk result (IsSessionFile session.now now_ns) }
+    ensures of { IfOk result (IsSessionFile session.now now_ns) }
+    ensures keeps { IfOk result (KeepsSession session.now now_ns) }
 {
     let recovered = recovered_of(session);
     let bytes = finalized_file(alloc, &recovered, now_ns)?;

@@ -1,0 +1,50 @@
+-- The finalized file of a session keeps what its recording holds.
+use Rattle.std.proofs.Common.{◌≡◌, ℕ, List, [], ◌∷◌, Ok, Some, sym, ◌∙◌, ap, subst}
+use Rattle.std.specs.Prelude.{slice_get, Option, None}
+use Rattle.std.specs.List.{AllByRecursion}
+use Rattle.mdf_head.specs.declared.entry.Head.{Head}
+use Rattle.mdf_head.specs.declared.entry.History.{History}
+use Rattle.mdf_head.specs.Head.{IsHead}
+use Rattle.mdf_group.specs.declared.row.DataRow.{DataRow}
+use Rattle.mdf_group.specs.Standing.{IsDataGroup}
+use Rattle.mdf_session.specs.Session.{SessionParts, session}
+use Rattle.mdf_valid.proofs.Cases.{some_injective}
+use Rattle.mdf_recovered.specs.Recovered.{Recovery, IsRecovery, IsSessionOf}
+use Rattle.mdf_recovered.proofs.Founds.{session_found}
+use Rattle.mdf_spell.specs.declared.recovered.Recovered.{Recovered}
+use Rattle.mdf_spell.specs.Counts.{IsCounted}
+use Rattle.mdf_spell.specs.Session.{session_file}
+use Rattle.mdf_spell.specs.Standing.{AreBytes, IsRecoveredOf, IsSessionTree}
+use Rattle.tool_final.specs.Finalized.{IsOfSession, KeepsSession}
+use Rattle.tool_final.specs.Keeping.{IsFinalizedRecording}
+use Rattle.tool_final.proofs.Measures.{IsMadeFrom, keeps_recovery}
+
+-- the first data group stands
+first_stands : (f : List ℕ) (rows : List DataRow) (row : DataRow) → AllByRecursion (IsDataGroup f) rows → slice_get rows 0 ≡ Some row → IsDataGroup f row
+first_stands f [] row each there = let wrong : ◌≡◌ {A = Option DataRow} None (Some row) = there in cc
+first_stands f (first ∷ rows) row each there = subst (IsDataGroup f) (some_injective first row there) each.0
+
+module _ (s : SessionParts) (recovered : Recovered) (now : ℕ) (bytes : List ℕ) (of_session : IsOfSession s recovered) (counted : IsCounted recovered)
+    (is : bytes ≡ session_file recovered now) (stand : (file : List ℕ) → IsRecoveredOf file recovered → IsSessionTree bytes recovered now) where
+  made_from : (found : Recovery) → slice_get found.rows 0 ≡ Some found.row → IsSessionOf found s → IsMadeFrom found recovered
+  made_from found first of_file = record {
+    head = of_session.head ∙ of_file.head;
+    history = of_session.history ∙ of_file.history;
+    row = some_injective recovered.row.now found.row (sym of_session.row ∙ ap (λ (rows : List DataRow). slice_get rows 0) of_file.rows ∙ first);
+    counts = of_session.counts ∙ of_file.kept.counts;
+    content = of_session.content ∙ of_file.kept.content;
+    streams = of_session.streams ∙ of_file.kept.streams;
+  }
+
+  pub keeps_session : KeepsSession s now bytes
+  keeps_session file whole read =
+      let found = session_found file s read in
+      let recovery = found.1 in
+      let made = made_from found.0 recovery.first found.2 in
+      let head : IsHead file recovered.head.now recovered.history.now =
+      subst (λ (h : Head). IsHead file h recovered.history.now) (sym made.head)
+      (subst (λ (entries : List History). IsHead file found.0.head entries) (sym made.history) recovery.stands) in
+      let row : IsDataGroup file recovered.row.now =
+      subst (IsDataGroup file) (sym made.row) (first_stands file found.0.rows found.0.row recovery.tree.each recovery.first) in
+      let tree = stand file (record { bytes = whole; head = head; row = row }) in
+      record { found = found.0; recovery = recovery; keeps = keeps_recovery file bytes found.0 recovered now recovery made counted is tree }
