@@ -50,6 +50,7 @@ use Rattle.mdf_gate.specs.Recording.{IsPlace, IsOpened, IsRecording}
 use Rattle.mdf_recovered.specs.Recovered.{told, IsGroupContents, Recovery, IsRecovery, IsSessionOf}
 use Rattle.mdf_recovered.proofs.Counts.{places_count, counts_are, content_is}
 use Rattle.mdf_recovered.proofs.Opens.{AreOpened, opened_found}
+use Rattle.mdf_recovered.proofs.Values.{sized, totals_are}
 
 -- what is found of each item, put together
 pub gathered_up : {A B C : Type 0} (P : A → C → Type 0) (part : C → B) (xs : List A) (ys : List B)
@@ -185,6 +186,7 @@ pub record IsKeptFound (f : List ℕ) (row : DataRow) (found : Kept) : Type 0 wh
   pub each : AllZip (IsGroupContents f row records) (sample_groups row) groups
   pub content : found.content ≡ flat_map (λ (r : Record). r.bytes) records
   pub counts : found.counts ≡ map (λ (group : ℕ × GroupRow). length (bodies row.id_size records group.0)) (enumerate_from 0 row.groups)
+  pub totals : found.totals ≡ map (sized row records) (enumerate_from 0 row.groups)
   pub streams : found.streams ≡ flat_map (λ (contents : Contents). contents.streams) groups
 
 kept_found : (f : List ℕ) (row : DataRow) (found : Kept) → kept f row ≡ Ok found → IsKeptFound f row found
@@ -222,6 +224,7 @@ kept_found f row found is =
       each = all.each;
       content = content_is row stream lists split.records split.rest hold split.split split.whole;
       counts = counts_are stream row lists split.records hold;
+      totals = totals_are row stream lists split.records split.rest has hold split.split;
       streams = all.streams_are;
     } in
     subst (IsKeptFound f row) (ok_injective (made parts lists last.0) found last.2) whole
@@ -336,6 +339,6 @@ session_found f s is =
       head = refl;
       history = refl;
       rows = refl;
-      kept = record { content = held.content; counts = held.counts; streams = held.streams };
+      kept = record { content = held.content; counts = held.counts; totals = held.totals; streams = held.streams };
     } in
     (found, recovery, subst (IsSessionOf found) (ok_injective (made all three.0) s three.2) kept_of)

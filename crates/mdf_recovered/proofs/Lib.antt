@@ -1,4 +1,6 @@
 mod Onces
 mod Opens
 mod Counts
+mod Values
+pub mod Samplings
 pub mod Founds

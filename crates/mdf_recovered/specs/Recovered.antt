@@ -69,6 +69,7 @@ values_size found group = if is_variable group.1 then value_bytes (bodies found.
 pub record IsKeptOf (found : Recovery) (kept : Kept) : Type 0 where
   pub content : kept.content ≡ flat_map (λ (r : Record). r.bytes) found.records
   pub counts : kept.counts ≡ map (record_count found) (enumerate_from 0 found.row.groups)
+  pub totals : kept.totals ≡ map (values_size found) (enumerate_from 0 found.row.groups)
   pub streams : kept.streams ≡ flat_map (λ (contents : Contents). contents.streams) found.groups
 
 pub record IsSessionOf (found : Recovery) (session : SessionParts) : Type 0 where

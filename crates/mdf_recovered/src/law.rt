@@ -10,6 +10,11 @@ pub fn what_is_read_is_recovered()
         → (found : Recovery) × IsRecovery file found × IsSessionOf found read }
 {}
 
+/// Samples are recovered of each recording.
+pub fn recordings_have_samples()
+    ensures { (file : List ℕ) (found : Recovery) → IsRecovery file found → (samples : List Sample) × IsRecovered file samples }
+{}
+
 /// A recording holds one thing, and one list of samples is recovered of it.
 pub fn recoveries_agree()
     ensures found { (file : List ℕ) (found other : Recovery) → IsRecovery file found → IsRecovery file other → found ≡ other }

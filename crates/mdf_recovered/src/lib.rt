@@ -4,4 +4,4 @@
 
 mod law;
 
-pub use law::{recoveries_agree, what_is_read_is_recovered};
+pub use law::{recordings_have_samples, recoveries_agree, what_is_read_is_recovered};
