@@ -1,5 +1,5 @@
 -- Each record of a recording that is a sample has one.
-use Rattle.std.proofs.Common.{◌≡◌, ◌+◌, ◌*◌, ◌<◌, ◌≤◌, ℕ, zero, suc, List, [], ◌∷◌, ◌++◌, length, take, drop, map, refl, sym, ◌∙◌, ap, subst, inl, inr, arith}
+use Rattle.std.proofs.Common.{◌≡◌, ◌+◌, ◌*◌, ◌<◌, ℕ, zero, suc, List, [], ◌∷◌, ◌++◌, length, take, drop, map, refl, sym, ◌∙◌, ap, subst, inl, inr, arith}
 use Rattle.std.specs.Prelude.{Bool, true, false, not, cond, filter, slice_get, Option, Some, None}
 use Rattle.std.specs.List.{AllByRecursion, AllZip, enumerate_from}
 use Rattle.std.proofs.lemmas.Bool.{cond-true, cond-false, eq-eqb}
@@ -17,18 +17,16 @@ use Rattle.mdf_group.specs.Group.{is_variable}
 use Rattle.mdf_layout.specs.Layout.{Layout}
 use Rattle.mdf_layout.specs.Layout as layouts
 use Rattle.mdf_layout.specs.Values.{sample_of}
-use Rattle.mdf_layout.specs.declared.sample.Entry.{Entry}
 use Rattle.mdf_layout.specs.declared.sample.Sample.{Sample}
-use Rattle.mdf_content.specs.declared.contents.Contents.{Contents}
 use Rattle.mdf_content.specs.Records.{record_size, size_of}
 use Rattle.mdf_content.specs.Samples.{record_at}
 use Rattle.mdf_model.specs.Measurement.{holds_samples}
 use Rattle.mdf_valid.specs.Bodies.{is_of, bodies, joined}
-use Rattle.mdf_valid.specs.Contents.{own_records, is_of_samples, sample_groups}
+use Rattle.mdf_valid.specs.Contents.{is_of_samples, sample_groups}
 use Rattle.mdf_valid.proofs.Cases.{some_injective, two_ways}
 use Rattle.mdf_valid.proofs.Picks.{all_there}
-use Rattle.mdf_recovered.specs.Recovered.{told, IsGroupContents, Recovery, IsRecovery}
-use Rattle.mdf_recovered.specs.Samples.{is_sample_in, is_sample, sample_number, index_of, body_of, IsSampleOf, sample_records, IsRecovered}
+use Rattle.mdf_recovered.specs.Recovered.{IsGroupContents, Recovery, IsRecovery}
+use Rattle.mdf_recovered.specs.Samples.{is_sample_in, is_sample, sample_number, index_of, body_of, IsSampleOf, IsRecovered}
 use Rattle.mdf_recovered.proofs.Values.{bodies_whole}
 
 -- what stands beside an item of a list
@@ -47,9 +45,11 @@ each_passes {A} {B} test R Known one (x ∷ xs) all =
     let rest = each_passes test R Known one xs all.1 in
     elim (two_ways (test x)) [
       | inl passes ↦
-          let found = one x all.0 passes in
-          (found.0 ∷ rest.0, subst (λ (zs : List A). AllZip R zs (found.0 ∷ rest.0)) (sym (cond-true (test x) (x ∷ filter test xs) (filter test xs) passes))
-          (found.1, rest.1))
+          let found = one x all.0 passes in (
+            found.0 ∷ rest.0,
+            subst (λ (zs : List A). AllZip R zs (found.0 ∷ rest.0)) (sym (cond-true (test x) (x ∷ filter test xs) (filter test xs) passes))
+                (found.1, rest.1),
+          )
       | inr fails ↦
           (rest.0, subst (λ (zs : List A). AllZip R zs rest.0) (sym (cond-false (test x) (x ∷ filter test xs) (filter test xs) fails)) rest.1)
     ]

@@ -1,6 +1,6 @@
 -- The bodies of records are whole, and how many bytes those of values have.
-use Rattle.std.proofs.Common.{◌≡◌, ◌≢◌, ◌+◌, ◌-◌, ◌<◌, ◌≤◌, ℕ, zero, suc, List, [], ◌∷◌, ◌++◌, length, get_or, take, drop, map, sum_by, refl, sym, ◌∙◌, ap, subst, inl, inr, arith, append_assoc, length-append}
-use Rattle.std.specs.Prelude.{Bool, true, false, nat_eq, filter, if◌then◌else◌, slice_get, Option, Some}
+use Rattle.std.proofs.Common.{◌≡◌, ◌+◌, ◌-◌, ◌<◌, ◌≤◌, ℕ, zero, suc, List, [], ◌∷◌, ◌++◌, length, get_or, take, drop, map, refl, sym, ◌∙◌, ap, subst, inl, inr, arith, append_assoc, length-append}
+use Rattle.std.specs.Prelude.{filter, if◌then◌else◌, slice_get, Some}
 use Rattle.std.specs.Option.{option_map}
 use Rattle.std.specs.List.{AllByRecursion, enumerate_from}
 use Rattle.std.proofs.lemmas.Bool.{cases_eq, cond-true, cond-false, eq-eqb, ne_eqb}

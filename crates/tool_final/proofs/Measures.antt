@@ -1,13 +1,13 @@
 -- The measurement of a finalized file is what its recording holds.
-use Rattle.std.proofs.Common.{◌≡◌, ◌≢◌, ◌+◌, ◌≤◌, ℕ, List, [], ◌∷◌, ◌++◌, length, map, Some, refl, sym, ◌∙◌, ap, subst, inl, inr, arith, length-append, append-nil}
-use Rattle.std.specs.Prelude.{filter, zip, slice_get}
+use Rattle.std.proofs.Common.{◌≡◌, ◌+◌, ◌≤◌, ℕ, List, [], ◌∷◌, ◌++◌, length, map, refl, sym, ◌∙◌, ap, subst, inl, inr, arith, length-append, append-nil}
+use Rattle.std.specs.Prelude.{filter}
 use Rattle.std.specs.List.{concat, flat_map, AllByRecursion, AllZip, enumerate_from}
-use Rattle.mdf_format.specs.Block.{link_at, body_at, IsBlock}
+use Rattle.mdf_format.specs.Block.{IsBlock}
 use Rattle.mdf_format.specs.Identification.{standard_flags, custom_flags}
 use Rattle.mdf_format.specs.declared.kind.Kind.{Kind}
 use Rattle.mdf_format.specs.declared.kind.Kind.TheVariants.{Cg, Dt}
-use Rattle.mdf_block.specs.Draft.{Placed, address_of, block_bytes, written}
-use Rattle.mdf_stream.specs.Stream.{IsStream, IsOne}
+use Rattle.mdf_block.specs.Draft.{Placed, address_of, block_bytes}
+use Rattle.mdf_stream.specs.Stream.{IsOne}
 use Rattle.mdf_data.specs.declared.known.Known.{Known}
 use Rattle.mdf_data.specs.Record.{IsIdSize}
 use Rattle.mdf_data.specs.Split.{Record, IsRecordSplit}
@@ -20,8 +20,8 @@ use Rattle.mdf_content.specs.Records.{known_of}
 use Rattle.mdf_model.specs.declared.part.Measure.{Measure}
 use Rattle.mdf_model.specs.Measurement.{holds_samples, paired}
 use Rattle.mdf_valid.specs.Bodies.{bodies}
-use Rattle.mdf_valid.specs.Contents.{HasIdSize, empties_in, IsContents, IsDataSplit, is_of_samples, sample_groups, IsDataContents}
-use Rattle.mdf_valid.specs.Measurement.{IsFinalizedMdf, row_measures, IsMeasurement, IsValidData, IsValidFile}
+use Rattle.mdf_valid.specs.Contents.{HasIdSize, empties_in, IsContents, IsDataSplit, sample_groups, IsDataContents}
+use Rattle.mdf_valid.specs.Measurement.{IsFinalizedMdf, IsMeasurement, IsValidData}
 use Rattle.mdf_valid.specs.Same.{plain_head, plain_group, SameRows}
 use Rattle.mdf_valid.proofs.Onces.{none_first}
 use Rattle.mdf_recovered.specs.Recovered.{AreRecords, IsGroupContents, Recovery, IsRecovery}
@@ -32,7 +32,7 @@ use Rattle.mdf_spell.specs.Counts.{IsCounted}
 use Rattle.mdf_spell.specs.Session.{finalized_ident, session_names, session_history, session_blocks, session_file}
 use Rattle.mdf_spell.specs.Standing.{HoldsData, HoldStreams, data_number, records_number, finalized_row, IsSessionTree}
 use Rattle.mdf_spell.specs.Values.{with_streams, own_streams, group_numbers}
-use Rattle.tool_final.specs.Keeping.{plain_entry, AreOneMore, row_of, contents_of, HasComment, AreIdsApart, KeepsRecovery}
+use Rattle.tool_final.specs.Keeping.{plain_entry, row_of, contents_of, HasComment, KeepsRecovery}
 use Rattle.tool_final.proofs.Fields.{AreCounted, are_counted, knowns_same}
 use Rattle.tool_final.proofs.Names.{chain_blocks, named}
 use Rattle.tool_final.proofs.Plain.{entries_same, rows_plain, said_true, ids_same, count_same, zip_long, samples_long, paired_rows, paired_contents, paired_comments}

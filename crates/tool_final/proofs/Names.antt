@@ -16,11 +16,11 @@ use Rattle.mdf_group.specs.Group.{is_variable}
 use Rattle.mdf_group.specs.Standing.{AreDistinct}
 use Rattle.mdf_content.specs.Values.{values_group}
 use Rattle.mdf_valid.proofs.Cases.{two_ways}
-use Rattle.mdf_tree.specs.Group.{group_values_behind, past_group, placed_group, placed_groups}
+use Rattle.mdf_tree.specs.Group.{group_values_behind, past_group, placed_groups}
 use Rattle.mdf_spell.specs.Counts.{counted_group, counted_groups}
 use Rattle.mdf_spell.specs.Values.{group_numbers}
 use Rattle.mdf_spell.specs.Values as spelled
-use Rattle.tool_final.proofs.Fields.{anew, AreCounted}
+use Rattle.tool_final.proofs.Fields.{AreCounted}
 
 abbrev address : GroupRow → ℕ
 address row = row.at

@@ -1,8 +1,7 @@
 -- What is written anew says the same.
-use Rattle.std.proofs.Common.{◌≡◌, ◌+◌, ◌/◌, ◌%◌, ◌^◌, ℕ, suc, List, [], ◌∷◌, ◌++◌, length, map, refl, sym, ◌∙◌, ap, subst, inl, inr, arith}
-use Rattle.std.specs.Prelude.{Bool, true, false, not, cond, filter, zip}
+use Rattle.std.proofs.Common.{◌≡◌, ◌+◌, ◌/◌, ◌%◌, ◌^◌, ℕ, suc, List, [], ◌∷◌, length, map, refl, sym, ◌∙◌, ap, arith}
+use Rattle.std.specs.Prelude.{Bool, true, false, cond, filter}
 use Rattle.std.specs.List.{AllByRecursion, AllZip, enumerate_from}
-use Rattle.std.proofs.lemmas.Bool.{cond-true, cond-false}
 use Rattle.mdf_block.specs.declared.link.Link.{Link}
 use Rattle.mdf_block.specs.declared.note.Note.{Note}
 use Rattle.mdf_block.specs.Draft.{Placed}
@@ -16,8 +15,7 @@ use Rattle.mdf_model.specs.Measurement.{holds_samples, paired}
 use Rattle.mdf_valid.specs.Bodies.{bodies}
 use Rattle.mdf_valid.specs.Contents.{is_of_samples}
 use Rattle.mdf_valid.specs.Same.{plain_channel, plain_group}
-use Rattle.mdf_valid.proofs.Cases.{two_ways}
-use Rattle.mdf_tree.specs.Group.{value_link, values_behind, past_channel, placed_channel, placed_channels, group_channels, group_values, group_values_behind, past_group, placed_groups}
+use Rattle.mdf_tree.specs.Group.{values_behind, past_channel, placed_channels, group_channels, group_values, group_values_behind, past_group, placed_groups}
 use Rattle.mdf_tree.specs.Head.{past_entry, placed_history}
 use Rattle.mdf_spell.specs.Counts.{counted_group, counted_groups}
 use Rattle.tool_final.specs.Keeping.{plain_entry, row_of, contents_of, HasComment}

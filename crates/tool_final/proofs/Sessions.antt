@@ -1,5 +1,5 @@
 -- The finalized file of a session keeps what its recording holds.
-use Rattle.std.proofs.Common.{◌≡◌, ℕ, List, [], ◌∷◌, Ok, Some, sym, ◌∙◌, ap, subst}
+use Rattle.std.proofs.Common.{◌≡◌, ℕ, List, [], ◌∷◌, Some, sym, ◌∙◌, ap, subst}
 use Rattle.std.specs.Prelude.{slice_get, Option, None}
 use Rattle.std.specs.List.{AllByRecursion}
 use Rattle.mdf_head.specs.declared.entry.Head.{Head}
@@ -7,16 +7,15 @@ use Rattle.mdf_head.specs.declared.entry.History.{History}
 use Rattle.mdf_head.specs.Head.{IsHead}
 use Rattle.mdf_group.specs.declared.row.DataRow.{DataRow}
 use Rattle.mdf_group.specs.Standing.{IsDataGroup}
-use Rattle.mdf_session.specs.Session.{SessionParts, session}
+use Rattle.mdf_session.specs.Session.{SessionParts}
 use Rattle.mdf_valid.proofs.Cases.{some_injective}
-use Rattle.mdf_recovered.specs.Recovered.{Recovery, IsRecovery, IsSessionOf}
+use Rattle.mdf_recovered.specs.Recovered.{Recovery, IsSessionOf}
 use Rattle.mdf_recovered.proofs.Founds.{session_found}
 use Rattle.mdf_spell.specs.declared.recovered.Recovered.{Recovered}
 use Rattle.mdf_spell.specs.Counts.{IsCounted}
 use Rattle.mdf_spell.specs.Session.{session_file}
-use Rattle.mdf_spell.specs.Standing.{AreBytes, IsRecoveredOf, IsSessionTree}
+use Rattle.mdf_spell.specs.Standing.{IsRecoveredOf, IsSessionTree}
 use Rattle.tool_final.specs.Finalized.{IsOfSession, KeepsSession}
-use Rattle.tool_final.specs.Keeping.{IsFinalizedRecording}
 use Rattle.tool_final.proofs.Measures.{IsMadeFrom, keeps_recovery}
 
 -- the first data group stands

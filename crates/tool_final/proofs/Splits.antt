@@ -1,5 +1,5 @@
 -- The records of a recording are the split of the data of its finalized file.
-use Rattle.std.proofs.Common.{◌≡◌, ◌≢◌, ◌+◌, ℕ, zero, suc, List, [], ◌∷◌, ◌++◌, length, map, replicate, refl, sym, ◌∙◌, ap, subst, inl, inr, arith, length-append, append-nil}
+use Rattle.std.proofs.Common.{◌≡◌, ◌≢◌, ◌+◌, ℕ, zero, suc, List, [], ◌∷◌, ◌++◌, length, replicate, refl, sym, ◌∙◌, ap, arith, length-append, append-nil}
 use Rattle.std.specs.Prelude.{Bool, true, false, cond}
 use Rattle.std.specs.List.{flat_map}
 use Rattle.mdf_data.specs.declared.known.Size.{Size}
@@ -7,7 +7,6 @@ use Rattle.mdf_data.specs.declared.known.Size.TheVariants as sizes
 use Rattle.mdf_data.specs.declared.known.Known.{Known}
 use Rattle.mdf_data.specs.Split.{Record, IsAlone, IsSplitAlone, IsRecordSplit, empty_record}
 use Rattle.mdf_group.specs.declared.row.GroupRow.{GroupRow}
-use Rattle.mdf_content.specs.Records.{empties_of, has_empty_records}
 use Rattle.mdf_valid.specs.Bodies.{bodies}
 use Rattle.mdf_valid.specs.Contents.{empties_in}
 use Rattle.mdf_tree.specs.Group.{placed_groups}

@@ -1,5 +1,5 @@
 -- The channels of variable length of a finalized file find the values that they had.
-use Rattle.std.proofs.Common.{◌≡◌, ◌≢◌, ◌+◌, ◌≤◌, ℕ, List, [], ◌∷◌, ◌++◌, length, get_or, take, map, Option, Some, None, refl, sym, ◌∙◌, ap, subst, inl, inr, arith}
+use Rattle.std.proofs.Common.{◌≡◌, ◌+◌, ◌≤◌, ℕ, List, [], ◌∷◌, ◌++◌, length, take, map, Option, None, refl, sym, ◌∙◌, ap, subst, inl, inr, arith}
 use Rattle.std.specs.Prelude.{Bool, true, false, not, cond, nat_eq, filter}
 use Rattle.std.specs.List.{flat_map, AllByRecursion, AllZip, enumerate_from}
 use Rattle.std.proofs.lemmas.Bool.{cond-true, cond-false}
@@ -27,7 +27,6 @@ use Rattle.mdf_content.specs.Layouts.{field_of, layout_of}
 use Rattle.mdf_content.specs.Values.{values_group}
 use Rattle.mdf_valid.specs.Bodies.{bodies, joined}
 use Rattle.mdf_valid.specs.Contents.{KeepsRules, IsValuesOf, MeetsValue, IsChannelStream, own_records, IsContents, is_of_samples}
-use Rattle.mdf_valid.proofs.Cases.{two_ways}
 use Rattle.mdf_recovered.specs.Recovered.{IsGroupContents}
 use Rattle.mdf_tree.specs.Group.{past_channel, placed_channel, placed_channels, values_past, first_or_none, behind_first, group_channels, past_group, placed_groups}
 use Rattle.mdf_spell.specs.Counts.{counted_group, counted_groups}

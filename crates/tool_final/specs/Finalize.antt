@@ -7,7 +7,6 @@ use Rattle.mdf_content.specs.Fault.{read_refusal}
 use Rattle.mdf_disk.specs.State.{DiskState}
 use Rattle.mdf_seal.specs.Seal.{IsKept}
 use Rattle.mdf_session.specs.Session.{SessionParts, session}
-use Rattle.mdf_tool.specs.declared.made.Made.{Made}
 use Rattle.mdf_tool.specs.declared.made.Report.{Report}
 use Rattle.mdf_tool.specs.declared.fault.ToolFault.{ToolFault}
 use Rattle.mdf_tool.specs.declared.fault.ToolFault.TheVariants as tool
