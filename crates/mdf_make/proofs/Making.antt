@@ -1,6 +1,10 @@
 -- What is left of the output of `finalize`.
-use Rattle.std.proofs.Common.{◌≡◌, ◌≤◌, ⊎_elim, inl, ℕ, List, [], Option, Some, None, Err, refl, sym, ◌∙◌, ap, subst, arith}
+use Rattle.std.proofs.Common.{◌≡◌, ◌≤◌, ⊎_elim, inl, inr, ℕ, List, [], length, Option, Some, None, Result, Ok, Err, refl, sym, ◌∙◌, ap, subst, arith}
 use Rattle.std.specs.Prelude.{IfSome}
+use Rattle.mdf_block.specs.Refusal.{Fails}
+use Rattle.mdf_content.specs.Fault.{read_refusal}
+use Rattle.mdf_session.specs.Session.{session}
+use Rattle.mdf_tool.specs.declared.made.Report.{Report}
 use Rattle.mdf_tool.specs.declared.fault.ToolFault.{ToolFault}
 use Rattle.mdf_tool.specs.declared.fault.ToolFault.TheVariants as tool
 use Rattle.mdf_disk.specs.Crash.{Adds, HoldsSince}
@@ -9,8 +13,9 @@ use Rattle.mdf_disk.specs.Story.{MayLeave, Story, Agrees, IsFresh, LeftSince}
 use Rattle.mdf_disk.proofs.Crash.{adds_none, settled_leaves}
 use Rattle.mdf_gate.proofs.Appends.{none_later}
 use Rattle.tool_final.specs.Finalize.{FinalizeEnds, IsFinalizeImage}
-use Rattle.mdf_command.specs.Faults.{fault_of_tool}
-use Rattle.mdf_make.specs.Finalize.{FinalizeFaultComes, LoadFaultComes, MakeFaultComes, MakesNothing}
+use Rattle.mdf_command.proofs.Told.{of_file}
+use Rattle.mdf_command.specs.Faults.{INPUT_LIMIT, fault_of_tool}
+use Rattle.mdf_make.specs.Finalize.{FinalizeComes, FinalizeFaultComes, IsMade, LoadComes, LoadFaultComes, MakeComes, MakeFaultComes, MakesNothing}
 use Rattle.mdf_command.specs.declared.fault.Fault.{Fault}
 use Rattle.mdf_command.specs.declared.fault.Fault.TheVariants as fault
 
@@ -77,3 +82,19 @@ load_fault old new out agrees fresh (fault.Read refused) comes = absurd comes
 pub of_any : (told : Option (List ℕ)) (P : List ℕ → Type 0) → ((file : List ℕ) → P file) → IfSome told P
 of_any None P holds = tt
 of_any (Some file) P holds = holds file
+
+-- the file that was loaded was made into another one, or it was not
+pub made_comes : (now : ℕ) (old new out out' : DiskState) (file : List ℕ) → LoadComes old new (Ok file) → (end : Result Report Fault)
+    → MakeComes file now out out' end → FinalizeComes now old new out out' end
+made_comes now old new out out' file loaded (Ok report) comes =
+    of_file old.content file (λ told. IsMade out' now report told × (length told ≤ INPUT_LIMIT)) loaded.0 (comes, loaded.1)
+made_comes now old new out out' file loaded (Err (fault.Gate refused)) comes = comes
+made_comes now old new out out' file loaded (Err fault.Source) comes = comes
+made_comes now old new out out' file loaded (Err fault.Device) comes = inr comes
+made_comes now old new out out' file loaded (Err (fault.InputOver size limit)) comes = absurd comes
+made_comes now old new out out' file loaded (Err (fault.ScriptOver limit)) comes = comes
+made_comes now old new out out' file loaded (Err (fault.SessionFull held size limit)) comes = comes
+made_comes now old new out out' file loaded (Err fault.Memory) comes = comes
+made_comes now old new out out' file loaded (Err (fault.Script number)) comes = comes
+made_comes now old new out out' file loaded (Err (fault.Read refused)) comes =
+    (of_file old.content file (λ told. Fails (read_refusal refused) (session told) × (length told ≤ INPUT_LIMIT)) loaded.0 (comes.0, loaded.1), comes.1)

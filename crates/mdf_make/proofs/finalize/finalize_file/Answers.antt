@@ -3,7 +3,7 @@ use Rattle.std.proofs.lemmas.Result.{err_from_is_err_and}
 use Rattle.mdf_disk.specs.Crash.{HoldsSince}
 use Rattle.mdf_disk.specs.State.{state_of}
 use Rattle.tool_final.specs.Finalize.{IsFinalizeImage}
-use Rattle.mdf_make.proofs.Making.{load_fault, of_any, still_no_mdf}
+use Rattle.mdf_make.proofs.Making.{load_fault, made_comes, of_any, still_no_mdf}
 use Rattle.mdf_command.proofs.Told.{of_file}
 use Rattle.mdf_make.proofs.finalize.finalize_file.Goals as goal
 
@@ -31,3 +31,8 @@ returns-clause-any_moment g c =
     of_file (g.A.Disk.content c.args.first.now) c.in_ok-file.file
     (λ file. HoldsSince (disk.story c.make.new.out) (disk.moment c.args.out.now) (IsFinalizeImage file c.args.now_ns))
     c.in_ok-file.ensures.comes.0 c.make.ensures.any_moment
+
+pub returns-clause-comes : goal.returns-clause-comes
+returns-clause-comes g c =
+    made_comes c.args.now_ns (state_of g.A.Disk c.args.first.now) (state_of g.A.Disk c.load.new.first) (state_of g.C.Disk c.args.out.now)
+    (state_of g.C.Disk c.make.new.out) c.in_ok-file.file c.in_ok-file.ensures.comes c.make.result c.make.ensures.comes
