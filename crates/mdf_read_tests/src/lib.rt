@@ -9,6 +9,8 @@ mod convs;
 #[cfg(test)]
 mod data;
 #[cfg(test)]
+mod exports;
+#[cfg(test)]
 mod fields;
 #[cfg(test)]
 mod files;

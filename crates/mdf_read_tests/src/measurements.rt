@@ -124,9 +124,9 @@ fn parts_told(alloc: Global, m: &Measurement) -> Result<String, Memory> {
     Ok(text)
 }
 
-/// The file with other numbers.
-fn changed(alloc: Global, changes: &[(usize, u64)]) -> Result<Vec<u8>, Memory> {
-    let mut file = file_of(alloc, 1016, &FILE)?;
+/// The file with other numbers, and room for a text at 1016.
+pub(crate) fn changed(alloc: Global, changes: &[(usize, u64)]) -> Result<Vec<u8>, Memory> {
+    let mut file = file_of(alloc, 1048, &FILE)?;
     put(file.as_mut_slice(), 0, &IDENT);
     for (at, number) in changes {
         put_number(file.as_mut_slice(), *at, *number);
