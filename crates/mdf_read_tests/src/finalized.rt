@@ -14,20 +14,20 @@ pub(crate) const IDENT: &[u8; 64] =
     b"MDF     4.10    mdf4rec \0\0\0\0\x9a\x01\0\0\0\0\0\0\0\0\0\0\0\0\0\0\0\0\0\0\0\0\0\0\0\0\0\0\0\0\0\0\0\0\0\0";
 
 // The bodies of the second entry of the history, whose time is 0x0102030405060708 ns, of the header, and of the first entry.
-const TIME: &[u8; 16] = b"\x08\x07\x06\x05\x04\x03\x02\x01\0\0\0\0\0\0\0\0";
+pub(crate) const TIME: &[u8; 16] = b"\x08\x07\x06\x05\x04\x03\x02\x01\0\0\0\0\0\0\0\0";
 
-const START: &[u8; 32] =
+pub(crate) const START: &[u8; 32] =
     b"\x01\x02\x03\x04\x05\x06\x07\x08\0\0\0\0\0\0\0\0\0\0\0\0\0\0\0\0\0\0\0\0\0\0\0\0";
 
-const STARTED: &[u8; 16] = b"\x01\x02\x03\x04\x05\x06\x07\x08\0\0\0\0\0\0\0\0";
+pub(crate) const STARTED: &[u8; 16] = b"\x01\x02\x03\x04\x05\x06\x07\x08\0\0\0\0\0\0\0\0";
 
-const RECORDED: &[u8; 128] =
+pub(crate) const RECORDED: &[u8; 128] =
     b"<FHcomment><TX>record</TX><tool_id>mdf4rec</tool_id><tool_vendor>none</tool_vendor><tool_version>1</tool_version></FHcomment>\0\0\0";
 
-const FINALIZED: &[u8; 128] =
+pub(crate) const FINALIZED: &[u8; 128] =
     b"<FHcomment><TX>finalize</TX><tool_id>mdf4rec</tool_id><tool_vendor>none</tool_vendor><tool_version>1</tool_version></FHcomment>\0";
 
-const MASTER: &[u8; 72] =
+pub(crate) const MASTER: &[u8; 72] =
     b"\x02\x01\0\0\0\0\0\0\x40\0\0\0\0\0\0\0\0\0\0\0\0\0\0\0\0\0\0\0\0\0\0\0\0\0\0\0\0\0\0\0\0\0\0\0\0\0\0\0\0\0\0\0\0\0\0\0\0\0\0\0\0\0\0\0\0\0\0\0\0\0\0\0";
 
 // A group of records of 8 data bytes, without records and with three.
@@ -65,7 +65,7 @@ pub(crate) const VARIABLE: &[Piece] = &[
 ];
 
 // What all finalized files have before their data group, which stands at 584.
-const FRONT: &[Piece] = &[
+pub(crate) const FRONT: &[Piece] = &[
     (64, b"##HD", &[584, 168, 0, 0, 0, 0], START),
     (168, b"##FH", &[376, 224], STARTED),
     (224, b"##MD", &[], RECORDED),
@@ -78,8 +78,18 @@ const RECORDS: &[u8; 27] = b"\x01\x01\0\0\0\0\0\0\0\x01\x02\0\0\0\0\0\0\0\x01\x0
 
 const MIXED: &[u8; 25] = b"\x02\x03\0\0\0abc\x01\0\0\0\0\0\0\0\0\0\0\0\0\0\0\0\0";
 
+// The data group of the finalized file of three numbers.
+pub(crate) const COUNTED: &[Piece] = &[
+    (584, b"##DG", &[0, 648, 976, 0], b"\x01\0\0\0\0\0\0\0"),
+    (648, b"##CG", &[0, 784, 752, 0, 0, 0], THREE),
+    (752, b"##TX", &[], b"g\0\0\0\0\0\0\0"),
+    (784, b"##CN", &[0, 0, 944, 0, 0, 0, 0, 0], MASTER),
+    (944, b"##TX", &[], b"t\0\0\0\0\0\0\0"),
+    (976, b"##DT", &[], RECORDS),
+];
+
 // What was counted of the groups, the bytes of their values, the records, and the streams of values.
-type Data = (
+pub(crate) type Data = (
     &'static [u64],
     &'static [u64],
     &'static [u8],
@@ -101,19 +111,7 @@ const FILES: &[(&[Piece], Data, usize, &[Piece])] = &[
             (976, b"##DT", &[], &[]),
         ],
     ),
-    (
-        BLOCKS,
-        (&[3], &[0], RECORDS, &[]),
-        1032,
-        &[
-            (584, b"##DG", &[0, 648, 976, 0], b"\x01\0\0\0\0\0\0\0"),
-            (648, b"##CG", &[0, 784, 752, 0, 0, 0], THREE),
-            (752, b"##TX", &[], b"g\0\0\0\0\0\0\0"),
-            (784, b"##CN", &[0, 0, 944, 0, 0, 0, 0, 0], MASTER),
-            (944, b"##TX", &[], b"t\0\0\0\0\0\0\0"),
-            (976, b"##DT", &[], RECORDS),
-        ],
-    ),
+    (BLOCKS, (&[3], &[0], RECORDS, &[]), 1032, COUNTED),
     (
         VARIABLE,
         (
@@ -170,7 +168,11 @@ fn written(
 }
 
 // The finalized file of a recording with this head and these data.
-fn finalized(alloc: Global, blocks: &[Piece], data: Data) -> Result<Option<Bytes>, Fail> {
+pub(crate) fn finalized(
+    alloc: Global,
+    blocks: &[Piece],
+    data: Data,
+) -> Result<Option<Bytes>, Fail> {
     let file = file_of(alloc, 968, blocks)?;
     let mut budget = Budget::of_file();
     let (head, history) = read_head(alloc, file.as_slice(), &mut budget.text)?;

@@ -27,6 +27,8 @@ mod recorded;
 #[cfg(test)]
 mod sessions;
 #[cfg(test)]
+mod sorted;
+#[cfg(test)]
 mod span;
 #[cfg(test)]
 mod spelled;
