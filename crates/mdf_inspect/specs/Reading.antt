@@ -3,9 +3,11 @@ use Rattle.std.specs.Prelude.{ℕ, ◌≡◌, ◌<◌, ◌≤◌, ◌↔◌, Lis
 use Rattle.mdf_format.specs.Cause.{Rose}
 use Rattle.mdf_block.specs.Refusal.{Read, ◌>>=◌, Fails}
 use Rattle.mdf_head.specs.Ident.{identify}
+use Rattle.mdf_content.specs.declared.fault.ReadFault.{ReadFault}
 use Rattle.mdf_content.specs.Fault.{read_refusal}
 use Rattle.mdf_model.specs.Measurement.{measurement}
 use Rattle.mdf_valid.specs.Measurement.{IsMeasurement, IsValidFile}
+use Rattle.mdf_valid.specs.Truth.{IsTrueOfFile}
 use Rattle.mdf_disk.specs.State.{DiskState}
 use Rattle.mdf_port.specs.State.{SinkState}
 use Rattle.mdf_command.specs.Texts.{Prints}
@@ -21,6 +23,13 @@ reading file = do
   found ← measurement file
   Ok (record { version = id.ver; measurement = found })
 
+-- The file is refused, and what is said of it is true: of its identification, of a block at the address, or of one of its
+-- data groups. Want of memory says nothing of it.
+pub record IsRefused (refused : ReadFault) (file : List ℕ) : Type 0 where
+  pub is_refused : Fails (read_refusal refused) (reading file)
+  pub holds : IfSome (read_refusal refused) (IsTrueOfFile file)
+  pub short : length file ≤ INPUT_LIMIT
+
 -- The file could not be read only where this holds of the disk of the input before and after.
 abbrev pub ReadingFaultComes : DiskState → DiskState → Fault → Type 0
 ReadingFaultComes old new (fault.Gate refused) = ⊥
@@ -32,8 +41,7 @@ ReadingFaultComes old new (fault.ScriptOver limit) = ⊥
 ReadingFaultComes old new (fault.SessionFull held size limit) = ⊥
 ReadingFaultComes old new fault.Memory = Unit {0}
 ReadingFaultComes old new (fault.Script number) = ⊥
-ReadingFaultComes old new (fault.Read refused) =
-    IfSome old.content (λ file. Fails (read_refusal refused) (reading file) × (length file ≤ INPUT_LIMIT))
+ReadingFaultComes old new (fault.Read refused) = IfSome old.content (IsRefused refused)
 
 -- What is read of a file is its measurement, and it is strict exactly where the file is valid.
 pub record IsReading (found : Reading) (file : List ℕ) : Type 0 where

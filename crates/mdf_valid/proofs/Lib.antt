@@ -13,7 +13,7 @@ mod Walks
 mod Rests
 mod Truths
 mod Counted
-mod Files
+pub mod Files
 pub mod Sames
 mod Answers
 mod Undefined
