@@ -3,3 +3,4 @@ mod Marking
 mod Begins
 pub mod Runs
 mod Recording
+mod Recovering

@@ -202,7 +202,7 @@ none_left : (s : Option Story) (t : ℕ) (file : List ℕ) → s ≡ None → ¬
 none_left s t file is may = absurd (subst (λ r. LeftSince r t file) is may)
 
 -- of a disk that tells its story the head and the moment of the start are known; of another nothing is said
-recorded_told : (script : Script) (front front' : List ℕ) (s middle first : Option Story) (start start' : ℕ) (outcome' : Outcome) → outcome'.disk.story ≡ s
+pub recorded_told : (script : Script) (front front' : List ℕ) (s middle first : Option Story) (start start' : ℕ) (outcome' : Outcome) → outcome'.disk.story ≡ s
     → is_some s ≡ is_some middle → is_some middle ≡ is_some first → IfSome middle (λ _. front ≡ front') → IfSome first (λ _. start ≡ start')
     → IsRecorded script front start outcome' → IsRecorded script front' start' outcome'
 recorded_told script front front' None middle first start start' outcome' is told told' front_is start_is recorded = record {

@@ -4,4 +4,5 @@ pub mod Sources
 pub mod Script
 pub mod Finish
 pub mod Record
+pub mod Recovers
 pub mod Recorded

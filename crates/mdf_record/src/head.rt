@@ -2,6 +2,7 @@ ghost use Rattle.std.specs.Prelude.{◌≡◌, ◌^◌, ◌<◌, length, IfOk};
 ghost use Rattle.mdf_group.specs.Recordable.{AreRecordable};
 ghost use Rattle.mdf_gate.specs.Gated.{IsRecordingHead};
 ghost use Rattle.mdf_spell.specs.Recording.{head_file};
+ghost use Rattle.mdf_carried.specs.Recovers.{IsReadHead};
 
 use mdf_group::GroupRow;
 use mdf_num::{Bytes, Memory, Rows};
@@ -21,6 +22,7 @@ pub(crate) fn head_for(alloc: Global, start_ns: u64, rows: &Rows<GroupRow>) -> R
     ensures head { IfOk result (λ head. head ≡ head_file start_ns rows.now) }
     ensures recording { IfOk result (λ head. IsRecordingHead head) }
     ensures short { IfOk result (λ head. length head < 2 ^ 61) }
+    ensures readable { IfOk result (λ _. IsReadHead start_ns rows.now) }
 {
     let head = recording_head(alloc, start_ns, rows)?;
     if head.as_slice().len() >= LONGEST {

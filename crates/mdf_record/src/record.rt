@@ -13,6 +13,8 @@ ghost use Rattle.mdf_port.specs.State.{sink_state, source_state};
 ghost use Rattle.mdf_command.specs.Texts.{Gives, Prints, numbered};
 ghost use Rattle.mdf_record.specs.Record.{fault_text, outcome, record_status, record_text, source_line, summary_text};
 ghost use Rattle.mdf_record.specs.Recorded.{RecordComes, Closes, HasRun};
+ghost use Rattle.mdf_record.specs.Recovers.{AreRecovered};
+ghost use Rattle.mdf_carried.specs.Recovers.{IsReadHead, IsNoneOrRecovers};
 
 use crate::drive::End;
 use crate::gate::Gate;
@@ -20,6 +22,7 @@ use crate::head::head_for;
 use crate::sources::{Accepted, drive_all};
 use acq_script::{Plan, Script, read_script};
 use book_owned::{Book, Flush, Marks, NoView};
+use mdf_carried::what_is_carried_is_recovered;
 use mdf_command::Piece::{Number, Text};
 use mdf_command::{Fault, give_line, status_after};
 use mdf_disk::{Disk, Role};
@@ -103,7 +106,10 @@ fn create<C: Disk>(
     ensures faults { IfOk result (λ file. C.faults out ≤ file.faults) }
     ensures refused { IfErr result (λ refused. IsUnmade name.now (head_file now_ns rows.now) (state_of C.Disk out) (state_of C.Disk refused.1) refused.0) }
     ensures untouched { IfErr result (λ refused. C.asked refused.1 ≡ None → refused.1 ≡ out) }
+    ensures readable { IfOk result (λ _. IsReadHead now_ns rows.now) }
+    ensures recovers { IfErr result (λ refused. HoldsSince (C.story refused.1) (C.moment out) (IsNoneOrRecovers [])) }
 {
+    what_is_carried_is_recovered();
     let Ok(head) = head_for(alloc, now_ns, rows) else {
         return Err((Fault::Memory, out));
     };
@@ -222,7 +228,9 @@ fn record<R: Threads + Wait + Sync, S: Source, C: Disk, G: Gate>(
     ensures comes { RecordComes (source_state S.Source source.old) (source_state S.Source source.new) output.now now_ns (state_of C.Disk out)
         (outcome C.Disk result.out result.history.items result.marks.items) result.end }
     ensures untouched { C.asked result.out ≡ None → result.out ≡ out }
+    ensures recovered { AreRecovered (C.moment out) (outcome C.Disk result.out result.history.items result.marks.items) }
 {
+    what_is_carried_is_recovered();
     let script = match read(alloc, source) {
         Ok(script) => script,
         Err(fault) => return refused(alloc, fault, out),
@@ -336,6 +344,7 @@ where
     ensures comes { RecordComes (source_state S.Source source.old) (source_state S.Source source.new) output.now now_ns (state_of C.Disk out)
         (outcome C.Disk result.1.out result.1.history.items result.1.marks.items) result.1.end }
     ensures untouched { C.asked result.1.out ≡ None → result.1.out ≡ out }
+    ensures recovered { AreRecovered (C.moment out) (outcome C.Disk result.1.out result.1.history.items result.1.marks.items) }
     ensures printed { Prints (record_text result.1.end) (record_status result.1.end)
         (sink_state K.Sink sink.old) (sink_state K.Sink sink.new) result.0 }
 {

@@ -1,6 +1,6 @@
 -- What a recording keeps, whatever happened.
-use Rattle.std.proofs.Common.{◌≡◌, ◌⊎◌, ◌<◌, ◌≤◌, inl, inr, ⊎_elim, ℕ, List, [], length, Option, Some, None, Ok, refl, subst, arith}
-use Rattle.std.specs.Prelude.{is_some, IfSome}
+use Rattle.std.proofs.Common.{◌≡◌, ◌⊎◌, ◌<◌, ◌≤◌, inl, inr, ⊎_elim, ℕ, List, [], ◌∷◌, length, Option, Some, None, Ok, refl, subst, arith}
+use Rattle.std.specs.Prelude.{is_some, slice_get, IfSome, IsSomeAnd}
 use mathlib.Core.List.{IsPrefix}
 use Rattle.mdf_port.specs.State.{SinkState, SourceState}
 use Rattle.mdf_disk.specs.State.{DiskState}
@@ -32,7 +32,7 @@ use Rattle.mdf_record.specs.declared.record.RecordEnd.TheVariants.{Refused, Clos
 use Rattle.mdf_record.proofs.Runs.{none_own}
 
 -- a status that was printed is that of the end, or stands for it
-was_status : (text : List ℕ) (status : ℕ) (sink sink' : SinkState) (result : ℕ) → Prints text status sink sink' result
+pub was_status : (text : List ℕ) (status : ℕ) (sink sink' : SinkState) (result : ℕ) → Prints text status sink sink' result
     → (result ≡ status) ⊎ (result ≡ unwritten_status status)
 was_status text status sink sink' result prints = ⊎_elim (λ all. inl all.1) (λ front. inr front.2) prints
 
@@ -68,6 +68,11 @@ meant : (left : Option (List ℕ)) (text : List ℕ) (script : Script) → left 
 meant left text script told says =
     let of_text = subst (λ (l : Option (List ℕ)). IfSome l (λ t. (script_of t ≡ Ok script) × (length t ≤ SCRIPT_LIMIT))) told says in of_text.0
 
+-- marks of which the first is known are some
+some_from : (marks : List Mark) → IsSomeAnd (slice_get marks 0) (λ mark. mark.through ≡ 0) → 0 < length marks
+some_from [] first = absurd first
+some_from (mark ∷ marks) first = omega arith
+
 -- the clauses on a recording that began at this moment of its disk
 pub record Keeps (start now : ℕ) (script : Script) (disk : DiskState) (history : List Sample) (marks : List Mark) (status : ℕ) : Type 0 where
   pub marks_hold : MarksHold script.plan.shapes (script_head now script) disk.story disk.moment history marks
@@ -77,6 +82,7 @@ pub record Keeps (start now : ℕ) (script : Script) (disk : DiskState) (history
   pub flush_lines : OfSources script (λ source tasks. AreOwnMarked script.plan.owners source history marks
       (λ n. n < length (source_samples script.plan.owners history source)) [] tasks)
   pub complete : IsDone status → IsComplete script (record { disk = disk; history = history; marks = marks })
+  pub some_marks : IsDone status → 0 < length marks
 
 module _ (source source' : SourceState) (name : List ℕ) (now : ℕ) (out disk : DiskState) (history : List Sample) (marks : List Mark) (status : ℕ)
     (text : List ℕ) (told : source.left ≡ Some text) (script : Script) (means : script_of text ≡ Ok script) where
@@ -95,6 +101,7 @@ module _ (source source' : SourceState) (name : List ℕ) (now : ℕ) (out disk 
     own_prefix = λ source tasks there. (samples_of tasks, refl);
     flush_lines = λ source tasks there. none_own script.plan.owners source [] [] 0 [] tasks (omega arith);
     complete = λ done. absurd (not_done problem status is done);
+    some_marks = λ done. absurd (not_done problem status is done);
   }) where
     begun : IsUnread source source' out disk problem ⊎ IsNotBegun source name now out disk problem → HoldsSince disk.story out.moment (IsBegun (script_head now script))
     begun (inl unread) = unread.begun (script_head now script)
@@ -116,6 +123,7 @@ module _ (source source' : SourceState) (name : List ℕ) (now : ℕ) (out disk 
         own_prefix = recorded.own_prefix;
         flush_lines = recorded.flush_lines;
         complete = λ done. completes script out.faults left status problem is done comes;
+        some_marks = λ done. some_from marks recorded.marks_rise.first;
       }
 
   of_end : (end : RecordEnd) → RecordComes source source' name now out left end

@@ -13,3 +13,7 @@ OfRecording words left P =
 -- the status of a command that did what it was asked for, though the sink may have failed
 abbrev pub IsDone : ℕ → Type 0
 IsDone status = (status ≡ 0) ⊎ (status ≡ 6)
+
+-- the status of a command that did what it was asked for, or for which a disk failed or memory was wanted
+abbrev pub IsDoneOrLacked : ℕ → Type 0
+IsDoneOrLacked status = (status ≡ 0) ⊎ ((status ≡ 4) ⊎ ((status ≡ 6) ⊎ (status ≡ 7)))

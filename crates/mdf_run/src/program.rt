@@ -1,10 +1,10 @@
-ghost use Rattle.std.specs.Prelude.{◌≡◌, ◌↔◌, ◌⊎◌, ◌<◌, List, ℕ, [], length, None, is_some, IfSome};
+ghost use Rattle.std.specs.Prelude.{◌≡◌, ◌↔◌, ◌⊎◌, ◌<◌, ◌≤◌, List, ℕ, [], length, None, is_some, IfSome};
 ghost use mathlib.Core.List.{IsPrefix};
 ghost use Rattle.mdf_format.specs.Cause.{Rose};
 ghost use Rattle.mdf_port.specs.State.{sink_state, source_state};
 ghost use Rattle.mdf_disk.specs.State.{state_of};
 ghost use Rattle.book_owned.specs.Kept.{MarksHold, StartHolds};
-ghost use Rattle.book_owned.specs.Marks.{AreRising};
+ghost use Rattle.book_owned.specs.Marks.{AreRising, last_mark};
 ghost use Rattle.acq_script.specs.Tasks.{samples_of};
 ghost use Rattle.mdf_command.specs.Words.{AsksCheck, AsksFinalize, AsksInfo, AsksOpened, AsksRecord, AsksInput, AsksOutput, AsksToMake, IsUsage};
 ghost use Rattle.mdf_command.specs.Texts.{Prints, usage_line};
@@ -19,7 +19,11 @@ ghost use Rattle.mdf_layout.specs.History.{source_samples};
 ghost use Rattle.mdf_record.specs.Head.{script_head};
 ghost use Rattle.mdf_record.specs.Record.{IsComplete, OfSources, outcome};
 ghost use Rattle.mdf_record.specs.Recorded.{EndsRecord};
-ghost use Rattle.mdf_run.specs.Kept.{OfRecording, IsDone};
+ghost use Rattle.mdf_record.specs.Recovers.{MarksRecover, StartRecovers};
+ghost use Rattle.mdf_carried.specs.Recovers.{IsReadable};
+ghost use Rattle.mdf_recovered.specs.Samples.{IsRecovered};
+ghost use Rattle.mdf_command.specs.Faults.{INPUT_LIMIT};
+ghost use Rattle.mdf_run.specs.Kept.{OfRecording, IsDone, IsDoneOrLacked};
 
 use book_owned::Marks;
 use mdf_command::Piece::Text;
@@ -139,6 +143,19 @@ where
         (λ n. n < length (source_samples script.plan.owners result.history.items number)) [] tasks)) }
     ensures complete { OfRecording words.now (S.left source.old) (λ script. IsDone result.status
         → IsComplete script (outcome C.Disk result.out result.history.items result.marks.items)) }
+
+    // What a reader recovers of a recording by the tree of the file itself, whatever happens: of each crash since a mark, and
+    // since the start; and of each crash since the last mark where the status is 0, or 6.
+    ensures marks_recover { (name : List ℕ) → AsksRecord words.now name
+        → MarksRecover (C.story result.out) (C.moment result.out) result.history.items result.marks.items }
+    ensures start_recovers { (name : List ℕ) → AsksRecord words.now name
+        → StartRecovers (C.story result.out) (C.moment out) result.history.items }
+    ensures all_recovered { OfRecording words.now (S.left source.old) (λ _. IsDone result.status
+        → HoldsSince (C.story result.out) (last_mark result.marks.items).moment (λ file. IsRecovered file result.history.items)) }
+
+    // Each file that is read as a recording is finalized, unless it is too long, a disk fails or memory is wanted.
+    ensures finalizes { (input output : List ℕ) → AsksFinalize words.now input output
+        → IfSome (A.content first) (λ file. IsReadable file → length file ≤ INPUT_LIMIT → IsDoneOrLacked result.status) }
 
     // What may be left of the output of `finalize` at any moment: no MDF, or the finalized session of the input.
     ensures finalize_leaves { (input output : List ℕ) → AsksFinalize words.now input output

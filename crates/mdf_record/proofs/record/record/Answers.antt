@@ -2,7 +2,9 @@ use Rattle.std.proofs.Common.{◌∙◌, ap, inl, inr, sym, subst}
 use Rattle.mdf_disk.specs.Crash.{HoldsSince}
 use Rattle.mdf_disk.specs.State.{state_of}
 use Rattle.mdf_gate.specs.Images.{IsBegun}
+use Rattle.std.proofs.Common.{arith}
 use Rattle.mdf_record.proofs.Recording.{fresh_begun, record_comes, was_asked}
+use Rattle.mdf_record.proofs.Recovering.{none_recovered, run_recovers}
 use Rattle.mdf_record.proofs.record.record.Goals as goal
 
 pub returns-in-Err : goal.returns-in-Err
@@ -22,6 +24,11 @@ returns-in-Err g c =
         });
       });
       untouched = λ none. k.out;
+      recovered = rw (k.out, k.history, k.marks) (record {
+        marks_recover = λ n mark within. absurd (omega (arith, within));
+        start_recovers = none_recovered story (g.C.Disk.moment c.args.out) (λ head. fresh_begun head story (g.C.Disk.content c.args.out) (g.C.Disk.moment c.args.out)
+            (g.met.C.Disk.agrees c.args.out) (g.met.C.Disk.unattached c.args.out (g.met.C.Disk.unasked c.args.out c.requires)));
+      });
     }
 
 pub returns-in-Ok-create : goal.returns-in-Ok-create
@@ -31,6 +38,8 @@ returns-in-Ok-create g c =
       comes = record_comes g.C.Disk _ _ _ c.args.now_ns c.args.out c.in-Ok.script c.in-Ok-create.file _ _
           c.in-Ok.ensures.says h.asked h.begun h.head h.told h.start h.faults c.record_into.ensures.recorded;
       untouched = λ none. absurd (was_asked _ _ (c.record_into.ensures.recorded.asked_is ∙ h.asked) none);
+      recovered = run_recovers c.what_is_carried_is_recovered.ensures c.args.now_ns c.in-Ok.script c.in-Ok.ensures.script.plan h.readable g.C.Disk c.args.out
+          c.in-Ok-create.file _ _ h.begun h.head h.told h.start c.record_into.ensures.recorded;
     }
 
 pub returns-in-Err-create : goal.returns-in-Err-create
@@ -50,4 +59,8 @@ returns-in-Err-create g c =
         });
       });
       untouched = λ none. k.out ∙ c.in-Err-create.ensures.untouched (ap g.C.Disk.asked (sym k.out) ∙ none);
+      recovered = rw (k.out, k.history, k.marks) (record {
+        marks_recover = λ n mark within. absurd (omega (arith, within));
+        start_recovers = c.in-Err-create.ensures.recovers;
+      });
     }

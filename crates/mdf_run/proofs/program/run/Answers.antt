@@ -6,6 +6,7 @@ use Rattle.mdf_command.specs.Commands.{request_of}
 use Rattle.mdf_command.specs.declared.command.Command.{Command}
 use Rattle.mdf_command.specs.declared.command.Command.TheVariants.{Record, Finalize}
 use Rattle.mdf_run.proofs.Keeps.{recording_keeps}
+use Rattle.mdf_run.proofs.Recovered.{all_is_recovered, read_is_finalized}
 use Rattle.mdf_run.proofs.program.run.Goals as goal
 
 pub returns-in-Some-Record-clause-marks_hold : goal.returns-in-Some-Record-clause-marks_hold
@@ -43,6 +44,26 @@ returns-in-Some-Record-clause-complete g c = λ name asks text told script means
     text told script means c.run_record-status.result.1.end (sink_state g.K.Sink c.args.sink.now) (sink_state g.K.Sink c.run_record-status.new.sink)
     c.run_record-status.ensures.comes c.run_record-status.ensures.printed).complete
 
+pub returns-in-Some-Record-clause-marks_recover : goal.returns-in-Some-Record-clause-marks_recover
+returns-in-Some-Record-clause-marks_recover g c = λ name asks. c.run_record-status.ensures.recovered.marks_recover
+
+pub returns-in-Some-Record-clause-start_recovers : goal.returns-in-Some-Record-clause-start_recovers
+returns-in-Some-Record-clause-start_recovers g c = λ name asks. c.run_record-status.ensures.recovered.start_recovers
+
+pub returns-in-Some-Record-clause-all_recovered : goal.returns-in-Some-Record-clause-all_recovered
+returns-in-Some-Record-clause-all_recovered g c = λ name asks text told script means done.
+    let keeps = recording_keeps (source_state g.S.Source c.args.source.now) (source_state g.S.Source c.run_record-status.new.source) _ c.args.now_ns (state_of g.C.Disk c.args.out)
+    (state_of g.C.Disk c.run_record-status.result.1.out) _ _ c.run_record-status.result.0
+    text told script means c.run_record-status.result.1.end (sink_state g.K.Sink c.args.sink.now) (sink_state g.K.Sink c.run_record-status.new.sink)
+    c.run_record-status.ensures.comes c.run_record-status.ensures.printed in
+    all_is_recovered _ _ _ _ c.run_record-status.ensures.recovered.marks_recover (keeps.complete done).saved.all_durable (keeps.some_marks done)
+
+pub returns-in-Some-Finalize-clause-finalizes : goal.returns-in-Some-Finalize-clause-finalizes
+returns-in-Some-Finalize-clause-finalizes g c = λ input output asks.
+    rw c.without_recording-in-Some-Finalize.ensures.status (read_is_finalized c.args.now_ns (state_of g.A.Disk c.args.first) (state_of g.A.Disk c.run_finalize-status.new.first)
+    (state_of g.C.Disk c.args.out) (state_of g.C.Disk c.run_finalize-status.new.out) (sink_state g.K.Sink c.args.sink.now) (sink_state g.K.Sink c.run_finalize-status.new.sink)
+    c.run_finalize-status.result (g.A.Disk.content c.args.first) refl c.run_finalize-status.ensures.ends)
+
 -- words that are no command ask for none
 pub returns-in-None-clause-opened : goal.returns-in-None-clause-opened
 returns-in-None-clause-opened g c = λ input asks. absurd (c.in-None.ensures (opened input) asks)
@@ -67,6 +88,18 @@ returns-in-None-clause-info g c = λ input asks. absurd (c.in-None.ensures (desc
 
 pub returns-in-None-clause-finalize : goal.returns-in-None-clause-finalize
 returns-in-None-clause-finalize g c = λ input output asks. absurd (c.in-None.ensures (finalized input output) asks)
+
+pub returns-in-None-clause-marks_recover : goal.returns-in-None-clause-marks_recover
+returns-in-None-clause-marks_recover g c = λ name asks. absurd (c.in-None.ensures (recorded name) asks)
+
+pub returns-in-None-clause-start_recovers : goal.returns-in-None-clause-start_recovers
+returns-in-None-clause-start_recovers g c = λ name asks. absurd (c.in-None.ensures (recorded name) asks)
+
+pub returns-in-None-clause-all_recovered : goal.returns-in-None-clause-all_recovered
+returns-in-None-clause-all_recovered g c = λ name asks. absurd (c.in-None.ensures (recorded name) asks)
+
+pub returns-in-None-clause-finalizes : goal.returns-in-None-clause-finalizes
+returns-in-None-clause-finalizes g c = λ input output asks. absurd (c.in-None.ensures (finalized input output) asks)
 
 pub returns-in-None-clause-finalize_leaves : goal.returns-in-None-clause-finalize_leaves
 returns-in-None-clause-finalize_leaves g c = λ input output asks. absurd (c.in-None.ensures (finalized input output) asks)
