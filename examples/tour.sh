@@ -24,8 +24,7 @@ show 'mdf4rec check finished.mf4'
 show 'mdf4rec info finished.mf4'
 
 # A recording that the system kills when its file would grow past 1,024 bytes: what was flushed is all there.
-show '(echo "group 0 g"; echo "channel t u64 master"; echo begin; seq -f "0 %g
-! 0" 100; echo end) > hundred.txt'
+show "(printf 'group 0 g\\nchannel t u64 master\\nbegin\\n'; seq 100 | sed 's/.*/0 &\\n! 0/'; echo end) > hundred.txt"
 show '(ulimit -f 1; mdf4rec record killed.mf4 < hundred.txt) 2> /dev/null || echo killed'
 show 'mdf4rec opened killed.mf4'
 show 'mdf4rec finalize killed.mf4 saved.mf4'
