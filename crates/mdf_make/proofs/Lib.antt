@@ -1,1 +1,1 @@
-mod Making
+mod Leaving

@@ -1,1 +1,4 @@
+pub mod Tool
+pub mod Making
 pub mod Finalize
+pub mod Sort

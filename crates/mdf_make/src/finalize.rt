@@ -4,106 +4,32 @@ ghost use Rattle.mdf_disk.specs.State.{state_of};
 ghost use Rattle.mdf_disk.specs.declared.role.Role.TheVariants.{Create, Read};
 ghost use Rattle.mdf_port.specs.State.{sink_state};
 ghost use Rattle.tool_final.specs.Finalize.{IsFinalizeImage};
-ghost use Rattle.mdf_make.specs.Finalize.{EndsFinalize, FinalizeComes, LoadComes, MakeComes, finalize_status, finalize_text, report_line};
-ghost use Rattle.mdf_command.specs.Texts.{Gives};
+ghost use Rattle.mdf_make.specs.Finalize.{EndsFinalize, Finalizes, IsNoRecording};
 
-use mdf_command::Piece::{Number, Text};
-use mdf_command::{Fault, give_line, status_after};
-use mdf_disk::{Disk, Role, read_whole};
-use mdf_num::{Bytes, Failed};
+use crate::making::run_tool;
+use crate::tool::Tool;
+use mdf_command::Fault;
+use mdf_disk::Disk;
+use mdf_num::Bytes;
 use mdf_port::Sink;
+use mdf_tool::Report;
 use std::alloc::Global;
-use tool_final::{Report, finalize};
+use tool_final::finalize;
 
-/// How many bytes an input file has at most.
-const INPUT_LIMIT: u64 = 536_870_912;
-
-/// Loads the file of this name.
-fn load<A: Disk>(alloc: Global, input: &Bytes, first: &mut A) -> Result<Bytes, Fault>
-    requires { A.asked first.old ≡ None }
-    ensures comes { LoadComes (state_of A.Disk first.old) (state_of A.Disk first.new) result }
-    ensures asked { (A.asked first.new ≡ None) ⊎ (A.asked first.new ≡ Some (input.now, Read)) }
-    ensures content { A.content first.new ≡ A.content first.old }
-    ensures untouched { A.asked first.new ≡ None → first.new ≡ first.old }
-{
-    first.attach(input.copy()?, Role::Read)?;
-    Ok(read_whole(alloc, first, INPUT_LIMIT)?)
-}
-
-/// Makes the finalized file of these bytes, of this name.
-fn make<C: Disk>(
-    alloc: Global,
-    file: Bytes,
-    output: &Bytes,
+/// Makes the finished file of a recording.
+#[derive(Clone, Copy)]
+struct Finalizing {
+    /// The time, in ns since 1970.
     now_ns: u64,
-    out: &mut C,
-) -> Result<Report, Fault>
-    requires { C.asked out.old ≡ None }
-    ensures comes { MakeComes file now_ns (state_of C.Disk out.old) (state_of C.Disk out.new) result }
-    ensures any_moment { HoldsSince (C.story out.new) (C.moment out.old) (IsFinalizeImage file now_ns) }
-    ensures asked { (C.asked out.new ≡ None) ⊎ (C.asked out.new ≡ Some (output.now, Create)) }
-    ensures untouched { C.asked out.new ≡ None → out.new ≡ out.old }
-{
-    out.attach(output.copy()?, Role::Create)?;
-    Ok(finalize(alloc, file, now_ns, out)?)
 }
 
-/// Makes the finalized file of the file of this name, of the other name.
-fn finalize_file<A: Disk, C: Disk>(
-    alloc: Global,
-    input: &Bytes,
-    output: &Bytes,
-    now_ns: u64,
-    first: &mut A,
-    out: &mut C,
-) -> Result<Report, Fault>
-    requires first { A.asked first.old ≡ None }
-    requires out { C.asked out.old ≡ None }
-    ensures comes { FinalizeComes now_ns (state_of A.Disk first.old) (state_of A.Disk first.new) (state_of C.Disk out.old) (state_of C.Disk out.new) result }
-    ensures any_moment { IfSome (A.content first.old) (λ file. HoldsSince (C.story out.new) (C.moment out.old) (IsFinalizeImage file now_ns)) }
-    ensures input { (A.asked first.new ≡ None) ⊎ (A.asked first.new ≡ Some (input.now, Read)) }
-    ensures input_content { A.content first.new ≡ A.content first.old }
-    ensures input_untouched { A.asked first.new ≡ None → first.new ≡ first.old }
-    ensures output { (C.asked out.new ≡ None) ⊎ (C.asked out.new ≡ Some (output.now, Create)) }
-    ensures output_untouched { C.asked out.new ≡ None → out.new ≡ out.old }
-{
-    let file = load(alloc, input, first)?;
-    make(alloc, file, output, now_ns, out)
-}
+impl Tool for Finalizing {
+    ghost makes = { λ tool. Finalizes tool.now_ns };
 
-/// Gives the line on the file that was made.
-fn give_report<K: Sink>(sink: &mut K, report: &Report) -> Result<(), Failed>
-    ensures { Gives (report_line report.now) (sink_state K.Sink sink.old) (sink_state K.Sink sink.new) result }
-{
-    give_line(
-        sink,
-        &[
-            Text(b"groups "),
-            Number(u64::from(report.groups)),
-            Text(b" samples "),
-            Number(report.samples),
-            Text(b" dropped "),
-            Number(report.dropped),
-        ],
-    )
-}
+    ghost refuses = { λ _. IsNoRecording };
 
-/// Gives the line with which the command ends.
-fn give_end<K: Sink>(sink: &mut K, end: &Result<Report, Fault>) -> Result<(), Failed>
-    ensures { Gives (finalize_text end.now) (sink_state K.Sink sink.old) (sink_state K.Sink sink.new) result }
-{
-    match end {
-        Ok(report) => give_report(sink, report),
-        Err(fault) => fault.give(sink),
-    }
-}
-
-fn status(end: &Result<Report, Fault>) -> u8
-    ensures { result ≡ finalize_status end.now }
-{
-    match end {
-        Ok(_) => 0,
-        Err(fault) => fault.status(),
+    fn make<C: Disk>(self, alloc: Global, file: Bytes, out: &mut C) -> Result<Report, Fault> {
+        Ok(finalize(alloc, file, self.now_ns, out)?)
     }
 }
 
@@ -129,7 +55,13 @@ pub fn run_finalize<K: Sink, A: Disk, C: Disk>(
     ensures output { (C.asked out.new ≡ None) ⊎ (C.asked out.new ≡ Some (output.now, Create)) }
     ensures output_untouched { C.asked out.new ≡ None → out.new ≡ out.old }
 {
-    let end = finalize_file(alloc, input, output, now_ns, first, out);
-    let given = give_end(sink, &end);
-    status_after(given, status(&end))
+    run_tool(
+        alloc,
+        Finalizing { now_ns },
+        input,
+        output,
+        sink,
+        first,
+        out,
+    )
 }

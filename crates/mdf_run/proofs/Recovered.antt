@@ -19,7 +19,8 @@ use Rattle.mdf_command.specs.Texts.{unwritten_status}
 use Rattle.mdf_command.specs.declared.fault.Fault.{Fault}
 use Rattle.mdf_command.specs.declared.fault.Fault.TheVariants as fault
 use Rattle.mdf_tool.specs.declared.made.Report.{Report}
-use Rattle.mdf_make.specs.Finalize.{FinalizeComes, FinalizeFaultComes, EndsFinalize, finalize_text, finalize_status}
+use Rattle.mdf_make.specs.Finalize.{EndsFinalize, Finalizes, IsNoRecording}
+use Rattle.mdf_make.specs.Making.{IsLoaded, MakingComes, making_text, making_status}
 use Rattle.mdf_record.specs.Recovers.{MarksRecover}
 use Rattle.mdf_run.specs.Kept.{IsDoneOrLacked}
 use Rattle.mdf_run.proofs.Keeps.{was_status}
@@ -70,29 +71,32 @@ module _ (disk disk' out out' : DiskState) (file : List ℕ) (told : disk.conten
   said : (P : List ℕ → Type 0) → IfSome disk.content P → P file
   said P holds = subst (λ (content : Option (List ℕ)). IfSome content P) told holds
 
-  fault_is : (problem : Fault) → FinalizeFaultComes disk disk' out out' problem
-      → (fault_status problem ≡ 0) ⊎ ((fault_status problem ≡ 4) ⊎ (fault_status problem ≡ 7))
-  fault_is (fault.Gate refused) comes = absurd comes
-  fault_is fault.Source comes = absurd comes
-  fault_is fault.Device comes = inr (inl refl)
-  fault_is (fault.InputOver size limit) comes =
-      let long : size ≡ length file = said (λ f. size ≡ length f) comes.2 in absurd (omega (arith, comes.0, comes.1, long, short))
-  fault_is (fault.ScriptOver limit) comes = absurd comes
-  fault_is (fault.SessionFull held size limit) comes = absurd comes
-  fault_is fault.Memory comes = inr (inr refl)
-  fault_is (fault.Script number) comes = absurd comes
-  fault_is (fault.Read refused) comes =
-      let fails = said (λ f. Fails (read_refusal refused) (session f) × (length f ≤ INPUT_LIMIT)) comes.0 in
-      inr (inr (not_refused (read_refusal refused) file readable.found readable.is_read fails.0))
+  loaded_is : (loaded : List ℕ) → IsLoaded disk loaded → loaded ≡ file
+  loaded_is loaded is = said (λ f. loaded ≡ f) is.told
 
-  end_is : (now : ℕ) (end : Result Report Fault) → FinalizeComes now disk disk' out out' end
-      → (finalize_status end ≡ 0) ⊎ ((finalize_status end ≡ 4) ⊎ (finalize_status end ≡ 7))
+  fault_is : (now : ℕ) (problem : Fault) → MakingComes (Finalizes now) IsNoRecording disk disk' out out' (Err problem)
+      → (fault_status problem ≡ 0) ⊎ ((fault_status problem ≡ 4) ⊎ (fault_status problem ≡ 7))
+  fault_is now (fault.Gate refused) comes = absurd comes
+  fault_is now fault.Source comes = absurd comes
+  fault_is now fault.Device comes = inr (inl refl)
+  fault_is now (fault.InputOver size limit) comes =
+      let long : size ≡ length file = said (λ f. size ≡ length f) comes.0.told in absurd (omega (arith, comes.0.limit_is, comes.0.over, long, short))
+  fault_is now (fault.ScriptOver limit) comes = absurd comes
+  fault_is now (fault.SessionFull held size limit) comes = absurd comes
+  fault_is now fault.Memory comes = inr (inr refl)
+  fault_is now (fault.Script number) comes = absurd comes
+  fault_is now (fault.Read refused) comes =
+      let fails = subst (λ f. Fails (read_refusal refused) (session f)) (loaded_is comes.0.0 comes.0.1) comes.0.2 in
+      inr (inr (not_refused (read_refusal refused) file readable.found readable.is_read fails))
+
+  end_is : (now : ℕ) (end : Result Report Fault) → MakingComes (Finalizes now) IsNoRecording disk disk' out out' end
+      → (making_status end ≡ 0) ⊎ ((making_status end ≡ 4) ⊎ (making_status end ≡ 7))
   end_is now (Ok report) comes = inl refl
-  end_is now (Err problem) comes = fault_is problem comes
+  end_is now (Err problem) comes = fault_is now problem comes
 
 pub read_is_finalized : (now : ℕ) (disk disk' out out' : DiskState) (sink sink' : SinkState) (status : ℕ) (content : Option (List ℕ)) → disk.content ≡ content
     → EndsFinalize now disk disk' out out' sink sink' status → IfSome content (λ file. IsReadable file → length file ≤ INPUT_LIMIT → IsDoneOrLacked status)
 read_is_finalized now disk disk' out out' sink sink' status None told ends = tt
 read_is_finalized now disk disk' out out' sink sink' status (Some file) told ends = λ readable short.
-    ends_well (finalize_status ends.0) status (was_status (finalize_text ends.0) (finalize_status ends.0) sink sink' status ends.2)
+    ends_well (making_status ends.0) status (was_status (making_text ends.0) (making_status ends.0) sink sink' status ends.2)
     (end_is disk disk' out out' file told readable short now ends.0 ends.1)

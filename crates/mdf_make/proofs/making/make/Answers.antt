@@ -1,8 +1,8 @@
-use Rattle.std.proofs.Common.{◌∙◌, ap, refl, arith}
+use Rattle.std.proofs.Common.{refl}
 use Rattle.std.proofs.lemmas.Result.{err_from_is_err_and}
 use Rattle.mdf_disk.specs.State.{state_of}
-use Rattle.mdf_make.proofs.Making.{make_fault, make_leaves, still_nothing, still_no_mdf}
-use Rattle.mdf_make.proofs.finalize.make.Goals as goal
+use Rattle.mdf_make.proofs.Leaving.{make_ends, make_leaves, still_nothing, still_no_mdf}
+use Rattle.mdf_make.proofs.making.make.Goals as goal
 
 pub returns-in_err-copy-clause-comes : goal.returns-in_err-copy-clause-comes
 returns-in_err-copy-clause-comes g c =
@@ -18,7 +18,7 @@ returns-in_err-copy-clause-any_moment g c =
     let disk = g.C.Disk in
     let laws = g.met.C.Disk in
     let out = c.args.out.now in
-    still_no_mdf c.args.file c.args.now_ns (disk.story out) (disk.story out) (disk.content out) (disk.moment out) (laws.agrees out)
+    still_no_mdf (g.T.Tool.makes c.args.tool c.args.file) (disk.story out) (disk.story out) (disk.content out) (disk.moment out) (laws.agrees out)
     (laws.unattached out (laws.unasked out c.requires)) refl
 
 pub returns-in_err-attach-clause-any_moment : goal.returns-in_err-attach-clause-any_moment
@@ -26,33 +26,25 @@ returns-in_err-attach-clause-any_moment g c =
     let disk = g.C.Disk in
     let laws = g.met.C.Disk in
     let out = c.args.out.now in
-    still_no_mdf c.args.file c.args.now_ns (disk.story out) (disk.story c.attach.new.self) (disk.content out) (disk.moment out) (laws.agrees out)
+    still_no_mdf (g.T.Tool.makes c.args.tool c.args.file) (disk.story out) (disk.story c.attach.new.self) (disk.content out) (disk.moment out) (laws.agrees out)
     (laws.unattached out (laws.unasked out c.requires)) c.attach.ensures.story
 
-pub returns-in_err-finalize-clause-comes : goal.returns-in_err-finalize-clause-comes
-returns-in_err-finalize-clause-comes g c =
+pub returns-clause-comes : goal.returns-clause-comes
+returns-clause-comes g c =
     let disk = g.C.Disk in
     let laws = g.met.C.Disk in
     let out = c.args.out.now in
-    let p = err_from_is_err_and c.from_residual-in_err-finalize.result c.from_residual-in_err-finalize.ensures.1 in
-    rw (p.1, p.2) (make_fault c.args.file c.args.now_ns (state_of disk out) (state_of disk c.attach.new.self) (state_of disk c.finalize.new.out)
+    make_ends (g.T.Tool.makes c.args.tool c.args.file) (g.T.Tool.refuses c.args.tool c.args.file)
+    (state_of disk out) (state_of disk c.attach.new.self) (state_of disk c.make.new.out)
     (laws.agrees out) (laws.unattached out (laws.unasked out c.requires)) c.attach.ensures.story c.attach.ensures.cause.later
-    c.in_err-finalize.field-0.0 c.in_err-finalize.ensures.ends)
-
-pub returns-in_err-finalize-clause-any_moment : goal.returns-in_err-finalize-clause-any_moment
-returns-in_err-finalize-clause-any_moment g c =
-    let disk = g.C.Disk in
-    let laws = g.met.C.Disk in
-    let out = c.args.out.now in
-    make_leaves c.args.file c.args.now_ns (state_of disk out) (state_of disk c.attach.new.self) (state_of disk c.finalize.new.out)
-    (laws.agrees out) (laws.unattached out (laws.unasked out c.requires)) c.attach.ensures.story c.attach.ensures.cause.later
-    c.finalize.ensures.any_moment
+    c.make.result c.make.ensures.ends
 
 pub returns-clause-any_moment : goal.returns-clause-any_moment
 returns-clause-any_moment g c =
     let disk = g.C.Disk in
     let laws = g.met.C.Disk in
     let out = c.args.out.now in
-    make_leaves c.args.file c.args.now_ns (state_of disk out) (state_of disk c.attach.new.self) (state_of disk c.finalize.new.out)
+    make_leaves (g.T.Tool.makes c.args.tool c.args.file) (g.T.Tool.refuses c.args.tool c.args.file)
+    (state_of disk out) (state_of disk c.attach.new.self) (state_of disk c.make.new.out)
     (laws.agrees out) (laws.unattached out (laws.unasked out c.requires)) c.attach.ensures.story c.attach.ensures.cause.later
-    c.finalize.ensures.any_moment
+    c.make.ensures.any_moment

@@ -1,0 +1,110 @@
+-- What is left of the output of a tool.
+use Rattle.std.proofs.Common.{◌≡◌, ◌≤◌, ⊎_elim, inl, inr, ℕ, List, [], Option, Some, None, Result, Ok, Err, refl, sym, ◌∙◌, ap, subst, arith}
+use Rattle.std.specs.Prelude.{IfSome}
+use Rattle.mdf_disk.specs.Crash.{Adds, HoldsSince}
+use Rattle.mdf_disk.specs.State.{DiskState}
+use Rattle.mdf_disk.specs.Story.{MayLeave, Story, Agrees, IsFresh, LeftSince}
+use Rattle.mdf_disk.proofs.Crash.{adds_none, settled_leaves}
+use Rattle.mdf_gate.proofs.Appends.{none_later}
+use Rattle.mdf_tool.specs.declared.made.Report.{Report}
+use Rattle.mdf_tool.specs.declared.fault.ToolFault.{ToolFault}
+use Rattle.mdf_tool.specs.declared.fault.ToolFault.TheVariants as tool
+use Rattle.tool_final.specs.Finalize.{FinalizeEnds}
+use Rattle.tool_sort.specs.Sort.{SortEnds}
+use Rattle.mdf_command.specs.Faults.{fault_of_tool}
+use Rattle.mdf_make.specs.Finalize.{Finalizes, IsNoRecording}
+use Rattle.mdf_make.specs.Sort.{IsNotMeasured, Sorts}
+use Rattle.mdf_make.specs.Tool.{IsImage, ToolEnds}
+use Rattle.mdf_make.specs.Making.{IsLoaded, LoadFaultComes, MakeComes, MakesNothing, MakingComes}
+use Rattle.mdf_command.specs.declared.fault.Fault.{Fault}
+use Rattle.mdf_command.specs.declared.fault.Fault.TheVariants as fault
+
+-- Of a disk that was asked for nothing, and is written on since, a crash leaves nothing or what is added.
+since_fresh : (P : List ℕ → Type 0) → P [] → (old new : Option Story) (content : Option (List ℕ)) (clock : ℕ) → Agrees old content clock
+    → IsFresh old → Adds old new P → HoldsSince new clock P
+since_fresh P nothing None new content clock agrees fresh adds = λ file left. ⊎_elim (λ none. absurd none) (λ p. p) (adds clock file left)
+since_fresh P nothing (Some old) new content clock agrees fresh adds = λ file left. ⊎_elim (from_fresh file) (λ p. p) (adds clock file left)
+  where
+    from_fresh : (file : List ℕ) → LeftSince (Some old) clock file → P file
+    from_fresh file left = ⊎_elim
+        (λ now. subst P (sym (settled_leaves [] file (subst (λ m. MayLeave m file) fresh now.1))) nothing)
+        (λ before. absurd (none_later old.past clock file (omega (arith, agrees.moment_is)) before))
+        left
+
+-- where nothing was written since, what holds of nothing holds
+still : (P : List ℕ → Type 0) → P [] → (old new : Option Story) (content : Option (List ℕ)) (clock : ℕ) → Agrees old content clock → IsFresh old → new ≡ old
+    → HoldsSince new clock P
+still P nothing old new content clock agrees fresh same =
+    since_fresh P nothing old new content clock agrees fresh (subst (λ s. Adds old s P) (sym same) (adds_none old P))
+
+-- it leaves nothing, and nothing is no MDF
+pub still_nothing : (old new : Option Story) (content : Option (List ℕ)) (clock : ℕ) → Agrees old content clock → IsFresh old → new ≡ old
+    → HoldsSince new clock (λ image. image ≡ [])
+still_nothing = still (λ image. image ≡ []) refl
+
+nothing_left : (Makes : List ℕ → Report → Type 0) → IsImage Makes []
+nothing_left Makes = inl (λ mdf. absurd (omega (arith, mdf.long)))
+
+pub still_no_mdf : (Makes : List ℕ → Report → Type 0) (old new : Option Story) (content : Option (List ℕ)) (clock : ℕ) → Agrees old content clock → IsFresh old
+    → new ≡ old → HoldsSince new clock (IsImage Makes)
+still_no_mdf Makes = still (IsImage Makes) (nothing_left Makes)
+
+module _ (Makes : List ℕ → Report → Type 0) (Refuses : Fault → Type 0) (out mid out' : DiskState) (agrees : Agrees out.story out.content out.moment)
+    (fresh : IsFresh out.story) (same : mid.story ≡ out.story) (later : out.faults ≤ mid.faults) where
+  nothing : out' ≡ mid → MakesNothing out out'
+  nothing is = still_nothing out.story out'.story out.content out.moment agrees fresh (ap (λ (d : DiskState). d.story) is ∙ same)
+
+  -- why no file was made on the disk that was attached
+  make_fault : (problem : Fault) → ToolEnds Makes Refuses mid out' (Err problem) → MakeComes Makes Refuses out out' (Err problem)
+  make_fault fault.Device ends = omega (arith, later, ends)
+  make_fault fault.Memory ends = nothing ends
+  make_fault (fault.Read refused) ends = (ends.0, nothing ends.1)
+  make_fault problem ends = absurd ends
+
+  pub make_ends : (end : Result Report Fault) → ToolEnds Makes Refuses mid out' end → MakeComes Makes Refuses out out' end
+  make_ends (Ok report) ends = record { bytes = ends.0; is_of = ends.1; kept = ends.2 }
+  make_ends (Err problem) ends = make_fault problem ends
+
+  pub make_leaves : Adds mid.story out'.story (IsImage Makes) → HoldsSince out'.story out.moment (IsImage Makes)
+  make_leaves adds =
+      since_fresh (IsImage Makes) (nothing_left Makes) out.story out'.story out.content out.moment agrees fresh
+      (subst (λ s. Adds s out'.story (IsImage Makes)) same adds)
+
+-- of an input that was not loaded nothing was made
+pub load_fault : (Makes : List ℕ → List ℕ → Report → Type 0) (Refuses : List ℕ → Fault → Type 0) (old new out : DiskState) → Agrees out.story out.content out.moment
+    → IsFresh out.story → (problem : Fault) → LoadFaultComes old new problem → MakingComes Makes Refuses old new out out (Err problem)
+load_fault Makes Refuses old new out agrees fresh fault.Device comes = inl comes
+load_fault Makes Refuses old new out agrees fresh (fault.InputOver size limit) comes =
+    (comes, still_nothing out.story out.story out.content out.moment agrees fresh refl)
+load_fault Makes Refuses old new out agrees fresh fault.Memory comes = still_nothing out.story out.story out.content out.moment agrees fresh refl
+load_fault Makes Refuses old new out agrees fresh problem comes = absurd comes
+
+-- what was made of an input that was loaded
+module _ (Makes : List ℕ → List ℕ → Report → Type 0) (Refuses : List ℕ → Fault → Type 0) (old new out out' : DiskState) (file : List ℕ) (loaded : IsLoaded old file) where
+  made_of : (problem : Fault) → MakeComes (Makes file) (Refuses file) out out' (Err problem) → MakingComes Makes Refuses old new out out' (Err problem)
+  made_of fault.Device comes = inr comes
+  made_of fault.Memory comes = comes
+  made_of (fault.Read refused) comes = ((file, loaded, comes.0), comes.1)
+  made_of problem comes = absurd comes
+
+  pub making_ends : (end : Result Report Fault) → MakeComes (Makes file) (Refuses file) out out' end → MakingComes Makes Refuses old new out out' end
+  making_ends (Ok report) made = (file, loaded, made)
+  making_ends (Err problem) comes = made_of problem comes
+
+-- what holds of each file holds of the one that is told
+pub of_any : (told : Option (List ℕ)) (P : List ℕ → Type 0) → ((file : List ℕ) → P file) → IfSome told P
+of_any None P holds = tt
+of_any (Some file) P holds = holds file
+
+-- the fault of a tool, as the program tells it
+pub finalize_fault : (file : List ℕ) (now : ℕ) (old new : DiskState) (problem : ToolFault) → FinalizeEnds file now old new (Err problem)
+    → ToolEnds (Finalizes now file) (IsNoRecording file) old new (Err (fault_of_tool problem))
+finalize_fault file now old new (tool.Read refused) ends = (ends.1, ends.2)
+finalize_fault file now old new tool.Failed ends = ends
+finalize_fault file now old new tool.Memory ends = ends
+
+pub sort_fault : (file : List ℕ) (now : ℕ) (old new : DiskState) (problem : ToolFault) → SortEnds file now old new (Err problem)
+    → ToolEnds (Sorts now file) (IsNotMeasured file) old new (Err (fault_of_tool problem))
+sort_fault file now old new (tool.Read refused) ends = (ends.1, ends.2)
+sort_fault file now old new tool.Failed ends = ends
+sort_fault file now old new tool.Memory ends = ends

@@ -1,0 +1,23 @@
+-- What a tool says that makes a file of its input: what it makes of a file, which is bytes and what is told of them, and
+-- the faults for which it refuses one.
+use Rattle.std.specs.Prelude.{ℕ, ◌≡◌, ◌⊎◌, List, Result, Ok, Err}
+use Rattle.mdf_format.specs.Cause.{Rose}
+use Rattle.mdf_format.specs.Identification.{IsMdf}
+use Rattle.mdf_disk.specs.State.{DiskState}
+use Rattle.mdf_seal.specs.Seal.{IsKept}
+use Rattle.mdf_tool.specs.declared.made.Report.{Report}
+use Rattle.mdf_command.specs.declared.fault.Fault.{Fault}
+use Rattle.mdf_command.specs.declared.fault.Fault.TheVariants as fault
+
+-- what a crash may leave of the output: no MDF, or what the tool makes
+abbrev pub IsImage : (List ℕ → Report → Type 0) → List ℕ → Type 0
+IsImage Makes image = (¬ IsMdf image) ⊎ ((report : Report) × Makes image report)
+
+-- How it ends, by what the disk of the output tells before and after: what it makes is kept whole; or the disk failed; or
+-- memory was wanted or the file is refused, and the disk is as before.
+abbrev pub ToolEnds : (List ℕ → Report → Type 0) → (Fault → Type 0) → DiskState → DiskState → Result Report Fault → Type 0
+ToolEnds Makes Refuses old new (Ok report) = (bytes : List ℕ) × Makes bytes report × IsKept new.content new.story bytes
+ToolEnds Makes Refuses old new (Err fault.Device) = Rose old.faults new.faults
+ToolEnds Makes Refuses old new (Err fault.Memory) = new ≡ old
+ToolEnds Makes Refuses old new (Err (fault.Read refused)) = Refuses (fault.Read refused) × (new ≡ old)
+ToolEnds Makes Refuses old new (Err _) = ⊥
