@@ -12,6 +12,7 @@ pub data Request : Type 0 where
   finalized : (input output : List ℕ) → Request
   checked : (input : List ℕ) → Request
   described : (input : List ℕ) → Request
+  sorted : (input output : List ℕ) → Request
 
 -- the first word of each command
 abbrev pub name_text : Name → List ℕ
@@ -20,6 +21,7 @@ name_text name.Record = codes "record"
 name_text name.Finalize = codes "finalize"
 name_text name.Check = codes "check"
 name_text name.Info = codes "info"
+name_text name.Sort = codes "sort"
 
 -- the word is that of this command, and of none
 abbrev pub Names : List ℕ → Name → Type 0
@@ -35,6 +37,7 @@ name_of (recorded output) = name.Record
 name_of (finalized input output) = name.Finalize
 name_of (checked input) = name.Check
 name_of (described input) = name.Info
+name_of (sorted input output) = name.Sort
 
 abbrev pub arguments_of : Request → List (List ℕ)
 arguments_of (opened input) = input ∷ []
@@ -42,6 +45,7 @@ arguments_of (recorded output) = output ∷ []
 arguments_of (finalized input output) = input ∷ output ∷ []
 arguments_of (checked input) = input ∷ []
 arguments_of (described input) = input ∷ []
+arguments_of (sorted input output) = input ∷ output ∷ []
 
 -- the words that ask for it
 abbrev pub Asks : List (List ℕ) → Request → Type 0
@@ -71,6 +75,10 @@ AsksCheck words input = Asks words (checked input)
 abbrev pub AsksInfo : List (List ℕ) → List ℕ → Type 0
 AsksInfo words input = Asks words (described input)
 
+-- `sort IN OUT`
+abbrev pub AsksSort : List (List ℕ) → List ℕ → List ℕ → Type 0
+AsksSort words input output = Asks words (sorted input output)
+
 -- the file that it reads, and the file that it makes
 abbrev pub input_of : Request → Option (List ℕ)
 input_of (opened input) = Some input
@@ -78,6 +86,7 @@ input_of (recorded output) = None
 input_of (finalized input output) = Some input
 input_of (checked input) = Some input
 input_of (described input) = Some input
+input_of (sorted input output) = Some input
 
 abbrev pub output_of : Request → Option (List ℕ)
 output_of (opened input) = None
@@ -85,6 +94,7 @@ output_of (recorded output) = Some output
 output_of (finalized input output) = Some output
 output_of (checked input) = None
 output_of (described input) = None
+output_of (sorted input output) = Some output
 
 -- the words ask for a file to be made
 abbrev pub AsksToMake : List (List ℕ) → List ℕ → Type 0

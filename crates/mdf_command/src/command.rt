@@ -12,6 +12,7 @@ pub enum Name {
     Finalize,
     Check,
     Info,
+    Sort,
 }
 
 impl Name {
@@ -34,6 +35,9 @@ impl Name {
         if word == b"info".as_slice() {
             return Some(Name::Info);
         }
+        if word == b"sort".as_slice() {
+            return Some(Name::Sort);
+        }
         None
     }
 }
@@ -51,6 +55,8 @@ pub enum Command<'a> {
     Check { input: &'a Bytes },
     /// `info IN`
     Info { input: &'a Bytes },
+    /// `sort IN OUT`
+    Sort { input: &'a Bytes, output: &'a Bytes },
 }
 
 /// The command that the words name, if any.
@@ -66,6 +72,7 @@ pub fn command_of(words: &Rows<Bytes>) -> Option<Command<'_>>
         (Name::Finalize, [input, output]) => Some(Command::Finalize { input, output }),
         (Name::Check, [input]) => Some(Command::Check { input }),
         (Name::Info, [input]) => Some(Command::Info { input }),
+        (Name::Sort, [input, output]) => Some(Command::Sort { input, output }),
         _ => None,
     }
 }

@@ -6,12 +6,14 @@ ghost use Rattle.mdf_disk.specs.State.{state_of};
 ghost use Rattle.book_owned.specs.Kept.{MarksHold, StartHolds};
 ghost use Rattle.book_owned.specs.Marks.{AreRising, last_mark};
 ghost use Rattle.acq_script.specs.Tasks.{samples_of};
-ghost use Rattle.mdf_command.specs.Words.{AsksCheck, AsksFinalize, AsksInfo, AsksOpened, AsksRecord, AsksInput, AsksOutput, AsksToMake, IsUsage};
+ghost use Rattle.mdf_command.specs.Words.{AsksCheck, AsksFinalize, AsksInfo, AsksOpened, AsksRecord, AsksSort, AsksInput, AsksOutput, AsksToMake, IsUsage};
 ghost use Rattle.mdf_command.specs.Texts.{Prints, usage_line};
 ghost use Rattle.mdf_inspect.specs.Opened.{EndsOpened};
 ghost use Rattle.mdf_disk.specs.Crash.{HoldsSince};
 ghost use Rattle.tool_final.specs.Finalize.{IsFinalizeImage};
 ghost use Rattle.mdf_make.specs.Finalize.{EndsFinalize};
+ghost use Rattle.mdf_make.specs.Sort.{EndsSort};
+ghost use Rattle.tool_sort.specs.Sort.{IsSortImage};
 ghost use Rattle.mdf_inspect.specs.Check.{EndsCheck};
 ghost use Rattle.mdf_inspect.specs.Info.{EndsInfo};
 ghost use Rattle.mdf_record.specs.Sources.{AreOwnMarked};
@@ -31,7 +33,7 @@ use mdf_command::{Command, command_of, give_line, status_after};
 use mdf_disk::Disk;
 use mdf_inspect::{Question, run_opened, run_reading};
 use mdf_layout::Samples;
-use mdf_make::run_finalize;
+use mdf_make::{run_finalize, run_sort};
 use mdf_num::{Bytes, Rows};
 use mdf_port::{Sink, Source};
 use mdf_record::{Gate, Recorded, run_record};
@@ -123,6 +125,9 @@ where
     ensures info { (input : List ℕ) → AsksInfo words.now input
         → EndsInfo (state_of A.Disk first) (state_of A.Disk result.first)
         (sink_state K.Sink sink.old) (sink_state K.Sink sink.new) result.status }
+    ensures sort { (input output : List ℕ) → AsksSort words.now input output
+        → EndsSort now_ns (state_of A.Disk first) (state_of A.Disk result.first) (state_of C.Disk out) (state_of C.Disk result.out)
+        (sink_state K.Sink sink.old) (sink_state K.Sink sink.new) result.status }
     ensures record { (name : List ℕ) → AsksRecord words.now name
         → EndsRecord (source_state S.Source source.old) (source_state S.Source source.new) name now_ns (state_of C.Disk out)
         (outcome C.Disk result.out result.history.items result.marks.items)
@@ -160,6 +165,10 @@ where
     // What may be left of the output of `finalize` at any moment: no MDF, or the finalized session of the input.
     ensures finalize_leaves { (input output : List ℕ) → AsksFinalize words.now input output
         → IfSome (A.content first) (λ file. HoldsSince (C.story result.out) (C.moment out) (IsFinalizeImage file now_ns)) }
+
+    // And of the output of `sort`: no MDF, or the sorted file of the measurement of the input.
+    ensures sort_leaves { (input output : List ℕ) → AsksSort words.now input output
+        → IfSome (A.content first) (λ file. HoldsSince (C.story result.out) (C.moment out) (IsSortImage file now_ns)) }
 
     // Another command has no history and no marks, and takes nothing from the source.
     ensures no_history { ((name : List ℕ) → ¬ AsksRecord words.now name) → result.history.items ≡ [] }
@@ -217,6 +226,12 @@ where
         Some(Command::Info { input }) => {
             let mut first = first;
             let status = run_reading(alloc, Question::Contents, input, sink, &mut first);
+            without_recording(alloc, status, first, out)
+        }
+        Some(Command::Sort { input, output }) => {
+            let mut first = first;
+            let mut out = out;
+            let status = run_sort(alloc, input, output, now_ns, sink, &mut first, &mut out);
             without_recording(alloc, status, first, out)
         }
         None => {

@@ -1,4 +1,4 @@
-//! What `finalize` makes of a recording.
+//! What `finalize` makes of a recording, and `sort` of a finished file.
 
 use crate::kinds::EMPTY;
 use crate::recordings::Part;
@@ -14,6 +14,11 @@ const FINALIZE: Given = Given {
     script: "",
     broken: &[],
     failing: &[],
+};
+
+const SORT: Given = Given {
+    words: &["sort", "in.mf4", "out.mf4"],
+    ..FINALIZE
 };
 
 // What is printed of the finished file of a recording, and the file: before its data group, at 584, it has the identification,
@@ -46,14 +51,38 @@ const FINISHED: [(&str, &str, usize, &[Part]); 2] = [
     ),
 ];
 
+// The sorted file of the finished one of three samples: its history has a third entry, at 584 with its MD at 640; then come DG at
+// 792, CG at 856 with its name at 960, CN at 992 with its name at 1152, and the records, without ids, in the DT at 1184.
+const SORTED: [Part; 11] = [
+    (0, b"MDF     4.10    mdf4rec "),
+    (584, b"##FH"),
+    (640, b"##MD"),
+    (792, b"##DG"),
+    (856, b"##CG"),
+    (960, b"##TX"),
+    (992, b"##CN"),
+    (1152, b"##TX"),
+    (1184, b"##DT\0\0\0\0\x30\0\0\0\0\0\0\0"),
+    (1208, b"\x01\0\0\0\0\0\0\0\x02\0\0\0\0\0\0\0"),
+    (1224, b"\x03\0\0\0\0\0\0\0"),
+];
+
 /// What is printed, and the bytes that are made, of this input where these calls of the output's disk fail.
-fn finalized<R>(rt: &R, file: Bytes, failing: &[u64]) -> Result<(String, Bytes), Fail>
+fn made_of<R>(rt: &R, given: Given, file: Bytes, failing: &[u64]) -> Result<(String, Bytes), Fail>
 where
     R: AllocGlobal + Threads + Wait + Sync,
 {
     let alloc = rt.alloc();
     let out = failing_disk(alloc, failing)?;
-    made(rt, FINALIZE, MemoryDisk::holding(alloc, file), out)
+    made(rt, given, MemoryDisk::holding(alloc, file), out)
+}
+
+/// The same of `finalize`.
+fn finalized<R>(rt: &R, file: Bytes, failing: &[u64]) -> Result<(String, Bytes), Fail>
+where
+    R: AllocGlobal + Threads + Wait + Sync,
+{
+    made_of(rt, FINALIZE, file, failing)
 }
 
 #[test]
@@ -87,5 +116,25 @@ fn a_fault_of_the_output_leaves_no_mdf(rt: HostRuntime) -> Result<(), Fail> {
         assert_eq!(rt; text.as_str(), "4 device fault\n");
         assert!(rt; !stands(out.as_slice(), (0, b"M")));
     }
+    Ok(())
+}
+
+#[test]
+fn a_finished_file_is_sorted(rt: HostRuntime) -> Result<(), Fail> {
+    let (_, file) = finalized(&rt, recorded(&rt, COUNTING)?, &[])?;
+    let (text, sorted) = made_of(&rt, SORT, file, &[])?;
+    assert_eq!(rt; text.as_str(), "0 groups 1 samples 3 dropped 0\n");
+    assert_eq!(rt; sorted.as_slice().len(), 1232);
+    for part in SORTED {
+        assert!(rt; stands(sorted.as_slice(), part));
+    }
+    Ok(())
+}
+
+#[test]
+fn a_recording_is_not_sorted(rt: HostRuntime) -> Result<(), Fail> {
+    let (text, out) = made_of(&rt, SORT, recorded(&rt, COUNTING)?, &[])?;
+    assert_eq!(rt; text.as_str(), "3 unfinalized 33 1\n");
+    assert_eq!(rt; out.as_slice().len(), 0);
     Ok(())
 }

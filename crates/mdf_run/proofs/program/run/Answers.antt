@@ -1,10 +1,10 @@
 use Rattle.std.proofs.Common.{◌≡◌, ℕ, List, refl, subst}
 use Rattle.mdf_port.specs.State.{sink_state, source_state}
 use Rattle.mdf_disk.specs.State.{state_of}
-use Rattle.mdf_command.specs.Words.{Asks, opened, recorded, finalized, checked, described}
+use Rattle.mdf_command.specs.Words.{Asks, opened, recorded, finalized, checked, described, sorted}
 use Rattle.mdf_command.specs.Commands.{request_of}
 use Rattle.mdf_command.specs.declared.command.Command.{Command}
-use Rattle.mdf_command.specs.declared.command.Command.TheVariants.{Record, Finalize}
+use Rattle.mdf_command.specs.declared.command.Command.TheVariants.{Record, Finalize, Sort}
 use Rattle.mdf_run.proofs.Keeps.{recording_keeps}
 use Rattle.mdf_run.proofs.Recovered.{all_is_recovered, read_is_finalized}
 use Rattle.mdf_run.proofs.program.run.Goals as goal
@@ -104,6 +104,12 @@ returns-in-None-clause-finalizes g c = λ input output asks. absurd (c.in-None.e
 pub returns-in-None-clause-finalize_leaves : goal.returns-in-None-clause-finalize_leaves
 returns-in-None-clause-finalize_leaves g c = λ input output asks. absurd (c.in-None.ensures (finalized input output) asks)
 
+pub returns-in-None-clause-sort : goal.returns-in-None-clause-sort
+returns-in-None-clause-sort g c = λ input output asks. absurd (c.in-None.ensures (sorted input output) asks)
+
+pub returns-in-None-clause-sort_leaves : goal.returns-in-None-clause-sort_leaves
+returns-in-None-clause-sort_leaves g c = λ input output asks. absurd (c.in-None.ensures (sorted input output) asks)
+
 -- the words ask for this command
 asked : (words : List (List ℕ)) (command known : Command) → command ≡ known → Asks words (request_of command) → Asks words (request_of known)
 asked words command known is asks = subst (λ (c : Command). Asks words (request_of c)) is asks
@@ -126,3 +132,16 @@ returns-in-Some-Finalize-clause-out g c = λ none.
 pub returns-in-Some-Finalize-clause-finalize_leaves : goal.returns-in-Some-Finalize-clause-finalize_leaves
 returns-in-Some-Finalize-clause-finalize_leaves g c = λ input output asks.
     rw c.without_recording-in-Some-Finalize.ensures.out c.run_finalize-status.ensures.any_moment
+
+pub returns-in-Some-Sort-clause-out : goal.returns-in-Some-Sort-clause-out
+returns-in-Some-Sort-clause-out g c = λ none.
+    let m = c.in-Some-Sort in
+    absurd (none m.output.now (
+      sorted m.input.now m.output.now,
+      asked c.args.words.now m.field-0 (Sort m.input m.output) m.field-0-is m.ensures,
+      refl,
+    ))
+
+pub returns-in-Some-Sort-clause-sort_leaves : goal.returns-in-Some-Sort-clause-sort_leaves
+returns-in-Some-Sort-clause-sort_leaves g c = λ input output asks.
+    rw c.without_recording-in-Some-Sort.ensures.out c.run_sort-status.ensures.any_moment
