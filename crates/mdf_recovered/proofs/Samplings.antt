@@ -18,6 +18,7 @@ use Rattle.mdf_layout.specs.Layout.{Layout}
 use Rattle.mdf_layout.specs.Layout as layouts
 use Rattle.mdf_layout.specs.Values.{sample_of}
 use Rattle.mdf_layout.specs.declared.sample.Sample.{Sample}
+use Rattle.mdf_content.specs.declared.contents.Contents.{Contents}
 use Rattle.mdf_content.specs.Records.{record_size, size_of}
 use Rattle.mdf_content.specs.Samples.{record_at}
 use Rattle.mdf_model.specs.Measurement.{holds_samples}
@@ -83,7 +84,7 @@ bare_by : (id_size : ℕ) (b : Bool) (x y : Record) (xs ys : List Record) (found
 bare_by id_size true x y xs ys found is = is
 bare_by id_size false x y xs ys found is = is
 
-body_at : (id_size k : ℕ) (records : List Record) (n : ℕ) (r : Record) → slice_get records n ≡ Some r → r.which ≡ k
+pub body_at : (id_size k : ℕ) (records : List Record) (n : ℕ) (r : Record) → slice_get records n ≡ Some r → r.which ≡ k
     → slice_get (bodies id_size records k) (length (filter (is_of k) (take n records))) ≡ Some (drop id_size r.bytes)
 body_at id_size k [] n r is same = let wrong : ◌≡◌ {A = Option Record} None (Some r) = is in cc
 body_at id_size k (first ∷ records) zero r is same =
@@ -124,6 +125,23 @@ module _ (f : List ℕ) (found : Recovery) (is : IsRecovery f found) where
   abbrev row : DataRow
   row = found.row
 
+  -- the bytes of a record of a group
+  pub record_is : (k : ℕ) (group : GroupRow) (contents : Contents) → slice_get row.groups k ≡ Some group → holds_samples group ≡ true
+      → IsGroupContents f row found.records (k, group) contents → (i : ℕ) (body : List ℕ) → slice_get (bodies row.id_size found.records k) i ≡ Some body
+      → record_at contents.shape contents.content i ≡ body
+  record_is k group contents there holds held i body here =
+      let own = bodies row.id_size found.records k in
+      let fixed : size_of group ≡ sizes.Fixed (record_size group) =
+      cond-false (is_variable group) sizes.Variable (sizes.Fixed (record_size group)) (not_variable (is_variable group) holds) in
+      let each : AllByRecursion (IsBody (sizes.Fixed (record_size group))) own =
+      subst (λ (size : Size). AllByRecursion (IsBody size) own) fixed
+      (bodies_whole row _ found.records is.records.rest is.records.id_size is.records.split k group there) in
+      let size : layouts.record_size contents.shape ≡ record_size group = ap layouts.record_size held.shape in
+      let content : contents.content ≡ joined own = held.content ∙ ap joined (take_all (length own) own (omega arith)) in
+      ap (λ (n : ℕ). bytes_at n contents.content (i * n)) size
+      ∙ ap (λ (bytes : List ℕ). bytes_at (record_size group) bytes (i * record_size group)) content
+      ∙ record_there (record_size group) own i body each here
+
   sample_is : (r : ℕ × Record) → slice_get found.records r.0 ≡ Some r.1 → is_sample row r ≡ true → (sample : Sample) × IsSampleOf found r sample
   sample_is r there passes =
       let k = r.1.which in
@@ -141,18 +159,7 @@ module _ (f : List ℕ) (found : Recovery) (is : IsRecovery f found) where
       let count : contents.count ≡ length own = beside.2.count in
       let below : i < contents.count = subst (λ (n : ℕ). i < n) (sym count) (slice_get_within own i body here) in
       let sample = beside.2.samples.each_sample i below in
-      let fixed : size_of group ≡ sizes.Fixed (record_size group) =
-      cond-false (is_variable group) sizes.Variable (sizes.Fixed (record_size group)) (not_variable (is_variable group) in_row.2) in
-      let each : AllByRecursion (IsBody (sizes.Fixed (record_size group))) own =
-      subst (λ (size : Size). AllByRecursion (IsBody size) own) fixed
-      (bodies_whole row _ found.records is.records.rest is.records.id_size is.records.split k group in_row.1) in
-      let size : layouts.record_size contents.shape ≡ record_size group = ap layouts.record_size beside.2.shape in
-      let content : contents.content ≡ joined own =
-      beside.2.content ∙ ap joined (take_all (length own) own (omega arith)) in
-      let same : record_at contents.shape contents.content i ≡ body =
-      ap (λ (n : ℕ). bytes_at n contents.content (i * n)) size
-      ∙ ap (λ (bytes : List ℕ). bytes_at (record_size group) bytes (i * record_size group)) content
-      ∙ record_there (record_size group) own i body each here in (
+      let same : record_at contents.shape contents.content i ≡ body = record_is k group contents in_row.1 in_row.2 beside.2 i body here in (
         record { group = sample_number row k; values = sample.0 },
         record {
           contents = contents;

@@ -4,9 +4,11 @@ use Rattle.std.specs.List.{AllZip, enumerate_from}
 use Rattle.mdf_data.specs.Split.{Record}
 use Rattle.mdf_group.specs.declared.row.GroupRow.{GroupRow}
 use Rattle.mdf_group.specs.declared.row.DataRow.{DataRow}
+use Rattle.mdf_layout.specs.History.{group_samples}
 use Rattle.mdf_layout.specs.Values.{sample_of}
 use Rattle.mdf_layout.specs.declared.sample.Sample.{Sample}
 use Rattle.mdf_content.specs.declared.contents.Contents.{Contents}
+use Rattle.mdf_content.specs.Samples.{sample_at}
 use Rattle.mdf_model.specs.Measurement.{holds_samples}
 use Rattle.mdf_valid.specs.Bodies.{is_of}
 use Rattle.mdf_recovered.specs.Recovered.{Recovery, IsRecovery}
@@ -40,9 +42,20 @@ pub record IsSampleOf (found : Recovery) (r : ℕ × Record) (sample : Sample) :
       (drop contents.shape.data_bytes (body_of found.row r)) contents.streams (index_of found.records r)
       ≡ Some sample.values
 
+-- these are the samples of the records of a group, in order
+pub record AreSamplesOf (contents : Contents) (samples : List Sample) : Type 0 where
+  pub count : length samples ≡ contents.count
+  pub each : (i : ℕ) (sample : Sample) → slice_get samples i ≡ Some sample
+      → sample_at contents.shape contents.content contents.streams i ≡ Some sample.values
+
 -- the records that are samples, with their numbers
 abbrev pub sample_records : Recovery → List (ℕ × Record)
 sample_records found = filter (is_sample found.row) (enumerate_from 0 found.records)
+
+-- each group has its own of these samples
+abbrev pub HaveSamples : Recovery → List Sample → Type 0
+HaveSamples found samples =
+    (g : ℕ) (contents : Contents) → slice_get found.groups g ≡ Some contents → AreSamplesOf contents (group_samples samples g)
 
 -- The samples that are recovered of a file: one for each record that is a sample, in the order of the records.
 pub record IsRecovered (file : List ℕ) (samples : List Sample) : Type 0 where

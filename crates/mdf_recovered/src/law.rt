@@ -2,7 +2,7 @@ ghost use Rattle.std.specs.Prelude.{◌≡◌, ℕ, List, Ok};
 ghost use Rattle.mdf_layout.specs.declared.sample.Sample.{Sample};
 ghost use Rattle.mdf_session.specs.Session.{SessionParts, session};
 ghost use Rattle.mdf_recovered.specs.Recovered.{Recovery, IsRecovery, IsSessionOf};
-ghost use Rattle.mdf_recovered.specs.Samples.{IsRecovered};
+ghost use Rattle.mdf_recovered.specs.Samples.{HaveSamples, IsRecovered};
 
 /// What is read of a recording is what it holds.
 pub fn what_is_read_is_recovered()
@@ -13,6 +13,11 @@ pub fn what_is_read_is_recovered()
 /// Samples are recovered of each recording.
 pub fn recordings_have_samples()
     ensures { (file : List ℕ) (found : Recovery) → IsRecovery file found → (samples : List Sample) × IsRecovered file samples }
+{}
+
+/// Of the samples that are recovered each group has its own, in their order.
+pub fn groups_have_their_samples()
+    ensures { (file : List ℕ) (samples : List Sample) → (is : IsRecovered file samples) → HaveSamples is.found samples }
 {}
 
 /// A recording holds one thing, and one list of samples is recovered of it.

@@ -4,4 +4,6 @@
 
 mod law;
 
-pub use law::{recordings_have_samples, recoveries_agree, what_is_read_is_recovered};
+pub use law::{
+    groups_have_their_samples, recordings_have_samples, recoveries_agree, what_is_read_is_recovered,
+};

@@ -1,17 +1,20 @@
 -- A finalized file keeps what its recording holds.
-use Rattle.std.specs.Prelude.{ℕ, ◌≡◌, List, [], ◌∷◌, ◌++◌, map, filter, codes}
+use Rattle.std.specs.Prelude.{ℕ, ◌≡◌, List, [], ◌∷◌, ◌++◌, map, filter, slice_get, Some, codes}
 use Rattle.std.specs.List.{AllByRecursion}
 use Rattle.mdf_block.specs.declared.note.Note.{Note}
 use Rattle.mdf_head.specs.declared.entry.Head.{Head}
 use Rattle.mdf_head.specs.declared.entry.History.{History}
 use Rattle.mdf_group.specs.declared.row.GroupRow.{GroupRow}
 use Rattle.mdf_group.specs.Standing.{AreDistinct}
+use Rattle.mdf_layout.specs.History.{group_samples}
+use Rattle.mdf_layout.specs.declared.sample.Sample.{Sample}
 use Rattle.mdf_content.specs.declared.contents.Contents.{Contents}
 use Rattle.mdf_model.specs.declared.part.Measure.{Measure}
 use Rattle.mdf_model.specs.Measurement.{holds_samples}
 use Rattle.mdf_valid.specs.Measurement.{IsMeasurement, IsValidFile}
 use Rattle.mdf_valid.specs.Same.{SameHead, SameRows}
-use Rattle.mdf_recovered.specs.Recovered.{Recovery, IsRecovery}
+use Rattle.mdf_recovered.specs.Recovered.{Recovery}
+use Rattle.mdf_recovered.specs.Samples.{AreSamplesOf, IsRecovered}
 use Rattle.mdf_tree.specs.Head.{new_entry}
 
 -- an entry of the history without its address
@@ -51,8 +54,14 @@ pub record KeepsRecovery (found : Recovery) (bytes : List ℕ) (now : ℕ) : Typ
   pub contents : map contents_of groups ≡ found.groups
   pub valid : AreIdsApart found → IsValidFile bytes
 
--- the bytes are the finalized file of the recording that this file is
+-- each group of these has its own of the samples
+abbrev pub HaveOwn : List Measure → List Sample → Type 0
+HaveOwn groups samples = (g : ℕ) (m : Measure) → slice_get groups g ≡ Some m → AreSamplesOf (contents_of m) (group_samples samples g)
+
+-- These bytes are a finalized file of the recording that this file is: they keep what it holds, and the samples of each group
+-- are those of the group that are recovered of the recording.
 pub record IsFinalizedRecording (file : List ℕ) (now : ℕ) (bytes : List ℕ) : Type 0 where
-  pub found : Recovery
-  pub recovery : IsRecovery file found
-  pub keeps : KeepsRecovery found bytes now
+  pub samples : List Sample
+  pub recovered : IsRecovered file samples
+  pub keeps : KeepsRecovery recovered.found bytes now
+  pub own : HaveOwn keeps.groups samples
