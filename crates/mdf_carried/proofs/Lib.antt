@@ -7,6 +7,7 @@ pub mod Holds
 pub mod Sampled
 pub mod Placed
 pub mod Carried
+pub mod Apart
 pub mod Splits
 pub mod Opened
 pub mod Laid

@@ -6,6 +6,7 @@ use Rattle.mdf_layout.specs.declared.sample.Sample.{Sample}
 use Rattle.mdf_session.specs.Session.{SessionParts, session}
 use Rattle.mdf_spell.specs.Recording.{head_file, IsRecordingTree, FindsHead, FindsGroups}
 use Rattle.mdf_gate.specs.Images.{IsNotMdf}
+use Rattle.mdf_recovered.specs.Recovered.{Recovery, IsRecovery, AreIdsApart}
 use Rattle.mdf_recovered.specs.Samples.{IsRecovered}
 
 -- the file is read as a recording
@@ -13,13 +14,14 @@ pub record IsReadable (file : List ℕ) : Type 0 where
   pub found : SessionParts
   pub is_read : session file ≡ Ok found
 
--- it is, and a beginning of the history is recovered of it, with at least so many samples
+-- it is, a beginning of the history is recovered of it, with at least so many samples, and no record id stands twice in it
 pub record Recovers (history : List Sample) (through : ℕ) (file : List ℕ) : Type 0 where
   pub readable : IsReadable file
   pub samples : List Sample
   pub recovered : IsRecovered file samples
   pub beginning : IsPrefix samples history
   pub enough : through ≤ length samples
+  pub apart : (found : Recovery) → IsRecovery file found → AreIdsApart found
 
 -- no tool takes the file for MDF, or a beginning of the history is recovered of it
 abbrev pub IsNoneOrRecovers : List Sample → List ℕ → Type 0

@@ -7,6 +7,7 @@ ghost use Rattle.mdf_content.specs.Layouts.{layout_of};
 ghost use Rattle.mdf_session.specs.Session.{SessionParts, session};
 ghost use Rattle.mdf_spell.specs.Recording.{head_file, FindsHead, FindsGroups, IsRecordingTree};
 ghost use Rattle.mdf_gate.specs.Carried.{Carries, IsCarried};
+ghost use Rattle.mdf_recovered.specs.Recovered.{Recovery, IsRecovery, AreIdsApart};
 ghost use Rattle.mdf_recovered.specs.Samples.{IsRecovered};
 ghost use Rattle.mdf_carried.specs.Recovers.{IsReadHead, Recovers};
 
@@ -17,6 +18,15 @@ use mdf_layout::rules_are_tested;
 pub fn recovered_is_carried()
     ensures { (start : ℕ) (rows : List GroupRow) (file : List ℕ) (samples : List Sample) → AreRecordable rows
         → IsRecordingTree file start rows → IsCarried (map layout_of rows) file samples → IsRecovered file samples }
+{
+    rules_are_tested();
+}
+
+/// A law: of a file in which the tree of a recording of these rows stands, nothing is recovered in which a record id stands
+/// twice.
+pub fn recovered_ids_are_apart()
+    ensures { (start : ℕ) (rows : List GroupRow) (file : List ℕ) (found : Recovery) → AreRecordable rows
+        → IsRecordingTree file start rows → IsRecovery file found → AreIdsApart found }
 {
     rules_are_tested();
 }
@@ -32,7 +42,7 @@ pub fn what_is_carried_is_read()
 }
 
 /// A law: a file that begins with the head of these rows, and carries a beginning of a history by their layouts, is read as a
-/// recording, and that beginning is recovered of it.
+/// recording, that beginning is recovered of it, and no record id stands twice in it.
 pub fn what_is_carried_is_recovered()
     ensures { (start : ℕ) (rows : List GroupRow) (layouts : List Layout) (history : List Sample) (through : ℕ) (file : List ℕ)
         → AreRecordable rows → IsReadHead start rows → layouts ≡ map layout_of rows
@@ -40,4 +50,5 @@ pub fn what_is_carried_is_recovered()
 {
     recovered_is_carried();
     what_is_carried_is_read();
+    recovered_ids_are_apart();
 }

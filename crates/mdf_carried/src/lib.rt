@@ -3,4 +3,7 @@
 
 mod law;
 
-pub use law::{recovered_is_carried, what_is_carried_is_read, what_is_carried_is_recovered};
+pub use law::{
+    recovered_ids_are_apart, recovered_is_carried, what_is_carried_is_read,
+    what_is_carried_is_recovered,
+};

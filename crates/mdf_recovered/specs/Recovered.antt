@@ -8,7 +8,7 @@ use Rattle.mdf_head.specs.Head.{IsHead}
 use Rattle.mdf_group.specs.declared.row.GroupRow.{GroupRow}
 use Rattle.mdf_group.specs.declared.row.DataRow.{DataRow}
 use Rattle.mdf_group.specs.Group.{is_variable}
-use Rattle.mdf_group.specs.Standing.{AreDataGroups}
+use Rattle.mdf_group.specs.Standing.{AreDistinct, AreDataGroups}
 use Rattle.mdf_content.specs.declared.contents.Contents.{Contents}
 use Rattle.mdf_content.specs.Records.{known_of}
 use Rattle.mdf_valid.specs.Bodies.{bodies}
@@ -54,6 +54,10 @@ pub record IsRecovery (file : List ℕ) (found : Recovery) : Type 0 where
   pub first : slice_get found.rows 0 ≡ Some found.row
   pub records : AreRecords file found.row found.records
   pub groups : AllZip (IsGroupContents file found.row found.records) (sample_groups found.row) found.groups
+
+-- no record id stands twice
+abbrev pub AreIdsApart : Recovery → Type 0
+AreIdsApart found = AreDistinct (map (λ (group : GroupRow). group.id) found.row.groups)
 
 -- how many records a group has, and how many bytes the values of a group of values have, each behind its length in 4 bytes
 abbrev pub record_count : Recovery → ℕ × GroupRow → ℕ

@@ -5,7 +5,6 @@ use Rattle.mdf_block.specs.declared.note.Note.{Note}
 use Rattle.mdf_head.specs.declared.entry.Head.{Head}
 use Rattle.mdf_head.specs.declared.entry.History.{History}
 use Rattle.mdf_group.specs.declared.row.GroupRow.{GroupRow}
-use Rattle.mdf_group.specs.Standing.{AreDistinct}
 use Rattle.mdf_layout.specs.History.{group_samples}
 use Rattle.mdf_layout.specs.declared.sample.Sample.{Sample}
 use Rattle.mdf_content.specs.declared.contents.Contents.{Contents}
@@ -13,7 +12,7 @@ use Rattle.mdf_model.specs.declared.part.Measure.{Measure}
 use Rattle.mdf_model.specs.Measurement.{holds_samples}
 use Rattle.mdf_valid.specs.Measurement.{IsMeasurement, IsValidFile}
 use Rattle.mdf_valid.specs.Same.{SameHead, SameRows}
-use Rattle.mdf_recovered.specs.Recovered.{Recovery}
+use Rattle.mdf_recovered.specs.Recovered.{Recovery, AreIdsApart}
 use Rattle.mdf_recovered.specs.Samples.{AreSamplesOf, IsRecovered}
 use Rattle.mdf_tree.specs.Head.{new_entry}
 
@@ -34,10 +33,6 @@ contents_of m = record { shape = m.shape; count = m.count; content = m.part.cont
 
 abbrev pub HasComment : Note → Measure → Type 0
 HasComment comment m = m.part.comment ≡ comment
-
--- no record id stands twice
-abbrev pub AreIdsApart : Recovery → Type 0
-AreIdsApart found = AreDistinct (map (λ (group : GroupRow). group.id) found.row.groups)
 
 -- The file has a measurement: the header and the groups say the same as in the recording, the history has one entry more, and
 -- each group holds what it held: the same layout, records, streams and samples. The file is valid where no record id of the

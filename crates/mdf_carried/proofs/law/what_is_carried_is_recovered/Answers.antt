@@ -18,4 +18,5 @@ returns c = λ start rows layouts history through file are read layouts_are carr
       recovered = c.recovered_is_carried.ensures start rows file carries.samples are tree carried;
       beginning = carries.beginning;
       enough = carries.enough;
+      apart = λ found is. c.recovered_ids_are_apart.ensures start rows file found are tree is;
     }
