@@ -22,6 +22,8 @@ show 'mdf4rec opened drive.mf4'
 show 'mdf4rec finalize drive.mf4 finished.mf4'
 show 'mdf4rec check finished.mf4'
 show 'mdf4rec info finished.mf4'
+show 'mdf4rec sort finished.mf4 sorted.mf4'
+show 'mdf4rec check sorted.mf4'
 
 # A recording that the system kills when its file would grow past 1,024 bytes: what was flushed is all there.
 show "(printf 'group 0 g\\nchannel t u64 master\\nbegin\\n'; seq 100 | sed 's/.*/0 &\\n! 0/'; echo end) > hundred.txt"

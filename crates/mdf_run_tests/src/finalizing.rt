@@ -9,14 +9,14 @@ use std::sync::Wait;
 use std::test::Fail;
 use std::thread::Threads;
 
-const FINALIZE: Given = Given {
+pub const FINALIZE: Given<'static> = Given {
     words: &["finalize", "in.mf4", "out.mf4"],
     script: "",
     broken: &[],
     failing: &[],
 };
 
-const SORT: Given = Given {
+pub const SORT: Given<'static> = Given {
     words: &["sort", "in.mf4", "out.mf4"],
     ..FINALIZE
 };
@@ -68,7 +68,12 @@ const SORTED: [Part; 11] = [
 ];
 
 /// What is printed, and the bytes that are made, of this input where these calls of the output's disk fail.
-fn made_of<R>(rt: &R, given: Given, file: Bytes, failing: &[u64]) -> Result<(String, Bytes), Fail>
+fn made_of<R>(
+    rt: &R,
+    given: Given<'_>,
+    file: Bytes,
+    failing: &[u64],
+) -> Result<(String, Bytes), Fail>
 where
     R: AllocGlobal + Threads + Wait + Sync,
 {
@@ -78,7 +83,7 @@ where
 }
 
 /// The same of `finalize`.
-fn finalized<R>(rt: &R, file: Bytes, failing: &[u64]) -> Result<(String, Bytes), Fail>
+pub fn finalized<R>(rt: &R, file: Bytes, failing: &[u64]) -> Result<(String, Bytes), Fail>
 where
     R: AllocGlobal + Threads + Wait + Sync,
 {

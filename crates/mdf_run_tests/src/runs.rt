@@ -13,18 +13,18 @@ use std::thread::Threads;
 
 /// What a run is given: the command words, the text at the source, and which calls of the source and of the sink fail.
 #[derive(Clone, Copy)]
-pub struct Given {
-    pub words: &'static [&'static str],
-    pub script: &'static str,
-    pub broken: &'static [u64],
-    pub failing: &'static [u64],
+pub struct Given<'a> {
+    pub words: &'a [&'a str],
+    pub script: &'a str,
+    pub broken: &'a [u64],
+    pub failing: &'a [u64],
 }
 
 /// What a run left, and what it printed.
 #[derive(Drop)]
-struct Ended<A> {
-    finished: Finished<A, MemoryDisk>,
-    sink: MemorySink,
+pub struct Ended<A, C> {
+    pub finished: Finished<A, C>,
+    pub sink: MemorySink,
 }
 
 fn words(alloc: Global, texts: &[&str]) -> Result<Rows<Bytes>, Fail> {
@@ -35,7 +35,7 @@ fn words(alloc: Global, texts: &[&str]) -> Result<Rows<Bytes>, Fail> {
     Ok(words)
 }
 
-fn numbers(alloc: Global, items: &[u64]) -> Result<Numbers, Fail> {
+pub fn numbers(alloc: Global, items: &[u64]) -> Result<Numbers, Fail> {
     let mut numbers = Numbers::empty(alloc);
     for item in items {
         numbers.push(*item)?;
@@ -43,19 +43,20 @@ fn numbers(alloc: Global, items: &[u64]) -> Result<Numbers, Fail> {
     Ok(numbers)
 }
 
-fn source_of(alloc: Global, given: Given) -> Result<MemorySource, Fail> {
+fn source_of(alloc: Global, given: Given<'_>) -> Result<MemorySource, Fail> {
     let broken = numbers(alloc, given.broken)?;
     let script = Bytes::from_slice(alloc, given.script.as_bytes())?;
     Ok(MemorySource::new(script, broken))
 }
 
 /// Runs what is given over these disks.
-fn ran<R, A>(rt: &R, given: Given, first: A, out: MemoryDisk) -> Result<Ended<A>, Fail>
+pub fn ran<R, A, C>(rt: &R, given: Given<'_>, first: A, out: C) -> Result<Ended<A, C>, Fail>
 where
     R: AllocGlobal + Threads + Wait + Sync,
     A: Disk + Drop,
+    C: Disk + Send + Drop,
     requires first { A.asked first ≡ None }
-    requires out { ⟦<MemoryDisk as Disk>⟧.asked out ≡ None }
+    requires out { C.asked out ≡ None }
 {
     let alloc = rt.alloc();
     let words = words(alloc, given.words)?;
@@ -78,7 +79,7 @@ where
 }
 
 /// The status and the printed text.
-fn line<A>(alloc: Global, ended: &Ended<A>) -> Result<String, Fail> {
+pub fn line<A, C>(alloc: Global, ended: &Ended<A, C>) -> Result<String, Fail> {
     let status = ended.finished.status;
     let text = str::from_utf8(ended.sink.bytes())?;
     Ok(format!(in alloc; "{status} {text}")?)
@@ -95,7 +96,7 @@ fn throughs(alloc: Global, marks: &Marks) -> Result<Numbers, Fail> {
 
 /// That line; how many bytes the file that was made has, and how many samples were accepted; and how many samples each
 /// mark has.
-fn record_line<A>(alloc: Global, ended: &Ended<A>) -> Result<String, Fail> {
+fn record_line<A>(alloc: Global, ended: &Ended<A, MemoryDisk>) -> Result<String, Fail> {
     let line = line(alloc, ended)?;
     let length = ended.finished.out.bytes().len();
     let accepted = ended.finished.history.len();
@@ -104,7 +105,7 @@ fn record_line<A>(alloc: Global, ended: &Ended<A>) -> Result<String, Fail> {
     Ok(format!(in alloc; "{line}file {length} history {accepted} marks {marks:?}")?)
 }
 
-pub fn told<R, A>(rt: &R, given: Given, first: A) -> Result<String, Fail>
+pub fn told<R, A>(rt: &R, given: Given<'_>, first: A) -> Result<String, Fail>
 where
     R: AllocGlobal + Threads + Wait + Sync,
     A: Disk + Drop,
@@ -118,7 +119,7 @@ where
 /// What is printed, and the bytes of the file that was made.
 pub fn made<R>(
     rt: &R,
-    given: Given,
+    given: Given<'_>,
     first: MemoryDisk,
     out: MemoryDisk,
 ) -> Result<(String, Bytes), Fail>
@@ -133,7 +134,7 @@ where
     Ok((line(alloc, &ended)?, file))
 }
 
-fn record_told<R>(rt: &R, given: Given, out: MemoryDisk) -> Result<String, Fail>
+fn record_told<R>(rt: &R, given: Given<'_>, out: MemoryDisk) -> Result<String, Fail>
 where
     R: AllocGlobal + Threads + Wait + Sync,
     requires { ⟦<MemoryDisk as Disk>⟧.asked out ≡ None }
@@ -143,7 +144,7 @@ where
     record_line(alloc, &ended)
 }
 
-const fn opened(failing: &'static [u64]) -> Given {
+const fn opened(failing: &[u64]) -> Given<'_> {
     Given {
         words: &["opened", "in.mf4"],
         script: "",
@@ -152,7 +153,7 @@ const fn opened(failing: &'static [u64]) -> Given {
     }
 }
 
-const fn record(script: &'static str, broken: &'static [u64], failing: &'static [u64]) -> Given {
+pub const fn record<'a>(script: &'a str, broken: &'a [u64], failing: &'a [u64]) -> Given<'a> {
     Given {
         words: &["record", "out.mf4"],
         script,
@@ -514,7 +515,7 @@ fn a_taken_name_is_not_recorded_over(rt: HostRuntime) -> Result<(), Fail> {
 }
 
 /// The bytes of a recording of this script.
-pub fn recorded<R>(rt: &R, script: &'static str) -> Result<Bytes, Fail>
+pub fn recorded<R>(rt: &R, script: &str) -> Result<Bytes, Fail>
 where
     R: AllocGlobal + Threads + Wait + Sync,
 {
