@@ -93,7 +93,7 @@ fn push_block(bytes: &mut Bytes, items: &[Item], end: u64, item: &Item) -> Resul
     push_filler(bytes, align8(size) - size)
 }
 
-/// The whole file.
+/// The whole file. Its room is found at once, so that it is not copied while it grows.
 pub(crate) fn bytes_of(
     alloc: Global,
     ident: &[u8; 64],
@@ -104,7 +104,9 @@ pub(crate) fn bytes_of(
     requires small { end < 2 ^ 62 }
     ensures { IfOk result (λ bytes. bytes ≡ written ident.now (map placed_of items.now)) }
 {
-    let mut bytes = Bytes::from_slice(alloc, ident)?;
+    let mut whole = Vec::with_capacity(alloc, end as usize)?;
+    whole.extend_from_slice(ident)?;
+    let mut bytes = Bytes::from_vec(whole);
     for item in items {
         push_block(&mut bytes, items, end, item)?;
     }
