@@ -1,0 +1,5 @@
+pub mod Bits
+pub mod Fields
+pub mod Owns
+pub mod Pieces
+pub mod Chunks
