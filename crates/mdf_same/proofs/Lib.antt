@@ -1,0 +1,4 @@
+mod Contents
+mod Stored
+mod Found
+mod Measures
