@@ -1,0 +1,6 @@
+//! However the sources of a script were served, its recording gives one sorted file.
+#![tactic(auto)]
+
+mod law;
+
+pub use law::scripts_that_agree_give_one_sorted_file;
