@@ -1,5 +1,5 @@
 mod Heads
-mod Marking
+mod Feeding
 mod Begins
 pub mod Runs
 mod Recording

@@ -1,6 +1,7 @@
 -- A book that was driven, flushed and closed says how the recording ended.
-use Rattle.std.proofs.Common.{◌≡◌, ◌≤◌, inl, inr, ⊎_elim, ℕ, List, [], ◌∷◌, ◌++◌, length, Option, Some, None, Result, Ok, Err, true≢false, get_or, take, refl, sym, ◌∙◌, ap, subst, arith, length-append}
-use Rattle.std.specs.Prelude.{slice_get, is_some, IsOk, IfSome}
+use Rattle.std.proofs.Common.{◌≡◌, ◌≢◌, ◌≤◌, map, Bool, true, false, inl, inr, ⊎_elim, ℕ, List, [], ◌∷◌, ◌++◌, length, Option, Some, None, Result, Ok, Err, true≢false, get_or, take, refl, sym, ◌∙◌, ap, subst, arith, length-append}
+use Rattle.std.specs.Prelude.{slice_get, slice_index, is_some, IsOk, IfSome, cond, ◌==◌}
+use Rattle.std.proofs.lemmas.Bool.{cases_eq, cond-true, cond-false, eq-eqb, ne_eqb}
 use Rattle.std.proofs.lemmas.Option.{slice_get_cases}
 use Rattle.std.proofs.Math.Seq.{get_or-append_seam}
 use Rattle.std.proofs.lemmas.List.{take_all}
@@ -13,13 +14,14 @@ use Rattle.book_owned.specs.declared.view.Shown.{Ghosts as ViewOf}
 use Rattle.mdf_disk.specs.State.{DiskState, state_of}
 use Rattle.mdf_port.specs.State.{SourceState}
 use Rattle.mdf_format.specs.Cause.{Rose}
+use Rattle.mdf_layout.specs.History.{group_samples, source_samples}
 use Rattle.mdf_layout.specs.Record.{cost_of, history_cost}
 use Rattle.mdf_layout.specs.Stock.{Stock}
 use Rattle.mdf_layout.specs.declared.sample.Sample.{Sample}
 use Rattle.mdf_gate.specs.Gated.{Gated}
 use Rattle.mdf_gate.specs.Images.{head_of, IsBegun}
 use Rattle.mdf_gate.proofs.Begun.{begun_holds}
-use Rattle.book_owned.specs.Account.{Account, Steps, Terms}
+use Rattle.book_owned.specs.Account.{Account, Terms}
 use Rattle.book_owned.specs.Begun.{HasBegun}
 use Rattle.book_owned.specs.Kept.{HoldsDurable, IsKept}
 use Rattle.mdf_gate.specs.Carried.{IsCarried, IsEncoded}
@@ -28,21 +30,27 @@ use Rattle.book_owned.specs.declared.view.NoView.{NoView}
 use Rattle.acq_script.specs.Tasks.{samples_of}
 use Rattle.acq_script.specs.declared.script.Script.{Script}
 use Rattle.acq_script.specs.declared.script.Task.{Task}
-use Rattle.mdf_record.specs.Sources.{AllRan, HasNext, Ran, RanAll}
+use Rattle.acq_run.specs.Works as Fed
+use Rattle.acq_run.specs.Ran.{AllRan}
+use Rattle.acq_run.specs.declared.work.Driven.{Driven}
+use Rattle.acq_run.specs.declared.work.Ended.{Ended}
+use Rattle.acq_run.specs.declared.work.Ended.TheVariants as work
+use Rattle.acq_run.proofs.Later.{all_later}
+use Rattle.mdf_record.specs.Sources.{RanAll, ends_of, feds_of, told_of}
 use Rattle.mdf_record.specs.Finish.{FileFaultComes, Finishes, FinishEnds, IsAllDurable, IsUnmade}
 use Rattle.mdf_record.specs.Record.{AreAccepted, AreEnds, CloseComes, IsComplete, IsFull, IsNext, IsRecorded, IsSaved, IsShort, Outcome, SourceComes, outcome}
 use Rattle.mdf_record.specs.Head.{script_head}
 use Rattle.mdf_record.specs.Script.{SaysScript}
 use Rattle.mdf_record.specs.Recorded.{Closes, HasRun, RunComes, RecordComes}
-use Rattle.mdf_record.specs.declared.drive.End.{End}
-use Rattle.mdf_record.specs.declared.drive.End.TheVariants as end_
+use Rattle.mdf_record.specs.declared.sources.End.{End}
+use Rattle.mdf_record.specs.declared.sources.End.TheVariants as end_
 use Rattle.mdf_command.specs.declared.fault.Fault.{Fault}
 use Rattle.mdf_command.specs.declared.fault.Fault.TheVariants as fault
 use Rattle.mdf_record.specs.declared.record.Recorded.{Recorded}
 use Rattle.mdf_record.specs.declared.record.RecordEnd.{RecordEnd}
 use Rattle.mdf_record.specs.declared.record.RecordEnd.TheVariants.{Refused, Closed}
-use Rattle.mdf_record.proofs.Marking.{samples_of-append}
-use Rattle.mdf_record.proofs.Runs.{RanAt, accepted-length, all_later, all_room, each_done, first_full, hows-length, own_begins, own_flushes, ran_of, whole_ran, worst_err}
+use Rattle.mdf_record.proofs.Feeding.{next_task, samples_of-append}
+use Rattle.mdf_record.proofs.Runs.{RanAt, RanTasks, accepted-length, all_room, each_done, first_full, hows-length, own_begins, own_flushes, ran_of, whole_ran, worst_err}
 
 -- the element at a seam
 at_seam : {A : Type 0} (xs : List A) (y : A) (ys : List A) → slice_get (xs ++ y ∷ ys) (length xs) ≡ Some y
@@ -51,11 +59,40 @@ at_seam xs y ys = ⊎_elim
     (λ past. absurd (omega (arith, past.0, length-append xs (y ∷ ys))))
     (slice_get_cases (xs ++ y ∷ ys) (length xs)).1
 
+-- the samples of a group are among those of its source
+not_of_group : (b : Bool) (sample : Sample) (samples : List Sample) (group : ℕ) → sample.group ≢ group
+    → group_samples (cond b (sample ∷ samples) samples) group ≡ group_samples samples group
+not_of_group true sample samples group differs = cond-false (sample.group == group) _ _ (ne_eqb sample.group group differs)
+not_of_group false sample samples group differs = refl
+
+-- one sample more in front, of the group or of another
+module _ (owners : List ℕ) (sample : Sample) (history : List Sample) (group : ℕ)
+    (same_behind : group_samples (source_samples owners history (slice_index owners group)) group ≡ group_samples history group) where
+  abbrev own : List Sample
+  own = source_samples owners history (slice_index owners group)
+
+  of_this : sample.group ≡ group → group_samples (source_samples owners (sample ∷ history) (slice_index owners group)) group ≡ group_samples (sample ∷ history) group
+  of_this same =
+      ap (λ samples. group_samples samples group)
+      (cond-true (slice_index owners sample.group == slice_index owners group) (sample ∷ own) own (eq-eqb _ _ (ap (slice_index owners) same)))
+      ∙ ap (λ rest. cond (sample.group == group) (sample ∷ rest) rest) same_behind
+
+  of_another : sample.group ≢ group → group_samples (source_samples owners (sample ∷ history) (slice_index owners group)) group ≡ group_samples (sample ∷ history) group
+  of_another differs =
+      not_of_group (slice_index owners sample.group == slice_index owners group) sample own group differs ∙ same_behind
+      ∙ sym (cond-false (sample.group == group) (sample ∷ group_samples history group) (group_samples history group) (ne_eqb sample.group group differs))
+
+group_of_source : (owners : List ℕ) (history : List Sample) (group : ℕ)
+    → group_samples (source_samples owners history (slice_index owners group)) group ≡ group_samples history group
+group_of_source owners [] group = refl
+group_of_source owners (sample ∷ history) group = let behind = group_of_source owners history group in
+    ⊎_elim (λ same. of_this owners sample history group behind same) (λ differs. of_another owners sample history group behind differs) (cases_eq sample.group group)
+
 module _ {D N : Type 0} (tells : DiskOf D) (shows : ViewOf NoView N)
     (script : Script) (file : Gated D) (view : NoView)
     (begun driven flushed : Account D NoView) (accepted : Stock ℕ) (result : Result Unit End) (problem : Option Fault) (recorded : Recorded D)
     (begins : HasBegun tells shows file script.plan.shapes script.plan.block script.plan.session view begun)
-    (more : List Sample) (steps : Steps begun driven more) (ran : RanAll script.plan.owners driven script.lists accepted.items result)
+    (same : driven.terms ≡ begun.terms) (ran : RanAll script.plan.owners driven script.lists accepted.items result)
     (finishes : Finishes driven flushed result problem) (closes : Closes tells flushed accepted problem recorded) where
   abbrev head : List ℕ
   head = head_of (tells.story file.disk) file.first
@@ -77,14 +114,14 @@ module _ {D N : Type 0} (tells : DiskOf D) (shows : ViewOf NoView N)
   }
 
   terms_are : flushed.terms ≡ terms
-  terms_are = finishes.steps.terms ∙ steps.terms ∙ begins.terms
+  terms_are = finishes.steps.terms ∙ same ∙ begins.terms
 
   -- each source, in the book as it is at the end
-  all : AllRan owners flushed 0 script.lists accepted.items ran.hows
-  all = all_later driven flushed [] finishes.steps owners 0 script.lists accepted.items ran.hows (λ s low high. refl) ran.each
+  all : AllRan owners flushed 0 (map feds_of script.lists) ran.all
+  all = all_later driven flushed finishes.steps owners 0 (map feds_of script.lists) ran.all ran.each
 
-  at_source : (s : ℕ) (tasks : List Task) → slice_get script.lists s ≡ Some tasks → RanAt owners flushed s tasks accepted.items ran.hows s
-  at_source s tasks there = ran_of owners flushed script.lists accepted.items ran.hows all s tasks there
+  at_source : (s : ℕ) (tasks : List Task) → slice_get script.lists s ≡ Some tasks → RanAt owners flushed s tasks ran.all s
+  at_source s tasks there = ran_of owners flushed script.lists ran.all all s tasks there
 
   kept : IsKept terms (state_of tells flushed.disk) flushed.history flushed.marks
   kept = subst (λ t. IsKept t (state_of tells flushed.disk) flushed.history flushed.marks) terms_are closes.kept
@@ -97,14 +134,15 @@ module _ {D N : Type 0} (tells : DiskOf D) (shows : ViewOf NoView N)
     marks_hold = kept.marks_hold;
     start_holds = kept.start_holds;
     marks_rise = kept.marks_rise;
-    own_prefix = λ s tasks there. let at = at_source s tasks there in own_begins owners flushed s tasks at.n at.how at.ran;
-    flush_lines = λ s tasks there. let at = at_source s tasks there in own_flushes owners flushed s tasks at.n at.how at.ran;
+    own_prefix = λ s tasks there. let at = at_source s tasks there in own_begins owners flushed s tasks at.driven at.ran;
+    flush_lines = λ s tasks there. let at = at_source s tasks there in own_flushes owners flushed s tasks at.driven at.ran;
   }
 
   accepted_are : AreAccepted script left accepted.items
   accepted_are = record {
-    count = accepted-length owners flushed 0 script.lists accepted.items ran.hows all;
-    each = λ s tasks there. let at = at_source s tasks there in at.accepted_is ∙ ap Some (at.ran.counted ∙ ap length (sym at.ran.own));
+    count = ap length ran.accepted_is ∙ accepted-length owners flushed script.lists ran.all all;
+    each = λ s tasks there. let at = at_source s tasks there in
+        ap (λ counts. slice_get counts s) ran.accepted_is ∙ at.accepted_is ∙ ap Some (at.ran.counted ∙ ap length (sym at.ran.own));
   }
 
   -- the file carries all of the history where all of it is durable
@@ -121,26 +159,36 @@ module _ {D N : Type 0} (tells : DiskOf D) (shows : ViewOf NoView N)
   completes (Ok u) is ok durable_all = record {
     whole = λ s tasks there.
         let at = at_source s tasks there in
-        let ran_all = whole_ran owners flushed s tasks at.n at.how (each_done ran.hows u (sym is ∙ ran.told) s at.how at.how_is) at.ran in
+        let ran_all = whole_ran owners flushed s tasks at.driven (each_done (ends_of ran.all) u (sym is ∙ ran.told) s (told_of at.driven.ended) at.how_is) at.ran in
         record { history_is = ran_all.0; flush_lines = ran_all.1 };
+    groups = λ s tasks there group owner.
+        let at = at_source s tasks there in
+        let ran_all = whole_ran owners flushed s tasks at.driven (each_done (ends_of ran.all) u (sym is ∙ ran.told) s (told_of at.driven.ended) at.how_is) at.ran in
+        sym (group_of_source owners flushed.history group) ∙ ap (λ n. group_samples (source_samples owners flushed.history n) group) owner
+        ∙ ap (λ h. group_samples h group) ran_all.0;
     cost = subst (λ (t : Terms). history_cost t.layouts flushed.history ≤ t.session_limit) terms_are closes.within;
     saved = saved durable_all;
   }
   completes (Err e) is ok durable_all = absurd (true≢false (sym ok))
 
   -- how a source ended, where the disk did not fail
-  next_there : (s : ℕ) (tasks : List Task) (n : ℕ) (how : Result Unit End) (r : Ran owners flushed s tasks n how) (sample : Sample) → HasNext r.rest sample → IsNext script left s tasks sample
-  next_there s tasks n how r sample next =
+  next_there : (s : ℕ) (tasks : List Task) (driven : Driven) (r : RanTasks owners flushed s tasks driven) (sample : Sample) → Fed.IsNext (feds_of r.rest) sample
+      → IsNext script left s tasks sample
+  next_there s tasks driven r sample next =
+      let next_is = next_task r.rest sample next in
       ap (λ own. slice_get (samples_of tasks) (length own)) r.own
       ∙ ap (λ ss. slice_get ss (length (samples_of r.done)))
-      (ap samples_of (sym r.parts) ∙ samples_of-append r.done r.rest ∙ ap (λ ts. samples_of r.done ++ samples_of ts) next.rest_is)
-      ∙ at_seam (samples_of r.done) sample (samples_of next.later)
+      (ap samples_of (sym r.parts) ∙ samples_of-append r.done r.rest ∙ ap (λ ts. samples_of r.done ++ samples_of ts) next_is.1)
+      ∙ at_seam (samples_of r.done) sample (samples_of next_is.0)
 
-  source_comes : IsAllDurable flushed → (s : ℕ) (tasks : List Task) (n : ℕ) (how : Result Unit End) → Ran owners flushed s tasks n how → SourceComes script left s tasks how
-  source_comes durable_all s tasks n (Ok u) r = let whole = whole_ran owners flushed s tasks n (Ok u) tt r in record { history_is = whole.0; flush_lines = whole.1 }
-  source_comes durable_all s tasks n (Err (end_.SessionFull held size limit)) r = record {
+  source_comes : IsAllDurable flushed → (s : ℕ) (tasks : List Task) (n : ℕ) (how : Ended) → RanTasks owners flushed s tasks (record { accepted = n; ended = how })
+      → SourceComes script left s tasks (told_of how)
+  source_comes durable_all s tasks n work.Running r = absurd r.ends
+  source_comes durable_all s tasks n work.Done r =
+      let whole = whole_ran owners flushed s tasks (record { accepted = n; ended = work.Done }) tt r in record { history_is = whole.0; flush_lines = whole.1 }
+  source_comes durable_all s tasks n (work.SessionFull held size limit) r = record {
     sample = r.ends.sample;
-    next = next_there s tasks n (Err (end_.SessionFull held size limit)) r r.ends.sample r.ends.next;
+    next = next_there s tasks (record { accepted = n; ended = work.SessionFull held size limit }) r r.ends.sample r.ends.next;
     before = r.before;
     begins = r.begins;
     all_own = r.all_own;
@@ -149,28 +197,29 @@ module _ {D N : Type 0} (tells : DiskOf D) (shows : ViewOf NoView N)
     limit_is = r.ends.limit_is ∙ ap (λ (t : Terms). t.session_limit) terms_are;
     over = r.ends.over;
   }
-  source_comes durable_all s tasks n (Err end_.Stopped) r = absurd (true≢false (sym r.ends ∙ durable_all.0))
-  source_comes durable_all s tasks n (Err end_.Memory) r = (r.ends.0, next_there s tasks n (Err end_.Memory) r r.ends.0 r.ends.1)
+  source_comes durable_all s tasks n (work.Stopped mark) r = absurd (true≢false (sym r.ends ∙ durable_all.0))
+  source_comes durable_all s tasks n (work.DiskFault before after) r = absurd (true≢false (sym r.ends ∙ durable_all.0))
+  source_comes durable_all s tasks n work.Memory r = (r.ends.0, next_there s tasks (record { accepted = n; ended = work.Memory }) r r.ends.0 r.ends.1)
 
-  ends_are : IsAllDurable flushed → AreEnds script left ran.hows
+  ends_are : IsAllDurable flushed → AreEnds script left (ends_of ran.all)
   ends_are durable_all = record {
-    count = hows-length owners flushed 0 script.lists accepted.items ran.hows all;
+    count = hows-length owners flushed script.lists ran.all all;
     each = λ s tasks there. let at = at_source s tasks there in
-        subst (λ found. IfSome found (SourceComes script left s tasks)) (sym at.how_is) (source_comes durable_all s tasks at.n at.how at.ran);
+        subst (λ found. IfSome found (SourceComes script left s tasks)) (sym at.how_is) (source_comes durable_all s tasks at.driven.accepted at.driven.ended at.ran);
     saved = saved durable_all;
   }
 
   -- the first source that had no room
   fills : (held size limit : ℕ) → result ≡ Err (end_.SessionFull held size limit) → IsAllDurable flushed → IsFull script left held size limit
   fills held size limit is durable_all =
-      let found = first_full ran.hows held size limit (sym ran.told ∙ is) in
-      record { ends = ran.hows; are = ends_are durable_all; source = found.source; told = found.told; first = found.first }
+      let found = first_full (ends_of ran.all) held size limit (sym ran.told ∙ is) in
+      record { ends = (ends_of ran.all); are = ends_are durable_all; source = found.source; told = found.told; first = found.first }
 
   -- a source for whose sample memory was wanted
   wants : result ≡ Err end_.Memory → IsAllDurable flushed → IsShort script left
   wants is durable_all =
-      let found = worst_err ran.hows end_.Memory (sym ran.told ∙ is) in
-      record { ends = ran.hows; are = ends_are durable_all; source = found.0; wanted = found.1; room = all_room ran.hows (sym ran.told ∙ is) }
+      let found = worst_err (ends_of ran.all) end_.Memory (sym ran.told ∙ is) in
+      record { ends = (ends_of ran.all); are = ends_are durable_all; source = found.0; wanted = found.1; room = all_room (ends_of ran.all) (sym ran.told ∙ is) }
 
   ended : (problem' : Option Fault) → FinishEnds flushed result problem' → CloseComes script file.faults left problem'
   ended None ends = completes result refl ends.0 ends.1

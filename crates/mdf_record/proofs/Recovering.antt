@@ -1,11 +1,9 @@
 -- What is recovered of what a crash may leave of a recording.
-use Rattle.std.proofs.Common.{false, ◌≡◌, ◌%◌, inl, inr, ⊎_elim, ℕ, List, [], ◌∷◌, ◌++◌, length, map, get_or, Option, Some, None, refl, sym, ◌∙◌, ap, subst, arith}
+use Rattle.std.proofs.Common.{false, ◌≡◌, ◌%◌, inl, inr, ⊎_elim, ℕ, List, [], ◌∷◌, ◌++◌, map, get_or, Option, Some, None, refl, sym, ◌∙◌, ap, subst, arith}
 use Rattle.std.proofs.lemmas.Bool.{cond-false}
-use Rattle.std.proofs.lemmas.List.{append-nil}
-use Rattle.std.specs.Prelude.{nat_eq, is_some, IfSome, codes}
+use Rattle.std.specs.Prelude.{nat_eq, is_some, IfSome}
 use Rattle.std.specs.List.{AllByRecursion}
 use Rattle.mdf_format.specs.Number.{bytes_at}
-use Rattle.mdf_format.specs.Identification.{IsMdf}
 use Rattle.mdf_disk.specs.Story.{Story, Agrees}
 use Rattle.mdf_disk.specs.Crash.{HoldsSince}
 use Rattle.mdf_disk.specs.State.{DiskState, state_of}

@@ -7,8 +7,8 @@ use Rattle.mdf_disk.specs.declared.role.Role.TheVariants.{Create}
 use Rattle.mdf_gate.specs.Images.{IsBegun}
 use Rattle.book_owned.specs.Marks.{durable}
 use Rattle.book_owned.specs.Account.{Account, Steps}
-use Rattle.mdf_record.specs.declared.drive.End.{End}
-use Rattle.mdf_record.specs.declared.drive.End.TheVariants as end_
+use Rattle.mdf_record.specs.declared.sources.End.{End}
+use Rattle.mdf_record.specs.declared.sources.End.TheVariants as end_
 use Rattle.mdf_command.specs.declared.fault.Fault.{Fault}
 use Rattle.mdf_command.specs.declared.fault.Fault.TheVariants as fault
 

@@ -1,5 +1,4 @@
 pub mod Head
-pub mod Drive
 pub mod Sources
 pub mod Script
 pub mod Finish

@@ -1,11 +1,11 @@
 -- The command `record OUT`.
-use Rattle.std.specs.Prelude.{ℕ, ◌≡◌, ◌+◌, ◌≤◌, ◌<◌, List, [], ◌∷◌, ◌++◌, length, codes, slice_get, take, All, Option, Some, None, IfSome, is_some, Result, Ok, Err}
+use Rattle.std.specs.Prelude.{ℕ, ◌≡◌, ◌+◌, ◌≤◌, ◌<◌, List, [], ◌∷◌, ◌++◌, length, codes, slice_get, slice_index, take, All, Option, Some, None, IfSome, is_some, Result, Ok, Err}
 use Rattle.std.specs.Fmt.{decimal}
 use mathlib.Core.List.{IsPrefix}
 use Rattle.mdf_format.specs.Cause.{Rose}
 use Rattle.mdf_disk.specs.State.{DiskState, state_of}
 use Rattle.book_owned.specs.Members.{DiskOf}
-use Rattle.mdf_layout.specs.History.{source_samples}
+use Rattle.mdf_layout.specs.History.{group_samples, source_samples}
 use Rattle.mdf_layout.specs.Record.{cost_of, history_cost}
 use Rattle.mdf_layout.specs.declared.sample.Sample.{Sample}
 use Rattle.mdf_gate.specs.Carried.{IsCarried, IsEncoded}
@@ -19,8 +19,8 @@ use Rattle.acq_script.specs.declared.script.Task.{Task}
 use Rattle.mdf_command.specs.Texts.{line, numbered}
 use Rattle.mdf_command.specs.Faults.{fault_line, fault_status}
 use Rattle.mdf_record.specs.Sources.{AreOwnMarked, HadRoom}
-use Rattle.mdf_record.specs.declared.drive.End.{End}
-use Rattle.mdf_record.specs.declared.drive.End.TheVariants as end_
+use Rattle.mdf_record.specs.declared.sources.End.{End}
+use Rattle.mdf_record.specs.declared.sources.End.TheVariants as end_
 use Rattle.mdf_command.specs.declared.fault.Fault.{Fault}
 use Rattle.mdf_command.specs.declared.fault.Fault.TheVariants as fault
 use Rattle.mdf_record.specs.declared.record.RecordEnd.{RecordEnd}
@@ -81,9 +81,12 @@ pub record IsWhole (script : Script) (left : Outcome) (source : ℕ) (tasks : Li
   pub history_is : source_samples script.plan.owners left.history source ≡ samples_of tasks
   pub flush_lines : AreOwnMarked script.plan.owners source left.history left.marks (λ n. Unit {0}) [] tasks
 
--- The whole script was recorded and saved, each flush has its mark, and the samples cost no more than the session limit.
+-- The whole script was recorded and saved, each flush has its mark, the samples of each group are the script's, in its order,
+-- and all of them cost no more than the session limit.
 pub record IsComplete (script : Script) (left : Outcome) : Type 0 where
   pub whole : OfSources script (λ source tasks. IsWhole script left source tasks)
+  pub groups : OfSources script (λ source tasks. (group : ℕ) → slice_index script.plan.owners group ≡ source
+      → group_samples left.history group ≡ group_samples (samples_of tasks) group)
   pub cost : history_cost script.plan.shapes left.history ≤ script.plan.session
   pub saved : IsSaved script.plan left
 

@@ -1,13 +1,11 @@
-//! The command `record`: the tasks of a script are recorded into a new file, one source after another.
+//! The command `record`: the tasks of a script are recorded into a new file, each source in a thread of its own.
 #![tactic(auto)]
 
-mod drive;
 mod gate;
 mod head;
 mod record;
 mod sources;
 
-pub use drive::End;
 pub use gate::{Gate, Open};
 pub use record::{RecordEnd, Recorded, run_record};
-pub use sources::Accepted;
+pub use sources::{Accepted, End};

@@ -16,10 +16,10 @@ ghost use Rattle.mdf_record.specs.Recorded.{RecordComes, Closes, HasRun};
 ghost use Rattle.mdf_record.specs.Recovers.{AreRecovered};
 ghost use Rattle.mdf_carried.specs.Recovers.{IsReadHead, IsNoneOrRecovers};
 
-use crate::drive::End;
 use crate::gate::Gate;
 use crate::head::head_for;
-use crate::sources::{Accepted, drive_all};
+use crate::sources::{Accepted, End, feeds_of, told_all};
+use acq_run::record_all;
 use acq_script::{Plan, Script, read_script};
 use book_owned::{Book, Flush, Marks, NoView};
 use mdf_carried::what_is_carried_is_recovered;
@@ -159,8 +159,8 @@ fn finish<R: Threads + Wait + Sync, C: Disk>(
     }
 }
 
-/// Records the tasks of a script into a file that was just created, and closes the book.
-fn record_into<R: Threads + Wait + Sync, C: Disk, G: Gate>(
+/// Records the tasks of a script into a file that was just created, each source in a thread of its own, and closes the book.
+fn record_into<R: Threads + Wait + Sync, C: Disk + Send, G: Gate + Sync>(
     rt: &R,
     alloc: Global,
     script: Script,
@@ -175,7 +175,7 @@ fn record_into<R: Threads + Wait + Sync, C: Disk, G: Gate>(
     let Plan {
         shapes,
         rows: _,
-        owners: _,
+        owners,
         sources: _,
         block,
         session,
@@ -184,13 +184,24 @@ fn record_into<R: Threads + Wait + Sync, C: Disk, G: Gate>(
     let Ok(mut accepted) = room_for(alloc, lists.len()) else {
         return refused(alloc, Fault::Memory, file.into_disk());
     };
-    let mut book = match Book::begin(alloc, file, shapes, block, session, NoView::new()) {
+    let Ok(feeds) = feeds_of(alloc, lists.into_vec(), gate) else {
+        return refused(alloc, Fault::Memory, file.into_disk());
+    };
+    let book = match Book::begin(alloc, file, shapes, block, session, NoView::new()) {
         Ok(book) => book,
         Err((_, file, _)) => return refused(alloc, Fault::Memory, file.into_disk()),
     };
-    let driven = drive_all(rt, &mut book, lists.into_vec(), gate, &mut accepted);
-    let fault = finish(rt, &mut book, driven);
-    close(book, accepted, fault)
+    match record_all(rt, alloc, book, owners.as_slice(), feeds) {
+        Ok((mut book, all)) => {
+            let driven = told_all(all, &mut accepted);
+            let fault = finish(rt, &mut book, driven);
+            close(book, accepted, fault)
+        }
+        Err((_, book)) => {
+            let (out, _, _, _) = book.close();
+            refused(alloc, Fault::Memory, out)
+        }
+    }
 }
 
 /// Closes the book.
@@ -215,7 +226,7 @@ fn close<C: Disk>(book: Book<C, NoView>, accepted: Accepted, fault: Option<Fault
 }
 
 /// Records the script of the source into a new file of this name.
-fn record<R: Threads + Wait + Sync, S: Source, C: Disk, G: Gate>(
+fn record<R: Threads + Wait + Sync, S: Source, C: Disk + Send, G: Gate + Sync>(
     rt: &R,
     alloc: Global,
     output: &Bytes,
@@ -338,8 +349,8 @@ where
     R: Threads + Wait + Sync,
     S: Source,
     K: Sink,
-    C: Disk,
-    G: Gate,
+    C: Disk + Send,
+    G: Gate + Sync,
     requires { C.asked out ≡ None }
     ensures comes { RecordComes (source_state S.Source source.old) (source_state S.Source source.new) output.now now_ns (state_of C.Disk out)
         (outcome C.Disk result.1.out result.1.history.items result.1.marks.items) result.1.end }

@@ -1,25 +1,97 @@
-// The sources of a recording, one after another.
-ghost use Rattle.std.specs.Prelude.{◌≡◌, ◌≤◌, [], length, List};
-ghost use Rattle.mdf_layout.specs.declared.sample.Sample.{Sample};
-ghost use Rattle.book_owned.specs.Account.{Steps};
-ghost use Rattle.acq_script.specs.Plan.{TaskFits};
-ghost use Rattle.acq_script.specs.declared.script.Plan.{Plan};
-ghost use Rattle.mdf_record.specs.Drive.{FollowsPlan};
-ghost use Rattle.mdf_record.specs.Sources.{AreFit, AreOwned, HasDriven, RanAll, worse};
-ghost use Rattle.std.specs.List.{All};
+// The sources of a recording, each in a thread of its own.
+ghost use Rattle.std.specs.Prelude.{◌≡◌, ◌≤◌, ◌<◌, ◌^◌, [], length, map, All, vec_len, IfOk, IfErr};
+ghost use Rattle.std.specs.Vec.Iter.{into_iter_items};
+ghost use Rattle.mdf_record.specs.Sources.{counts_of, ends_of, fed_of, feds_of, told_of, worse, worst};
 
-use crate::drive::{End, drive};
 use crate::gate::Gate;
+use acq_run::{Driven, Ended, Fed, Feed};
 use acq_script::Task;
-use book_owned::{Book, NoView};
-use mdf_disk::Disk;
 use mdf_layout::Reserved;
-use mdf_num::Rows;
+use mdf_num::{Memory, Rows};
+use std::alloc::Global;
 use std::sync::Wait;
-use std::thread::Threads;
+use std::vec::IntoIter;
+
+/// Why the sources ended before their tasks were done.
+#[derive(Clone, Copy)]
+pub enum End {
+    /// The next sample of one would have passed the session limit: what the history costs, what the sample costs, and the
+    /// limit, in bytes.
+    SessionFull { held: u64, size: u64, limit: u64 },
+    /// The disk failed, and the book is stopped.
+    Stopped,
+    /// Want of memory.
+    Memory,
+}
 
 /// How many samples of each source were accepted, in the order of their numbers.
 pub type Accepted = Reserved<u64>;
+
+/// The feed of a source: its tasks, in order. The source passes the gate before each.
+#[derive(Drop)]
+pub(crate) struct TaskFeed<'a, G> {
+    tasks: IntoIter<Task, Global>,
+    source: u8,
+    gate: &'a G,
+}
+
+/// What a source hands in for a task.
+fn fed(task: Task) -> Fed
+    ensures { result ≡ fed_of task }
+{
+    match task {
+        Task::Sample(sample) => Fed::Sample(sample),
+        Task::Flush => Fed::Flush,
+    }
+}
+
+impl<'a, G: Gate> Feed for TaskFeed<'a, G> {
+    ghost left = { λ feed. feds_of (into_iter_items feed.tasks) };
+
+    fn next<R: Wait>(&mut self, _rt: &R) -> Fed {
+        match self.tasks.next() {
+            Some(task) => {
+                self.gate.pass(self.source);
+                fed(task)
+            }
+            None => Fed::End,
+        }
+    }
+}
+
+/// The feeds of these lists, in order.
+pub(crate) fn feeds_of<'a, G: Gate>(
+    alloc: Global,
+    lists: Vec<Rows<Task>>,
+    gate: &'a G,
+) -> Result<Vec<TaskFeed<'a, G>>, Memory>
+    requires few { vec_len lists ≤ 255 }
+    ensures feeds { IfOk result (λ feeds. map ⟦<TaskFeed<'a, G> as Feed>⟧.left feeds.items ≡ map feds_of lists.items) }
+{
+    let mut feeds = Vec::new(alloc);
+    let mut source = 0;
+    for tasks in lists {
+        feeds.push(TaskFeed {
+            tasks: tasks.into_vec().into_iter(),
+            source,
+            gate,
+        })?;
+        source += 1;
+    }
+    Ok(feeds)
+}
+
+/// What is told of how a source's work ended.
+fn told(ended: Ended) -> Result<(), End>
+    ensures { result ≡ told_of ended }
+{
+    match ended {
+        Ended::Running | Ended::Done => Ok(()),
+        Ended::SessionFull { held, size, limit } => Err(End::SessionFull { held, size, limit }),
+        Ended::Stopped { .. } | Ended::DiskFault { .. } => Err(End::Stopped),
+        Ended::Memory => Err(End::Memory),
+    }
+}
 
 /// Of two ends that which is told: a full session before want of memory, and else the first.
 fn worse(first: Result<(), End>, next: Result<(), End>) -> Result<(), End>
@@ -35,49 +107,18 @@ fn worse(first: Result<(), End>, next: Result<(), End>) -> Result<(), End>
     }
 }
 
-/// Drives a source, unless the book is stopped. Answers how many samples it accepted too.
-fn drive_source<R: Threads + Wait + Sync, D: Disk, G: Gate>(
-    rt: &R,
-    book: &mut Book<D, NoView>,
-    source: u8,
-    tasks: Vec<Task>,
-    gate: &G,
-) -> (u64, Result<(), End>)
-    requires fits { (plan : Plan) × FollowsPlan plan book.old.terms × All (TaskFits plan) tasks.items }
-    ensures driven { HasDriven book.old book.new tasks.items result.0 result.1 }
-{
-    if book.stopped() {
-        return (0, Err(End::Stopped));
-    }
-    let before = book.history_len();
-    let driven = drive(rt, book, source, tasks, gate);
-    (book.history_len() - before, driven)
-}
-
-/// Drives the sources one after another, by their numbers, each to its own end. Answers the end that is told, and adds how
-/// many samples each accepted to the list, for which the room was found beforehand.
-pub fn drive_all<R: Threads + Wait + Sync, D: Disk, G: Gate>(
-    rt: &R,
-    book: &mut Book<D, NoView>,
-    lists: Vec<Rows<Task>>,
-    gate: &G,
-    accepted: &mut Accepted,
-) -> Result<(), End>
-    requires fits { (plan : Plan) × FollowsPlan plan book.old.terms × AreFit plan lists.items }
-    requires fresh { book.old.history ≡ [] }
+/// The end that is told of all sources. How many samples each accepted is added to the list, for which the room was found
+/// beforehand.
+pub(crate) fn told_all(all: Vec<Driven>, accepted: &mut Accepted) -> Result<(), End>
     requires none { accepted.old.items ≡ [] }
-    requires room { length lists.items ≤ accepted.old.spare }
-    requires few { length lists.items ≤ 255 }
-    ensures steps { (more : List Sample) × Steps book.old book.new more }
-    ensures ran { (plan : Plan) → AreOwned plan lists.items → RanAll plan.owners book.new lists.items accepted.new.items result }
+    requires room { length all.items ≤ accepted.old.spare }
+    ensures accepted { accepted.new.items ≡ counts_of all.items }
+    ensures told { result ≡ worst (ends_of all.items) }
 {
-    let mut told = Ok(());
-    let mut source = 0;
-    for tasks in lists {
-        let (count, driven) = drive_source(rt, book, source, tasks.into_vec(), gate);
-        accepted.put(count);
-        told = worse(told, driven);
-        source += 1;
+    let mut end = Ok(());
+    for driven in all {
+        accepted.put(driven.accepted);
+        end = worse(end, told(driven.ended));
     }
-    told
+    end
 }

@@ -5,7 +5,7 @@ use crate::runs::{recorded, stands};
 use mdf_gate::opened;
 use std::test::Fail;
 
-// A channel of every type: two groups, each of a source of its own.
+// A channel of every type: two groups of one source, so that the order of their samples is that of the lines.
 const EVERY_TYPE: &str = "block 256
 group 0 engine
 channel t u64 master
@@ -18,7 +18,7 @@ channel torque sb12 inv
 unit Nm
 channel load f32
 channel state text4
-group 1 can
+group 0 can
 channel t f64 master
 unit s
 channel id u11
@@ -30,7 +30,7 @@ begin
 0 1000 5 -3 3000 -100? 1065353216 x69646c65
 1 4607182418800017408 291 1 x0a0b0c x0102 x6869
 1 4611686018427387904 2047 0 x000000 x? x
-! 1
+! 0
 end
 ";
 

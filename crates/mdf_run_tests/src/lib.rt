@@ -15,3 +15,5 @@ mod readings;
 mod recordings;
 #[cfg(test)]
 mod runs;
+#[cfg(test)]
+mod workers;

@@ -5,7 +5,7 @@ use book_owned::Marks;
 use mdf_disk::{Disk, MemoryDisk, Role};
 use mdf_num::{Bytes, Failed, FaultCount, Numbers, Rows};
 use mdf_port::{MemorySink, MemorySource};
-use mdf_run::{Finished, Open, run};
+use mdf_run::{Finished, Gate, Open, run};
 use std::alloc::Global;
 use std::sync::Wait;
 use std::test::Fail;
@@ -49,12 +49,19 @@ fn source_of(alloc: Global, given: Given<'_>) -> Result<MemorySource, Fail> {
     Ok(MemorySource::new(script, broken))
 }
 
-/// Runs what is given over these disks.
-pub fn ran<R, A, C>(rt: &R, given: Given<'_>, first: A, out: C) -> Result<Ended<A, C>, Fail>
+/// Runs what is given over these disks, with this gate for the sources of a recording.
+pub fn ran_under<R, A, C, G>(
+    rt: &R,
+    given: Given<'_>,
+    first: A,
+    out: C,
+    gate: &G,
+) -> Result<Ended<A, C>, Fail>
 where
     R: AllocGlobal + Threads + Wait + Sync,
     A: Disk + Drop,
     C: Disk + Send + Drop,
+    G: Gate + Sync,
     requires first { A.asked first ≡ None }
     requires out { C.asked out ≡ None }
 {
@@ -73,9 +80,21 @@ where
         first,
         &mut second,
         out,
-        &Open,
+        gate,
     );
     Ok(Ended { finished, sink })
+}
+
+/// Runs what is given over these disks.
+pub fn ran<R, A, C>(rt: &R, given: Given<'_>, first: A, out: C) -> Result<Ended<A, C>, Fail>
+where
+    R: AllocGlobal + Threads + Wait + Sync,
+    A: Disk + Drop,
+    C: Disk + Send + Drop,
+    requires first { A.asked first ≡ None }
+    requires out { C.asked out ≡ None }
+{
+    ran_under(rt, given, first, out, &Open)
 }
 
 /// The status and the printed text.
@@ -134,7 +153,7 @@ where
     Ok((line(alloc, &ended)?, file))
 }
 
-fn record_told<R>(rt: &R, given: Given<'_>, out: MemoryDisk) -> Result<String, Fail>
+pub fn record_told<R>(rt: &R, given: Given<'_>, out: MemoryDisk) -> Result<String, Fail>
 where
     R: AllocGlobal + Threads + Wait + Sync,
     requires { ⟦<MemoryDisk as Disk>⟧.asked out ≡ None }
@@ -321,13 +340,8 @@ const TWO_SAMPLES: &str =
     "session 290\ngroup 0 g\nchannel t u64 master\nbegin\n0 1\n0 2\n! 0\n0 3\nend\n";
 
 // Two groups of two sources. The second group adds 328 bytes to the head; each record has its id and a byte.
-const TWO_SOURCES: &str =
+pub const TWO_SOURCES: &str =
     "group 0 a\nchannel x u8\ngroup 1 b\nchannel y u8\nbegin\n0 1\n0 2\n1 7\n1 8\nend\n";
-
-// The first source has no room for its third sample, since each costs 145, but the second has room for its one, which costs
-// 138 and has a record of 2 bytes behind two of 9.
-const FIRST_FULL: &str =
-    "session 430\ngroup 0 a\nchannel x u64\ngroup 1 b\nchannel y u8\nbegin\n0 1\n0 2\n0 3\n1 7\nend\n";
 
 // A channel of variable length, whose group of values adds 104 bytes to the head. Each sample has 9 bytes, and 5 and the
 // length of its value.
@@ -340,7 +354,7 @@ const FULL_BLOCK: &str =
 // A script; which calls of the source, of the disk and of the sink fail; the status and what is printed, with what is
 // left. The head and its closed gate are 769 bytes. A block adds 24 bytes and its data, up to the next multiple of 8.
 // Making the file takes the calls 0 to 7 of the disk, and each block four.
-const RECORDED: [(&str, &[u64], &[u64], &[u64], &str); 22] = [
+const RECORDED: [(&str, &[u64], &[u64], &[u64], &str); 21] = [
     (
         COUNTING,
         &[],
@@ -411,13 +425,6 @@ const RECORDED: [(&str, &[u64], &[u64], &[u64], &str); 22] = [
         &[],
         &[],
         "5 source 0 accepted 2\nsamples 2 durable 2\nsession full 290 145 290\nfile 817 history 2 marks [0, 2]",
-    ),
-    (
-        FIRST_FULL,
-        &[],
-        &[],
-        &[],
-        "5 source 0 accepted 2\nsource 1 accepted 1\nsamples 3 durable 3\nsession full 290 145 430\nfile 1145 history 3 marks [0, 3]",
     ),
     (
         SHORT_SESSION,

@@ -11,6 +11,7 @@ pub returns-in-Err : goal.returns-in-Err
 returns-in-Err g c =
     let k = c.refused.ensures in
     let story = g.C.Disk.story c.args.out in
+    let met = g.met.C.Disk g.world.𝓛 g.world.𝓜 g.world.𝓡 ((λ s x. x), (λ x. x), (λ x. x), λ x. x) in
     record {
       comes = rw k.end (record {
         history = k.history;
@@ -19,15 +20,15 @@ returns-in-Err g c =
           comes = c.in-Err.ensures.fault;
           same = ap (state_of g.C.Disk) k.out;
           begun = λ head. subst (λ d. HoldsSince (g.C.Disk.story d) (g.C.Disk.moment c.args.out) (IsBegun head)) (sym k.out)
-              (fresh_begun head story (g.C.Disk.content c.args.out) (g.C.Disk.moment c.args.out) (g.met.C.Disk.agrees c.args.out)
-              (g.met.C.Disk.unattached c.args.out (g.met.C.Disk.unasked c.args.out c.requires)));
+              (fresh_begun head story (g.C.Disk.content c.args.out) (g.C.Disk.moment c.args.out) (met.agrees c.args.out)
+              (met.unattached c.args.out (met.unasked c.args.out c.requires)));
         });
       });
       untouched = λ none. k.out;
       recovered = rw (k.out, k.history, k.marks) (record {
         marks_recover = λ n mark within. absurd (omega (arith, within));
         start_recovers = none_recovered story (g.C.Disk.moment c.args.out) (λ head. fresh_begun head story (g.C.Disk.content c.args.out) (g.C.Disk.moment c.args.out)
-            (g.met.C.Disk.agrees c.args.out) (g.met.C.Disk.unattached c.args.out (g.met.C.Disk.unasked c.args.out c.requires)));
+            (met.agrees c.args.out) (met.unattached c.args.out (met.unasked c.args.out c.requires)));
       });
     }
 

@@ -1,35 +1,71 @@
-use Rattle.std.proofs.Common.{ap, sym, subst}
-use Rattle.mdf_record.specs.Sources.{AreFit, AreOwned, RanAll}
+use Rattle.std.proofs.Common.{◌∙◌, map, length, ap, arith}
+use Rattle.std.proofs.lemmas.List.{length-map}
+use Rattle.acq_script.specs.Plan.{layout_of}
+use Rattle.mdf_record.specs.Sources.{feds_of}
 use Rattle.mdf_record.proofs.Begins.{admissible}
+use Rattle.mdf_record.proofs.Feeding.{feeds_count, ran_lists, tasks_may}
 use Rattle.mdf_record.proofs.Recording.{has_run}
-use Rattle.mdf_record.proofs.Runs.{stopped_told}
+use Rattle.mdf_record.proofs.Runs.{all-length, ran_all, stopped_told}
 use Rattle.mdf_record.proofs.record.record_into.Goals as goal
 
 pub begin-requires-clause-admissible : goal.begin-requires-clause-admissible
 begin-requires-clause-admissible g c = admissible c.args.script.plan c.requires.script.plan
 
-pub drive_all-driven-requires-clause-fits : goal.drive_all-driven-requires-clause-fits
-drive_all-driven-requires-clause-fits g c κs within =
-    let begun = c.in-Ok-begin.ensures.begun in (
-      c.args.script.plan,
-      record { layouts = ap (λ t. t.layouts) begun.terms; block = ap (λ t. t.block_limit) begun.terms },
-      subst (AreFit c.args.script.plan) (sym c.into_vec.ensures) (record { fit = c.requires.script.fit }),
-    )
+pub record_all-requires-clause-sources : goal.record_all-requires-clause-sources
+record_all-requires-clause-sources g c κs within =
+    let plan = c.requires.script.plan in
+    let feeds = c.in-Ok-feeds_of.feeds in
+    let same = c.in-Ok-feeds_of.ensures.feeds ∙ ap (map feds_of) c.into_vec.ensures in
+    let count = feeds_count c.args.script feeds.items c.requires.script same in
+    (omega (arith, count, feeds.ok.0, plan.some_sources), omega (arith, count, feeds.ok.0, plan.few_sources))
+
+pub record_all-requires-clause-owners : goal.record_all-requires-clause-owners
+record_all-requires-clause-owners g c κs within =
+    let plan = c.requires.script.plan in
+    omega (arith, ap length c.as_slice.ensures, plan.owners, ap length plan.shapes, length-map c.args.script.plan.rows layout_of, plan.few_groups)
+
+pub record_all-requires-clause-may : goal.record_all-requires-clause-may
+record_all-requires-clause-may g c κs within =
+    let begun = c.in-Ok-begin.ensures.begun in
+    let same = c.in-Ok-feeds_of.ensures.feeds ∙ ap (map feds_of) c.into_vec.ensures in
+    tasks_may c.args.script c.in-Ok-begin.book.terms c.as_slice.result.now c.in-Ok-feeds_of.feeds.items
+    (ap (λ t. t.layouts) begun.terms) (ap (λ t. t.block_limit) begun.terms) c.as_slice.ensures c.requires.script same
+
+pub told_all-driven-requires-clause-room : goal.told_all-driven-requires-clause-room
+told_all-driven-requires-clause-room g c =
+    let owners = c.args.script.plan.owners in
+    let lists = c.args.script.lists in
+    let book = c.in-Ok-record_all.book in
+    let all = c.in-Ok-record_all.all.items in
+    let same = c.in-Ok-feeds_of.ensures.feeds ∙ ap (map feds_of) c.into_vec.ensures in
+    let ran = ran_lists owners c.as_slice.result.now book c.in-Ok-feeds_of.feeds.items lists all c.as_slice.ensures same c.in-Ok-record_all.ensures.ran in
+    omega (arith, all-length owners book 0 lists all ran, c.in-Ok.ensures.room, c.len.ensures)
 
 pub finish-fault-requires-clause-stopped : goal.finish-fault-requires-clause-stopped
 finish-fault-requires-clause-stopped g c κs within =
-    let plan = c.args.script.plan in
-    let owned = subst (AreOwned plan) (sym c.into_vec.ensures) (record { own = c.requires.script.own }) in
-    stopped_told plan.owners c.drive_all-driven.new.book c.into_vec.result.items c.drive_all-driven.new.accepted.items c.drive_all-driven.result (c.drive_all-driven.ensures.ran plan owned)
+    let owners = c.args.script.plan.owners in
+    let lists = c.args.script.lists in
+    let book = c.in-Ok-record_all.book in
+    let all = c.in-Ok-record_all.all.items in
+    let accepted = c.told_all-driven.new.accepted.items in
+    let result = c.told_all-driven.result in
+    let same = c.in-Ok-feeds_of.ensures.feeds ∙ ap (map feds_of) c.into_vec.ensures in
+    let ran = ran_lists owners c.as_slice.result.now book c.in-Ok-feeds_of.feeds.items lists all c.as_slice.ensures same c.in-Ok-record_all.ensures.ran in
+    stopped_told owners book lists accepted result (ran_all owners book lists accepted result all ran c.told_all-driven.ensures.accepted c.told_all-driven.ensures.told)
 
-pub returns : goal.returns
-returns g c =
-    let plan = c.args.script.plan in
-    let owned = subst (AreOwned plan) (sym c.into_vec.ensures) (record { own = c.requires.script.own }) in
-    let book = c.drive_all-driven.new.book in
-    let accepted = c.drive_all-driven.new.accepted in
-    let ran = subst (λ lists. RanAll plan.owners book lists accepted.items c.drive_all-driven.result) c.into_vec.ensures (c.drive_all-driven.ensures.ran plan owned) in
+pub returns-in-Ok-record_all : goal.returns-in-Ok-record_all
+returns-in-Ok-record_all g c =
+    let owners = c.args.script.plan.owners in
+    let lists = c.args.script.lists in
+    let book = c.in-Ok-record_all.book in
+    let all = c.in-Ok-record_all.all.items in
+    let accepted = c.told_all-driven.new.accepted in
+    let result = c.told_all-driven.result in
+    let same = c.in-Ok-feeds_of.ensures.feeds ∙ ap (map feds_of) c.into_vec.ensures in
+    let ran = ran_lists owners c.as_slice.result.now book c.in-Ok-feeds_of.feeds.items lists all c.as_slice.ensures same c.in-Ok-record_all.ensures.ran in
     record {
-      recorded = has_run g.C.Disk _ c.args.script c.args.file _ c.in-Ok-begin.book book c.finish-fault.new.book accepted c.drive_all-driven.result c.finish-fault.result c.close.result
-          c.in-Ok-begin.ensures.begun c.drive_all-driven.ensures.steps.0 c.drive_all-driven.ensures.steps.1 ran c.finish-fault.ensures.finishes c.close.ensures.closes;
+      recorded = has_run g.C.Disk _ c.args.script c.args.file _ c.in-Ok-begin.book book c.finish-fault.new.book accepted result c.finish-fault.result c.close.result
+          c.in-Ok-begin.ensures.begun c.in-Ok-record_all.ensures.terms
+          (ran_all owners book lists accepted.items result all ran c.told_all-driven.ensures.accepted c.told_all-driven.ensures.told)
+          c.finish-fault.ensures.finishes c.close.ensures.closes;
     }
