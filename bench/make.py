@@ -8,6 +8,7 @@ sorted     a finalized file of one channel group without record ids: a time (a f
 unsorted   a finalized file with ids of 1 byte and three channel groups: a time and values of 8 and of 12 bytes in turns, these
            values, and a time and four numbers of 16 bits
 recording  a recording of the groups of `unsorted`, as `record` leaves it behind its last flush
+wide       such a recording of one channel group: a time and 99 numbers of 64 bits
 
 The records of a finalized file lie in data blocks (DTBLOCK) of 4,000,000 bytes, the last a shorter one, which a chain of lists
 (DLBLOCK) of at most 50 names, so some records lie across two blocks. Those of a recording lie in blocks of whole records of at
@@ -20,10 +21,12 @@ import sys
 
 LISTED = 50
 ALL = 98  # the records of `both`
+WIDE = 801  # a record of `wide`, with its id
 
 shape, size, out = sys.argv[1], int(sys.argv[2]), open(sys.argv[3], "wb")
-is_recording = shape == "recording"
-mark, flags, PART = (b"UnFinMF ", (33, 1), 65_536 // ALL * ALL) if is_recording else (b"MDF     ", (0, 0), 4_000_000)
+is_recording = shape in ("recording", "wide")
+whole = WIDE if shape == "wide" else ALL
+mark, flags, PART = (b"UnFinMF ", (33, 1), 65_536 // whole * whole) if is_recording else (b"MDF     ", (0, 0), 4_000_000)
 head = bytearray(mark + b"4.10    example " + bytes(4) + struct.pack("<H30x2H", 410, *flags))
 
 
@@ -60,6 +63,14 @@ def numbers():
     return first
 
 
+def words():
+    """The first of 99 channels behind the time."""
+    first = 0
+    for k in reversed(range(99)):
+        first = channel(first, f"w{k}", 0, 0, 8 + 8 * k, 64)
+    return first
+
+
 def group(after, first, name, number, count, flags, length):
     body = struct.pack("<QQHHIII", number, count, flags, 0, 0, length, 0)
     return place(b"CG", [after, first, text(name), 0, 0, 0], body)
@@ -74,6 +85,10 @@ def both(k):
     made = b"\2\x08\0\0\0%08d\1" % (k % 10**8) + struct.pack("<dQ", k / 50, 28 * k)
     made += b"\2\x0c\0\0\0%012d\1" % k + struct.pack("<dQ", k / 50 + 0.01, 28 * k + 12)
     return made + b"\3" + plain(2 * k) + b"\3" + plain(2 * k + 1)
+
+
+def broad(k):
+    return b"\1" + struct.pack("<d99Q", k / 100, *range(k, k + 99))
 
 
 place(b"HD", [0, 0, 0, 0, 0, 0], bytes(32))
@@ -92,6 +107,10 @@ elif shape in ("unsorted", "recording"):
     first = values = group(first, 0, "values", 2, said, 1, 0)
     first = group(first, timed(channel(0, "v", 1, 10, 8, 64, values)), "timed", 1, said, 0, 16)
     total, records = ALL * count, map(both, range(count))
+elif shape == "wide":
+    id_size, count = 1, size // WIDE
+    first = group(0, timed(words()), "words", 1, 0, 0, 800)
+    total, records = WIDE * count, map(broad, range(count))
 else:
     sys.exit(__doc__)
 

@@ -1,8 +1,10 @@
 /* Records a script as `record` does, in straight C: it reads the script whole, keeps each sample, and writes the same file with
    the same calls. It takes every line but `live`, and prints the same lines. The start time is that of a recording that was
-   made from the same script.
+   made from the same script. With a number it makes and keeps the samples of the generated script of so many in place of reading
+   one, as `gen` does.
 
-   usage: twin RECORDING OUT < SCRIPT */
+   usage: twin RECORDING OUT < SCRIPT
+          twin RECORDING OUT COUNT */
 #include <fcntl.h>
 #include <inttypes.h>
 #include <stdbool.h>
@@ -373,6 +375,38 @@ static void read_script(const uint8_t *script, size_t size) {
     exit(8);
 }
 
+// ---- the generated script ----
+
+static struct value *numbers(uint32_t count, uint64_t time, uint64_t number) {
+    struct value *values = checked(malloc(count * sizeof *values));
+    values[0] = (struct value){.number = time, .valid = true};
+    values[1] = (struct value){.number = number, .valid = true};
+    return values;
+}
+
+static void generate(uint64_t source, uint64_t k) {
+    uint64_t sample = 4 * k + source;
+    bool varies = source == 3;
+    struct value *values = numbers(2 + varies, sample, (1664525 * sample + 1013904223) % 4294967296);
+    if (varies) {
+        values[2] = (struct value){.len = sample % 5, .valid = true};
+        values[2].bytes = checked(malloc(values[2].len + 1));
+        memset(values[2].bytes, (int)(sample % 256), values[2].len);
+    }
+    push(&lists[source], (struct task){(uint32_t)source, values});
+    if ((k + 1) % 1000 == 0) push(&lists[source], (struct task){0, NULL});
+}
+
+static void generate_all(uint64_t count) {
+    static const char plan[] = "group 0 g0\nchannel t u64 master\nchannel v u32\ngroup 1 g1\nchannel t u64 master\nchannel v u32\n"
+                               "group 2 g2\nchannel t u64 master\nchannel v u32\ngroup 3 g3\nchannel t u64 master\nchannel v u32\n"
+                               "channel n var\nbegin\nend\n";
+    read_script((const uint8_t *)plan, strlen(plan));
+    for (uint64_t source = 0; source < sources; source++) {
+        for (uint64_t k = 0; 4 * k + source < count; k++) generate(source, k);
+    }
+}
+
 // ---- the head ----
 
 struct head {
@@ -622,14 +656,18 @@ static void tell(void) {
 }
 
 int main(int argc, char **argv) {
-    need(argc == 3, "usage: twin RECORDING OUT");
+    need(argc == 3 || argc == 4, "usage: twin RECORDING OUT [COUNT]");
     int in = open(argv[1], O_RDONLY);
     uint8_t told[144];
     need(in >= 0 && pread(in, told, sizeof told, 0) == (ssize_t)sizeof told, argv[1]);
     close(in);
-    size_t size;
-    uint8_t *script = read_all(0, &size);
-    read_script(script, size);
+    if (argc == 4) {
+        generate_all(strtoull(argv[3], NULL, 10));
+    } else {
+        size_t size;
+        uint8_t *script = read_all(0, &size);
+        read_script(script, size);
+    }
     struct head head = head_of(word(told + 136));
     struct file file = create(argv[2], head);
     record(&file);

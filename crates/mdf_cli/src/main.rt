@@ -4,9 +4,10 @@
 use mdf_hostfile::FileDisk;
 use mdf_num::{Bytes, Memory, Rows};
 use mdf_port::{StdSink, StdSource};
-use mdf_run::{Open, run, run_unread};
+use mdf_run::{Finished, Open, run, run_unread};
 use std::fs::File;
 use std::io::Error;
+use std::mem::forget;
 use std::process::ExitCode;
 use std::rt::{Clock, Env, Files};
 use std::time::{SystemTime, UNIX_EPOCH};
@@ -64,7 +65,13 @@ fn main(rt: HostRuntime) -> ExitCode {
     };
     let mut source = StdSource::new(rt.stdin());
     let mut second = FileDisk::new(&rt);
-    let finished = run(
+    let Finished {
+        status,
+        first,
+        out,
+        history,
+        marks: _,
+    } = run(
         &rt,
         alloc,
         &words,
@@ -77,9 +84,11 @@ fn main(rt: HostRuntime) -> ExitCode {
         &Open,
     );
     tell(&rt, "standard input", source.last_error());
-    tell_disk(&rt, &finished.first);
+    tell_disk(&rt, &first);
     tell_disk(&rt, &second);
-    tell_disk(&rt, &finished.out);
+    tell_disk(&rt, &out);
     tell(&rt, "standard output", sink.last_error());
-    ExitCode::from(finished.status)
+    // The memory of all samples goes with the process, at once and not sample by sample.
+    forget(history);
+    ExitCode::from(status)
 }

@@ -153,7 +153,8 @@ pub(crate) fn counts_of(
     Ok(counts)
 }
 
-/// How many bytes the values in the records at these places have. A sum past the last u64 counts as want of memory.
+/// How many bytes the values in the records at these places have. A sum past the last u64 counts as want of memory. The places
+/// rise, so that each is looked for near the one before.
 fn values_total_in<P: Span>(span: &mut P, view: &DataView, places: &Places) -> Result<u64, Stop>
     requires inside { ArePartsInside (P.size span.old) view.now }
     requires room { AllByRecursion (λ place. place + 4 ≤ stream_size view.now) places.now }
@@ -164,8 +165,9 @@ fn values_total_in<P: Span>(span: &mut P, view: &DataView, places: &Places) -> R
 {
     let mut total = 0u64;
     let mut row = 0;
+    let mut near = 0;
     while row < places.len() {
-        let len = view.u32_in(span, place_at(places, row))? as u64;
+        let len = view.u32_near(span, place_at(places, row), &mut near)? as u64;
         let Some(sum) = total.checked_add(len) else {
             return Err(Stop::Memory);
         };

@@ -253,6 +253,22 @@ impl Session {
     {
         self.kept.totals.as_slice()
     }
+
+    /// The records of the opened blocks and the streams of the channels of variable length, which are moved out of the session.
+    /// It takes no memory.
+    pub fn into_data(self) -> (Bytes, Streams)
+        ensures content { result.0 ≡ self.kept.content }
+        ensures streams { result.1 ≡ self.kept.streams }
+    {
+        let Session { tree: _, kept } = self;
+        let Kept {
+            content,
+            counts: _,
+            totals: _,
+            streams,
+        } = kept;
+        (content, streams)
+    }
 }
 
 /// The recording that a file is, read through a span.

@@ -11,3 +11,4 @@ mod Histories
 pub mod Wholes
 pub mod SessionTrees
 pub mod Cleans
+pub mod Filing

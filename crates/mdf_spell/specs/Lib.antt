@@ -4,3 +4,4 @@ pub mod Counts
 pub mod Titled
 pub mod Session
 pub mod Standing
+pub mod Front

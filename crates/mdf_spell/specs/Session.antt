@@ -39,19 +39,34 @@ data_own n id_size next groups content comment = record {
   body = id_size ∷ replicate 7 0;
 }
 
+-- the data group from block n on, without its data, which is to stand behind it
+abbrev pub session_tree : ℕ → Recovered → List Placed
+session_tree n recovered =
+    let row = recovered.row.now in
+    let records = past_data_group n row in
+    data_group_blocks n links.Nothing (links.Block records) (with_streams (records + 1) (session_names n row))
+    (counted_data recovered.counts.now recovered.totals.now row)
+
+-- the data: a block of the records, and one of the values of each channel of variable length that names no group of values
+abbrev pub own_data : List Link → List ℕ → List (List ℕ) → List Placed
+own_data names content streams = data_block Dt content ∷ map (data_block Sd) (own_streams names streams)
+
 -- the data group from block n on, with its data behind it
 unfoldable pub session_data : ℕ → Recovered → List Placed
 session_data n recovered =
-    let row = recovered.row.now in
-    let names = session_names n row in
-    let records = past_data_group n row in
-    data_group_blocks n links.Nothing (links.Block records) (with_streams (records + 1) names)
-    (counted_data recovered.counts.now recovered.totals.now row)
-    ++ (data_block Dt recovered.content.now ∷ map (data_block Sd) (own_streams names recovered.streams.now))
+    session_tree n recovered ++ own_data (session_names n recovered.row.now) recovered.content.now recovered.streams.now
 
 -- the history with the entry of this finalizing, at a time in ns
 abbrev pub session_history : List History → ℕ → List History
 session_history history now = titled_history history (codes "finalize") now
+
+-- the blocks of the file before its data
+unfoldable pub front_blocks : Recovered → ℕ → List Placed
+front_blocks recovered now =
+    let head = recovered.head.now in
+    let entries = session_history recovered.history.now now in
+    let n = head_groups head entries in
+    head_blocks head entries (links.Block n) ++ session_tree n recovered
 
 -- the blocks of the file
 unfoldable pub session_blocks : Recovered → ℕ → List Placed

@@ -4,7 +4,7 @@ ghost use Rattle.mdf_format.specs.declared.kind.Kind.TheVariants.{Sd};
 ghost use Rattle.mdf_tree.specs.Group.{next_link, data_groups, past_data_group, data_group_blocks};
 ghost use Rattle.mdf_spell.specs.Values.{own_stream, own_streams};
 ghost use Rattle.mdf_spell.specs.Counts.{counted_data, IsCounted};
-ghost use Rattle.mdf_spell.specs.Session.{data_block, data_own, session_names, session_data};
+ghost use Rattle.mdf_spell.specs.Session.{data_block, data_own, session_names, session_tree, own_data};
 
 use crate::groups::place_groups;
 use crate::names::{group_numbers, named_groups, with_streams};
@@ -137,15 +137,16 @@ fn place_row(
     place_groups(alloc, draft, row.groups.as_slice(), counts, totals, values)
 }
 
-/// Places the data group and its data: its tree, a block of the records (DT), and a block of values (SD) for each channel
-/// of variable length that names no group of values.
-pub(crate) fn place_session(
+/// Places the data group without its data, which is to stand behind it: its tree. Answers the links of its channels of variable
+/// length to groups of values, where they name such.
+pub(crate) fn place_tree(
     alloc: Global,
     draft: &mut Draft,
     recovered: &Recovered,
-) -> Result<(), Memory>
+) -> Result<Vec<Link>, Memory>
     requires { IsCounted recovered.now }
-    ensures placed { OnOk result (draft.new ≡ draft.old ++ session_data (length draft.old) recovered.now) }
+    ensures placed { OnOk result (draft.new ≡ draft.old ++ session_tree (length draft.old) recovered.now) }
+    ensures names { IfOk result (λ names. names.items ≡ session_names (length draft.old) recovered.now.row.now) }
     ensures fit { OnOk result (AllByRecursion (λ count. count < 2 ^ 64) recovered.now.counts.now) }
 {
     let n = next_number(draft)?;
@@ -161,6 +162,20 @@ pub(crate) fn place_session(
         Link::Block(records),
         values.as_slice(),
     )?;
-    place_data(alloc, draft, Kind::Dt, recovered.content)?;
-    place_streams(alloc, draft, names.as_slice(), recovered.streams)
+    Ok(names)
+}
+
+/// Places the data of a data group whose channels of variable length have these links to groups of values: a block of the
+/// records (DT), which are moved into it, and a block of values (SD) for each channel that names no group of values.
+pub(crate) fn place_own_data(
+    alloc: Global,
+    draft: &mut Draft,
+    names: &[Link],
+    content: Bytes,
+    streams: &[ValueStream],
+) -> Result<(), Memory>
+    ensures { OnOk result (draft.new ≡ draft.old ++ own_data names.now content streams.now) }
+{
+    draft.place_linked(Kind::Dt, Vec::new(alloc), content)?;
+    place_streams(alloc, draft, names, streams)
 }

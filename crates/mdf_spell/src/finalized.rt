@@ -1,13 +1,16 @@
-ghost use Rattle.std.specs.Prelude.{ℕ, ◌≡◌, List, IfOk};
+ghost use Rattle.std.specs.Prelude.{ℕ, ◌≡◌, ◌<◌, ◌^◌, ◌++◌, List, IfOk, OnOk};
+ghost use Rattle.std.specs.List.{AllByRecursion};
 ghost use Rattle.mdf_spell.specs.Counts.{IsCounted};
-ghost use Rattle.mdf_spell.specs.Session.{session_file};
+ghost use Rattle.mdf_spell.specs.Front.{IsFrontOf};
+ghost use Rattle.mdf_spell.specs.Session.{own_data, session_file};
 ghost use Rattle.mdf_spell.specs.Standing.{IsRecoveredOf, IsSessionTree};
 
-use crate::data::place_session;
+use crate::data::{place_own_data, place_tree};
 use crate::history::place_head;
 use crate::recovered::Recovered;
-use mdf_block::Draft;
+use mdf_block::{Draft, Link};
 use mdf_num::{Bytes, Memory};
+use mdf_vlsd::ValueStream;
 use std::alloc::Global;
 
 /// The identification of a finalized file: version 4.10, and no flags.
@@ -16,6 +19,56 @@ pub const FINALIZED_IDENT: [u8; 64] = [
     99, 32, 0, 0, 0, 0, 154, 1, 0, 0, 0, 0, 0, 0, 0, 0, 0, 0, 0, 0, 0, 0, 0, 0, 0, 0, 0, 0, 0, 0,
     0, 0, 0, 0, 0, 0, 0, 0, 0, 0, 0, 0,
 ];
+
+/// The front of a finalized file: its blocks up to the first one of data, and the links of its channels of variable length to
+/// groups of values, where they name such.
+#[derive(Drop)]
+pub struct Front {
+    pub blocks: Draft,
+    pub names: Vec<Link>,
+}
+
+/// The front of the finalized file of what was read of a recording. The records and the values are not looked at.
+///
+/// # Errors
+/// `Memory` where memory runs out, or where there are more than 2^30 blocks.
+pub fn finalized_front(alloc: Global, recovered: &Recovered, now_ns: u64) -> Result<Front, Memory>
+    requires { IsCounted recovered.now }
+    ensures front { IfOk result (IsFrontOf recovered.now now_ns) }
+    ensures fit { OnOk result (AllByRecursion (λ count. count < 2 ^ 64) recovered.now.counts.now) }
+{
+    let mut blocks = Draft::new(alloc);
+    place_head(
+        alloc,
+        &mut blocks,
+        recovered.head,
+        recovered.history,
+        "finalize",
+        now_ns,
+        true,
+    )?;
+    let names = place_tree(alloc, &mut blocks, recovered)?;
+    Ok(Front { blocks, names })
+}
+
+/// The blocks of a finalized file: its front, and behind it the records, which are moved, and the values of each channel of
+/// variable length that names no group of values.
+///
+/// # Errors
+/// `Memory` where memory runs out.
+pub fn with_data(
+    alloc: Global,
+    front: Front,
+    content: Bytes,
+    streams: &[ValueStream],
+) -> Result<Draft, Memory>
+    ensures { IfOk result (λ blocks. blocks ≡ front.blocks ++ own_data front.names.items content streams.now) }
+{
+    let Front { blocks, names } = front;
+    let mut blocks = blocks;
+    place_own_data(alloc, &mut blocks, names.as_slice(), content, streams)?;
+    Ok(blocks)
+}
 
 /// The finalized file of what was read of a recording: identification, header, the history with the entry of this finalizing
 /// at `now_ns` (ns since 1970) as its last, and the data group. Its channel groups have the cycles that are counted, and
@@ -30,16 +83,8 @@ pub fn finalized_file(alloc: Global, recovered: &Recovered, now_ns: u64) -> Resu
     ensures written { IfOk result (λ bytes. bytes ≡ session_file recovered.now now_ns) }
     ensures keeps { (file : List ℕ) → IsRecoveredOf file recovered.now → IfOk result (λ bytes. IsSessionTree bytes recovered.now now_ns) }
 {
-    let mut draft = Draft::new(alloc);
-    place_head(
-        alloc,
-        &mut draft,
-        recovered.head,
-        recovered.history,
-        "finalize",
-        now_ns,
-        true,
-    )?;
-    place_session(alloc, &mut draft, recovered)?;
-    draft.bytes(&FINALIZED_IDENT)
+    let front = finalized_front(alloc, recovered, now_ns)?;
+    let content = Bytes::from_slice(alloc, recovered.content)?;
+    let blocks = with_data(alloc, front, content, recovered.streams)?;
+    blocks.bytes(&FINALIZED_IDENT)
 }

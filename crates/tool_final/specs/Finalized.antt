@@ -1,11 +1,16 @@
 -- The finalized file of a session, and what is told of it.
-use Rattle.std.specs.Prelude.{ℕ, ◌≡◌, ◌+◌, if◌then◌else◌, List, [], ◌∷◌, sum_by, Some, Ok, slice_get}
+use Rattle.std.specs.Prelude.{ℕ, ◌≡◌, ◌+◌, ◌<◌, ◌^◌, if◌then◌else◌, List, [], ◌∷◌, sum_by, Some, Ok, slice_get}
+use Rattle.std.specs.List.{AllByRecursion}
+use Rattle.mdf_block.specs.Draft.{Placed}
 use Rattle.mdf_group.specs.declared.row.GroupRow.{GroupRow}
 use Rattle.mdf_group.specs.declared.row.DataRow.{DataRow}
 use Rattle.mdf_group.specs.Group.{is_variable}
 use Rattle.mdf_session.specs.Session.{SessionParts, session}
 use Rattle.mdf_spell.specs.declared.recovered.Recovered.{Recovered}
-use Rattle.mdf_spell.specs.Session.{session_file}
+use Rattle.mdf_spell.specs.declared.finalized.Front.{Front}
+use Rattle.mdf_spell.specs.Counts.{IsCounted}
+use Rattle.mdf_spell.specs.Front.{IsFrontOf}
+use Rattle.mdf_spell.specs.Session.{session_blocks, session_file}
 use Rattle.mdf_spell.specs.Standing.{AreBytes}
 use Rattle.mdf_tool.specs.declared.made.Made.{Made}
 use Rattle.mdf_tool.specs.declared.made.Report.{Report}
@@ -20,6 +25,22 @@ pub record IsOfSession (read : SessionParts) (recovered : Recovered) : Type 0 wh
   pub totals : recovered.totals.now ≡ read.kept.totals
   pub content : recovered.content.now ≡ read.kept.content
   pub streams : recovered.streams.now ≡ read.kept.streams
+
+-- this is the front of the finalized file of what was recovered, at a time in ns: all that stands before its data
+pub record IsSessionFront (read : SessionParts) (now : ℕ) (front : Front) : Type 0 where
+  pub recovered : Recovered
+  pub is_of : IsOfSession read recovered
+  pub counted : IsCounted recovered
+  pub fit : AllByRecursion (λ count. count < 2 ^ 64) recovered.counts.now
+  pub front_is : IsFrontOf recovered now front
+
+-- these are its blocks
+pub record AreSessionBlocks (read : SessionParts) (now : ℕ) (blocks : List Placed) : Type 0 where
+  pub recovered : Recovered
+  pub is_of : IsOfSession read recovered
+  pub counted : IsCounted recovered
+  pub fit : AllByRecursion (λ count. count < 2 ^ 64) recovered.counts.now
+  pub blocks_are : blocks ≡ session_blocks recovered now
 
 -- these bytes are the finalized file of what was recovered, at a time in ns
 pub record IsSessionFile (read : SessionParts) (now : ℕ) (bytes : List ℕ) : Type 0 where

@@ -38,7 +38,7 @@ fn made_of(alloc: Global, session: Session, now_ns: u64) -> Result<Made, Memory>
     ensures { IfOk result (IsMadeOf session now_ns) }
 {
     let report = report_of(&session)?;
-    let bytes = spell_session(alloc, &session, now_ns)?;
+    let bytes = spell_session(alloc, session, now_ns)?;
     Ok(Made { bytes, report })
 }
 

@@ -1,0 +1,30 @@
+#!/usr/bin/env bash
+# Counts the instructions, or without valgrind the best time in microseconds, of `export` of a group of a million samples of five
+# channels, and of a twin in straight C that reads the file whole and prints the same table. Prints both numbers and their ratio,
+# which is to be at most 3.
+#
+# usage: bench/export/run.sh [RUNS]
+#
+# It is run by hand and is no part of the gate. It needs the built program (./mdf4rec), python3 and a C compiler, and works in a
+# folder of its own under out/. Both have to print the same table.
+set -euo pipefail
+
+here="$(cd "$(dirname "$0")" && pwd)"
+top="$(cd "$here/../.." && pwd)"
+runs="${1:-5}"
+mkdir -p "$top/out"
+work="$(mktemp -d "$top/out/bench.XXXXXX")"
+trap 'rm -rf "$work"' EXIT
+. "$here/../cost.sh"
+
+"${CC:-cc}" -O2 -o "$work/twin" "$here/twin.c"
+"$top/mdf4rec" opened "$top/examples/two_blocks.mf4" > "$work/said" # builds the program where it is stale
+printer="$top/crates/mdf_cli/out/mdf_cli"
+
+file="$work/rows.mf4"
+python3 "$here/../make.py" sorted 16000000 "$file"
+"$printer" export "$file" 0 > "$work/ours"
+"$work/twin" "$file" > "$work/twins"
+cmp "$work/ours" "$work/twins"
+awk -v ours="$(cost /dev/null "$printer" export "$file" 0)" -v twin="$(cost /dev/null "$work/twin" "$file")" \
+    'BEGIN { printf "export %d, C %d, ratio %.2f\n", ours, twin, ours / twin }'

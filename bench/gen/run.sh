@@ -1,0 +1,34 @@
+#!/usr/bin/env bash
+# Counts the instructions, or without valgrind the best time in microseconds, of `gen` of a million samples, and of a twin in
+# straight C (that of bench/record) that makes and keeps the same samples and writes the same file with the same calls. Prints both
+# numbers and their ratio, which is to be at most 1.5.
+#
+# usage: bench/gen/run.sh [RUNS]
+#
+# It is run by hand and is no part of the gate. It needs the built program (./mdf4rec) and a C compiler, and works in a folder of
+# its own under out/, so that both write to the same disk. Both have to print the same lines and make the same file; the twin
+# takes the start time from the recording that is made first.
+set -euo pipefail
+
+here="$(cd "$(dirname "$0")" && pwd)"
+top="$(cd "$here/../.." && pwd)"
+runs="${1:-5}"
+count=1000000
+mkdir -p "$top/out"
+work="$(mktemp -d "$top/out/bench.XXXXXX")"
+trap 'rm -rf "$work"' EXIT
+. "$here/../cost.sh"
+
+before() { rm -f "$work/made.mf4"; }
+
+"${CC:-cc}" -O2 -o "$work/twin" "$here/../record/twin.c"
+"$top/mdf4rec" opened "$top/examples/two_blocks.mf4" > "$work/said" # builds the program where it is stale
+recorder="$top/crates/mdf_cli/out/mdf_cli"
+
+"$recorder" gen "$count" "$work/first.mf4" > "$work/ours"
+"$work/twin" "$work/first.mf4" "$work/made.mf4" "$count" > "$work/twins"
+cmp "$work/ours" "$work/twins"
+cmp "$work/first.mf4" "$work/made.mf4"
+ours="$(cost /dev/null "$recorder" gen "$count" "$work/made.mf4")"
+twin="$(cost /dev/null "$work/twin" "$work/first.mf4" "$work/made.mf4" "$count")"
+awk -v ours="$ours" -v twin="$twin" 'BEGIN { printf "gen %d, C %d, ratio %.2f\n", ours, twin, ours / twin }'

@@ -1,0 +1,356 @@
+/* Makes a sorted file of a finalized one as `sort` and `cut` do, in straight C: it reads the file whole, goes over the records once
+   for each group, and writes the same file with the same calls. It takes files of one data group whose blocks have names and no
+   other texts, as make.py makes them, and masters of 64 bits. The time of the new entry of the history is that of a file that was
+   made first.
+
+   usage: made sort FIRST IN OUT
+          made cut FIRST IN OUT FROM TO */
+#include <fcntl.h>
+#include <stdbool.h>
+#include <stdint.h>
+#include <stdio.h>
+#include <stdlib.h>
+#include <string.h>
+#include <unistd.h>
+
+enum { GROUPS = 256, TREE = 1 << 20 };
+
+struct part {
+    const uint8_t *at;
+    uint64_t len;
+};
+
+struct group {
+    const uint8_t *block;
+    uint64_t id, size, values; // the address of the group of the values of its channel, or 0
+    uint32_t master;           // the byte of the master in a record
+    bool holds_values, mastered;
+};
+
+static uint8_t *file, *made;
+static uint64_t size, used;
+static struct part *parts;
+static size_t part_count, part, place; // the next byte: its part, and its place in it
+static struct group groups[GROUPS];
+static uint32_t group_count;
+static bool cuts;
+static uint64_t from, to; // of the masters that are kept
+
+static void need(bool ok, const char *what) {
+    if (ok) return;
+    fprintf(stderr, "twin: %s\n", what);
+    exit(1);
+}
+
+static uint64_t number(const uint8_t *at, int bytes) {
+    uint64_t n = 0;
+    for (int k = 0; k < bytes; k++) n |= (uint64_t)at[k] << (8 * k);
+    return n;
+}
+
+static void put(uint64_t at, uint64_t n) { memcpy(made + at, &n, 8); }
+
+static uint8_t *read_whole(const char *name, uint64_t *length) {
+    int in = open(name, O_RDONLY);
+    off_t end = in < 0 ? -1 : lseek(in, 0, SEEK_END);
+    need(end >= 0, name);
+    *length = (uint64_t)end;
+    uint8_t *bytes = malloc(*length);
+    need(bytes != NULL, "memory");
+    for (uint64_t done = 0; done < *length;) {
+        ssize_t count = pread(in, bytes + done, *length - done, (off_t)done);
+        need(count > 0, name);
+        done += (uint64_t)count;
+    }
+    close(in);
+    return bytes;
+}
+
+// ---- the blocks that are read ----
+
+static const uint8_t *block(uint64_t at, const char *name) {
+    need(at % 8 == 0 && at <= size && size - at >= 24 && memcmp(file + at, name, 4) == 0, name);
+    uint64_t len = number(file + at + 8, 8), links = number(file + at + 16, 8);
+    need(len >= 24 && len <= size - at && links <= (len - 24) / 8, name);
+    return file + at;
+}
+
+static uint64_t link_of(const uint8_t *block, int k) { return number(block + 24 + 8 * k, 8); }
+
+static const uint8_t *body(const uint8_t *block) { return block + 24 + 8 * number(block + 16, 8); }
+
+static void add_part(uint64_t at) {
+    const uint8_t *data = block(at, "##DT");
+    parts = realloc(parts, (part_count + 1) * sizeof *parts);
+    need(parts != NULL, "memory");
+    parts[part_count++] = (struct part){body(data), (uint64_t)(data + number(data + 8, 8) - body(data))};
+}
+
+static void follow(uint64_t at) {
+    if (at == 0) return;
+    if (memcmp(file + at, "##DL", 4) != 0) {
+        add_part(at);
+        return;
+    }
+    for (; at != 0; at = link_of(file + at, 0)) {
+        const uint8_t *list = block(at, "##DL");
+        for (uint64_t k = 1; k < number(list + 16, 8); k++) add_part(link_of(list, (int)k));
+    }
+}
+
+static void read_groups(uint64_t at) {
+    while (at != 0) {
+        const uint8_t *block_at = block(at, "##CG"), *fields = body(block_at);
+        need(group_count < GROUPS, "groups");
+        struct group *group = &groups[group_count++];
+        *group = (struct group){.block = block_at, .id = number(fields, 8), .holds_values = fields[16] & 1};
+        group->size = number(fields + 24, 4) + number(fields + 28, 4);
+        for (uint64_t channel = link_of(block_at, 1); channel != 0;) {
+            const uint8_t *row = block(channel, "##CN");
+            if (body(row)[0] == 1) group->values = link_of(row, 5);
+            if (body(row)[0] == 2 && !group->mastered) {
+                group->mastered = true;
+                group->master = (uint32_t)number(body(row) + 4, 4);
+            }
+            channel = link_of(row, 0);
+        }
+        at = link_of(block_at, 0);
+    }
+}
+
+// ---- the records ----
+
+// the next bytes of the stream are copied, or passed over where they go nowhere
+static void take(uint8_t *to, uint64_t len) {
+    uint64_t done = 0;
+    while (done < len) {
+        need(part < part_count, "cut");
+        uint64_t rest = parts[part].len - place, step = len - done < rest ? len - done : rest;
+        if (to != NULL) memcpy(to + done, parts[part].at + place, step);
+        done += step;
+        place += step;
+        if (place == parts[part].len) {
+            part++;
+            place = 0;
+        }
+    }
+}
+
+static const struct group *group_of(uint64_t id) {
+    for (uint32_t k = 0; k < group_count; k++)
+        if (groups[k].id == id) return &groups[k];
+    need(false, "id");
+    return NULL;
+}
+
+// whether the record is kept that stands behind what is made
+static bool is_kept(const struct group *group) {
+    if (!cuts || !group->mastered) return true;
+    uint64_t master = number(made + used + group->master, 8);
+    return from <= master && master < to;
+}
+
+// goes over all records, and puts those of a group behind what is made; answers how many they are
+static uint64_t gather(const struct group *wanted, uint8_t id_size) {
+    uint64_t count = 0;
+    part = place = 0;
+    while (part < part_count) {
+        uint8_t head[8];
+        if (id_size > 0) take(head, id_size);
+        const struct group *group = id_size == 0 ? groups : group_of(number(head, id_size));
+        uint64_t len = group->size;
+        bool kept = group == wanted;
+        if (group->holds_values) {
+            take(head, 4);
+            len = number(head, 4);
+            if (kept) memcpy(made + used, head, 4);
+            if (kept) used += 4;
+        }
+        take(kept ? made + used : NULL, len);
+        if (!kept || !is_kept(group)) continue;
+        used += len;
+        count++;
+    }
+    return count;
+}
+
+// ---- the blocks that are made ----
+
+// adds the header of a block, all links 0, and answers its address
+static uint64_t begin(const char *kind, uint64_t links) {
+    uint64_t at = used;
+    memcpy(made + at, kind, 4);
+    memset(made + at + 4, 0, 20 + 8 * links);
+    put(at + 16, links);
+    used += 24 + 8 * links;
+    return at;
+}
+
+// ends a block, which is filled up to an address that 8 divides
+static void end(uint64_t at) {
+    put(at + 8, used - at);
+    while (used % 8 != 0) made[used++] = 0;
+}
+
+static void link_to(uint64_t block, uint64_t k, uint64_t to) { put(block + 24 + 8 * k, to); }
+
+static void add(const void *bytes, uint64_t len) {
+    memcpy(made + used, bytes, len);
+    used += len;
+}
+
+// adds a text as a block of this kind, filled with zero bytes up to a multiple of 8
+static uint64_t add_text(const char *kind, const uint8_t *text, uint64_t len) {
+    uint64_t at = begin(kind, 0), filled = 8 - len % 8;
+    add(text, len);
+    memset(made + used, 0, filled);
+    used += filled;
+    end(at);
+    return at;
+}
+
+static uint64_t copy_text(uint64_t at) {
+    const uint8_t *text = block(at, memcmp(file + at, "##MD", 4) == 0 ? "##MD" : "##TX"), *words = body(text);
+    return add_text(text[2] == 'M' ? "##MD" : "##TX", words, strlen((const char *)words));
+}
+
+static uint64_t add_entry(const uint8_t *fields) {
+    uint64_t at = begin("##FH", 2);
+    add(fields, 16);
+    end(at);
+    return at;
+}
+
+static uint64_t time_of(const char *name) {
+    uint64_t length, entry = 0;
+    uint8_t *sorted = read_whole(name, &length);
+    for (uint64_t next = number(sorted + 64 + 32, 8); next != 0; next = number(sorted + next + 24, 8)) entry = next;
+    uint64_t time = number(sorted + entry + 40, 8);
+    free(sorted);
+    return time;
+}
+
+static void add_head(const uint8_t *head, uint64_t time) {
+    const char *comment = cuts ? "<FHcomment><TX>cut</TX><tool_id>mdf4rec</tool_id><tool_vendor>none</tool_vendor>"
+                                 "<tool_version>1</tool_version></FHcomment>"
+                               : "<FHcomment><TX>sort</TX><tool_id>mdf4rec</tool_id><tool_vendor>none</tool_vendor>"
+                                 "<tool_version>1</tool_version></FHcomment>";
+    memset(made, 0, 64);
+    memcpy(made, "MDF     4.10    mdf4rec ", 24);
+    made[28] = 154;
+    made[29] = 1;
+    used = 64;
+    uint64_t at = begin("##HD", 6), last = at, k = 1;
+    add(body(head), 32);
+    end(at);
+    for (uint64_t next = link_of(head, 1); next != 0; next = link_of(file + next, 0), k = 0) {
+        const uint8_t *old = block(next, "##FH");
+        uint64_t entry = add_entry(body(old));
+        link_to(last, k, entry);
+        if (link_of(old, 1) != 0) link_to(entry, 1, copy_text(link_of(old, 1)));
+        last = entry;
+    }
+    uint8_t fields[16] = {0};
+    memcpy(fields, &time, 8);
+    uint64_t entry = add_entry(fields);
+    link_to(last, k, entry);
+    link_to(entry, 1, add_text("##MD", (const uint8_t *)comment, strlen(comment)));
+}
+
+// adds the channels of a group, and answers the one whose values vary in length
+static uint64_t add_channels(const struct group *group, uint64_t own) {
+    uint64_t last = own, k = 1, varying = 0;
+    for (uint64_t next = link_of(group->block, 1); next != 0; next = link_of(file + next, 0), k = 0) {
+        const uint8_t *old = block(next, "##CN");
+        uint64_t at = begin("##CN", 8);
+        add(body(old), 72);
+        end(at);
+        link_to(last, k, at);
+        link_to(at, 2, copy_text(link_of(old, 2)));
+        if (body(old)[0] == 1) varying = at;
+        last = at;
+    }
+    return varying;
+}
+
+static uint64_t add_group(const struct group *group, uint64_t *varying) {
+    uint64_t at = begin("##CG", 6);
+    add(body(group->block), 32);
+    memset(made + at + 72, 0, 8);
+    end(at);
+    link_to(at, 2, copy_text(link_of(group->block, 2)));
+    *varying = add_channels(group, at);
+    return at;
+}
+
+// adds a data group for one group, and answers it
+static uint64_t add_sorted(const struct group *group, uint8_t id_size) {
+    uint64_t at = begin("##DG", 4), varying;
+    memset(made + used, 0, 8);
+    used += 8;
+    end(at);
+    uint64_t own = add_group(group, &varying), records = begin("##DT", 0);
+    link_to(at, 1, own);
+    link_to(at, 2, records);
+    put(own + 80, gather(group, id_size));
+    end(records);
+    if (varying == 0) return at;
+    uint64_t values = begin("##SD", 0);
+    for (uint32_t k = 0; k < group_count; k++)
+        if (file + group->values == groups[k].block) gather(&groups[k], id_size);
+    end(values);
+    link_to(varying, 5, values);
+    return at;
+}
+
+// ---- the file ----
+
+static void write_at(int out, const uint8_t *bytes, uint64_t len, uint64_t at) {
+    for (uint64_t done = 0; done < len;) {
+        ssize_t count = pwrite(out, bytes + done, len - done, (off_t)(at + done));
+        need(count > 0, "write");
+        done += (uint64_t)count;
+    }
+}
+
+static void write_sealed(const char *name) {
+    int out = open(name, O_RDWR | O_CREAT | O_EXCL, 0644);
+    need(out >= 0, name);
+    write_at(out, (const uint8_t *)"", 1, 0);
+    need(fdatasync(out) == 0, "sync");
+    write_at(out, made + 1, used - 1, 1);
+    need(fdatasync(out) == 0, "sync");
+    write_at(out, made, 1, 0);
+    need(fdatasync(out) == 0, "sync");
+    close(out);
+}
+
+int main(int words, char **word) {
+    cuts = words == 7 && strcmp(word[1], "cut") == 0;
+    need(cuts || (words == 5 && strcmp(word[1], "sort") == 0), "usage: made sort FIRST IN OUT, or made cut FIRST IN OUT FROM TO");
+    if (cuts) {
+        from = strtoull(word[5], NULL, 10);
+        to = strtoull(word[6], NULL, 10);
+    }
+    uint64_t time = time_of(word[2]);
+    file = read_whole(word[3], &size);
+    made = malloc(size + TREE);
+    need(made != NULL, "memory");
+    const uint8_t *head = block(64, "##HD"), *data = block(link_of(head, 0), "##DG");
+    add_head(head, time);
+    read_groups(link_of(data, 1));
+    follow(link_of(data, 2));
+    uint64_t last = 64, samples = 0;
+    uint32_t count = 0;
+    for (uint32_t k = 0; k < group_count; k++) {
+        if (groups[k].holds_values) continue;
+        uint64_t at = add_sorted(&groups[k], body(data)[0]);
+        link_to(last, 0, at);
+        last = at;
+        samples += number(made + link_of(made + at, 1) + 80, 8);
+        count++;
+    }
+    write_sealed(word[4]);
+    printf("groups %u samples %llu dropped 0\n", count, (unsigned long long)samples);
+    return 0;
+}
