@@ -1,2 +1,4 @@
 pub mod Pieces
 pub mod Told
+mod Numbers
+pub mod Bounds

@@ -1,7 +1,7 @@
 -- Which words a command comes from.
-use Rattle.mdf_command.specs.Words.{Request, opened, recorded, finalized, checked, described, sorted}
+use Rattle.mdf_command.specs.Words.{Request, opened, recorded, finalized, checked, described, sorted, cut, exported}
 use Rattle.mdf_command.specs.declared.command.Command.{Command}
-use Rattle.mdf_command.specs.declared.command.Command.TheVariants.{Opened, Record, Finalize, Check, Info, Sort}
+use Rattle.mdf_command.specs.declared.command.Command.TheVariants.{Opened, Record, Finalize, Check, Info, Sort, Cut, Export}
 
 -- what a command was asked for with
 abbrev pub request_of : Command → Request
@@ -11,3 +11,5 @@ request_of (Finalize input output) = finalized input.now output.now
 request_of (Check input) = checked input.now
 request_of (Info input) = described input.now
 request_of (Sort input output) = sorted input.now output.now
+request_of (Cut input output from to) = cut input.now output.now from to
+request_of (Export input group) = exported input.now group

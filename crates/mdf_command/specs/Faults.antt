@@ -23,7 +23,7 @@ use Rattle.mdf_tool.specs.declared.fault.ToolFault.TheVariants as tool
 use Rattle.acq_script.specs.declared.fault.ScriptFault.TheVariants as script
 use Rattle.mdf_command.specs.Texts.{line}
 use Rattle.mdf_command.specs.declared.fault.Fault.{Fault}
-use Rattle.mdf_command.specs.declared.fault.Fault.TheVariants.{Gate, Source, Device, InputOver, ScriptOver, SessionFull, Memory, Script, Read}
+use Rattle.mdf_command.specs.declared.fault.Fault.TheVariants.{Gate, Source, Device, InputOver, ScriptOver, SessionFull, Memory, Script, Read, NoGroup}
 
 -- the status of a file that is refused, and of one for which there was no memory
 abbrev pub refused_status : Option Refusal → ℕ
@@ -40,6 +40,7 @@ fault_status (SessionFull held size limit) = 5
 fault_status Memory = 7
 fault_status (Script number) = 8
 fault_status (Read fault) = refused_status (read_refusal fault)
+fault_status (NoGroup said groups) = 3
 
 abbrev pub gate_line : GateFault → List ℕ
 gate_line gates.NotMdf = line (codes "not MDF" ∷ [])
@@ -104,6 +105,7 @@ fault_line (SessionFull held size limit) =
 fault_line Memory = line (codes "want of memory" ∷ [])
 fault_line (Script number) = line (codes "script line " ∷ decimal number ∷ [])
 fault_line (Read fault) = read_line (read_refusal fault)
+fault_line (NoGroup said groups) = texts_line (codes "no group ") said (codes " of ") groups
 
 -- how many bytes an input file has at most
 abbrev pub INPUT_LIMIT : ℕ
@@ -113,15 +115,11 @@ INPUT_LIMIT = 536870912
 abbrev pub InputFaultComes : DiskState → DiskState → Fault → Type 0
 InputFaultComes old new (Gate fault) =
     IfSome old.content (λ file. HasFault file fault × HasNoOpened file × (length file ≤ INPUT_LIMIT))
-InputFaultComes old new Source = ⊥
 InputFaultComes old new Device = Rose old.faults new.faults
 InputFaultComes old new (InputOver size limit) =
     (limit ≡ INPUT_LIMIT) × (limit < size) × IfSome old.content (λ file. size ≡ length file)
-InputFaultComes old new (ScriptOver limit) = ⊥
-InputFaultComes old new (SessionFull held size limit) = ⊥
 InputFaultComes old new Memory = Unit {0}
-InputFaultComes old new (Script number) = ⊥
-InputFaultComes old new (Read fault) = ⊥
+InputFaultComes old new _ = ⊥
 
 -- the fault of a file that could not be read whole
 abbrev pub fault_of_load : LoadFault → Fault

@@ -2,3 +2,4 @@ pub mod Words
 pub mod Commands
 pub mod Texts
 pub mod Faults
+pub mod Load

@@ -1,5 +1,6 @@
 -- The command words, without the program's name.
-use Rattle.std.specs.Prelude.{◌≡◌, ◌⊎◌, List, [], ◌∷◌, ℕ, Option, None, Some, codes}
+use Rattle.std.specs.Prelude.{◌≡◌, ◌⊎◌, ◌<◌, ◌^◌, List, [], ◌∷◌, ℕ, ℤ, pos, negsuc, Option, None, Some, codes}
+use Rattle.std.specs.Fmt.{decimal, signed_decimal}
 use Rattle.mdf_disk.specs.declared.role.Role.{Role}
 use Rattle.mdf_disk.specs.declared.role.Role.TheVariants.{Read, Create}
 use Rattle.mdf_command.specs.declared.command.Name.{Name}
@@ -13,6 +14,8 @@ pub data Request : Type 0 where
   checked : (input : List ℕ) → Request
   described : (input : List ℕ) → Request
   sorted : (input output : List ℕ) → Request
+  cut : (input output : List ℕ) (from to : ℤ) → Request
+  exported : (input : List ℕ) (group : ℕ) → Request
 
 -- the first word of each command
 abbrev pub name_text : Name → List ℕ
@@ -22,6 +25,8 @@ name_text name.Finalize = codes "finalize"
 name_text name.Check = codes "check"
 name_text name.Info = codes "info"
 name_text name.Sort = codes "sort"
+name_text name.Cut = codes "cut"
+name_text name.Export = codes "export"
 
 -- the word is that of this command, and of none
 abbrev pub Names : List ℕ → Name → Type 0
@@ -29,6 +34,13 @@ Names word name = word ≡ name_text name
 
 abbrev pub NamesNothing : List ℕ → Type 0
 NamesNothing word = (name : Name) → ¬ Names word name
+
+-- a word is this number, below 2 ^ 64, in decimal without a sign and without leading zeros; and it is none
+abbrev pub IsNumber : List ℕ → ℕ → Type 0
+IsNumber word number = (word ≡ decimal number) × (number < 2 ^ 64)
+
+abbrev pub IsNoNumber : List ℕ → Type 0
+IsNoNumber word = (number : ℕ) → ¬ IsNumber word number
 
 -- which command it is, and its arguments
 abbrev pub name_of : Request → Name
@@ -38,6 +50,8 @@ name_of (finalized input output) = name.Finalize
 name_of (checked input) = name.Check
 name_of (described input) = name.Info
 name_of (sorted input output) = name.Sort
+name_of (cut input output from to) = name.Cut
+name_of (exported input group) = name.Export
 
 abbrev pub arguments_of : Request → List (List ℕ)
 arguments_of (opened input) = input ∷ []
@@ -46,10 +60,30 @@ arguments_of (finalized input output) = input ∷ output ∷ []
 arguments_of (checked input) = input ∷ []
 arguments_of (described input) = input ∷ []
 arguments_of (sorted input output) = input ∷ output ∷ []
+arguments_of (cut input output from to) = input ∷ output ∷ signed_decimal from ∷ signed_decimal to ∷ []
+arguments_of (exported input group) = input ∷ decimal group ∷ []
+
+-- an end of a range of numbers is from -2 ^ 63 to 2 ^ 64 - 1
+abbrev pub IsBound : ℤ → Type 0
+IsBound (pos n) = n < 2 ^ 64
+IsBound (negsuc n) = n < 2 ^ 63
+
+-- a word is this one, in decimal with a `-` before a negative number alone and without leading zeros; and it is none
+abbrev pub SaysBound : List ℕ → ℤ → Type 0
+SaysBound word bound = (word ≡ signed_decimal bound) × IsBound bound
+
+abbrev pub SaysNoBound : List ℕ → Type 0
+SaysNoBound word = (bound : ℤ) → ¬ SaysBound word bound
+
+-- its numbers are such as it takes
+abbrev pub IsInRange : Request → Type 0
+IsInRange (cut input output from to) = IsBound from × IsBound to
+IsInRange (exported input group) = group < 2 ^ 64
+IsInRange _ = Unit {0}
 
 -- the words that ask for it
 abbrev pub Asks : List (List ℕ) → Request → Type 0
-Asks words request = words ≡ name_text (name_of request) ∷ arguments_of request
+Asks words request = (words ≡ name_text (name_of request) ∷ arguments_of request) × IsInRange request
 
 -- no command of the table
 abbrev pub IsUsage : List (List ℕ) → Type 0
@@ -79,6 +113,14 @@ AsksInfo words input = Asks words (described input)
 abbrev pub AsksSort : List (List ℕ) → List ℕ → List ℕ → Type 0
 AsksSort words input output = Asks words (sorted input output)
 
+-- `cut IN OUT FROM TO`
+abbrev pub AsksCut : List (List ℕ) → List ℕ → List ℕ → ℤ → ℤ → Type 0
+AsksCut words input output from to = Asks words (cut input output from to)
+
+-- `export IN GROUP`
+abbrev pub AsksExport : List (List ℕ) → List ℕ → ℕ → Type 0
+AsksExport words input group = Asks words (exported input group)
+
 -- the file that it reads, and the file that it makes
 abbrev pub input_of : Request → Option (List ℕ)
 input_of (opened input) = Some input
@@ -87,6 +129,8 @@ input_of (finalized input output) = Some input
 input_of (checked input) = Some input
 input_of (described input) = Some input
 input_of (sorted input output) = Some input
+input_of (cut input output from to) = Some input
+input_of (exported input group) = Some input
 
 abbrev pub output_of : Request → Option (List ℕ)
 output_of (opened input) = None
@@ -95,6 +139,8 @@ output_of (finalized input output) = Some output
 output_of (checked input) = None
 output_of (described input) = None
 output_of (sorted input output) = Some output
+output_of (cut input output from to) = Some output
+output_of (exported input group) = None
 
 -- the words ask for a file to be made
 abbrev pub AsksToMake : List (List ℕ) → List ℕ → Type 0

@@ -2,6 +2,8 @@ ghost use Rattle.std.specs.Prelude.{MatchOption};
 ghost use Rattle.mdf_command.specs.Words.{Asks, IsUsage, Names, NamesNothing};
 ghost use Rattle.mdf_command.specs.Commands.{request_of};
 
+use crate::bound::bound_of;
+use crate::number::number_of;
 use mdf_num::{Bytes, Rows};
 
 /// The first word of a command.
@@ -13,6 +15,8 @@ pub enum Name {
     Check,
     Info,
     Sort,
+    Cut,
+    Export,
 }
 
 impl Name {
@@ -38,6 +42,12 @@ impl Name {
         if word == b"sort".as_slice() {
             return Some(Name::Sort);
         }
+        if word == b"cut".as_slice() {
+            return Some(Name::Cut);
+        }
+        if word == b"export".as_slice() {
+            return Some(Name::Export);
+        }
         None
     }
 }
@@ -46,17 +56,43 @@ impl Name {
 #[derive(Clone, Copy)]
 pub enum Command<'a> {
     /// `opened IN`
-    Opened { input: &'a Bytes },
+    Opened {
+        input: &'a Bytes,
+    },
     /// `record OUT`
-    Record { output: &'a Bytes },
+    Record {
+        output: &'a Bytes,
+    },
     /// `finalize IN OUT`
-    Finalize { input: &'a Bytes, output: &'a Bytes },
+    Finalize {
+        input: &'a Bytes,
+        output: &'a Bytes,
+    },
     /// `check IN`
-    Check { input: &'a Bytes },
+    Check {
+        input: &'a Bytes,
+    },
     /// `info IN`
-    Info { input: &'a Bytes },
+    Info {
+        input: &'a Bytes,
+    },
     /// `sort IN OUT`
-    Sort { input: &'a Bytes, output: &'a Bytes },
+    Sort {
+        input: &'a Bytes,
+        output: &'a Bytes,
+    },
+    /// `cut IN OUT FROM TO`: from a number on and below another, each from -2^63 to 2^64 - 1.
+    Cut {
+        input: &'a Bytes,
+        output: &'a Bytes,
+        from: i128,
+        to: i128,
+    },
+    /// `export IN GROUP`: the group of this number, counted from 0.
+    Export {
+        input: &'a Bytes,
+        group: u64,
+    },
 }
 
 /// The command that the words name, if any.
@@ -73,6 +109,16 @@ pub fn command_of(words: &Rows<Bytes>) -> Option<Command<'_>>
         (Name::Check, [input]) => Some(Command::Check { input }),
         (Name::Info, [input]) => Some(Command::Info { input }),
         (Name::Sort, [input, output]) => Some(Command::Sort { input, output }),
+        (Name::Cut, [input, output, from, to]) => Some(Command::Cut {
+            input,
+            output,
+            from: bound_of(from.as_slice())?,
+            to: bound_of(to.as_slice())?,
+        }),
+        (Name::Export, [input, group]) => Some(Command::Export {
+            input,
+            group: number_of(group.as_slice())?,
+        }),
         _ => None,
     }
 }

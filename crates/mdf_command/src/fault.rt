@@ -40,6 +40,8 @@ pub enum Fault {
     Script { line: u64 },
     /// The input is no finalized file that can be read, or there was no memory for it.
     Read(ReadFault),
+    /// The input has only so many groups with samples, and none of the number that was said.
+    NoGroup { said: u64, groups: u32 },
 }
 
 impl Fault {
@@ -57,7 +59,7 @@ impl Fault {
             Fault::Memory => 7,
             Fault::Script { .. } => 8,
             Fault::Read(ReadFault::Memory) => 7,
-            Fault::Read(_) => 3,
+            Fault::Read(_) | Fault::NoGroup { .. } => 3,
         }
     }
 
@@ -95,6 +97,9 @@ impl Fault {
             Fault::Memory => give_line(sink, &[Text(b"want of memory")]),
             Fault::Script { line } => give_line(sink, &[Text(b"script line "), Number(*line)]),
             Fault::Read(fault) => give_read_line(sink, *fault),
+            Fault::NoGroup { said, groups } => {
+                give_texts(sink, b"no group ", *said, b" of ", u64::from(*groups))
+            }
         }
     }
 }

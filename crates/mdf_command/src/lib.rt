@@ -2,10 +2,14 @@
 //! the faults with their lines and statuses.
 #![tactic(auto)]
 
+mod bound;
 mod command;
 mod fault;
+mod input;
+mod number;
 mod report;
 
 pub use command::{Command, command_of};
 pub use fault::Fault;
+pub use input::load;
 pub use report::{Piece, give_line, status_after};

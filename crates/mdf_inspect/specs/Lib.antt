@@ -3,3 +3,4 @@ pub mod Reading
 pub mod Check
 pub mod Info
 pub mod Question
+pub mod Export

@@ -32,16 +32,12 @@ pub record IsRefused (refused : ReadFault) (file : List ℕ) : Type 0 where
 
 -- The file could not be read only where this holds of the disk of the input before and after.
 abbrev pub ReadingFaultComes : DiskState → DiskState → Fault → Type 0
-ReadingFaultComes old new (fault.Gate refused) = ⊥
-ReadingFaultComes old new fault.Source = ⊥
 ReadingFaultComes old new fault.Device = Rose old.faults new.faults
 ReadingFaultComes old new (fault.InputOver size limit) =
     (limit ≡ INPUT_LIMIT) × (limit < size) × IfSome old.content (λ file. size ≡ length file)
-ReadingFaultComes old new (fault.ScriptOver limit) = ⊥
-ReadingFaultComes old new (fault.SessionFull held size limit) = ⊥
 ReadingFaultComes old new fault.Memory = Unit {0}
-ReadingFaultComes old new (fault.Script number) = ⊥
 ReadingFaultComes old new (fault.Read refused) = IfSome old.content (IsRefused refused)
+ReadingFaultComes old new _ = ⊥
 
 -- What is read of a file is its measurement, and it is strict exactly where the file is valid.
 pub record IsReading (found : Reading) (file : List ℕ) : Type 0 where

@@ -1,4 +1,5 @@
-//! The commands that print what a file is: `opened`, of a recording, and `check` and `info`, of a finalized file.
+//! The commands that print what a file is or holds: `opened`, of a recording, and `check`, `info` and `export`, of a
+//! finalized file.
 #![tactic(auto)]
 
 mod answer;
@@ -6,6 +7,8 @@ mod check;
 mod info;
 mod opened;
 mod reading;
+mod table;
 
 pub use answer::{Question, run_reading};
 pub use opened::run_opened;
+pub use table::run_export;

@@ -11,11 +11,14 @@ use Rattle.mdf_tool.specs.declared.fault.ToolFault.{ToolFault}
 use Rattle.mdf_tool.specs.declared.fault.ToolFault.TheVariants as tool
 use Rattle.tool_final.specs.Finalize.{FinalizeEnds}
 use Rattle.tool_sort.specs.Sort.{SortEnds}
+use Rattle.tool_cut.specs.Cut.{CutEnds, Cutting}
 use Rattle.mdf_command.specs.Faults.{fault_of_tool}
 use Rattle.mdf_make.specs.Finalize.{Finalizes, IsNoRecording}
 use Rattle.mdf_make.specs.Sort.{IsNotMeasured, Sorts}
+use Rattle.mdf_make.specs.Cut.{Cuts}
 use Rattle.mdf_make.specs.Tool.{IsImage, ToolEnds}
-use Rattle.mdf_make.specs.Making.{IsLoaded, LoadFaultComes, MakeComes, MakesNothing, MakingComes}
+use Rattle.mdf_command.specs.Load.{IsLoaded, LoadFaultComes}
+use Rattle.mdf_make.specs.Making.{MakeComes, MakesNothing, MakingComes}
 use Rattle.mdf_command.specs.declared.fault.Fault.{Fault}
 use Rattle.mdf_command.specs.declared.fault.Fault.TheVariants as fault
 
@@ -108,3 +111,9 @@ pub sort_fault : (file : List ℕ) (now : ℕ) (old new : DiskState) (problem : 
 sort_fault file now old new (tool.Read refused) ends = (ends.1, ends.2)
 sort_fault file now old new tool.Failed ends = ends
 sort_fault file now old new tool.Memory ends = ends
+
+pub cut_fault : (file : List ℕ) (asked : Cutting) (old new : DiskState) (problem : ToolFault) → CutEnds file asked old new (Err problem)
+    → ToolEnds (Cuts asked file) (IsNotMeasured file) old new (Err (fault_of_tool problem))
+cut_fault file asked old new (tool.Read refused) ends = (ends.1, ends.2)
+cut_fault file asked old new tool.Failed ends = ends
+cut_fault file asked old new tool.Memory ends = ends

@@ -2,3 +2,4 @@ pub mod Tool
 pub mod Making
 pub mod Finalize
 pub mod Sort
+pub mod Cut

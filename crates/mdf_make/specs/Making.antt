@@ -1,5 +1,5 @@
 -- A command that makes a file of another one.
-use Rattle.std.specs.Prelude.{ℕ, ◌≡◌, ◌<◌, ◌≤◌, ◌⊎◌, List, [], ◌∷◌, length, codes, IfSome, Result, Ok, Err}
+use Rattle.std.specs.Prelude.{ℕ, ◌≡◌, ◌⊎◌, List, [], ◌∷◌, codes, Result, Ok, Err}
 use Rattle.std.specs.Fmt.{decimal}
 use Rattle.mdf_format.specs.Cause.{Rose}
 use Rattle.mdf_disk.specs.Crash.{HoldsSince}
@@ -8,35 +8,14 @@ use Rattle.mdf_port.specs.State.{SinkState}
 use Rattle.mdf_seal.specs.Seal.{IsKept}
 use Rattle.mdf_tool.specs.declared.made.Report.{Report}
 use Rattle.mdf_command.specs.Texts.{line, Prints}
-use Rattle.mdf_command.specs.Faults.{INPUT_LIMIT, fault_line, fault_status}
+use Rattle.mdf_command.specs.Faults.{fault_line, fault_status}
+use Rattle.mdf_command.specs.Load.{IsLoaded, IsOver}
 use Rattle.mdf_command.specs.declared.fault.Fault.{Fault}
 use Rattle.mdf_command.specs.declared.fault.Fault.TheVariants as fault
 
 -- the line on the file that was made
 abbrev pub report_line : Report → List ℕ
 report_line report = line (codes "groups " ∷ decimal report.groups ∷ codes " samples " ∷ decimal report.samples ∷ codes " dropped " ∷ decimal report.dropped ∷ [])
-
--- these bytes are the file, where its disk tells it, and an input may have so many
-pub record IsLoaded (disk : DiskState) (file : List ℕ) : Type 0 where
-  pub told : IfSome disk.content (λ content. file ≡ content)
-  pub short : length file ≤ INPUT_LIMIT
-
--- the file has more bytes than an input may have
-pub record IsOver (disk : DiskState) (size limit : ℕ) : Type 0 where
-  pub limit_is : limit ≡ INPUT_LIMIT
-  pub over : limit < size
-  pub told : IfSome disk.content (λ file. size ≡ length file)
-
--- The input could not be loaded only where this holds of its disk before and after.
-abbrev pub LoadFaultComes : DiskState → DiskState → Fault → Type 0
-LoadFaultComes old new fault.Device = Rose old.faults new.faults
-LoadFaultComes old new (fault.InputOver size limit) = IsOver old size limit
-LoadFaultComes old new fault.Memory = Unit {0}
-LoadFaultComes old new _ = ⊥
-
-abbrev pub LoadComes : DiskState → DiskState → Result (List ℕ) Fault → Type 0
-LoadComes old new (Ok file) = IsLoaded old file
-LoadComes old new (Err fault) = LoadFaultComes old new fault
 
 -- since then a crash leaves nothing of the output
 abbrev pub MakesNothing : DiskState → DiskState → Type 0

@@ -5,32 +5,17 @@ ghost use Rattle.mdf_disk.specs.State.{state_of};
 ghost use Rattle.mdf_disk.specs.declared.role.Role.TheVariants.{Create, Read};
 ghost use Rattle.mdf_port.specs.State.{sink_state};
 ghost use Rattle.mdf_command.specs.Texts.{Gives, Prints};
-ghost use Rattle.mdf_make.specs.Making.{EndsMaking, LoadComes, MakeComes, MakingComes, making_status, making_text, report_line};
+ghost use Rattle.mdf_make.specs.Making.{EndsMaking, MakeComes, MakingComes, making_status, making_text, report_line};
 ghost use Rattle.mdf_make.specs.Tool.{IsImage};
 
 use crate::tool::Tool;
 use mdf_command::Piece::{Number, Text};
-use mdf_command::{Fault, give_line, status_after};
-use mdf_disk::{Disk, Role, read_whole};
+use mdf_command::{Fault, give_line, load, status_after};
+use mdf_disk::{Disk, Role};
 use mdf_num::{Bytes, Failed};
 use mdf_port::Sink;
 use mdf_tool::Report;
 use std::alloc::Global;
-
-/// How many bytes an input file has at most.
-const INPUT_LIMIT: u64 = 536_870_912;
-
-/// Loads the file of this name.
-fn load<A: Disk>(alloc: Global, input: &Bytes, first: &mut A) -> Result<Bytes, Fault>
-    requires { A.asked first.old ≡ None }
-    ensures comes { LoadComes (state_of A.Disk first.old) (state_of A.Disk first.new) result }
-    ensures asked { (A.asked first.new ≡ None) ⊎ (A.asked first.new ≡ Some (input.now, Read)) }
-    ensures content { A.content first.new ≡ A.content first.old }
-    ensures untouched { A.asked first.new ≡ None → first.new ≡ first.old }
-{
-    first.attach(input.copy()?, Role::Read)?;
-    Ok(read_whole(alloc, first, INPUT_LIMIT)?)
-}
 
 /// Makes a file of these bytes, of this name.
 fn make<T: Tool + Drop, C: Disk>(

@@ -7,6 +7,8 @@ mod blocks;
 #[cfg(test)]
 mod convs;
 #[cfg(test)]
+mod cuts;
+#[cfg(test)]
 mod data;
 #[cfg(test)]
 mod exports;

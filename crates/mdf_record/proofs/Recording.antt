@@ -223,15 +223,10 @@ module _ {D N : Type 0} (tells : DiskOf D) (shows : ViewOf NoView N)
 
   ended : (problem' : Option Fault) → FinishEnds flushed result problem' → CloseComes script file.faults left problem'
   ended None ends = completes result refl ends.0 ends.1
-  ended (Some (fault.Gate refused)) ends = absurd ends
-  ended (Some fault.Source) ends = absurd ends
   ended (Some fault.Device) ends = subst (λ (t : Terms). Rose t.faults (tells.faults flushed.disk)) terms_are (closes.cause ends)
-  ended (Some (fault.InputOver size limit)) ends = absurd ends
-  ended (Some (fault.ScriptOver limit)) ends = absurd ends
   ended (Some (fault.SessionFull held size limit)) ends = fills held size limit ends.0 ends.1
   ended (Some fault.Memory) ends = wants ends.0 ends.1
-  ended (Some (fault.Script number)) ends = absurd ends
-  ended (Some (fault.Read refused)) ends = absurd ends
+  ended (Some _) ends = absurd ends
 
   pub has_run : HasRun tells script file (outcome tells recorded.out recorded.history.items recorded.marks.items) recorded.end
   has_run = record {
@@ -271,15 +266,8 @@ recorded_told script front front' (Some s) (Some middle) None start start' outco
 close_earlier : (script : Script) (earlier faults : ℕ) (left : Outcome) (problem : Option Fault) → earlier ≤ faults
     → CloseComes script faults left problem → CloseComes script earlier left problem
 close_earlier script earlier faults left None later comes = comes
-close_earlier script earlier faults left (Some (fault.Gate refused)) later comes = comes
-close_earlier script earlier faults left (Some fault.Source) later comes = comes
 close_earlier script earlier faults left (Some fault.Device) later comes = omega (arith, later, comes)
-close_earlier script earlier faults left (Some (fault.InputOver size limit)) later comes = comes
-close_earlier script earlier faults left (Some (fault.ScriptOver limit)) later comes = comes
-close_earlier script earlier faults left (Some (fault.SessionFull held size limit)) later comes = comes
-close_earlier script earlier faults left (Some fault.Memory) later comes = comes
-close_earlier script earlier faults left (Some (fault.Script number)) later comes = comes
-close_earlier script earlier faults left (Some (fault.Read refused)) later comes = comes
+close_earlier script earlier faults left (Some problem) later comes = comes
 
 -- what was recorded into a file that was made on a disk
 pub record_comes : {C : Type 0} (tells : DiskOf C) (source source' : SourceState) (name : List ℕ) (now : ℕ) (out : C) (script : Script) (file : Gated C) (left : Outcome) (end : RecordEnd)

@@ -14,15 +14,9 @@ use Rattle.mdf_command.specs.declared.fault.Fault.TheVariants as fault
 
 -- the file could not be made, or the book not begun
 abbrev pub FileFaultComes : DiskState → DiskState → Fault → Type 0
-FileFaultComes old new (fault.Gate refused) = ⊥
-FileFaultComes old new fault.Source = ⊥
 FileFaultComes old new fault.Device = Rose old.faults new.faults
-FileFaultComes old new (fault.InputOver size limit) = ⊥
-FileFaultComes old new (fault.ScriptOver limit) = ⊥
-FileFaultComes old new (fault.SessionFull held size limit) = ⊥
 FileFaultComes old new fault.Memory = Unit {0}
-FileFaultComes old new (fault.Script number) = ⊥
-FileFaultComes old new (fault.Read refused) = ⊥
+FileFaultComes old new _ = ⊥
 
 -- no file was made: what the disk was asked for, what a crash since may leave, and why
 pub record IsUnmade (name head : List ℕ) (old new : DiskState) (fault : Fault) : Type 0 where
@@ -38,15 +32,10 @@ IsAllDurable book = (book.stopped ≡ false) × (durable book.marks ≡ length b
 -- of memory. All is durable but where the disk failed.
 abbrev pub FinishEnds : {D V : Type 0} → Account D V → Result Unit End → Option Fault → Type 0
 FinishEnds book driven None = IsOk driven × IsAllDurable book
-FinishEnds book driven (Some (fault.Gate refused)) = ⊥
-FinishEnds book driven (Some fault.Source) = ⊥
 FinishEnds book driven (Some fault.Device) = book.stopped ≡ true
-FinishEnds book driven (Some (fault.InputOver size limit)) = ⊥
-FinishEnds book driven (Some (fault.ScriptOver limit)) = ⊥
 FinishEnds book driven (Some (fault.SessionFull held size limit)) = (driven ≡ Err (end_.SessionFull held size limit)) × IsAllDurable book
 FinishEnds book driven (Some fault.Memory) = (driven ≡ Err end_.Memory) × IsAllDurable book
-FinishEnds book driven (Some (fault.Script number)) = ⊥
-FinishEnds book driven (Some (fault.Read refused)) = ⊥
+FinishEnds book driven (Some _) = ⊥
 
 pub record Finishes {D V : Type 0} (old new : Account D V) (driven : Result Unit End) (fault : Option Fault) : Type 0 where
   pub steps : Steps old new []

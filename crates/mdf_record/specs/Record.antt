@@ -141,15 +141,10 @@ pub record IsShort (script : Script) (left : Outcome) : Type 0 where
 -- the session is full, or memory was wanted. All that was accepted is saved but where the disk failed.
 abbrev pub CloseComes : Script → ℕ → Outcome → Option Fault → Type 0
 CloseComes script faults left None = IsComplete script left
-CloseComes script faults left (Some (fault.Gate refused)) = ⊥
-CloseComes script faults left (Some fault.Source) = ⊥
 CloseComes script faults left (Some fault.Device) = Rose faults left.disk.faults
-CloseComes script faults left (Some (fault.InputOver size limit)) = ⊥
-CloseComes script faults left (Some (fault.ScriptOver limit)) = ⊥
 CloseComes script faults left (Some (fault.SessionFull held size limit)) = IsFull script left held size limit
 CloseComes script faults left (Some fault.Memory) = IsShort script left
-CloseComes script faults left (Some (fault.Script number)) = ⊥
-CloseComes script faults left (Some (fault.Read refused)) = ⊥
+CloseComes script faults left (Some _) = ⊥
 
 -- What a recording of this script keeps, whatever happened: of its marks, of what a crash since its start may leave, and of
 -- the samples and the flushes of each source.

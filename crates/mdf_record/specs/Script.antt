@@ -17,12 +17,8 @@ SaysScript source script = IfSome source.left (λ text. (script_of text ≡ Ok s
 
 -- The script is refused only where this holds of the source before and after.
 abbrev pub ScriptFaultComes : SourceState → SourceState → Fault → Type 0
-ScriptFaultComes old new (fault.Gate refused) = ⊥
 ScriptFaultComes old new fault.Source = Rose old.faults new.faults
-ScriptFaultComes old new fault.Device = ⊥
-ScriptFaultComes old new (fault.InputOver size limit) = ⊥
 ScriptFaultComes old new (fault.ScriptOver limit) = (limit ≡ SCRIPT_LIMIT) × IfSome old.left (λ text. limit < length text)
-ScriptFaultComes old new (fault.SessionFull held size limit) = ⊥
 ScriptFaultComes old new fault.Memory = Unit {0}
 ScriptFaultComes old new (fault.Script number) = IfSome old.left (λ text. (script_of text ≡ Err number) × (length text ≤ SCRIPT_LIMIT))
-ScriptFaultComes old new (fault.Read refused) = ⊥
+ScriptFaultComes old new _ = ⊥

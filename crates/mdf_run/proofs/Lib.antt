@@ -1,2 +1,4 @@
 mod Keeps
 mod Recovered
+mod Sound
+mod Words

@@ -1,4 +1,4 @@
-ghost use Rattle.std.specs.Prelude.{◌≡◌, ◌↔◌, ◌⊎◌, ◌<◌, ◌≤◌, List, ℕ, [], length, None, is_some, IfSome};
+ghost use Rattle.std.specs.Prelude.{◌≡◌, ◌↔◌, ◌⊎◌, ◌<◌, ◌≤◌, List, ℕ, ℤ, [], length, None, is_some, IfSome};
 ghost use mathlib.Core.List.{IsPrefix};
 ghost use Rattle.mdf_format.specs.Cause.{Rose};
 ghost use Rattle.mdf_port.specs.State.{sink_state, source_state};
@@ -6,7 +6,7 @@ ghost use Rattle.mdf_disk.specs.State.{state_of};
 ghost use Rattle.book_owned.specs.Kept.{MarksHold, StartHolds};
 ghost use Rattle.book_owned.specs.Marks.{AreRising, last_mark};
 ghost use Rattle.acq_script.specs.Tasks.{samples_of};
-ghost use Rattle.mdf_command.specs.Words.{AsksCheck, AsksFinalize, AsksInfo, AsksOpened, AsksRecord, AsksSort, AsksInput, AsksOutput, AsksToMake, IsUsage};
+ghost use Rattle.mdf_command.specs.Words.{AsksCheck, AsksCut, AsksExport, AsksFinalize, AsksInfo, AsksOpened, AsksRecord, AsksSort, AsksInput, AsksOutput, AsksToMake, IsUsage};
 ghost use Rattle.mdf_command.specs.Texts.{Prints, usage_line};
 ghost use Rattle.mdf_inspect.specs.Opened.{EndsOpened};
 ghost use Rattle.mdf_disk.specs.Crash.{HoldsSince};
@@ -14,8 +14,11 @@ ghost use Rattle.tool_final.specs.Finalize.{IsFinalizeImage};
 ghost use Rattle.mdf_make.specs.Finalize.{EndsFinalize};
 ghost use Rattle.mdf_make.specs.Sort.{EndsSort};
 ghost use Rattle.tool_sort.specs.Sort.{IsSortImage};
+ghost use Rattle.mdf_make.specs.Cut.{EndsCut};
+ghost use Rattle.tool_cut.specs.Cut.{IsCutImage};
 ghost use Rattle.mdf_inspect.specs.Check.{EndsCheck};
 ghost use Rattle.mdf_inspect.specs.Info.{EndsInfo};
+ghost use Rattle.mdf_inspect.specs.Export.{EndsExport};
 ghost use Rattle.mdf_record.specs.Sources.{AreOwnMarked};
 ghost use Rattle.mdf_layout.specs.History.{source_samples};
 ghost use Rattle.mdf_record.specs.Head.{script_head};
@@ -25,15 +28,15 @@ ghost use Rattle.mdf_record.specs.Recovers.{MarksRecover, StartRecovers};
 ghost use Rattle.mdf_carried.specs.Recovers.{IsReadable};
 ghost use Rattle.mdf_recovered.specs.Samples.{IsRecovered};
 ghost use Rattle.mdf_command.specs.Faults.{INPUT_LIMIT};
-ghost use Rattle.mdf_run.specs.Kept.{OfRecording, IsDone, IsDoneOrLacked};
+ghost use Rattle.mdf_run.specs.Kept.{OfRecording, HasGroup, IsDone, IsDoneOrLacked, IsMeasured};
 
 use book_owned::Marks;
 use mdf_command::Piece::Text;
 use mdf_command::{Command, command_of, give_line, status_after};
 use mdf_disk::Disk;
-use mdf_inspect::{Question, run_opened, run_reading};
+use mdf_inspect::{Question, run_export, run_opened, run_reading};
 use mdf_layout::Samples;
-use mdf_make::{run_finalize, run_sort};
+use mdf_make::{run_cut, run_finalize, run_sort};
 use mdf_num::{Bytes, Rows};
 use mdf_port::{Sink, Source};
 use mdf_record::{Gate, Recorded, run_record};
@@ -128,6 +131,12 @@ where
     ensures sort { (input output : List ℕ) → AsksSort words.now input output
         → EndsSort now_ns (state_of A.Disk first) (state_of A.Disk result.first) (state_of C.Disk out) (state_of C.Disk result.out)
         (sink_state K.Sink sink.old) (sink_state K.Sink sink.new) result.status }
+    ensures cut { (input output : List ℕ) (from to : ℤ) → AsksCut words.now input output from to
+        → EndsCut (record { from = from; to = to; now = now_ns }) (state_of A.Disk first) (state_of A.Disk result.first) (state_of C.Disk out) (state_of C.Disk result.out)
+        (sink_state K.Sink sink.old) (sink_state K.Sink sink.new) result.status }
+    ensures export { (input : List ℕ) (group : ℕ) → AsksExport words.now input group
+        → EndsExport group (state_of A.Disk first) (state_of A.Disk result.first)
+        (sink_state K.Sink sink.old) (sink_state K.Sink sink.new) result.status }
     ensures record { (name : List ℕ) → AsksRecord words.now name
         → EndsRecord (source_state S.Source source.old) (source_state S.Source source.new) name now_ns (state_of C.Disk out)
         (outcome C.Disk result.out result.history.items result.marks.items)
@@ -162,6 +171,14 @@ where
     ensures finalizes { (input output : List ℕ) → AsksFinalize words.now input output
         → IfSome (A.content first) (λ file. IsReadable file → length file ≤ INPUT_LIMIT → IsDoneOrLacked result.status) }
 
+    // So is each finished file sorted and cut, and each group of one exported.
+    ensures sorts { (input output : List ℕ) → AsksSort words.now input output
+        → IfSome (A.content first) (λ file. IsMeasured file → length file ≤ INPUT_LIMIT → IsDoneOrLacked result.status) }
+    ensures cuts { (input output : List ℕ) (from to : ℤ) → AsksCut words.now input output from to
+        → IfSome (A.content first) (λ file. IsMeasured file → length file ≤ INPUT_LIMIT → IsDoneOrLacked result.status) }
+    ensures exports { (input : List ℕ) (group : ℕ) → AsksExport words.now input group
+        → IfSome (A.content first) (λ file. HasGroup file group → length file ≤ INPUT_LIMIT → IsDoneOrLacked result.status) }
+
     // What may be left of the output of `finalize` at any moment: no MDF, or the finalized session of the input.
     ensures finalize_leaves { (input output : List ℕ) → AsksFinalize words.now input output
         → IfSome (A.content first) (λ file. HoldsSince (C.story result.out) (C.moment out) (IsFinalizeImage file now_ns)) }
@@ -169,6 +186,10 @@ where
     // And of the output of `sort`: no MDF, or the sorted file of the measurement of the input.
     ensures sort_leaves { (input output : List ℕ) → AsksSort words.now input output
         → IfSome (A.content first) (λ file. HoldsSince (C.story result.out) (C.moment out) (IsSortImage file now_ns)) }
+
+    // And of the output of `cut`: no MDF, or the sorted file of that measurement with the records that are kept.
+    ensures cut_leaves { (input output : List ℕ) (from to : ℤ) → AsksCut words.now input output from to
+        → IfSome (A.content first) (λ file. HoldsSince (C.story result.out) (C.moment out) (IsCutImage file (record { from = from; to = to; now = now_ns }))) }
 
     // Another command has no history and no marks, and takes nothing from the source.
     ensures no_history { ((name : List ℕ) → ¬ AsksRecord words.now name) → result.history.items ≡ [] }
@@ -232,6 +253,26 @@ where
             let mut first = first;
             let mut out = out;
             let status = run_sort(alloc, input, output, now_ns, sink, &mut first, &mut out);
+            without_recording(alloc, status, first, out)
+        }
+        Some(
+            Command::Cut {
+                input,
+                output,
+                from,
+                to,
+            },
+        ) => {
+            let mut first = first;
+            let mut out = out;
+            let status = run_cut(
+                alloc, input, output, from, to, now_ns, sink, &mut first, &mut out,
+            );
+            without_recording(alloc, status, first, out)
+        }
+        Some(Command::Export { input, group }) => {
+            let mut first = first;
+            let status = run_export(alloc, input, group, sink, &mut first);
             without_recording(alloc, status, first, out)
         }
         None => {

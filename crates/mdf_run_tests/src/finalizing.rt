@@ -68,7 +68,7 @@ const SORTED: [Part; 11] = [
 ];
 
 /// What is printed, and the bytes that are made, of this input where these calls of the output's disk fail.
-fn made_of<R>(
+pub fn made_of<R>(
     rt: &R,
     given: Given<'_>,
     file: Bytes,

@@ -183,7 +183,8 @@ where
     )
 }
 
-fn engine_and_gearbox(alloc: Global, changes: &[Part]) -> Result<Vec<u8>, Fail> {
+/// The bytes of the file of the data groups engine and gearbox, with these parts put in.
+pub fn engine_and_gearbox(alloc: Global, changes: &[Part]) -> Result<Vec<u8>, Fail> {
     let mut file = vec![in alloc; 0u8; 1936]?;
     for part in ENGINE_AND_GEARBOX {
         put(&mut file, part);

@@ -16,4 +16,6 @@ mod recordings;
 #[cfg(test)]
 mod runs;
 #[cfg(test)]
+mod tables;
+#[cfg(test)]
 mod workers;

@@ -230,7 +230,7 @@ const USAGE: &str =
     "1 usage: opened IN | record OUT | finalize IN OUT | check IN | info IN | sort IN OUT | cut IN OUT FROM TO | concat A B OUT | export IN GROUP | gen N OUT\n";
 
 // Words that are no command.
-const WRONG: [&[&str]; 9] = [
+const WRONG: [&[&str]; 21] = [
     &[],
     &["frob"],
     &["opened"],
@@ -240,6 +240,18 @@ const WRONG: [&[&str]; 9] = [
     &["finalize", "a"],
     &["Record", "a"],
     &["", "a"],
+    &["cut", "a", "b", "0"],
+    &["cut", "a", "b", "x", "5"],
+    &["cut", "a", "b", "0", "+5"],
+    &["cut", "a", "b", "-0", "5"],
+    &["cut", "a", "b", "007", "8"],
+    &["cut", "a", "b", "0", ""],
+    &["cut", "a", "b", "0", "-"],
+    &["cut", "a", "b", "0", "18446744073709551616"],
+    &["cut", "a", "b", "-9223372036854775809", "0"],
+    &["export", "a"],
+    &["export", "a", "-1"],
+    &["export", "a", "18446744073709551616"],
 ];
 
 #[test]

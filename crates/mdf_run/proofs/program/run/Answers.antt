@@ -1,12 +1,23 @@
-use Rattle.std.proofs.Common.{◌≡◌, ℕ, List, refl, subst}
+use Rattle.std.proofs.Common.{◌≡◌, ◌≤◌, ℕ, List, length, refl, subst}
+use Rattle.std.specs.Prelude.{IfSome}
+use Rattle.mdf_disk.specs.Crash.{HoldsSince}
+use Rattle.tool_cut.specs.Cut.{IsCutImage}
+use Rattle.mdf_command.specs.Faults.{INPUT_LIMIT}
+use Rattle.mdf_run.specs.Kept.{HasGroup, IsDoneOrLacked}
 use Rattle.mdf_port.specs.State.{sink_state, source_state}
 use Rattle.mdf_disk.specs.State.{state_of}
-use Rattle.mdf_command.specs.Words.{Asks, opened, recorded, finalized, checked, described, sorted}
+use Rattle.mdf_command.specs.Words.{Asks, opened, recorded, finalized, checked, described, sorted, cut, exported}
 use Rattle.mdf_command.specs.Commands.{request_of}
 use Rattle.mdf_command.specs.declared.command.Command.{Command}
-use Rattle.mdf_command.specs.declared.command.Command.TheVariants.{Record, Finalize, Sort}
+use Rattle.mdf_command.specs.declared.command.Command.TheVariants.{Record, Finalize, Sort, Cut, Export}
 use Rattle.mdf_run.proofs.Keeps.{recording_keeps}
-use Rattle.mdf_run.proofs.Recovered.{all_is_recovered, read_is_finalized}
+use Rattle.mdf_make.specs.Cut.{Cuts, EndsCut}
+use Rattle.mdf_make.specs.Finalize.{Finalizes}
+use Rattle.mdf_make.specs.Sort.{Sorts}
+use Rattle.mdf_inspect.specs.Export.{EndsExport}
+use Rattle.mdf_run.proofs.Recovered.{all_is_recovered}
+use Rattle.mdf_run.proofs.Sound.{group_is_exported, measured_is_made, read_is_finalized}
+use Rattle.mdf_run.proofs.Words.{of_group, of_range}
 use Rattle.mdf_run.proofs.program.run.Goals as goal
 
 pub returns-in-Some-Record-clause-marks_hold : goal.returns-in-Some-Record-clause-marks_hold
@@ -60,7 +71,7 @@ returns-in-Some-Record-clause-all_recovered g c = λ name asks text told script 
 
 pub returns-in-Some-Finalize-clause-finalizes : goal.returns-in-Some-Finalize-clause-finalizes
 returns-in-Some-Finalize-clause-finalizes g c = λ input output asks.
-    rw c.without_recording-in-Some-Finalize.ensures.status (read_is_finalized c.args.now_ns (state_of g.A.Disk c.args.first) (state_of g.A.Disk c.run_finalize-status.new.first)
+    rw c.without_recording-in-Some-Finalize.ensures.status (read_is_finalized (Finalizes c.args.now_ns) (state_of g.A.Disk c.args.first) (state_of g.A.Disk c.run_finalize-status.new.first)
     (state_of g.C.Disk c.args.out) (state_of g.C.Disk c.run_finalize-status.new.out) (sink_state g.K.Sink c.args.sink.now) (sink_state g.K.Sink c.run_finalize-status.new.sink)
     c.run_finalize-status.result (g.A.Disk.content c.args.first) refl c.run_finalize-status.ensures.ends)
 
@@ -145,3 +156,88 @@ returns-in-Some-Sort-clause-out g c = λ none.
 pub returns-in-Some-Sort-clause-sort_leaves : goal.returns-in-Some-Sort-clause-sort_leaves
 returns-in-Some-Sort-clause-sort_leaves g c = λ input output asks.
     rw c.without_recording-in-Some-Sort.ensures.out c.run_sort-status.ensures.any_moment
+
+-- each finished file is sorted
+pub returns-in-Some-Sort-clause-sorts : goal.returns-in-Some-Sort-clause-sorts
+returns-in-Some-Sort-clause-sorts g c = λ input output asks.
+    rw c.without_recording-in-Some-Sort.ensures.status (measured_is_made (Sorts c.args.now_ns) (state_of g.A.Disk c.args.first) (state_of g.A.Disk c.run_sort-status.new.first)
+    (state_of g.C.Disk c.args.out) (state_of g.C.Disk c.run_sort-status.new.out) (sink_state g.K.Sink c.args.sink.now) (sink_state g.K.Sink c.run_sort-status.new.sink)
+    c.run_sort-status.result (g.A.Disk.content c.args.first) refl c.run_sort-status.ensures.ends)
+
+-- and cut to the range that the words ask for
+pub returns-in-Some-Cut-clause-cut : goal.returns-in-Some-Cut-clause-cut
+returns-in-Some-Cut-clause-cut g c = λ input output from to asks.
+    let m = c.in-Some-Cut in
+    let w = c.without_recording-in-Some-Cut.ensures in
+    let r = c.run_cut-status in
+    let mine = asked c.args.words.now m.field-0 (Cut m.input m.output m.from m.to) m.field-0-is m.ensures in
+    rw (w.status, w.first, w.out) (of_range c.args.words.now m.input.now m.output.now input output m.from m.to from to
+    (λ first last. EndsCut (record { from = first; to = last; now = c.args.now_ns }) (state_of g.A.Disk c.args.first) (state_of g.A.Disk r.new.first)
+    (state_of g.C.Disk c.args.out) (state_of g.C.Disk r.new.out) (sink_state g.K.Sink c.args.sink.now) (sink_state g.K.Sink r.new.sink) r.result)
+    mine asks r.ensures.ends)
+
+pub returns-in-Some-Cut-clause-cuts : goal.returns-in-Some-Cut-clause-cuts
+returns-in-Some-Cut-clause-cuts g c = λ input output from to asks.
+    let m = c.in-Some-Cut in
+    let r = c.run_cut-status in
+    rw c.without_recording-in-Some-Cut.ensures.status (measured_is_made (Cuts (record { from = m.from; to = m.to; now = c.args.now_ns })) (state_of g.A.Disk c.args.first) (state_of g.A.Disk r.new.first)
+    (state_of g.C.Disk c.args.out) (state_of g.C.Disk r.new.out) (sink_state g.K.Sink c.args.sink.now) (sink_state g.K.Sink r.new.sink)
+    r.result (g.A.Disk.content c.args.first) refl r.ensures.ends)
+
+pub returns-in-Some-Cut-clause-cut_leaves : goal.returns-in-Some-Cut-clause-cut_leaves
+returns-in-Some-Cut-clause-cut_leaves g c = λ input output from to asks.
+    let m = c.in-Some-Cut in
+    let r = c.run_cut-status in
+    let mine = asked c.args.words.now m.field-0 (Cut m.input m.output m.from m.to) m.field-0-is m.ensures in
+    rw c.without_recording-in-Some-Cut.ensures.out (of_range c.args.words.now m.input.now m.output.now input output m.from m.to from to
+    (λ first last. IfSome (g.A.Disk.content c.args.first)
+    (λ file. HoldsSince (g.C.Disk.story r.new.out) (g.C.Disk.moment c.args.out) (IsCutImage file (record { from = first; to = last; now = c.args.now_ns }))))
+    mine asks r.ensures.any_moment)
+
+pub returns-in-Some-Cut-clause-out : goal.returns-in-Some-Cut-clause-out
+returns-in-Some-Cut-clause-out g c = λ none.
+    let m = c.in-Some-Cut in
+    absurd (none m.output.now (
+      cut m.input.now m.output.now m.from m.to,
+      asked c.args.words.now m.field-0 (Cut m.input m.output m.from m.to) m.field-0-is m.ensures,
+      refl,
+    ))
+
+-- and each of its groups exported
+pub returns-in-Some-Export-clause-export : goal.returns-in-Some-Export-clause-export
+returns-in-Some-Export-clause-export g c = λ input group asks.
+    let m = c.in-Some-Export in
+    let w = c.without_recording-in-Some-Export.ensures in
+    let r = c.run_export-status in
+    let mine = asked c.args.words.now m.field-0 (Export m.input m.group) m.field-0-is m.ensures in
+    rw (w.status, w.first) (of_group c.args.words.now m.input.now input m.group group
+    (λ n. EndsExport n (state_of g.A.Disk c.args.first) (state_of g.A.Disk r.new.first) (sink_state g.K.Sink c.args.sink.now) (sink_state g.K.Sink r.new.sink) r.result)
+    mine asks r.ensures.ends)
+
+pub returns-in-Some-Export-clause-exports : goal.returns-in-Some-Export-clause-exports
+returns-in-Some-Export-clause-exports g c = λ input group asks.
+    let m = c.in-Some-Export in
+    let r = c.run_export-status in
+    let mine = asked c.args.words.now m.field-0 (Export m.input m.group) m.field-0-is m.ensures in
+    rw c.without_recording-in-Some-Export.ensures.status (of_group c.args.words.now m.input.now input m.group group
+    (λ n. IfSome (g.A.Disk.content c.args.first) (λ file. HasGroup file n → length file ≤ INPUT_LIMIT → IsDoneOrLacked r.result))
+    mine asks (group_is_exported m.group (state_of g.A.Disk c.args.first) (state_of g.A.Disk r.new.first) (sink_state g.K.Sink c.args.sink.now) (sink_state g.K.Sink r.new.sink)
+    r.result (g.A.Disk.content c.args.first) refl r.ensures.ends))
+
+pub returns-in-None-clause-cut : goal.returns-in-None-clause-cut
+returns-in-None-clause-cut g c = λ input output from to asks. absurd (c.in-None.ensures (cut input output from to) asks)
+
+pub returns-in-None-clause-cuts : goal.returns-in-None-clause-cuts
+returns-in-None-clause-cuts g c = λ input output from to asks. absurd (c.in-None.ensures (cut input output from to) asks)
+
+pub returns-in-None-clause-cut_leaves : goal.returns-in-None-clause-cut_leaves
+returns-in-None-clause-cut_leaves g c = λ input output from to asks. absurd (c.in-None.ensures (cut input output from to) asks)
+
+pub returns-in-None-clause-sorts : goal.returns-in-None-clause-sorts
+returns-in-None-clause-sorts g c = λ input output asks. absurd (c.in-None.ensures (sorted input output) asks)
+
+pub returns-in-None-clause-export : goal.returns-in-None-clause-export
+returns-in-None-clause-export g c = λ input group asks. absurd (c.in-None.ensures (exported input group) asks)
+
+pub returns-in-None-clause-exports : goal.returns-in-None-clause-exports
+returns-in-None-clause-exports g c = λ input group asks. absurd (c.in-None.ensures (exported input group) asks)

@@ -1,0 +1,28 @@
+ghost use Rattle.std.specs.Prelude.{◌≡◌, ◌⊎◌, Some, None};
+ghost use Rattle.mdf_disk.specs.State.{state_of};
+ghost use Rattle.mdf_disk.specs.declared.role.Role.TheVariants.{Read};
+ghost use Rattle.mdf_command.specs.Load.{LoadComes};
+
+use crate::fault::Fault;
+use mdf_disk::{Disk, Role, read_whole};
+use mdf_num::Bytes;
+use std::alloc::Global;
+
+/// How many bytes an input file has at most.
+const INPUT_LIMIT: u64 = 536_870_912;
+
+/// Loads the file of this name.
+///
+/// # Errors
+/// `Device` where the disk failed, `InputOver` where the file has more than 536,870,912 bytes, and `Memory` where memory
+/// runs out.
+pub fn load<A: Disk>(alloc: Global, input: &Bytes, first: &mut A) -> Result<Bytes, Fault>
+    requires { A.asked first.old ≡ None }
+    ensures comes { LoadComes (state_of A.Disk first.old) (state_of A.Disk first.new) result }
+    ensures asked { (A.asked first.new ≡ None) ⊎ (A.asked first.new ≡ Some (input.now, Read)) }
+    ensures content { A.content first.new ≡ A.content first.old }
+    ensures untouched { A.asked first.new ≡ None → first.new ≡ first.old }
+{
+    first.attach(input.copy()?, Role::Read)?;
+    Ok(read_whole(alloc, first, INPUT_LIMIT)?)
+}

@@ -1,0 +1,126 @@
+-- A command on a sound input does what it was asked for, unless a disk fails or memory is wanted.
+use Rattle.std.proofs.Common.{◌≡◌, ◌⊎◌, ◌≤◌, ◌<◌, inl, inr, ⊎_elim, ℕ, List, length, Option, Some, None, Result, Ok, Err, refl, sym, ◌∙◌, ap, subst, arith}
+use Rattle.std.specs.Prelude.{IfSome}
+use Rattle.mdf_port.specs.State.{SinkState}
+use Rattle.mdf_disk.specs.State.{DiskState}
+use Rattle.mdf_block.specs.Refusal.{Refusal, Read, Fails}
+use Rattle.mdf_content.specs.Fault.{read_refusal}
+use Rattle.mdf_content.specs.declared.fault.ReadFault.{ReadFault}
+use Rattle.mdf_model.specs.Measurement.{Measured, measurement}
+use Rattle.mdf_session.specs.Session.{session}
+use Rattle.mdf_carried.specs.Recovers.{IsReadable}
+use Rattle.mdf_tool.specs.declared.made.Report.{Report}
+use Rattle.mdf_command.specs.Faults.{INPUT_LIMIT, fault_line, fault_status, refused_status}
+use Rattle.mdf_command.specs.Load.{IsLoaded, IsOver}
+use Rattle.mdf_command.specs.Texts.{unwritten_status}
+use Rattle.mdf_command.specs.declared.fault.Fault.{Fault}
+use Rattle.mdf_command.specs.declared.fault.Fault.TheVariants as fault
+use Rattle.mdf_make.specs.Finalize.{IsNoRecording}
+use Rattle.mdf_make.specs.Sort.{IsNotMeasured}
+use Rattle.mdf_make.specs.Making.{EndsMaking, MakingComes, making_text, making_status}
+use Rattle.mdf_inspect.specs.Export.{EndsExport, LacksGroup, PrintsEnd, TableComes, TableFaultComes}
+use Rattle.mdf_inspect.specs.declared.table.TableEnd.{TableEnd}
+use Rattle.mdf_inspect.specs.declared.table.TableEnd.TheVariants.{Given, Unwritten, Refused}
+use Rattle.mdf_run.specs.Kept.{HasGroup, IsDoneOrLacked, IsMeasured}
+use Rattle.mdf_run.proofs.Keeps.{was_status}
+
+-- one measurement is read of a file
+one_read : {A : Type 0} (read : Read A) (found other : A) → read ≡ Ok found → read ≡ Ok other → found ≡ other
+one_read read found other is also = cc
+
+-- what is read is not refused
+not_refused : {A : Type 0} (refusal : Option Refusal) (read : Read A) (found : A) → read ≡ Ok found → Fails refusal read → refused_status refusal ≡ 7
+not_refused None read found is fails = refl
+not_refused {A = A} (Some refusal) read found is fails =
+    let wrong : ◌≡◌ {A = Read A} (Ok found) (Err refusal) = sym is ∙ fails in cc
+
+ends_well : (status result : ℕ) → (result ≡ status) ⊎ (result ≡ unwritten_status status) → (status ≡ 0) ⊎ ((status ≡ 4) ⊎ (status ≡ 7)) → IsDoneOrLacked result
+ends_well status result was (inl none) =
+    ⊎_elim (λ same. inl (same ∙ none)) (λ other. inr (inr (inl (other ∙ ap unwritten_status none)))) was
+ends_well status result was (inr (inl device)) =
+    ⊎_elim (λ same. inr (inl (same ∙ device))) (λ other. inr (inl (other ∙ ap unwritten_status device))) was
+ends_well status result was (inr (inr memory)) =
+    ⊎_elim (λ same. inr (inr (inr (same ∙ memory)))) (λ other. inr (inr (inr (other ∙ ap unwritten_status memory)))) was
+
+-- what is loaded of a disk that tells this file
+module _ (disk : DiskState) (file : List ℕ) (told : disk.content ≡ Some file) (short : length file ≤ INPUT_LIMIT) where
+  said : (P : List ℕ → Type 0) → IfSome disk.content P → P file
+  said P holds = subst (λ (content : Option (List ℕ)). IfSome content P) told holds
+
+  loaded_is : (loaded : List ℕ) → IsLoaded disk loaded → loaded ≡ file
+  loaded_is loaded is = said (λ f. loaded ≡ f) is.told
+
+  not_over : (size limit : ℕ) → ¬ IsOver disk size limit
+  not_over size limit is =
+      let long : size ≡ length file = said (λ f. size ≡ length f) is.told in absurd (omega (arith, is.limit_is, is.over, long, short))
+
+  -- a command that makes a file of the input, with a tool that refuses it for want of memory alone
+  module _ (Makes : List ℕ → List ℕ → Report → Type 0) (Refuses : List ℕ → Fault → Type 0) (disk' out out' : DiskState)
+      (takes : (refused : ReadFault) → Refuses file (fault.Read refused) → refused_status (read_refusal refused) ≡ 7) where
+    making_fault : (problem : Fault) → MakingComes Makes Refuses disk disk' out out' (Err problem)
+        → (fault_status problem ≡ 0) ⊎ ((fault_status problem ≡ 4) ⊎ (fault_status problem ≡ 7))
+    making_fault fault.Device comes = inr (inl refl)
+    making_fault (fault.InputOver size limit) comes = absurd (not_over size limit comes.0)
+    making_fault fault.Memory comes = inr (inr refl)
+    making_fault (fault.Read refused) comes =
+        inr (inr (takes refused (subst (λ f. Refuses f (fault.Read refused)) (loaded_is comes.0.0 comes.0.1) comes.0.2)))
+    making_fault problem comes = absurd comes
+
+    making_end : (end : Result Report Fault) → MakingComes Makes Refuses disk disk' out out' end
+        → (making_status end ≡ 0) ⊎ ((making_status end ≡ 4) ⊎ (making_status end ≡ 7))
+    making_end (Ok report) comes = inl refl
+    making_end (Err problem) comes = making_fault problem comes
+
+    pub making_well : (sink sink' : SinkState) (status : ℕ) → EndsMaking Makes Refuses disk disk' out out' sink sink' status → IsDoneOrLacked status
+    making_well sink sink' status ends =
+        ends_well (making_status ends.0) status (was_status (making_text ends.0) (making_status ends.0) sink sink' status ends.2) (making_end ends.0 ends.1)
+
+  -- a command that prints the table of a group that is there
+  module _ (group : ℕ) (has : HasGroup file group) (disk' : DiskState) (sink between : SinkState) where
+    not_lacking : (groups : ℕ) → ¬ LacksGroup disk group groups
+    not_lacking groups (loaded, is, lacks) =
+        let read : measurement file ≡ Ok lacks.found = subst (λ f. measurement f ≡ Ok lacks.found) (loaded_is loaded is) lacks.is_read in
+        let same : has.found ≡ lacks.found = one_read (measurement file) has.found lacks.found has.is_read read in
+        let many : length has.found.groups ≡ groups = ap (λ (m : Measured). length m.groups) same ∙ sym lacks.count in
+        absurd (omega (arith, many, has.there, lacks.past))
+
+    table_fault : (problem : Fault) → TableFaultComes group disk disk' sink between problem
+        → (fault_status problem ≡ 0) ⊎ ((fault_status problem ≡ 4) ⊎ (fault_status problem ≡ 7))
+    table_fault fault.Device comes = inr (inl refl)
+    table_fault (fault.InputOver size limit) comes = absurd (not_over size limit comes.0)
+    table_fault fault.Memory comes = inr (inr refl)
+    table_fault (fault.Read refused) comes =
+        let fails = subst (λ f. Fails (read_refusal refused) (measurement f)) (loaded_is comes.0.0 comes.0.1) comes.0.3 in
+        inr (inr (not_refused (read_refusal refused) (measurement file) has.found has.is_read fails))
+    table_fault (fault.NoGroup number groups) comes = absurd (not_lacking groups comes.1)
+    table_fault problem comes = absurd comes
+
+    table_well : (end : TableEnd) (sink' : SinkState) (status : ℕ) → TableComes group disk disk' sink between end → PrintsEnd end between sink' status
+        → IsDoneOrLacked status
+    table_well (Given rows) sink' status comes prints = inl prints.1
+    table_well Unwritten sink' status comes prints = inr (inr (inl prints.1))
+    table_well (Refused problem) sink' status comes prints =
+        ends_well (fault_status problem) status (was_status (fault_line problem) (fault_status problem) between sink' status prints) (table_fault problem comes)
+
+-- each file that is read as a recording is finalized
+pub read_is_finalized : (Makes : List ℕ → List ℕ → Report → Type 0) (disk disk' out out' : DiskState) (sink sink' : SinkState) (status : ℕ) (content : Option (List ℕ)) → disk.content ≡ content
+    → EndsMaking Makes IsNoRecording disk disk' out out' sink sink' status → IfSome content (λ file. IsReadable file → length file ≤ INPUT_LIMIT → IsDoneOrLacked status)
+read_is_finalized Makes disk disk' out out' sink sink' status None told ends = tt
+read_is_finalized Makes disk disk' out out' sink sink' status (Some file) told ends = λ readable short.
+    making_well disk file told short Makes IsNoRecording disk' out out'
+    (λ refused fails. not_refused (read_refusal refused) (session file) readable.found readable.is_read fails) sink sink' status ends
+
+-- and each finished file is sorted and cut
+pub measured_is_made : (Makes : List ℕ → List ℕ → Report → Type 0) (disk disk' out out' : DiskState) (sink sink' : SinkState) (status : ℕ) (content : Option (List ℕ)) → disk.content ≡ content
+    → EndsMaking Makes IsNotMeasured disk disk' out out' sink sink' status → IfSome content (λ file. IsMeasured file → length file ≤ INPUT_LIMIT → IsDoneOrLacked status)
+measured_is_made Makes disk disk' out out' sink sink' status None told ends = tt
+measured_is_made Makes disk disk' out out' sink sink' status (Some file) told ends = λ measured short.
+    making_well disk file told short Makes IsNotMeasured disk' out out'
+    (λ refused fails. not_refused (read_refusal refused) (measurement file) measured.found measured.is_read fails) sink sink' status ends
+
+-- and each of its groups is exported
+pub group_is_exported : (group : ℕ) (disk disk' : DiskState) (sink sink' : SinkState) (status : ℕ) (content : Option (List ℕ)) → disk.content ≡ content
+    → EndsExport group disk disk' sink sink' status → IfSome content (λ file. HasGroup file group → length file ≤ INPUT_LIMIT → IsDoneOrLacked status)
+group_is_exported group disk disk' sink sink' status None told ends = tt
+group_is_exported group disk disk' sink sink' status (Some file) told ends = λ has short.
+    table_well disk file told short group has disk' sink ends.1 ends.0 sink' status ends.2 ends.3

@@ -1,0 +1,23 @@
+-- The numbers among the command words are what the words say.
+use Rattle.std.proofs.Common.{◌≡◌, ◌∷◌, [], ℕ, List, subst, arith}
+use Rattle.std.specs.Prelude.{ℤ}
+use Rattle.std.specs.Fmt.{decimal, signed_decimal}
+use Rattle.std.proofs.lemmas.Fmt.{decimal_injective}
+use Rattle.mdf_command.specs.Words.{AsksCut, AsksExport}
+use Rattle.mdf_command.proofs.Bounds.{one_bound}
+use Rattle.tool_cut.specs.Cut.{Cutting}
+
+-- what holds of the range that the words ask for holds of each that they ask for
+pub of_range : (words : List (List ℕ)) (input output input' output' : List ℕ) (from to from' to' : ℤ) (P : ℤ → ℤ → Type 0) → AsksCut words input output from to
+    → AsksCut words input' output' from' to' → P from to → P from' to'
+of_range words input output input' output' from to from' to' P asks also holds =
+    let first : signed_decimal from ≡ signed_decimal from' = cc (asks.0, also.0) in
+    let last : signed_decimal to ≡ signed_decimal to' = cc (asks.0, also.0) in
+    subst (λ t. P from' t) (one_bound to to' asks.1.1 also.1.1 last) (subst (λ f. P f to) (one_bound from from' asks.1.0 also.1.0 first) holds)
+
+-- and of the group
+pub of_group : (words : List (List ℕ)) (input input' : List ℕ) (group group' : ℕ) (P : ℕ → Type 0) → AsksExport words input group → AsksExport words input' group'
+    → P group → P group'
+of_group words input input' group group' P asks also holds =
+    let written : decimal group ≡ decimal group' = cc (asks.0, also.0) in
+    subst P (decimal_injective group group' asks.1 also.1 written) holds
