@@ -1,7 +1,7 @@
 #!/usr/bin/env bash
 # Counts the instructions, or without valgrind the best time in microseconds, of `gen` of a million samples, and of a twin in
 # straight C (that of bench/record) that makes and keeps the same samples and writes the same file with the same calls. Prints both
-# numbers and their ratio, which is to be at most 1.5.
+# numbers and their ratio, which is to be at most 1.5, and how many bytes of memory each holds at most.
 #
 # usage: bench/gen/run.sh [RUNS]
 #
@@ -32,3 +32,9 @@ cmp "$work/first.mf4" "$work/made.mf4"
 ours="$(cost /dev/null "$recorder" gen "$count" "$work/made.mf4")"
 twin="$(cost /dev/null "$work/twin" "$work/first.mf4" "$work/made.mf4" "$count")"
 awk -v ours="$ours" -v twin="$twin" 'BEGIN { printf "gen %d, C %d, ratio %.2f\n", ours, twin, ours / twin }'
+before
+held="$(peak "$recorder" gen "$count" "$work/made.mf4")"
+before
+twin_held="$(peak "$work/twin" "$work/first.mf4" "$work/made.mf4" "$count")"
+awk -v ours="$held" -v twin="$twin_held" \
+    'BEGIN { printf "peak memory: gen %d, C %d, ratio %.2f\n", ours, twin, ours / twin }'

@@ -1,3 +1,4 @@
+mod Numbers
 pub mod Pieces
 pub mod Told
 mod Numbers

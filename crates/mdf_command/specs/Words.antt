@@ -1,5 +1,5 @@
 -- The command words, without the program's name.
-use Rattle.std.specs.Prelude.{◌≡◌, ◌⊎◌, ◌<◌, ◌^◌, List, [], ◌∷◌, ℕ, ℤ, pos, negsuc, Option, None, Some, codes}
+use Rattle.std.specs.Prelude.{◌≡◌, ◌⊎◌, ◌≤◌, ◌<◌, ◌^◌, List, [], ◌∷◌, ℕ, ℤ, pos, negsuc, Option, None, Some, codes}
 use Rattle.std.specs.Fmt.{decimal, signed_decimal}
 use Rattle.mdf_disk.specs.declared.role.Role.{Role}
 use Rattle.mdf_disk.specs.declared.role.Role.TheVariants.{Read, Create}
@@ -16,6 +16,7 @@ pub data Request : Type 0 where
   sorted : (input output : List ℕ) → Request
   cut : (input output : List ℕ) (from to : ℤ) → Request
   exported : (input : List ℕ) (group : ℕ) → Request
+  generated : (samples : ℕ) (output : List ℕ) → Request
 
 -- the first word of each command
 abbrev pub name_text : Name → List ℕ
@@ -27,6 +28,7 @@ name_text name.Info = codes "info"
 name_text name.Sort = codes "sort"
 name_text name.Cut = codes "cut"
 name_text name.Export = codes "export"
+name_text name.Gen = codes "gen"
 
 -- the word is that of this command, and of none
 abbrev pub Names : List ℕ → Name → Type 0
@@ -52,6 +54,7 @@ name_of (described input) = name.Info
 name_of (sorted input output) = name.Sort
 name_of (cut input output from to) = name.Cut
 name_of (exported input group) = name.Export
+name_of (generated samples output) = name.Gen
 
 abbrev pub arguments_of : Request → List (List ℕ)
 arguments_of (opened input) = input ∷ []
@@ -62,6 +65,7 @@ arguments_of (described input) = input ∷ []
 arguments_of (sorted input output) = input ∷ output ∷ []
 arguments_of (cut input output from to) = input ∷ output ∷ signed_decimal from ∷ signed_decimal to ∷ []
 arguments_of (exported input group) = input ∷ decimal group ∷ []
+arguments_of (generated samples output) = decimal samples ∷ output ∷ []
 
 -- an end of a range of numbers is from -2 ^ 63 to 2 ^ 64 - 1
 abbrev pub IsBound : ℤ → Type 0
@@ -75,10 +79,22 @@ SaysBound word bound = (word ≡ signed_decimal bound) × IsBound bound
 abbrev pub SaysNoBound : List ℕ → Type 0
 SaysNoBound word = (bound : ℤ) → ¬ SaysBound word bound
 
+-- how many samples are generated
+abbrev pub IsGenerable : ℕ → Type 0
+IsGenerable samples = (1 ≤ samples) × (samples ≤ 1000000)
+
+-- a word says how many, and it does not
+abbrev pub IsCount : List ℕ → ℕ → Type 0
+IsCount word samples = (word ≡ decimal samples) × IsGenerable samples
+
+abbrev pub IsNoCount : List ℕ → Type 0
+IsNoCount word = (samples : ℕ) → ¬ IsCount word samples
+
 -- its numbers are such as it takes
 abbrev pub IsInRange : Request → Type 0
 IsInRange (cut input output from to) = IsBound from × IsBound to
 IsInRange (exported input group) = group < 2 ^ 64
+IsInRange (generated samples output) = IsGenerable samples
 IsInRange _ = Unit {0}
 
 -- the words that ask for it
@@ -121,6 +137,10 @@ AsksCut words input output from to = Asks words (cut input output from to)
 abbrev pub AsksExport : List (List ℕ) → List ℕ → ℕ → Type 0
 AsksExport words input group = Asks words (exported input group)
 
+-- `gen N OUT`
+abbrev pub AsksGenerated : List (List ℕ) → ℕ → List ℕ → Type 0
+AsksGenerated words samples output = Asks words (generated samples output)
+
 -- the file that it reads, and the file that it makes
 abbrev pub input_of : Request → Option (List ℕ)
 input_of (opened input) = Some input
@@ -131,6 +151,7 @@ input_of (described input) = Some input
 input_of (sorted input output) = Some input
 input_of (cut input output from to) = Some input
 input_of (exported input group) = Some input
+input_of (generated samples output) = None
 
 abbrev pub output_of : Request → Option (List ℕ)
 output_of (opened input) = None
@@ -141,6 +162,7 @@ output_of (described input) = None
 output_of (sorted input output) = Some output
 output_of (cut input output from to) = Some output
 output_of (exported input group) = None
+output_of (generated samples output) = Some output
 
 -- the words ask for a file to be made
 abbrev pub AsksToMake : List (List ℕ) → List ℕ → Type 0

@@ -1,10 +1,13 @@
 ghost use Rattle.std.specs.Prelude.{MatchOption};
-ghost use Rattle.mdf_command.specs.Words.{Asks, IsUsage, Names, NamesNothing};
+ghost use Rattle.mdf_command.specs.Words.{Asks, IsCount, IsNoCount, IsUsage, Names, NamesNothing};
 ghost use Rattle.mdf_command.specs.Commands.{request_of};
 
 use crate::bound::bound_of;
 use crate::number::number_of;
 use mdf_num::{Bytes, Rows};
+
+/// How many samples are generated at most.
+const MOST_GENERATED: u64 = 1_000_000;
 
 /// The first word of a command.
 #[derive(Clone, Copy)]
@@ -17,6 +20,7 @@ pub enum Name {
     Sort,
     Cut,
     Export,
+    Gen,
 }
 
 impl Name {
@@ -47,6 +51,9 @@ impl Name {
         }
         if word == b"export".as_slice() {
             return Some(Name::Export);
+        }
+        if word == b"gen".as_slice() {
+            return Some(Name::Gen);
         }
         None
     }
@@ -93,6 +100,22 @@ pub enum Command<'a> {
         input: &'a Bytes,
         group: u64,
     },
+    /// `gen N OUT`: how many samples, from 1 to 1,000,000.
+    Gen {
+        samples: u64,
+        output: &'a Bytes,
+    },
+}
+
+/// How many samples are to be generated, if this word is a number of 1 to 1,000,000.
+fn samples_of(word: &[u8]) -> Option<u64>
+    ensures { MatchOption result (IsNoCount word.now) (IsCount word.now) }
+{
+    let samples = number_of(word)?;
+    if samples < 1 || samples > MOST_GENERATED {
+        return None;
+    }
+    Some(samples)
 }
 
 /// The command that the words name, if any.
@@ -118,6 +141,10 @@ pub fn command_of(words: &Rows<Bytes>) -> Option<Command<'_>>
         (Name::Export, [input, group]) => Some(Command::Export {
             input,
             group: number_of(group.as_slice())?,
+        }),
+        (Name::Gen, [samples, output]) => Some(Command::Gen {
+            samples: samples_of(samples.as_slice())?,
+            output,
         }),
         _ => None,
     }

@@ -1,6 +1,6 @@
 -- A book that was driven, flushed and closed says how the recording ended.
 use Rattle.std.proofs.Common.{◌≡◌, ◌≢◌, ◌≤◌, map, Bool, true, false, inl, inr, ⊎_elim, ℕ, List, [], ◌∷◌, ◌++◌, length, Option, Some, None, Result, Ok, Err, true≢false, get_or, take, refl, sym, ◌∙◌, ap, subst, arith, length-append}
-use Rattle.std.specs.Prelude.{slice_get, slice_index, is_some, IsOk, IfSome, cond, ◌==◌}
+use Rattle.std.specs.Prelude.{slice_get, slice_index, is_some, IsOk, IfSome, IfOk, IfErr, cond, ◌==◌}
 use Rattle.std.proofs.lemmas.Bool.{cases_eq, cond-true, cond-false, eq-eqb, ne_eqb}
 use Rattle.std.proofs.lemmas.Option.{slice_get_cases}
 use Rattle.std.proofs.Math.Seq.{get_or-append_seam}
@@ -12,7 +12,6 @@ use Rattle.mdf_disk.specs.declared.role.Role.TheVariants.{Create}
 use Rattle.book_owned.specs.Members.{DiskOf}
 use Rattle.book_owned.specs.declared.view.Shown.{Ghosts as ViewOf}
 use Rattle.mdf_disk.specs.State.{DiskState, state_of}
-use Rattle.mdf_port.specs.State.{SourceState}
 use Rattle.mdf_format.specs.Cause.{Rose}
 use Rattle.mdf_layout.specs.History.{group_samples, source_samples}
 use Rattle.mdf_layout.specs.Record.{cost_of, history_cost}
@@ -40,7 +39,6 @@ use Rattle.mdf_record.specs.Sources.{RanAll, ends_of, feds_of, told_of}
 use Rattle.mdf_record.specs.Finish.{FileFaultComes, Finishes, FinishEnds, IsAllDurable, IsUnmade}
 use Rattle.mdf_record.specs.Record.{AreAccepted, AreEnds, CloseComes, IsComplete, IsFull, IsNext, IsRecorded, IsSaved, IsShort, Outcome, SourceComes, outcome}
 use Rattle.mdf_record.specs.Head.{script_head}
-use Rattle.mdf_record.specs.Script.{SaysScript}
 use Rattle.mdf_record.specs.Recorded.{Closes, HasRun, RunComes, RecordComes}
 use Rattle.mdf_record.specs.declared.sources.End.{End}
 use Rattle.mdf_record.specs.declared.sources.End.TheVariants as end_
@@ -270,14 +268,14 @@ close_earlier script earlier faults left (Some fault.Device) later comes = omega
 close_earlier script earlier faults left (Some problem) later comes = comes
 
 -- what was recorded into a file that was made on a disk
-pub record_comes : {C : Type 0} (tells : DiskOf C) (source source' : SourceState) (name : List ℕ) (now : ℕ) (out : C) (script : Script) (file : Gated C) (left : Outcome) (end : RecordEnd)
-    → SaysScript source script → tells.asked file.disk ≡ Some (name, Create) → HoldsSince (tells.story file.disk) (tells.moment out) (IsBegun (script_head now script))
+pub record_comes : {C : Type 0} (tells : DiskOf C) (Says : Script → Type 0) (Refuses : Fault → Type 0) (name : List ℕ) (now : ℕ) (out : C) (script : Script) (file : Gated C) (left : Outcome) (end : RecordEnd)
+    → Says script → tells.asked file.disk ≡ Some (name, Create) → HoldsSince (tells.story file.disk) (tells.moment out) (IsBegun (script_head now script))
     → IfSome (tells.story file.disk) (λ _. head_of (tells.story file.disk) file.first ≡ script_head now script) → is_some (tells.story file.disk) ≡ is_some (tells.story out)
     → IfSome (tells.story out) (λ _. file.start ≡ tells.moment out) → tells.faults out ≤ file.faults → HasRun tells script file left end
-    → RecordComes source source' name now (state_of tells out) left end
-record_comes tells source source' name now out script file left end says asked_is begun head_is told start_is later run = of_end end run.comes where
+    → RecordComes Says Refuses name now (state_of tells out) left end
+record_comes tells Says Refuses name now out script file left end says asked_is begun head_is told start_is later run = of_end end run.comes where
   of_end : (e : RecordEnd) → RunComes script (state_of tells file.disk) (head_of (tells.story file.disk) file.first) file.start file.faults left e
-      → RecordComes source source' name now (state_of tells out) left e
+      → RecordComes Says Refuses name now (state_of tells out) left e
   of_end (Refused problem) comes = record {
     history = comes.2;
     marks = comes.3;
@@ -300,6 +298,42 @@ record_comes tells source source' name now out script file left end says asked_i
     comes = close_earlier script (tells.faults out) file.faults left problem later comes.comes;
     asked_is = run.asked_is ∙ asked_is;
   }
+
+-- what a recording leaves of a script, in other words for what that says
+pub comes_as : (Says Says' : Script → Type 0) (Refuses Refuses' : Fault → Type 0) → ((script : Script) → Says script → Says' script)
+    → ((problem : Fault) → Refuses problem → Refuses' problem) → (name : List ℕ) (now : ℕ) (disk : DiskState) (left : Outcome) (end : RecordEnd)
+    → RecordComes Says Refuses name now disk left end → RecordComes Says' Refuses' name now disk left end
+comes_as Says Says' Refuses Refuses' says refuses name now disk left (Refused problem) comes = record {
+  history = comes.history;
+  marks = comes.marks;
+  comes = ⊎_elim
+      (λ unread. inl (record { comes = refuses problem unread.comes; same = unread.same; begun = unread.begun }))
+      (λ unmade. inr (record {
+        script = unmade.script;
+        says = says unmade.script unmade.says;
+        begun = unmade.begun;
+        comes = unmade.comes;
+        asked_is = unmade.asked_is;
+      }))
+      comes.comes;
+}
+comes_as Says Says' Refuses Refuses' says refuses name now disk left (Closed accepted samples last problem) comes = record {
+  script = comes.script;
+  says = says comes.script comes.says;
+  recorded = comes.recorded;
+  accepted_is = comes.accepted_is;
+  samples_is = comes.samples_is;
+  durable_is = comes.durable_is;
+  comes = comes.comes;
+  asked_is = comes.asked_is;
+}
+
+-- what holds of an answer that is `Ok`, and of a fault
+pub of_ok : {A E : Type 0} (P : A → Type 0) (answer : Result A E) (x : A) → IfOk answer P → answer ≡ Ok x → P x
+of_ok P answer x holds is = subst (λ a. IfOk a P) is holds
+
+pub of_err : {A E : Type 0} (P : E → Type 0) (answer : Result A E) (x : E) → IfErr answer P → answer ≡ Err x → P x
+of_err P answer x holds is = subst (λ a. IfErr a P) is holds
 
 -- a disk that was asked for something was not asked for nothing
 pub was_asked : {X : Type 0} (asked : Option X) (x : X) → asked ≡ Some x → ¬ (asked ≡ None)

@@ -15,6 +15,7 @@ use Rattle.book_owned.specs.Kept.{HoldsDurable, IsKept}
 use Rattle.book_owned.specs.declared.view.NoView.{NoView}
 use Rattle.book_owned.specs.Marks.{durable}
 use Rattle.acq_script.specs.declared.script.Script.{Script}
+use Rattle.script_gen.specs.Generated.{generated_script}
 use Rattle.mdf_record.specs.Head.{script_head}
 use Rattle.mdf_record.specs.Script.{SaysScript, ScriptFaultComes}
 use Rattle.mdf_record.specs.Finish.{FileFaultComes}
@@ -26,31 +27,31 @@ use Rattle.mdf_record.specs.declared.record.Recorded.{Recorded}
 use Rattle.mdf_record.specs.declared.record.RecordEnd.{RecordEnd}
 use Rattle.mdf_record.specs.declared.record.RecordEnd.TheVariants.{Refused, Closed}
 
--- The script was read, but the file could not be made, or the book not be begun: since the start a crash leaves no MDF
--- file, or the head with no opened block.
-pub record IsNotBegun (source : SourceState) (name : List ℕ) (now : ℕ) (disk left : DiskState) (fault : Fault) : Type 0 where
+-- The script was made, but the file could not be, or the book not be begun: since the start a crash leaves no MDF file, or
+-- the head with no opened block.
+pub record IsNotBegun (Says : Script → Type 0) (name : List ℕ) (now : ℕ) (disk left : DiskState) (fault : Fault) : Type 0 where
   pub script : Script
-  pub says : SaysScript source script
+  pub says : Says script
   pub begun : HoldsSince left.story disk.moment (IsBegun (script_head now script))
   pub comes : FileFaultComes disk left fault
   pub asked_is : (left.asked ≡ None) ⊎ (left.asked ≡ Some (name, Create))
 
--- The script was refused: the disk is as before, and since the start a crash leaves no MDF file, whatever head it has.
-pub record IsUnread (source source' : SourceState) (disk left : DiskState) (fault : Fault) : Type 0 where
-  pub comes : ScriptFaultComes source source' fault
+-- There was no script: the disk is as before, and since the start a crash leaves no MDF file, whatever head it has.
+pub record IsUnread (Refuses : Fault → Type 0) (disk left : DiskState) (fault : Fault) : Type 0 where
+  pub comes : Refuses fault
   pub same : left ≡ disk
   pub begun : (head : List ℕ) → HoldsSince left.story disk.moment (IsBegun head)
 
 -- Nothing was recorded.
-pub record IsRefused (source source' : SourceState) (name : List ℕ) (now : ℕ) (disk : DiskState) (left : Outcome) (fault : Fault) : Type 0 where
+pub record IsRefused (Says : Script → Type 0) (Refuses : Fault → Type 0) (name : List ℕ) (now : ℕ) (disk : DiskState) (left : Outcome) (fault : Fault) : Type 0 where
   pub history : left.history ≡ []
   pub marks : left.marks ≡ []
-  pub comes : IsUnread source source' disk left.disk fault ⊎ IsNotBegun source name now disk left.disk fault
+  pub comes : IsUnread Refuses disk left.disk fault ⊎ IsNotBegun Says name now disk left.disk fault
 
--- A book was begun over the script that the source has.
-pub record IsClosed (source : SourceState) (name : List ℕ) (now : ℕ) (disk : DiskState) (left : Outcome) (accepted : List ℕ) (samples last : ℕ) (fault : Option Fault) : Type 0 where
+-- A book was begun over the script.
+pub record IsClosed (Says : Script → Type 0) (name : List ℕ) (now : ℕ) (disk : DiskState) (left : Outcome) (accepted : List ℕ) (samples last : ℕ) (fault : Option Fault) : Type 0 where
   pub script : Script
-  pub says : SaysScript source script
+  pub says : Says script
   pub recorded : IsRecorded script (script_head now script) disk.moment left
   pub accepted_is : AreAccepted script left accepted
   pub samples_is : samples ≡ length left.history
@@ -58,15 +59,24 @@ pub record IsClosed (source : SourceState) (name : List ℕ) (now : ℕ) (disk :
   pub comes : CloseComes script disk.faults left fault
   pub asked_is : left.disk.asked ≡ Some (name, Create)
 
-abbrev pub RecordComes : SourceState → SourceState → List ℕ → ℕ → DiskState → Outcome → RecordEnd → Type 0
-RecordComes source source' name now disk left (Refused fault) = IsRefused source source' name now disk left fault
-RecordComes source source' name now disk left (Closed accepted samples last fault) = IsClosed source name now disk left accepted.items samples last fault
+-- What a recording leaves of a script, which says what it is, where a fault may stand in its place.
+abbrev pub RecordComes : (Script → Type 0) → (Fault → Type 0) → List ℕ → ℕ → DiskState → Outcome → RecordEnd → Type 0
+RecordComes Says Refuses name now disk left (Refused fault) = IsRefused Says Refuses name now disk left fault
+RecordComes Says Refuses name now disk left (Closed accepted samples last fault) = IsClosed Says name now disk left accepted.items samples last fault
 
--- How the command ends, by what the source, the disk and the sink tell before, and what the recording left.
-abbrev pub EndsRecord : SourceState → SourceState → List ℕ → ℕ → DiskState → Outcome → SinkState → SinkState → ℕ → Type 0
-EndsRecord source source' name now disk left sink sink' status =
-    (end : RecordEnd) × RecordComes source source' name now disk left end
+-- How a recording ends, by what the disk and the sink tell before, and what it left.
+abbrev pub EndsRecording : (Script → Type 0) → (Fault → Type 0) → List ℕ → ℕ → DiskState → Outcome → SinkState → SinkState → ℕ → Type 0
+EndsRecording Says Refuses name now disk left sink sink' status =
+    (end : RecordEnd) × RecordComes Says Refuses name now disk left end
     × Prints (record_text end) (record_status end) sink sink' status
+
+-- `record OUT`: the script is that of the source.
+abbrev pub EndsRecord : SourceState → SourceState → List ℕ → ℕ → DiskState → Outcome → SinkState → SinkState → ℕ → Type 0
+EndsRecord source source' = EndsRecording (SaysScript source) (ScriptFaultComes source source')
+
+-- `gen N OUT`: it is the generated one, for which memory may be wanted.
+abbrev pub EndsGenerated : ℕ → List ℕ → ℕ → DiskState → Outcome → SinkState → SinkState → ℕ → Type 0
+EndsGenerated samples = EndsRecording (λ script. script ≡ generated_script samples) (λ fault. fault ≡ Memory)
 
 -- the book was closed with this fault
 pub record Closes {C : Type 0} (tells : DiskOf C) (book : Account C NoView) (accepted : Stock ℕ) (fault : Option Fault) (result : Recorded C) : Type 0 where

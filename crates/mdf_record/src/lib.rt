@@ -7,5 +7,5 @@ mod record;
 mod sources;
 
 pub use gate::{Gate, Open};
-pub use record::{RecordEnd, Recorded, run_record};
+pub use record::{RecordEnd, Recorded, run_generated, run_record};
 pub use sources::{Accepted, End};

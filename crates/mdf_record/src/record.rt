@@ -1,10 +1,11 @@
-ghost use Rattle.std.specs.Prelude.{◌≡◌, ◌≤◌, ◌∷◌, [], true, List, ℕ, length, All, Some, None, is_some, IfSome, IfOk, IfErr};
+ghost use Rattle.std.specs.Prelude.{◌≡◌, ◌≤◌, ◌∷◌, [], true, List, ℕ, length, All, Some, None, Ok, Err, is_some, IfSome, IfOk, IfErr};
 ghost use Rattle.mdf_disk.specs.Crash.{HoldsSince};
 ghost use Rattle.mdf_disk.specs.State.{state_of};
 ghost use Rattle.mdf_disk.specs.declared.role.Role.TheVariants.{Create};
 ghost use Rattle.mdf_gate.specs.Images.{IsBegun, head_of};
 ghost use Rattle.book_owned.specs.Begun.{IsNewFile};
 ghost use Rattle.acq_script.specs.Stage.{IsScript};
+ghost use Rattle.script_gen.specs.Generated.{generated_script};
 ghost use Rattle.mdf_spell.specs.Recording.{head_file};
 ghost use Rattle.mdf_group.specs.Recordable.{AreRecordable};
 ghost use Rattle.mdf_record.specs.Script.{SaysScript, ScriptFaultComes};
@@ -31,6 +32,7 @@ use mdf_group::GroupRow;
 use mdf_layout::Samples;
 use mdf_num::{Bytes, Failed, Memory, Rows};
 use mdf_port::{Sink, Source, take_all};
+use script_gen::generated;
 use std::alloc::Global;
 use std::sync::Wait;
 use std::thread::Threads;
@@ -225,24 +227,25 @@ fn close<C: Disk>(book: Book<C, NoView>, accepted: Accepted, fault: Option<Fault
     }
 }
 
-/// Records the script of the source into a new file of this name.
-fn record<R: Threads + Wait + Sync, S: Source, C: Disk + Send, G: Gate + Sync>(
+/// Records a script into a new file of this name, unless there was a fault in its place.
+fn record<R: Threads + Wait + Sync, C: Disk + Send, G: Gate + Sync>(
     rt: &R,
     alloc: Global,
     output: &Bytes,
     now_ns: u64,
-    source: &mut S,
+    script: Result<Script, Fault>,
     out: C,
     gate: &G,
 ) -> Recorded<C>
-    requires { C.asked out ≡ None }
-    ensures comes { RecordComes (source_state S.Source source.old) (source_state S.Source source.new) output.now now_ns (state_of C.Disk out)
+    requires asked { C.asked out ≡ None }
+    requires script { IfOk script IsScript }
+    ensures comes { RecordComes (λ said. script ≡ Ok said) (λ fault. script ≡ Err fault) output.now now_ns (state_of C.Disk out)
         (outcome C.Disk result.out result.history.items result.marks.items) result.end }
     ensures untouched { C.asked result.out ≡ None → result.out ≡ out }
     ensures recovered { AreRecovered (C.moment out) (outcome C.Disk result.out result.history.items result.marks.items) }
 {
     what_is_carried_is_recovered();
-    let script = match read(alloc, source) {
+    let script = match script {
         Ok(script) => script,
         Err(fault) => return refused(alloc, fault, out),
     };
@@ -333,6 +336,14 @@ fn status(end: &RecordEnd) -> u8
     }
 }
 
+/// Prints how a recording ended, and answers the program's status.
+fn report<K: Sink>(sink: &mut K, end: &RecordEnd) -> u8
+    ensures { Prints (record_text end.now) (record_status end.now) (sink_state K.Sink sink.old) (sink_state K.Sink sink.new) result }
+{
+    let given = give_end(sink, end);
+    status_after(given, status(end))
+}
+
 /// `record OUT`: records the script of the source into a new file, and prints how many samples it holds. Answers the
 /// program's status too.
 pub fn run_record<R, S, K, C, G>(
@@ -352,15 +363,57 @@ where
     C: Disk + Send,
     G: Gate + Sync,
     requires { C.asked out ≡ None }
-    ensures comes { RecordComes (source_state S.Source source.old) (source_state S.Source source.new) output.now now_ns (state_of C.Disk out)
-        (outcome C.Disk result.1.out result.1.history.items result.1.marks.items) result.1.end }
+    ensures comes { RecordComes (SaysScript (source_state S.Source source.old)) (ScriptFaultComes (source_state S.Source source.old) (source_state S.Source source.new))
+        output.now now_ns (state_of C.Disk out) (outcome C.Disk result.1.out result.1.history.items result.1.marks.items) result.1.end }
     ensures untouched { C.asked result.1.out ≡ None → result.1.out ≡ out }
     ensures recovered { AreRecovered (C.moment out) (outcome C.Disk result.1.out result.1.history.items result.1.marks.items) }
     ensures printed { Prints (record_text result.1.end) (record_status result.1.end)
         (sink_state K.Sink sink.old) (sink_state K.Sink sink.new) result.0 }
 {
-    let recorded = record(rt, alloc, output, now_ns, source, out, gate);
-    let given = give_end(sink, &recorded.end);
-    let status = status_after(given, status(&recorded.end));
+    let script = read(alloc, source);
+    let recorded = record(rt, alloc, output, now_ns, script, out, gate);
+    let status = report(sink, &recorded.end);
+    (status, recorded)
+}
+
+/// The generated script of so many samples.
+fn generate(alloc: Global, samples: u64) -> Result<Script, Fault>
+    requires { samples ≤ 1000000 }
+    ensures script { IfOk result IsScript }
+    ensures exact { IfOk result (λ script. script ≡ generated_script samples) }
+    ensures fault { IfErr result (λ fault. fault ≡ Fault.Memory) }
+{
+    Ok(generated(alloc, samples)?)
+}
+
+/// `gen N OUT`: records the generated script of so many samples, at most 1,000,000, into a new file, and prints how many it
+/// holds. Answers the program's status too.
+pub fn run_generated<R, K, C, G>(
+    rt: &R,
+    alloc: Global,
+    samples: u64,
+    output: &Bytes,
+    now_ns: u64,
+    sink: &mut K,
+    out: C,
+    gate: &G,
+) -> (u8, Recorded<C>)
+where
+    R: Threads + Wait + Sync,
+    K: Sink,
+    C: Disk + Send,
+    G: Gate + Sync,
+    requires asked { C.asked out ≡ None }
+    requires samples { samples ≤ 1000000 }
+    ensures comes { RecordComes (λ script. script ≡ generated_script samples) (λ fault. fault ≡ Fault.Memory)
+        output.now now_ns (state_of C.Disk out) (outcome C.Disk result.1.out result.1.history.items result.1.marks.items) result.1.end }
+    ensures untouched { C.asked result.1.out ≡ None → result.1.out ≡ out }
+    ensures recovered { AreRecovered (C.moment out) (outcome C.Disk result.1.out result.1.history.items result.1.marks.items) }
+    ensures printed { Prints (record_text result.1.end) (record_status result.1.end)
+        (sink_state K.Sink sink.old) (sink_state K.Sink sink.new) result.0 }
+{
+    let script = generate(alloc, samples);
+    let recorded = record(rt, alloc, output, now_ns, script, out, gate);
+    let status = report(sink, &recorded.end);
     (status, recorded)
 }

@@ -2,7 +2,7 @@
 use Rattle.std.proofs.Common.{◌≡◌, ◌⊎◌, ◌<◌, ◌≤◌, inl, inr, ⊎_elim, ℕ, List, [], ◌∷◌, length, Option, Some, None, Ok, refl, subst, arith}
 use Rattle.std.specs.Prelude.{is_some, slice_get, IfSome, IsSomeAnd}
 use mathlib.Core.List.{IsPrefix}
-use Rattle.mdf_port.specs.State.{SinkState, SourceState}
+use Rattle.mdf_port.specs.State.{SinkState}
 use Rattle.mdf_disk.specs.State.{DiskState}
 use Rattle.mdf_layout.specs.History.{source_samples}
 use Rattle.mdf_layout.specs.declared.sample.Sample.{Sample}
@@ -20,7 +20,7 @@ use Rattle.mdf_command.specs.Faults.{fault_status, refused_status}
 use Rattle.mdf_disk.specs.Crash.{HoldsSince}
 use Rattle.mdf_gate.specs.Images.{IsBegun}
 use Rattle.mdf_record.specs.Head.{script_head}
-use Rattle.mdf_run.specs.Kept.{IsDone}
+use Rattle.mdf_run.specs.Kept.{IsDone, Keeps}
 use Rattle.mdf_record.specs.Record.{CloseComes, IsComplete, OfSources, Outcome, fault_code, record_status, record_text}
 use Rattle.mdf_record.specs.Script.{SCRIPT_LIMIT}
 use Rattle.mdf_record.specs.Recorded.{IsClosed, IsNotBegun, IsRefused, IsUnread, RecordComes}
@@ -59,41 +59,30 @@ completes : (script : Script) (faults : ℕ) (left : Outcome) (result : ℕ) (pr
 completes script faults left result None is done comes = comes
 completes script faults left result (Some problem) is done comes = absurd (not_done problem result is done)
 
--- one script has one meaning
-same_script : (text : List ℕ) (script other : Script) → script_of text ≡ Ok script → script_of text ≡ Ok other → script ≡ other
+same_script : (text : List ℕ) (script other : Script) → script_of text ≡ Ok script → script_of text ≡ Ok other → other ≡ script
 same_script text script other is also = cc
 
--- the script that a source says, where it tells its bytes
-meant : (left : Option (List ℕ)) (text : List ℕ) (script : Script) → left ≡ Some text
-    → IfSome left (λ t. (script_of t ≡ Ok script) × (length t ≤ SCRIPT_LIMIT)) → script_of text ≡ Ok script
-meant left text script told says =
-    let of_text = subst (λ (l : Option (List ℕ)). IfSome l (λ t. (script_of t ≡ Ok script) × (length t ≤ SCRIPT_LIMIT))) told says in of_text.0
+-- the script that a source says, where it tells its bytes, is the one that they are
+pub source_says : (left : Option (List ℕ)) (text : List ℕ) (script other : Script) → left ≡ Some text → script_of text ≡ Ok script
+    → IfSome left (λ t. (script_of t ≡ Ok other) × (length t ≤ SCRIPT_LIMIT)) → other ≡ script
+source_says left text script other told is says =
+    let of_text = subst (λ (l : Option (List ℕ)). IfSome l (λ t. (script_of t ≡ Ok other) × (length t ≤ SCRIPT_LIMIT))) told says in
+    same_script text script other is of_text.0
 
 -- marks of which the first is known are some
 some_from : (marks : List Mark) → IsSomeAnd (slice_get marks 0) (λ mark. mark.through ≡ 0) → 0 < length marks
 some_from [] first = absurd first
 some_from (mark ∷ marks) first = omega arith
 
--- the clauses on a recording that began at this moment of its disk
-pub record Keeps (start now : ℕ) (script : Script) (disk : DiskState) (history : List Sample) (marks : List Mark) (status : ℕ) : Type 0 where
-  pub marks_hold : MarksHold script.plan.shapes (script_head now script) disk.story disk.moment history marks
-  pub start_holds : StartHolds script.plan.shapes (script_head now script) disk.story start history
-  pub marks_rise : (marks ≡ []) ⊎ AreRising (is_some disk.story) marks
-  pub own_prefix : OfSources script (λ source tasks. IsPrefix (source_samples script.plan.owners history source) (samples_of tasks))
-  pub flush_lines : OfSources script (λ source tasks. AreOwnMarked script.plan.owners source history marks
-      (λ n. n < length (source_samples script.plan.owners history source)) [] tasks)
-  pub complete : IsDone status → IsComplete script (record { disk = disk; history = history; marks = marks })
-  pub some_marks : IsDone status → 0 < length marks
-
-module _ (source source' : SourceState) (name : List ℕ) (now : ℕ) (out disk : DiskState) (history : List Sample) (marks : List Mark) (status : ℕ)
-    (text : List ℕ) (told : source.left ≡ Some text) (script : Script) (means : script_of text ≡ Ok script) where
+module _ (Says : Script → Type 0) (Refuses : Fault → Type 0) (name : List ℕ) (now : ℕ) (out disk : DiskState) (history : List Sample) (marks : List Mark) (status : ℕ)
+    (script : Script) (means : (other : Script) → Says other → other ≡ script) where
   abbrev left : Outcome
   left = record { disk = disk; history = history; marks = marks }
 
   abbrev Keep : List Sample → List Mark → Type 0
   Keep samples ms = Keeps out.moment now script disk samples ms status
 
-  of_refused : (problem : Fault) → IsRefused source source' name now out left problem
+  of_refused : (problem : Fault) → IsRefused Says Refuses name now out left problem
       → (status ≡ fault_status problem) ⊎ (status ≡ unwritten_status (fault_status problem)) → Keep history marks
   of_refused problem refused is = rw (refused.history, refused.marks) (record {
     marks_hold = λ k mark within. absurd (omega (arith, within));
@@ -104,17 +93,15 @@ module _ (source source' : SourceState) (name : List ℕ) (now : ℕ) (out disk 
     complete = λ done. absurd (not_done problem status is done);
     some_marks = λ done. absurd (not_done problem status is done);
   }) where
-    begun : IsUnread source source' out disk problem ⊎ IsNotBegun source name now out disk problem → HoldsSince disk.story out.moment (IsBegun (script_head now script))
+    begun : IsUnread Refuses out disk problem ⊎ IsNotBegun Says name now out disk problem → HoldsSince disk.story out.moment (IsBegun (script_head now script))
     begun (inl unread) = unread.begun (script_head now script)
     begun (inr unmade) =
-        let same = same_script text unmade.script script (meant source.left text unmade.script told unmade.says) means in
-        subst (λ (s : Script). HoldsSince disk.story out.moment (IsBegun (script_head now s))) same unmade.begun
+        subst (λ (s : Script). HoldsSince disk.story out.moment (IsBegun (script_head now s))) (means unmade.script unmade.says) unmade.begun
 
-  of_closed : (accepted : List ℕ) (samples last : ℕ) (problem : Option Fault) → IsClosed source name now out left accepted samples last problem
+  of_closed : (accepted : List ℕ) (samples last : ℕ) (problem : Option Fault) → IsClosed Says name now out left accepted samples last problem
       → (status ≡ fault_code problem) ⊎ (status ≡ unwritten_status (fault_code problem)) → Keep history marks
   of_closed accepted samples last problem closed is =
-      let says = meant source.left text closed.script told closed.says in
-      let script_is : closed.script ≡ script = same_script text closed.script script says means in
+      let script_is : closed.script ≡ script = means closed.script closed.says in
       let recorded = rw script_is at closed.recorded in
       let comes = rw script_is at closed.comes in
       record {
@@ -127,11 +114,11 @@ module _ (source source' : SourceState) (name : List ℕ) (now : ℕ) (out disk 
         some_marks = λ done. some_from marks recorded.marks_rise.first;
       }
 
-  of_end : (end : RecordEnd) → RecordComes source source' name now out left end
+  of_end : (end : RecordEnd) → RecordComes Says Refuses name now out left end
       → (status ≡ record_status end) ⊎ (status ≡ unwritten_status (record_status end)) → Keep history marks
   of_end (Refused problem) comes is = of_refused problem comes is
   of_end (Closed accepted samples last problem) comes is = of_closed accepted.items samples last problem comes is
 
-  pub recording_keeps : (end : RecordEnd) (sink sink' : SinkState) → RecordComes source source' name now out left end
+  pub recording_keeps : (end : RecordEnd) (sink sink' : SinkState) → RecordComes Says Refuses name now out left end
       → Prints (record_text end) (record_status end) sink sink' status → Keep history marks
   recording_keeps end sink sink' comes prints = of_end end comes (was_status (record_text end) (record_status end) sink sink' status prints)

@@ -1,3 +1,4 @@
+mod Asked
 mod Keeps
 mod Recovered
 mod Sound

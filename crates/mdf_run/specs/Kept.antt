@@ -1,15 +1,38 @@
 -- What `run` keeps of a recording, whatever happens.
-use Rattle.std.specs.Prelude.{ℕ, ◌≡◌, ◌⊎◌, ◌<◌, List, length, Option, Some, Ok}
+use Rattle.std.specs.Prelude.{ℕ, ◌≡◌, ◌⊎◌, ◌<◌, List, [], length, Option, Some, Ok, is_some}
+use mathlib.Core.List.{IsPrefix}
+use Rattle.mdf_disk.specs.State.{DiskState}
+use Rattle.mdf_layout.specs.History.{source_samples}
+use Rattle.mdf_layout.specs.declared.sample.Sample.{Sample}
+use Rattle.book_owned.specs.Kept.{MarksHold, StartHolds}
+use Rattle.book_owned.specs.Marks.{AreRising}
+use Rattle.book_owned.specs.declared.mark.Mark.{Mark}
 use Rattle.acq_script.specs.Script.{script_of}
+use Rattle.acq_script.specs.Tasks.{samples_of}
 use Rattle.acq_script.specs.declared.script.Script.{Script}
-use Rattle.mdf_command.specs.Words.{AsksRecord}
+use Rattle.script_gen.specs.Generated.{generated_script}
+use Rattle.mdf_command.specs.Words.{AsksGenerated, AsksRecord}
 use Rattle.mdf_model.specs.Measurement.{Measured, measurement}
+use Rattle.mdf_record.specs.Head.{script_head}
+use Rattle.mdf_record.specs.Record.{IsComplete, OfSources}
+use Rattle.mdf_record.specs.Sources.{AreOwnMarked}
 
--- Where the words ask for a recording, and the source tells its bytes, which are a script, this holds of the script.
+-- Where the words ask for a recording this holds of its script: that of the source, where it tells its bytes and they are
+-- one, or the generated one.
 abbrev pub OfRecording : List (List ℕ) → Option (List ℕ) → (Script → Type 0) → Type 0
 OfRecording words left P =
-    (name : List ℕ) → AsksRecord words name → (text : List ℕ) → left ≡ Some text → (script : Script) → script_of text ≡ Ok script
-    → P script
+    ((name : List ℕ) → AsksRecord words name → (text : List ℕ) → left ≡ Some text → (script : Script) → script_of text ≡ Ok script → P script)
+    × ((samples : ℕ) (name : List ℕ) → AsksGenerated words samples name → P (generated_script samples))
+
+-- this holds where the words ask for a recording
+abbrev pub IfRecorded : List (List ℕ) → Type 0 → Type 0
+IfRecorded words P =
+    ((name : List ℕ) → AsksRecord words name → P) × ((samples : ℕ) (name : List ℕ) → AsksGenerated words samples name → P)
+
+-- they ask for none
+abbrev pub RecordsNothing : List (List ℕ) → Type 0
+RecordsNothing words =
+    ((name : List ℕ) → ¬ AsksRecord words name) × ((samples : ℕ) (name : List ℕ) → ¬ AsksGenerated words samples name)
 
 -- the status of a command that did what it was asked for, though the sink may have failed
 abbrev pub IsDone : ℕ → Type 0
@@ -29,3 +52,14 @@ pub record HasGroup (file : List ℕ) (group : ℕ) : Type 0 where
   pub found : Measured
   pub is_read : measurement file ≡ Ok found
   pub there : group < length found.groups
+
+-- What is kept of a recording of this script that was begun at this moment of its disk and ended with this status.
+pub record Keeps (start now : ℕ) (script : Script) (disk : DiskState) (history : List Sample) (marks : List Mark) (status : ℕ) : Type 0 where
+  pub marks_hold : MarksHold script.plan.shapes (script_head now script) disk.story disk.moment history marks
+  pub start_holds : StartHolds script.plan.shapes (script_head now script) disk.story start history
+  pub marks_rise : (marks ≡ []) ⊎ AreRising (is_some disk.story) marks
+  pub own_prefix : OfSources script (λ source tasks. IsPrefix (source_samples script.plan.owners history source) (samples_of tasks))
+  pub flush_lines : OfSources script (λ source tasks. AreOwnMarked script.plan.owners source history marks
+      (λ n. n < length (source_samples script.plan.owners history source)) [] tasks)
+  pub complete : IsDone status → IsComplete script (record { disk = disk; history = history; marks = marks })
+  pub some_marks : IsDone status → 0 < length marks

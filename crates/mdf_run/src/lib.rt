@@ -5,6 +5,7 @@
 #![tactic(auto)]
 
 mod program;
+mod recording;
 mod unread;
 
 pub use mdf_record::{Gate, Open};

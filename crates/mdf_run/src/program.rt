@@ -6,7 +6,7 @@ ghost use Rattle.mdf_disk.specs.State.{state_of};
 ghost use Rattle.book_owned.specs.Kept.{MarksHold, StartHolds};
 ghost use Rattle.book_owned.specs.Marks.{AreRising, last_mark};
 ghost use Rattle.acq_script.specs.Tasks.{samples_of};
-ghost use Rattle.mdf_command.specs.Words.{AsksCheck, AsksCut, AsksExport, AsksFinalize, AsksInfo, AsksOpened, AsksRecord, AsksSort, AsksInput, AsksOutput, AsksToMake, IsUsage};
+ghost use Rattle.mdf_command.specs.Words.{AsksCheck, AsksCut, AsksExport, AsksFinalize, AsksGenerated, AsksInfo, AsksOpened, AsksRecord, AsksSort, AsksInput, AsksOutput, AsksToMake, IsUsage};
 ghost use Rattle.mdf_command.specs.Texts.{Prints, usage_line};
 ghost use Rattle.mdf_inspect.specs.Opened.{EndsOpened};
 ghost use Rattle.mdf_disk.specs.Crash.{HoldsSince};
@@ -23,13 +23,14 @@ ghost use Rattle.mdf_record.specs.Sources.{AreOwnMarked};
 ghost use Rattle.mdf_layout.specs.History.{source_samples};
 ghost use Rattle.mdf_record.specs.Head.{script_head};
 ghost use Rattle.mdf_record.specs.Record.{IsComplete, OfSources, outcome};
-ghost use Rattle.mdf_record.specs.Recorded.{EndsRecord};
+ghost use Rattle.mdf_record.specs.Recorded.{EndsGenerated, EndsRecord};
 ghost use Rattle.mdf_record.specs.Recovers.{MarksRecover, StartRecovers};
 ghost use Rattle.mdf_carried.specs.Recovers.{IsReadable};
 ghost use Rattle.mdf_recovered.specs.Samples.{IsRecovered};
 ghost use Rattle.mdf_command.specs.Faults.{INPUT_LIMIT};
-ghost use Rattle.mdf_run.specs.Kept.{OfRecording, HasGroup, IsDone, IsDoneOrLacked, IsMeasured};
+ghost use Rattle.mdf_run.specs.Kept.{IfRecorded, OfRecording, RecordsNothing, HasGroup, IsDone, IsDoneOrLacked, IsMeasured};
 
+use crate::recording::{record_generated, record_source};
 use book_owned::Marks;
 use mdf_command::Piece::Text;
 use mdf_command::{Command, command_of, give_line, status_after};
@@ -39,7 +40,7 @@ use mdf_layout::Samples;
 use mdf_make::{run_cut, run_finalize, run_sort};
 use mdf_num::{Bytes, Rows};
 use mdf_port::{Sink, Source};
-use mdf_record::{Gate, Recorded, run_record};
+use mdf_record::Gate;
 use std::alloc::Global;
 use std::sync::Wait;
 use std::thread::Threads;
@@ -141,6 +142,10 @@ where
         → EndsRecord (source_state S.Source source.old) (source_state S.Source source.new) name now_ns (state_of C.Disk out)
         (outcome C.Disk result.out result.history.items result.marks.items)
         (sink_state K.Sink sink.old) (sink_state K.Sink sink.new) result.status }
+    ensures generated { (samples : ℕ) (name : List ℕ) → AsksGenerated words.now samples name
+        → EndsGenerated samples name now_ns (state_of C.Disk out)
+        (outcome C.Disk result.out result.history.items result.marks.items)
+        (sink_state K.Sink sink.old) (sink_state K.Sink sink.new) result.status }
 
     // What a recording keeps, whatever happens: of each crash, of the marks, of the samples of each source and of its
     // flushes; and what it has done where the status is 0, or 6.
@@ -160,10 +165,10 @@ where
 
     // What a reader recovers of a recording by the tree of the file itself, whatever happens: of each crash since a mark, and
     // since the start; and of each crash since the last mark where the status is 0, or 6.
-    ensures marks_recover { (name : List ℕ) → AsksRecord words.now name
-        → MarksRecover (C.story result.out) (C.moment result.out) result.history.items result.marks.items }
-    ensures start_recovers { (name : List ℕ) → AsksRecord words.now name
-        → StartRecovers (C.story result.out) (C.moment out) result.history.items }
+    ensures marks_recover { IfRecorded words.now
+        (MarksRecover (C.story result.out) (C.moment result.out) result.history.items result.marks.items) }
+    ensures start_recovers { IfRecorded words.now
+        (StartRecovers (C.story result.out) (C.moment out) result.history.items) }
     ensures all_recovered { OfRecording words.now (S.left source.old) (λ _. IsDone result.status
         → HoldsSince (C.story result.out) (last_mark result.marks.items).moment (λ file. IsRecovered file result.history.items)) }
 
@@ -191,9 +196,9 @@ where
     ensures cut_leaves { (input output : List ℕ) (from to : ℤ) → AsksCut words.now input output from to
         → IfSome (A.content first) (λ file. HoldsSince (C.story result.out) (C.moment out) (IsCutImage file (record { from = from; to = to; now = now_ns }))) }
 
-    // Another command has no history and no marks, and takes nothing from the source.
-    ensures no_history { ((name : List ℕ) → ¬ AsksRecord words.now name) → result.history.items ≡ [] }
-    ensures no_marks { ((name : List ℕ) → ¬ AsksRecord words.now name) → result.marks.items ≡ [] }
+    // Another command has no history and no marks. Only `record` takes anything from the source.
+    ensures no_history { RecordsNothing words.now → result.history.items ≡ [] }
+    ensures no_marks { RecordsNothing words.now → result.marks.items ≡ [] }
     ensures source { ((name : List ℕ) → ¬ AsksRecord words.now name) → source.new ≡ source.old }
 
     // A status that speaks of a disk, of the source or of the sink comes only where that has failed.
@@ -218,20 +223,7 @@ where
             without_recording(alloc, status, first, out)
         }
         Some(Command::Record { output }) => {
-            let (status, recorded) = run_record(rt, alloc, output, now_ns, source, sink, out, gate);
-            let Recorded {
-                end: _,
-                out,
-                history,
-                marks,
-            } = recorded;
-            Finished {
-                status,
-                first,
-                out,
-                history,
-                marks,
-            }
+            record_source(rt, alloc, output, now_ns, source, sink, first, out, gate)
         }
         Some(Command::Finalize { input, output }) => {
             let mut first = first;
@@ -274,6 +266,9 @@ where
             let mut first = first;
             let status = run_export(alloc, input, group, sink, &mut first);
             without_recording(alloc, status, first, out)
+        }
+        Some(Command::Gen { samples, output }) => {
+            record_generated(rt, alloc, samples, output, now_ns, sink, first, out, gate)
         }
         None => {
             let status = run_usage(sink);

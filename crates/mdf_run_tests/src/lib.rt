@@ -8,6 +8,8 @@ mod finalizing;
 #[cfg(test)]
 mod foreign;
 #[cfg(test)]
+mod generated;
+#[cfg(test)]
 mod kinds;
 #[cfg(test)]
 mod readings;

@@ -230,7 +230,7 @@ const USAGE: &str =
     "1 usage: opened IN | record OUT | finalize IN OUT | check IN | info IN | sort IN OUT | cut IN OUT FROM TO | concat A B OUT | export IN GROUP | gen N OUT\n";
 
 // Words that are no command.
-const WRONG: [&[&str]; 21] = [
+const WRONG: [&[&str]; 27] = [
     &[],
     &["frob"],
     &["opened"],
@@ -252,6 +252,12 @@ const WRONG: [&[&str]; 21] = [
     &["export", "a"],
     &["export", "a", "-1"],
     &["export", "a", "18446744073709551616"],
+    &["gen", "1"],
+    &["gen", "0", "a"],
+    &["gen", "1000001", "a"],
+    &["gen", "01", "a"],
+    &["gen", "+1", "a"],
+    &["gen", "", "a"],
 ];
 
 #[test]

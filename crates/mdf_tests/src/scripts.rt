@@ -3,6 +3,7 @@ use mdf_block::Note;
 use mdf_group::ChannelRow;
 use mdf_layout::{Entry, Sample, Value};
 use mdf_num::{Memory, Rows};
+use script_gen::generated;
 use std::alloc::Global;
 use std::test::Fail;
 
@@ -514,5 +515,36 @@ fn of_bytes(alloc: Global, bytes: u32) -> Result<String, Fail> {
 fn a_value_has_at_most_65535_bytes(rt: HostRuntime) -> Result<(), Fail> {
     assert_eq!(rt; line_of(rt.alloc(), &of_bytes(rt.alloc(), 65_535)?), 0);
     assert_eq!(rt; line_of(rt.alloc(), &of_bytes(rt.alloc(), 65_536)?), 5);
+    Ok(())
+}
+
+// How many samples are generated, with what is told of the script.
+const GENERATED: [(u64, &str); 3] = [
+    (0, "[0, 1, 2, 3] 4 65536 268435456 false 12:"),
+    (1, "[0, 1, 2, 3] 4 65536 268435456 false 12: 0,1013904223"),
+    (
+        10,
+        "[0, 1, 2, 3] 4 65536 268435456 false 12: 0,1013904223 4,1020562323 8,1027220423 1,1015568748 5,1022226848 9,1028884948 2,1017233273 6,1023891373 3,1018897798,[3, 3, 3] 7,1025555898,[7, 7]",
+    ),
+];
+
+#[test]
+fn the_generated_script_is_told(rt: HostRuntime) -> Result<(), Fail> {
+    let alloc = rt.alloc();
+    for (samples, want) in GENERATED {
+        assert!(rt; samples <= 1_000_000);
+        let told = script_told(alloc, &generated(alloc, samples)?)?;
+        assert_eq!(rt; told.as_str(), want);
+    }
+    Ok(())
+}
+
+// How many tasks each source has of a million samples: its 250,000 samples, and 250 flushes.
+#[test]
+fn a_million_samples_are_generated(rt: HostRuntime) -> Result<(), Fail> {
+    let script = generated(rt.alloc(), 1_000_000)?;
+    for tasks in script.lists.as_slice() {
+        assert_eq!(rt; tasks.len(), 250_250);
+    }
     Ok(())
 }

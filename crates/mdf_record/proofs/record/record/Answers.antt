@@ -1,9 +1,9 @@
-use Rattle.std.proofs.Common.{◌∙◌, ap, inl, inr, sym, subst}
+use Rattle.std.proofs.Common.{◌≡◌, ◌∙◌, ap, arith, inl, inr, sym, subst, Ok, Err}
 use Rattle.mdf_disk.specs.Crash.{HoldsSince}
 use Rattle.mdf_disk.specs.State.{state_of}
 use Rattle.mdf_gate.specs.Images.{IsBegun}
-use Rattle.std.proofs.Common.{arith}
-use Rattle.mdf_record.proofs.Recording.{fresh_begun, record_comes, was_asked}
+use Rattle.acq_script.specs.Stage.{IsScript}
+use Rattle.mdf_record.proofs.Recording.{fresh_begun, of_ok, record_comes, was_asked}
 use Rattle.mdf_record.proofs.Recovering.{none_recovered, run_recovers}
 use Rattle.mdf_record.proofs.record.record.Goals as goal
 
@@ -17,18 +17,18 @@ returns-in-Err g c =
         history = k.history;
         marks = k.marks;
         comes = inl (record {
-          comes = c.in-Err.ensures.fault;
+          comes = c.in-Err.is;
           same = ap (state_of g.C.Disk) k.out;
           begun = λ head. subst (λ d. HoldsSince (g.C.Disk.story d) (g.C.Disk.moment c.args.out) (IsBegun head)) (sym k.out)
               (fresh_begun head story (g.C.Disk.content c.args.out) (g.C.Disk.moment c.args.out) (met.agrees c.args.out)
-              (met.unattached c.args.out (met.unasked c.args.out c.requires)));
+              (met.unattached c.args.out (met.unasked c.args.out c.requires.asked)));
         });
       });
       untouched = λ none. k.out;
       recovered = rw (k.out, k.history, k.marks) (record {
         marks_recover = λ n mark within. absurd (omega (arith, within));
         start_recovers = none_recovered story (g.C.Disk.moment c.args.out) (λ head. fresh_begun head story (g.C.Disk.content c.args.out) (g.C.Disk.moment c.args.out)
-            (met.agrees c.args.out) (met.unattached c.args.out (met.unasked c.args.out c.requires)));
+            (met.agrees c.args.out) (met.unattached c.args.out (met.unasked c.args.out c.requires.asked)));
       });
     }
 
@@ -36,10 +36,10 @@ pub returns-in-Ok-create : goal.returns-in-Ok-create
 returns-in-Ok-create g c =
     let h = c.in-Ok-create.ensures in
     record {
-      comes = record_comes g.C.Disk _ _ _ c.args.now_ns c.args.out c.in-Ok.script c.in-Ok-create.file _ _
-          c.in-Ok.ensures.says h.asked h.begun h.head h.told h.start h.faults c.record_into.ensures.recorded;
+      comes = record_comes g.C.Disk (λ said. c.args.script ≡ Ok said) (λ problem. c.args.script ≡ Err problem) _ c.args.now_ns c.args.out c.in-Ok.script c.in-Ok-create.file _ _
+          c.in-Ok.is h.asked h.begun h.head h.told h.start h.faults c.record_into.ensures.recorded;
       untouched = λ none. absurd (was_asked _ _ (c.record_into.ensures.recorded.asked_is ∙ h.asked) none);
-      recovered = run_recovers c.what_is_carried_is_recovered.ensures c.args.now_ns c.in-Ok.script c.in-Ok.ensures.script.plan h.readable g.C.Disk c.args.out
+      recovered = run_recovers c.what_is_carried_is_recovered.ensures c.args.now_ns c.in-Ok.script (of_ok IsScript c.args.script c.in-Ok.script c.requires.script c.in-Ok.is).plan h.readable g.C.Disk c.args.out
           c.in-Ok-create.file _ _ h.begun h.head h.told h.start c.record_into.ensures.recorded;
     }
 
@@ -53,7 +53,7 @@ returns-in-Err-create g c =
         marks = k.marks;
         comes = inr (record {
           script = c.in-Ok.script;
-          says = c.in-Ok.ensures.says;
+          says = c.in-Ok.is;
           begun = rw k.out h.begun;
           comes = rw k.out h.comes;
           asked_is = rw k.out h.asked_is;

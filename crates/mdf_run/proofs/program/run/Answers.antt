@@ -6,68 +6,153 @@ use Rattle.mdf_command.specs.Faults.{INPUT_LIMIT}
 use Rattle.mdf_run.specs.Kept.{HasGroup, IsDoneOrLacked}
 use Rattle.mdf_port.specs.State.{sink_state, source_state}
 use Rattle.mdf_disk.specs.State.{state_of}
-use Rattle.mdf_command.specs.Words.{Asks, opened, recorded, finalized, checked, described, sorted, cut, exported}
+use Rattle.mdf_command.specs.Words.{Asks, opened, recorded, finalized, checked, described, sorted, cut, exported, generated}
 use Rattle.mdf_command.specs.Commands.{request_of}
 use Rattle.mdf_command.specs.declared.command.Command.{Command}
-use Rattle.mdf_command.specs.declared.command.Command.TheVariants.{Record, Finalize, Sort, Cut, Export}
-use Rattle.mdf_run.proofs.Keeps.{recording_keeps}
+use Rattle.mdf_command.specs.declared.command.Command.TheVariants.{Record, Finalize, Sort, Cut, Export, Gen}
 use Rattle.mdf_make.specs.Cut.{Cuts, EndsCut}
 use Rattle.mdf_make.specs.Finalize.{Finalizes}
 use Rattle.mdf_make.specs.Sort.{Sorts}
 use Rattle.mdf_inspect.specs.Export.{EndsExport}
+use Rattle.mdf_record.specs.Record.{outcome}
+use Rattle.mdf_record.specs.Recorded.{EndsGenerated}
+use Rattle.mdf_run.proofs.Asked.{as_asked, if_none, of_generated, of_none, of_record}
 use Rattle.mdf_run.proofs.Recovered.{all_is_recovered}
 use Rattle.mdf_run.proofs.Sound.{group_is_exported, measured_is_made, read_is_finalized}
 use Rattle.mdf_run.proofs.Words.{of_group, of_range}
 use Rattle.mdf_run.proofs.program.run.Goals as goal
 
+-- the words ask for this command
+asked : (words : List (List ℕ)) (command known : Command) → command ≡ known → Asks words (request_of command) → Asks words (request_of known)
+asked words command known is asks = subst (λ (c : Command). Asks words (request_of c)) is asks
+
 pub returns-in-Some-Record-clause-marks_hold : goal.returns-in-Some-Record-clause-marks_hold
-returns-in-Some-Record-clause-marks_hold g c = λ name asks text told script means.
-    (recording_keeps (source_state g.S.Source c.args.source.now) (source_state g.S.Source c.run_record-status.new.source) _ c.args.now_ns (state_of g.C.Disk c.args.out)
-    (state_of g.C.Disk c.run_record-status.result.1.out) _ _ c.run_record-status.result.0
-    text told script means c.run_record-status.result.1.end (sink_state g.K.Sink c.args.sink.now) (sink_state g.K.Sink c.run_record-status.new.sink)
-    c.run_record-status.ensures.comes c.run_record-status.ensures.printed).marks_hold
+returns-in-Some-Record-clause-marks_hold g c =
+    let m = c.in-Some-Record in
+    of_record c.args.words.now (g.S.Source.left c.args.source.now) _ m.output.now (asked c.args.words.now m.field-0 (Record m.output) m.field-0-is m.ensures)
+    (λ text told script means. (c.record_source.ensures.keeps text told script means).marks_hold)
 
 pub returns-in-Some-Record-clause-start_holds : goal.returns-in-Some-Record-clause-start_holds
-returns-in-Some-Record-clause-start_holds g c = λ name asks text told script means.
-    (recording_keeps (source_state g.S.Source c.args.source.now) (source_state g.S.Source c.run_record-status.new.source) _ c.args.now_ns (state_of g.C.Disk c.args.out)
-    (state_of g.C.Disk c.run_record-status.result.1.out) _ _ c.run_record-status.result.0
-    text told script means c.run_record-status.result.1.end (sink_state g.K.Sink c.args.sink.now) (sink_state g.K.Sink c.run_record-status.new.sink)
-    c.run_record-status.ensures.comes c.run_record-status.ensures.printed).start_holds
+returns-in-Some-Record-clause-start_holds g c =
+    let m = c.in-Some-Record in
+    of_record c.args.words.now (g.S.Source.left c.args.source.now) _ m.output.now (asked c.args.words.now m.field-0 (Record m.output) m.field-0-is m.ensures)
+    (λ text told script means. (c.record_source.ensures.keeps text told script means).start_holds)
+
+pub returns-in-Some-Record-clause-marks_rise : goal.returns-in-Some-Record-clause-marks_rise
+returns-in-Some-Record-clause-marks_rise g c =
+    let m = c.in-Some-Record in
+    of_record c.args.words.now (g.S.Source.left c.args.source.now) _ m.output.now (asked c.args.words.now m.field-0 (Record m.output) m.field-0-is m.ensures)
+    (λ text told script means. (c.record_source.ensures.keeps text told script means).marks_rise)
 
 pub returns-in-Some-Record-clause-own_prefix : goal.returns-in-Some-Record-clause-own_prefix
-returns-in-Some-Record-clause-own_prefix g c = λ name asks text told script means.
-    (recording_keeps (source_state g.S.Source c.args.source.now) (source_state g.S.Source c.run_record-status.new.source) _ c.args.now_ns (state_of g.C.Disk c.args.out)
-    (state_of g.C.Disk c.run_record-status.result.1.out) _ _ c.run_record-status.result.0
-    text told script means c.run_record-status.result.1.end (sink_state g.K.Sink c.args.sink.now) (sink_state g.K.Sink c.run_record-status.new.sink)
-    c.run_record-status.ensures.comes c.run_record-status.ensures.printed).own_prefix
+returns-in-Some-Record-clause-own_prefix g c =
+    let m = c.in-Some-Record in
+    of_record c.args.words.now (g.S.Source.left c.args.source.now) _ m.output.now (asked c.args.words.now m.field-0 (Record m.output) m.field-0-is m.ensures)
+    (λ text told script means. (c.record_source.ensures.keeps text told script means).own_prefix)
 
 pub returns-in-Some-Record-clause-flush_lines : goal.returns-in-Some-Record-clause-flush_lines
-returns-in-Some-Record-clause-flush_lines g c = λ name asks text told script means.
-    (recording_keeps (source_state g.S.Source c.args.source.now) (source_state g.S.Source c.run_record-status.new.source) _ c.args.now_ns (state_of g.C.Disk c.args.out)
-    (state_of g.C.Disk c.run_record-status.result.1.out) _ _ c.run_record-status.result.0
-    text told script means c.run_record-status.result.1.end (sink_state g.K.Sink c.args.sink.now) (sink_state g.K.Sink c.run_record-status.new.sink)
-    c.run_record-status.ensures.comes c.run_record-status.ensures.printed).flush_lines
+returns-in-Some-Record-clause-flush_lines g c =
+    let m = c.in-Some-Record in
+    of_record c.args.words.now (g.S.Source.left c.args.source.now) _ m.output.now (asked c.args.words.now m.field-0 (Record m.output) m.field-0-is m.ensures)
+    (λ text told script means. (c.record_source.ensures.keeps text told script means).flush_lines)
 
 pub returns-in-Some-Record-clause-complete : goal.returns-in-Some-Record-clause-complete
-returns-in-Some-Record-clause-complete g c = λ name asks text told script means.
-    (recording_keeps (source_state g.S.Source c.args.source.now) (source_state g.S.Source c.run_record-status.new.source) _ c.args.now_ns (state_of g.C.Disk c.args.out)
-    (state_of g.C.Disk c.run_record-status.result.1.out) _ _ c.run_record-status.result.0
-    text told script means c.run_record-status.result.1.end (sink_state g.K.Sink c.args.sink.now) (sink_state g.K.Sink c.run_record-status.new.sink)
-    c.run_record-status.ensures.comes c.run_record-status.ensures.printed).complete
-
-pub returns-in-Some-Record-clause-marks_recover : goal.returns-in-Some-Record-clause-marks_recover
-returns-in-Some-Record-clause-marks_recover g c = λ name asks. c.run_record-status.ensures.recovered.marks_recover
-
-pub returns-in-Some-Record-clause-start_recovers : goal.returns-in-Some-Record-clause-start_recovers
-returns-in-Some-Record-clause-start_recovers g c = λ name asks. c.run_record-status.ensures.recovered.start_recovers
+returns-in-Some-Record-clause-complete g c =
+    let m = c.in-Some-Record in
+    of_record c.args.words.now (g.S.Source.left c.args.source.now) _ m.output.now (asked c.args.words.now m.field-0 (Record m.output) m.field-0-is m.ensures)
+    (λ text told script means. (c.record_source.ensures.keeps text told script means).complete)
 
 pub returns-in-Some-Record-clause-all_recovered : goal.returns-in-Some-Record-clause-all_recovered
-returns-in-Some-Record-clause-all_recovered g c = λ name asks text told script means done.
-    let keeps = recording_keeps (source_state g.S.Source c.args.source.now) (source_state g.S.Source c.run_record-status.new.source) _ c.args.now_ns (state_of g.C.Disk c.args.out)
-    (state_of g.C.Disk c.run_record-status.result.1.out) _ _ c.run_record-status.result.0
-    text told script means c.run_record-status.result.1.end (sink_state g.K.Sink c.args.sink.now) (sink_state g.K.Sink c.run_record-status.new.sink)
-    c.run_record-status.ensures.comes c.run_record-status.ensures.printed in
-    all_is_recovered _ _ _ _ c.run_record-status.ensures.recovered.marks_recover (keeps.complete done).saved.all_durable (keeps.some_marks done)
+returns-in-Some-Record-clause-all_recovered g c =
+    let m = c.in-Some-Record in
+    of_record c.args.words.now (g.S.Source.left c.args.source.now) _ m.output.now (asked c.args.words.now m.field-0 (Record m.output) m.field-0-is m.ensures)
+    (λ text told script means done.
+    let keeps = c.record_source.ensures.keeps text told script means in
+    all_is_recovered _ _ _ _ c.record_source.ensures.recovered.marks_recover (keeps.complete done).saved.all_durable (keeps.some_marks done))
+
+pub returns-in-Some-Gen-clause-marks_hold : goal.returns-in-Some-Gen-clause-marks_hold
+returns-in-Some-Gen-clause-marks_hold g c =
+    let m = c.in-Some-Gen in
+    of_generated c.args.words.now (g.S.Source.left c.args.source.now) _ m.samples m.output.now (asked c.args.words.now m.field-0 (Gen m.samples m.output) m.field-0-is m.ensures)
+    c.record_generated.ensures.keeps.marks_hold
+
+pub returns-in-Some-Gen-clause-start_holds : goal.returns-in-Some-Gen-clause-start_holds
+returns-in-Some-Gen-clause-start_holds g c =
+    let m = c.in-Some-Gen in
+    of_generated c.args.words.now (g.S.Source.left c.args.source.now) _ m.samples m.output.now (asked c.args.words.now m.field-0 (Gen m.samples m.output) m.field-0-is m.ensures)
+    c.record_generated.ensures.keeps.start_holds
+
+pub returns-in-Some-Gen-clause-marks_rise : goal.returns-in-Some-Gen-clause-marks_rise
+returns-in-Some-Gen-clause-marks_rise g c =
+    let m = c.in-Some-Gen in
+    of_generated c.args.words.now (g.S.Source.left c.args.source.now) _ m.samples m.output.now (asked c.args.words.now m.field-0 (Gen m.samples m.output) m.field-0-is m.ensures)
+    c.record_generated.ensures.keeps.marks_rise
+
+pub returns-in-Some-Gen-clause-own_prefix : goal.returns-in-Some-Gen-clause-own_prefix
+returns-in-Some-Gen-clause-own_prefix g c =
+    let m = c.in-Some-Gen in
+    of_generated c.args.words.now (g.S.Source.left c.args.source.now) _ m.samples m.output.now (asked c.args.words.now m.field-0 (Gen m.samples m.output) m.field-0-is m.ensures)
+    c.record_generated.ensures.keeps.own_prefix
+
+pub returns-in-Some-Gen-clause-flush_lines : goal.returns-in-Some-Gen-clause-flush_lines
+returns-in-Some-Gen-clause-flush_lines g c =
+    let m = c.in-Some-Gen in
+    of_generated c.args.words.now (g.S.Source.left c.args.source.now) _ m.samples m.output.now (asked c.args.words.now m.field-0 (Gen m.samples m.output) m.field-0-is m.ensures)
+    c.record_generated.ensures.keeps.flush_lines
+
+pub returns-in-Some-Gen-clause-complete : goal.returns-in-Some-Gen-clause-complete
+returns-in-Some-Gen-clause-complete g c =
+    let m = c.in-Some-Gen in
+    of_generated c.args.words.now (g.S.Source.left c.args.source.now) _ m.samples m.output.now (asked c.args.words.now m.field-0 (Gen m.samples m.output) m.field-0-is m.ensures)
+    c.record_generated.ensures.keeps.complete
+
+pub returns-in-Some-Gen-clause-all_recovered : goal.returns-in-Some-Gen-clause-all_recovered
+returns-in-Some-Gen-clause-all_recovered g c =
+    let m = c.in-Some-Gen in
+    let keeps = c.record_generated.ensures.keeps in
+    of_generated c.args.words.now (g.S.Source.left c.args.source.now) _ m.samples m.output.now (asked c.args.words.now m.field-0 (Gen m.samples m.output) m.field-0-is m.ensures)
+    (λ done. all_is_recovered _ _ _ _ c.record_generated.ensures.recovered.marks_recover (keeps.complete done).saved.all_durable (keeps.some_marks done))
+
+pub returns-in-Some-Record-clause-marks_recover : goal.returns-in-Some-Record-clause-marks_recover
+returns-in-Some-Record-clause-marks_recover g c = (λ name asks. c.record_source.ensures.recovered.marks_recover, λ samples name asks. c.record_source.ensures.recovered.marks_recover)
+
+pub returns-in-Some-Record-clause-start_recovers : goal.returns-in-Some-Record-clause-start_recovers
+returns-in-Some-Record-clause-start_recovers g c = (λ name asks. c.record_source.ensures.recovered.start_recovers, λ samples name asks. c.record_source.ensures.recovered.start_recovers)
+
+pub returns-in-Some-Gen-clause-marks_recover : goal.returns-in-Some-Gen-clause-marks_recover
+returns-in-Some-Gen-clause-marks_recover g c = (λ name asks. c.record_generated.ensures.recovered.marks_recover, λ samples name asks. c.record_generated.ensures.recovered.marks_recover)
+
+pub returns-in-Some-Gen-clause-start_recovers : goal.returns-in-Some-Gen-clause-start_recovers
+returns-in-Some-Gen-clause-start_recovers g c = (λ name asks. c.record_generated.ensures.recovered.start_recovers, λ samples name asks. c.record_generated.ensures.recovered.start_recovers)
+
+pub returns-in-Some-Gen-clause-generated : goal.returns-in-Some-Gen-clause-generated
+returns-in-Some-Gen-clause-generated g c = λ samples name asks.
+    let m = c.in-Some-Gen in
+    let r = c.record_generated.result in
+    as_asked c.args.words.now m.samples m.output.now samples name
+    (λ number title. EndsGenerated number title c.args.now_ns (state_of g.C.Disk c.args.out) (outcome g.C.Disk r.out r.history.items r.marks.items)
+    (sink_state g.K.Sink c.args.sink.now) (sink_state g.K.Sink c.record_generated.new.sink) r.status)
+    (asked c.args.words.now m.field-0 (Gen m.samples m.output) m.field-0-is m.ensures) asks c.record_generated.ensures.ends
+
+pub returns-in-Some-Record-clause-no_history : goal.returns-in-Some-Record-clause-no_history
+returns-in-Some-Record-clause-no_history g c =
+    let m = c.in-Some-Record in
+    λ nothing. absurd (nothing.0 m.output.now (asked c.args.words.now m.field-0 (Record m.output) m.field-0-is m.ensures))
+
+pub returns-in-Some-Record-clause-no_marks : goal.returns-in-Some-Record-clause-no_marks
+returns-in-Some-Record-clause-no_marks g c =
+    let m = c.in-Some-Record in
+    λ nothing. absurd (nothing.0 m.output.now (asked c.args.words.now m.field-0 (Record m.output) m.field-0-is m.ensures))
+
+pub returns-in-Some-Gen-clause-no_history : goal.returns-in-Some-Gen-clause-no_history
+returns-in-Some-Gen-clause-no_history g c =
+    let m = c.in-Some-Gen in
+    λ nothing. absurd (nothing.1 m.samples m.output.now (asked c.args.words.now m.field-0 (Gen m.samples m.output) m.field-0-is m.ensures))
+
+pub returns-in-Some-Gen-clause-no_marks : goal.returns-in-Some-Gen-clause-no_marks
+returns-in-Some-Gen-clause-no_marks g c =
+    let m = c.in-Some-Gen in
+    λ nothing. absurd (nothing.1 m.samples m.output.now (asked c.args.words.now m.field-0 (Gen m.samples m.output) m.field-0-is m.ensures))
 
 pub returns-in-Some-Finalize-clause-finalizes : goal.returns-in-Some-Finalize-clause-finalizes
 returns-in-Some-Finalize-clause-finalizes g c = λ input output asks.
@@ -79,17 +164,29 @@ returns-in-Some-Finalize-clause-finalizes g c = λ input output asks.
 pub returns-in-None-clause-opened : goal.returns-in-None-clause-opened
 returns-in-None-clause-opened g c = λ input asks. absurd (c.in-None.ensures (opened input) asks)
 
+pub returns-in-None-clause-marks_hold : goal.returns-in-None-clause-marks_hold
+returns-in-None-clause-marks_hold g c = of_none c.args.words.now (g.S.Source.left c.args.source.now) _ c.in-None.ensures
+
+pub returns-in-None-clause-marks_rise : goal.returns-in-None-clause-marks_rise
+returns-in-None-clause-marks_rise g c = of_none c.args.words.now (g.S.Source.left c.args.source.now) _ c.in-None.ensures
+
+pub returns-in-None-clause-complete : goal.returns-in-None-clause-complete
+returns-in-None-clause-complete g c = of_none c.args.words.now (g.S.Source.left c.args.source.now) _ c.in-None.ensures
+
+pub returns-in-None-clause-generated : goal.returns-in-None-clause-generated
+returns-in-None-clause-generated g c = λ samples name asks. absurd (c.in-None.ensures (generated samples name) asks)
+
 pub returns-in-None-clause-record : goal.returns-in-None-clause-record
 returns-in-None-clause-record g c = λ name asks. absurd (c.in-None.ensures (recorded name) asks)
 
 pub returns-in-None-clause-start_holds : goal.returns-in-None-clause-start_holds
-returns-in-None-clause-start_holds g c = λ name asks. absurd (c.in-None.ensures (recorded name) asks)
+returns-in-None-clause-start_holds g c = of_none c.args.words.now (g.S.Source.left c.args.source.now) _ c.in-None.ensures
 
 pub returns-in-None-clause-own_prefix : goal.returns-in-None-clause-own_prefix
-returns-in-None-clause-own_prefix g c = λ name asks. absurd (c.in-None.ensures (recorded name) asks)
+returns-in-None-clause-own_prefix g c = of_none c.args.words.now (g.S.Source.left c.args.source.now) _ c.in-None.ensures
 
 pub returns-in-None-clause-flush_lines : goal.returns-in-None-clause-flush_lines
-returns-in-None-clause-flush_lines g c = λ name asks. absurd (c.in-None.ensures (recorded name) asks)
+returns-in-None-clause-flush_lines g c = of_none c.args.words.now (g.S.Source.left c.args.source.now) _ c.in-None.ensures
 
 pub returns-in-None-clause-check : goal.returns-in-None-clause-check
 returns-in-None-clause-check g c = λ input asks. absurd (c.in-None.ensures (checked input) asks)
@@ -101,13 +198,13 @@ pub returns-in-None-clause-finalize : goal.returns-in-None-clause-finalize
 returns-in-None-clause-finalize g c = λ input output asks. absurd (c.in-None.ensures (finalized input output) asks)
 
 pub returns-in-None-clause-marks_recover : goal.returns-in-None-clause-marks_recover
-returns-in-None-clause-marks_recover g c = λ name asks. absurd (c.in-None.ensures (recorded name) asks)
+returns-in-None-clause-marks_recover g c = if_none c.args.words.now _ c.in-None.ensures
 
 pub returns-in-None-clause-start_recovers : goal.returns-in-None-clause-start_recovers
-returns-in-None-clause-start_recovers g c = λ name asks. absurd (c.in-None.ensures (recorded name) asks)
+returns-in-None-clause-start_recovers g c = if_none c.args.words.now _ c.in-None.ensures
 
 pub returns-in-None-clause-all_recovered : goal.returns-in-None-clause-all_recovered
-returns-in-None-clause-all_recovered g c = λ name asks. absurd (c.in-None.ensures (recorded name) asks)
+returns-in-None-clause-all_recovered g c = of_none c.args.words.now (g.S.Source.left c.args.source.now) _ c.in-None.ensures
 
 pub returns-in-None-clause-finalizes : goal.returns-in-None-clause-finalizes
 returns-in-None-clause-finalizes g c = λ input output asks. absurd (c.in-None.ensures (finalized input output) asks)
@@ -121,15 +218,16 @@ returns-in-None-clause-sort g c = λ input output asks. absurd (c.in-None.ensure
 pub returns-in-None-clause-sort_leaves : goal.returns-in-None-clause-sort_leaves
 returns-in-None-clause-sort_leaves g c = λ input output asks. absurd (c.in-None.ensures (sorted input output) asks)
 
--- the words ask for this command
-asked : (words : List (List ℕ)) (command known : Command) → command ≡ known → Asks words (request_of command) → Asks words (request_of known)
-asked words command known is asks = subst (λ (c : Command). Asks words (request_of c)) is asks
-
 -- a recording, and a finished file, is a file that is made
 pub returns-in-Some-Record-clause-out : goal.returns-in-Some-Record-clause-out
 returns-in-Some-Record-clause-out g c = λ none.
     let m = c.in-Some-Record in
     absurd (none m.output.now (recorded m.output.now, asked c.args.words.now m.field-0 (Record m.output) m.field-0-is m.ensures, refl))
+
+pub returns-in-Some-Gen-clause-out : goal.returns-in-Some-Gen-clause-out
+returns-in-Some-Gen-clause-out g c = λ none.
+    let m = c.in-Some-Gen in
+    absurd (none m.output.now (generated m.samples m.output.now, asked c.args.words.now m.field-0 (Gen m.samples m.output) m.field-0-is m.ensures, refl))
 
 pub returns-in-Some-Finalize-clause-out : goal.returns-in-Some-Finalize-clause-out
 returns-in-Some-Finalize-clause-out g c = λ none.

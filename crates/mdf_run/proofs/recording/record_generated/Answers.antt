@@ -1,0 +1,22 @@
+use Rattle.std.proofs.Common.{◌≡◌}
+use Rattle.mdf_port.specs.State.{sink_state}
+use Rattle.mdf_disk.specs.State.{state_of}
+use Rattle.script_gen.specs.Generated.{generated_script}
+use Rattle.mdf_command.specs.declared.fault.Fault.TheVariants.{Memory}
+use Rattle.mdf_run.proofs.Keeps.{recording_keeps}
+use Rattle.mdf_run.proofs.recording.record_generated.Goals as goal
+
+pub returns-clause-ends : goal.returns-clause-ends
+returns-clause-ends g c =
+    let w = c.with_recording.ensures in
+    let r = c.run_generated-status in
+    (r.result.1.end, rw (w.out, w.history, w.marks) r.ensures.comes, rw w.status r.ensures.printed)
+
+pub returns-clause-keeps : goal.returns-clause-keeps
+returns-clause-keeps g c =
+    let w = c.with_recording.ensures in
+    let r = c.run_generated-status in
+    let n = c.args.samples in
+    rw (w.status, w.out, w.history, w.marks) (recording_keeps (λ script. script ≡ generated_script n) (λ fault. fault ≡ Memory) _ c.args.now_ns (state_of g.C.Disk c.args.out)
+    (state_of g.C.Disk r.result.1.out) _ _ r.result.0 (generated_script n) (λ other says. says)
+    r.result.1.end (sink_state g.K.Sink c.args.sink.now) (sink_state g.K.Sink r.new.sink) r.ensures.comes r.ensures.printed)

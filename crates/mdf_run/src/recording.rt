@@ -1,0 +1,115 @@
+// The commands that record: `record OUT` and `gen N OUT`.
+ghost use Rattle.std.specs.Prelude.{◌≡◌, ◌≢◌, ◌≤◌, List, ℕ, None, Some, Ok};
+ghost use Rattle.mdf_format.specs.Cause.{Rose};
+ghost use Rattle.mdf_port.specs.State.{sink_state, source_state};
+ghost use Rattle.mdf_disk.specs.State.{state_of};
+ghost use Rattle.acq_script.specs.Script.{script_of};
+ghost use Rattle.acq_script.specs.declared.script.Script.{Script};
+ghost use Rattle.script_gen.specs.Generated.{generated_script};
+ghost use Rattle.mdf_record.specs.Record.{outcome};
+ghost use Rattle.mdf_record.specs.Recorded.{EndsGenerated, EndsRecord};
+ghost use Rattle.mdf_record.specs.Recovers.{AreRecovered};
+ghost use Rattle.mdf_run.specs.Kept.{Keeps};
+
+use crate::program::Finished;
+use mdf_disk::Disk;
+use mdf_num::Bytes;
+use mdf_port::{Sink, Source};
+use mdf_record::{Gate, Recorded, run_generated, run_record};
+use std::alloc::Global;
+use std::sync::Wait;
+use std::thread::Threads;
+
+/// What a recording leaves, beside the disk of an input, of which it asks nothing.
+fn with_recording<A, C>(status: u8, first: A, recorded: Recorded<C>) -> Finished<A, C>
+    ensures status { result.status ≡ status }
+    ensures first { result.first ≡ first }
+    ensures out { result.out ≡ recorded.out }
+    ensures history { result.history ≡ recorded.history }
+    ensures marks { result.marks ≡ recorded.marks }
+{
+    let Recorded {
+        end: _,
+        out,
+        history,
+        marks,
+    } = recorded;
+    Finished {
+        status,
+        first,
+        out,
+        history,
+        marks,
+    }
+}
+
+/// Records the script of the source.
+pub(crate) fn record_source<R, S, K, A, C, G>(
+    rt: &R,
+    alloc: Global,
+    output: &Bytes,
+    now_ns: u64,
+    source: &mut S,
+    sink: &mut K,
+    first: A,
+    out: C,
+    gate: &G,
+) -> Finished<A, C>
+where
+    R: Threads + Wait + Sync,
+    S: Source,
+    K: Sink,
+    C: Disk,
+    G: Gate,
+    requires { C.asked out ≡ None }
+    ensures ends { EndsRecord (source_state S.Source source.old) (source_state S.Source source.new) output.now now_ns (state_of C.Disk out)
+        (outcome C.Disk result.out result.history.items result.marks.items)
+        (sink_state K.Sink sink.old) (sink_state K.Sink sink.new) result.status }
+    ensures keeps { (text : List ℕ) → S.left source.old ≡ Some text → (script : Script) → script_of text ≡ Ok script
+        → Keeps (C.moment out) now_ns script (state_of C.Disk result.out) result.history.items result.marks.items result.status }
+    ensures recovered { AreRecovered (C.moment out) (outcome C.Disk result.out result.history.items result.marks.items) }
+    ensures untouched { C.asked result.out ≡ None → result.out ≡ out }
+    ensures first { result.first ≡ first }
+    ensures usage { result.status ≢ 1 }
+    ensures source_fault { result.status ≡ 2 → Rose (S.faults source.old) (S.faults source.new) }
+    ensures device_fault { result.status ≡ 4 → Rose (C.faults out) (C.faults result.out) }
+    ensures sink_fault { result.status ≡ 6 → Rose (K.faults sink.old) (K.faults sink.new) }
+{
+    let (status, recorded) = run_record(rt, alloc, output, now_ns, source, sink, out, gate);
+    with_recording(status, first, recorded)
+}
+
+/// Records the generated script of so many samples.
+pub(crate) fn record_generated<R, K, A, C, G>(
+    rt: &R,
+    alloc: Global,
+    samples: u64,
+    output: &Bytes,
+    now_ns: u64,
+    sink: &mut K,
+    first: A,
+    out: C,
+    gate: &G,
+) -> Finished<A, C>
+where
+    R: Threads + Wait + Sync,
+    K: Sink,
+    C: Disk,
+    G: Gate,
+    requires asked { C.asked out ≡ None }
+    requires samples { samples ≤ 1000000 }
+    ensures ends { EndsGenerated samples output.now now_ns (state_of C.Disk out)
+        (outcome C.Disk result.out result.history.items result.marks.items)
+        (sink_state K.Sink sink.old) (sink_state K.Sink sink.new) result.status }
+    ensures keeps { Keeps (C.moment out) now_ns (generated_script samples) (state_of C.Disk result.out) result.history.items result.marks.items result.status }
+    ensures recovered { AreRecovered (C.moment out) (outcome C.Disk result.out result.history.items result.marks.items) }
+    ensures untouched { C.asked result.out ≡ None → result.out ≡ out }
+    ensures first { result.first ≡ first }
+    ensures usage { result.status ≢ 1 }
+    ensures source_fault { result.status ≢ 2 }
+    ensures device_fault { result.status ≡ 4 → Rose (C.faults out) (C.faults result.out) }
+    ensures sink_fault { result.status ≡ 6 → Rose (K.faults sink.old) (K.faults sink.new) }
+{
+    let (status, recorded) = run_generated(rt, alloc, samples, output, now_ns, sink, out, gate);
+    with_recording(status, first, recorded)
+}

@@ -1,0 +1,70 @@
+//! Recordings of the generated script.
+
+use crate::runs::{Given, made, record};
+use mdf_disk::MemoryDisk;
+use std::test::Fail;
+
+const fn generating<'a>(words: &'a [&'a str]) -> Given<'a> {
+    Given {
+        words,
+        script: "",
+        broken: &[],
+        failing: &[],
+    }
+}
+
+// The generated script of ten samples, as a source has it: the number of sample i is (1664525 i + 1013904223) mod 2^32.
+const TEN: &str = "group 0 g0
+channel t u64 master
+channel v u32
+group 1 g1
+channel t u64 master
+channel v u32
+group 2 g2
+channel t u64 master
+channel v u32
+group 3 g3
+channel t u64 master
+channel v u32
+channel n var
+begin
+0 0 1013904223
+1 1 1015568748
+2 2 1017233273
+3 3 1018897798 x030303
+0 4 1020562323
+1 5 1022226848
+2 6 1023891373
+3 7 1025555898 x0707
+0 8 1027220423
+1 9 1028884948
+end
+";
+
+const TEN_TOLD: &str =
+    "0 source 0 accepted 3\nsource 1 accepted 3\nsource 2 accepted 2\nsource 3 accepted 2\nsamples 10 durable 10\n";
+
+#[test]
+fn ten_samples_are_generated(rt: HostRuntime) -> Result<(), Fail> {
+    let alloc = rt.alloc();
+    let given = generating(&["gen", "10", "out.mf4"]);
+    let (text, file) = made(&rt, given, MemoryDisk::new(alloc), MemoryDisk::new(alloc))?;
+    let given = record(TEN, &[], &[]);
+    let (_, same) = made(&rt, given, MemoryDisk::new(alloc), MemoryDisk::new(alloc))?;
+    assert_eq!(rt; text.as_str(), TEN_TOLD);
+    assert!(rt; file.as_slice() == same.as_slice());
+    Ok(())
+}
+
+// Behind each thousandth sample of a source stands a flush: of 4,004 samples each source has 1,001.
+const FLUSHED: &str =
+    "0 source 0 accepted 1001\nsource 1 accepted 1001\nsource 2 accepted 1001\nsource 3 accepted 1001\nsamples 4004 durable 4004\n";
+
+#[test]
+fn a_thousandth_sample_is_flushed(rt: HostRuntime) -> Result<(), Fail> {
+    let alloc = rt.alloc();
+    let given = generating(&["gen", "4004", "out.mf4"]);
+    let (text, _) = made(&rt, given, MemoryDisk::new(alloc), MemoryDisk::new(alloc))?;
+    assert_eq!(rt; text.as_str(), FLUSHED);
+    Ok(())
+}
