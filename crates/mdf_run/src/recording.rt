@@ -59,8 +59,8 @@ where
     R: Threads + Wait + Sync,
     S: Source,
     K: Sink,
-    C: Disk,
-    G: Gate,
+    C: Disk + Send,
+    G: Gate + Sync,
     requires { C.asked out ≡ None }
     ensures ends { EndsRecord (source_state S.Source source.old) (source_state S.Source source.new) output.now now_ns (state_of C.Disk out)
         (outcome C.Disk result.out result.history.items result.marks.items)
@@ -94,8 +94,8 @@ pub(crate) fn record_generated<R, K, A, C, G>(
 where
     R: Threads + Wait + Sync,
     K: Sink,
-    C: Disk,
-    G: Gate,
+    C: Disk + Send,
+    G: Gate + Sync,
     requires asked { C.asked out ≡ None }
     requires samples { samples ≤ 1000000 }
     ensures ends { EndsGenerated samples output.now now_ns (state_of C.Disk out)
