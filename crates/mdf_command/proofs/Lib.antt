@@ -1,5 +1,4 @@
 mod Numbers
 pub mod Pieces
 pub mod Told
-mod Numbers
 pub mod Bounds
