@@ -42,9 +42,9 @@ static void need(bool ok, const char *what) {
     exit(1);
 }
 
-static uint64_t number(const uint8_t *at, int bytes) {
+static uint64_t number(const uint8_t *at, size_t bytes) {
     uint64_t n = 0;
-    for (int k = 0; k < bytes; k++) n |= (uint64_t)at[k] << (8 * k);
+    memcpy(&n, at, bytes);
     return n;
 }
 
@@ -155,9 +155,9 @@ static uint64_t gather(const struct group *wanted, uint8_t id_size) {
     uint64_t count = 0;
     part = place = 0;
     while (part < part_count) {
-        uint8_t head[8];
+        uint8_t head[8] = {0};
         if (id_size > 0) take(head, id_size);
-        const struct group *group = id_size == 0 ? groups : group_of(number(head, id_size));
+        const struct group *group = id_size == 0 ? groups : group_of(number(head, 8));
         uint64_t len = group->size;
         bool kept = group == wanted;
         if (group->holds_values) {

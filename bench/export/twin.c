@@ -34,9 +34,9 @@ static void need(bool ok, const char *what) {
     exit(1);
 }
 
-static uint64_t number(const uint8_t *at, uint32_t bytes) {
+static uint64_t number(const uint8_t *at, size_t bytes) {
     uint64_t n = 0;
-    for (uint32_t k = 0; k < bytes; k++) n |= (uint64_t)at[k] << (8 * k);
+    memcpy(&n, at, bytes);
     return n;
 }
 

@@ -16,6 +16,20 @@ use Rattle.mdf_spell.specs.Standing.{data_number}
 use Rattle.mdf_spell.specs.Front.{IsFrontOf}
 use Rattle.mdf_spell.proofs.SessionTrees.{head_long}
 
+-- the records and the values
+pub data_placed : (w0 w1 w2 values : List Placed) (records : Placed) → w1 ≡ w0 ++ records ∷ [] → w2 ≡ w1 ++ values
+    → w2 ≡ w0 ++ (records ∷ values)
+data_placed w0 w1 w2 values records first second =
+    second ∙ ap (λ (xs : List Placed). xs ++ values) first ∙ append_assoc w0 (records ∷ []) values
+
+-- the tree, the records and the values
+pub three_placed : (w0 w1 w2 w3 tree values : List Placed) (records : Placed) → w1 ≡ w0 ++ tree → w2 ≡ w1 ++ records ∷ []
+    → w3 ≡ w2 ++ values → w3 ≡ w0 ++ (tree ++ (records ∷ values))
+three_placed w0 w1 w2 w3 tree values records first second third =
+    data_placed w1 w2 w3 values records second third
+    ∙ ap (λ (xs : List Placed). xs ++ (records ∷ values)) first
+    ∙ append_assoc w0 tree (records ∷ values)
+
 -- the data group without its data, where its numbers are what they are counted to be
 pub tree_placed : (w0 w1 : List Placed) (recovered : Recovered) (n records : ℕ) (names values : List Link) → n ≡ length w0
     → records ≡ past_data_group n recovered.row.now → names ≡ session_names n recovered.row.now → values ≡ with_streams (records + 1) names
@@ -31,12 +45,6 @@ tree_placed w0 w1 recovered n records names values same past named linked placed
     ∙ ap (λ (ns : List Link). all records (with_streams (records + 1) ns)) named
     ∙ ap (λ (r : ℕ). all r (with_streams (r + 1) (session_names n row))) past
     ∙ ap (λ (m : ℕ). all (past_data_group m row) (with_streams (past_data_group m row + 1) (session_names m row))) same
-
--- the records and the values
-pub data_placed : (w0 w1 w2 values : List Placed) (records : Placed) → w1 ≡ w0 ++ records ∷ [] → w2 ≡ w1 ++ values
-    → w2 ≡ w0 ++ (records ∷ values)
-data_placed w0 w1 w2 values records first second =
-    second ∙ ap (λ (xs : List Placed). xs ++ values) first ∙ append_assoc w0 (records ∷ []) values
 
 -- the head and the data group without its data
 module _ (w1 : List Placed) (recovered : Recovered) (now : ℕ)
