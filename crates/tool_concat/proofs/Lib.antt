@@ -1,0 +1,10 @@
+mod Steps
+mod Counts
+mod Apart
+mod Moves
+mod Finds
+mod Joinings
+mod Holds
+mod Streams
+mod Groups
+mod Ends
