@@ -1,6 +1,6 @@
 -- What is left of the output of a tool.
 use Rattle.std.proofs.Common.{◌≡◌, ◌≤◌, ⊎_elim, inl, inr, ℕ, List, [], Option, Some, None, Result, Ok, Err, refl, sym, ◌∙◌, ap, subst, arith}
-use Rattle.std.specs.Prelude.{IfSome}
+use Rattle.std.specs.Prelude.{IfSome, ℤ}
 use Rattle.mdf_disk.specs.Crash.{Adds, HoldsSince}
 use Rattle.mdf_disk.specs.State.{DiskState}
 use Rattle.mdf_disk.specs.Story.{MayLeave, Story, Agrees, IsFresh, LeftSince}
@@ -117,3 +117,9 @@ pub cut_fault : (file : List ℕ) (asked : Cutting) (old new : DiskState) (probl
 cut_fault file asked old new (tool.Read refused) ends = (ends.1, ends.2)
 cut_fault file asked old new tool.Failed ends = ends
 cut_fault file asked old new tool.Memory ends = ends
+
+-- what holds of a range holds of the same one
+pub same_range : (P : Cutting → Type 0) (from to from' to' : ℤ) (now : ℕ) → from' ≡ from → to' ≡ to → P (record { from = from'; to = to'; now = now })
+    → P (record { from = from; to = to; now = now })
+same_range P from to from' to' now first last holds =
+    subst (λ t. P (record { from = from; to = t; now = now })) last (subst (λ f. P (record { from = f; to = to'; now = now })) first holds)

@@ -1,1 +1,1 @@
-mod Leaving
+pub mod Leaving

@@ -1,11 +1,20 @@
 -- The numbers among the command words are what the words say.
-use Rattle.std.proofs.Common.{◌≡◌, ◌∷◌, [], ℕ, List, subst, arith}
-use Rattle.std.specs.Prelude.{ℤ}
+use Rattle.std.proofs.Common.{◌≡◌, ◌∷◌, [], ℕ, List, SFits, to_z, of_z, to_z-of_z, subst, arith}
+use mir.Syntax.{w128}
+use Rattle.std.specs.Prelude.{ℤ, pos, negsuc}
 use Rattle.std.specs.Fmt.{decimal, signed_decimal}
 use Rattle.std.proofs.lemmas.Fmt.{decimal_injective}
-use Rattle.mdf_command.specs.Words.{AsksCut, AsksExport}
+use Rattle.mdf_command.specs.Words.{AsksCut, AsksExport, IsBound}
 use Rattle.mdf_command.proofs.Bounds.{one_bound}
-use Rattle.tool_cut.specs.Cut.{Cutting}
+
+fits : (z : ℤ) → IsBound z → SFits w128 z
+fits (pos n) within = record { sfits = omega (arith, within) }
+fits (negsuc n) within = record { sfits = omega (arith, within) }
+
+-- a range is passed on as it is
+pub passed : (P : ℤ → ℤ → Type 0) (from to : ℤ) → IsBound from × IsBound to → P (to_z w128 (of_z w128 from)) (to_z w128 (of_z w128 to)) → P from to
+passed P from to within holds =
+    subst (λ t. P from t) (to_z-of_z (fits to within.1)) (subst (λ f. P f (to_z w128 (of_z w128 to))) (to_z-of_z (fits from within.0)) holds)
 
 -- what holds of the range that the words ask for holds of each that they ask for
 pub of_range : (words : List (List ℕ)) (input output input' output' : List ℕ) (from to from' to' : ℤ) (P : ℤ → ℤ → Type 0) → AsksCut words input output from to

@@ -1,5 +1,5 @@
 use Rattle.std.proofs.Common.{◌≡◌, ◌≤◌, ℕ, List, length, refl, subst}
-use Rattle.std.specs.Prelude.{IfSome}
+use Rattle.std.specs.Prelude.{IfSome, ℤ}
 use Rattle.mdf_disk.specs.Crash.{HoldsSince}
 use Rattle.tool_cut.specs.Cut.{IsCutImage}
 use Rattle.mdf_command.specs.Faults.{INPUT_LIMIT}
@@ -19,7 +19,7 @@ use Rattle.mdf_record.specs.Recorded.{EndsGenerated}
 use Rattle.mdf_run.proofs.Asked.{as_asked, if_none, of_generated, of_none, of_record}
 use Rattle.mdf_run.proofs.Recovered.{all_is_recovered}
 use Rattle.mdf_run.proofs.Sound.{group_is_exported, measured_is_made, read_is_finalized}
-use Rattle.mdf_run.proofs.Words.{of_group, of_range}
+use Rattle.mdf_run.proofs.Words.{of_group, of_range, passed}
 use Rattle.mdf_run.proofs.program.run.Goals as goal
 
 -- the words ask for this command
@@ -269,28 +269,31 @@ returns-in-Some-Cut-clause-cut g c = λ input output from to asks.
     let w = c.without_recording-in-Some-Cut.ensures in
     let r = c.run_cut-status in
     let mine = asked c.args.words.now m.field-0 (Cut m.input m.output m.from m.to) m.field-0-is m.ensures in
-    rw (w.status, w.first, w.out) (of_range c.args.words.now m.input.now m.output.now input output m.from m.to from to
-    (λ first last. EndsCut (record { from = first; to = last; now = c.args.now_ns }) (state_of g.A.Disk c.args.first) (state_of g.A.Disk r.new.first)
-    (state_of g.C.Disk c.args.out) (state_of g.C.Disk r.new.out) (sink_state g.K.Sink c.args.sink.now) (sink_state g.K.Sink r.new.sink) r.result)
-    mine asks r.ensures.ends)
+    let Ends : ℤ → ℤ → Type 0 = λ first last. EndsCut (record { from = first; to = last; now = c.args.now_ns }) (state_of g.A.Disk c.args.first) (state_of g.A.Disk r.new.first)
+    (state_of g.C.Disk c.args.out) (state_of g.C.Disk r.new.out) (sink_state g.K.Sink c.args.sink.now) (sink_state g.K.Sink r.new.sink) r.result in
+    rw (w.status, w.first, w.out) (of_range c.args.words.now m.input.now m.output.now input output m.from m.to from to Ends
+    mine asks (passed Ends m.from m.to mine.1 r.ensures.ends))
 
 pub returns-in-Some-Cut-clause-cuts : goal.returns-in-Some-Cut-clause-cuts
 returns-in-Some-Cut-clause-cuts g c = λ input output from to asks.
     let m = c.in-Some-Cut in
     let r = c.run_cut-status in
+    let mine = asked c.args.words.now m.field-0 (Cut m.input m.output m.from m.to) m.field-0-is m.ensures in
+    let Ends : ℤ → ℤ → Type 0 = λ first last. EndsCut (record { from = first; to = last; now = c.args.now_ns }) (state_of g.A.Disk c.args.first) (state_of g.A.Disk r.new.first)
+    (state_of g.C.Disk c.args.out) (state_of g.C.Disk r.new.out) (sink_state g.K.Sink c.args.sink.now) (sink_state g.K.Sink r.new.sink) r.result in
     rw c.without_recording-in-Some-Cut.ensures.status (measured_is_made (Cuts (record { from = m.from; to = m.to; now = c.args.now_ns })) (state_of g.A.Disk c.args.first) (state_of g.A.Disk r.new.first)
     (state_of g.C.Disk c.args.out) (state_of g.C.Disk r.new.out) (sink_state g.K.Sink c.args.sink.now) (sink_state g.K.Sink r.new.sink)
-    r.result (g.A.Disk.content c.args.first) refl r.ensures.ends)
+    r.result (g.A.Disk.content c.args.first) refl (passed Ends m.from m.to mine.1 r.ensures.ends))
 
 pub returns-in-Some-Cut-clause-cut_leaves : goal.returns-in-Some-Cut-clause-cut_leaves
 returns-in-Some-Cut-clause-cut_leaves g c = λ input output from to asks.
     let m = c.in-Some-Cut in
     let r = c.run_cut-status in
     let mine = asked c.args.words.now m.field-0 (Cut m.input m.output m.from m.to) m.field-0-is m.ensures in
-    rw c.without_recording-in-Some-Cut.ensures.out (of_range c.args.words.now m.input.now m.output.now input output m.from m.to from to
-    (λ first last. IfSome (g.A.Disk.content c.args.first)
-    (λ file. HoldsSince (g.C.Disk.story r.new.out) (g.C.Disk.moment c.args.out) (IsCutImage file (record { from = first; to = last; now = c.args.now_ns }))))
-    mine asks r.ensures.any_moment)
+    let Leaves : ℤ → ℤ → Type 0 = λ first last. IfSome (g.A.Disk.content c.args.first)
+    (λ file. HoldsSince (g.C.Disk.story r.new.out) (g.C.Disk.moment c.args.out) (IsCutImage file (record { from = first; to = last; now = c.args.now_ns }))) in
+    rw c.without_recording-in-Some-Cut.ensures.out (of_range c.args.words.now m.input.now m.output.now input output m.from m.to from to Leaves
+    mine asks (passed Leaves m.from m.to mine.1 r.ensures.any_moment))
 
 pub returns-in-Some-Cut-clause-out : goal.returns-in-Some-Cut-clause-out
 returns-in-Some-Cut-clause-out g c = λ none.
