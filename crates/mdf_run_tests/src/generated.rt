@@ -1,8 +1,12 @@
 //! Recordings of the generated script.
 
+use crate::finalizing::{SORT, finalized, made_of};
 use crate::runs::{Given, made, record};
 use mdf_disk::MemoryDisk;
+use mdf_num::Bytes;
+use std::sync::Wait;
 use std::test::Fail;
+use std::thread::Threads;
 
 const fn generating<'a>(words: &'a [&'a str]) -> Given<'a> {
     Given {
@@ -44,13 +48,22 @@ end
 const TEN_TOLD: &str =
     "0 source 0 accepted 3\nsource 1 accepted 3\nsource 2 accepted 2\nsource 3 accepted 2\nsamples 10 durable 10\n";
 
+/// What is printed of a recording, and the sorted file of it. That is one whatever the order in which the sources ran.
+fn sorted_of<R>(rt: &R, given: Given<'_>) -> Result<(String, Bytes), Fail>
+where
+    R: AllocGlobal + Threads + Wait + Sync,
+{
+    let alloc = rt.alloc();
+    let (text, file) = made(rt, given, MemoryDisk::new(alloc), MemoryDisk::new(alloc))?;
+    let (_, file) = finalized(rt, file, &[])?;
+    let (_, sorted) = made_of(rt, SORT, file, &[])?;
+    Ok((text, sorted))
+}
+
 #[test]
 fn ten_samples_are_generated(rt: HostRuntime) -> Result<(), Fail> {
-    let alloc = rt.alloc();
-    let given = generating(&["gen", "10", "out.mf4"]);
-    let (text, file) = made(&rt, given, MemoryDisk::new(alloc), MemoryDisk::new(alloc))?;
-    let given = record(TEN, &[], &[]);
-    let (_, same) = made(&rt, given, MemoryDisk::new(alloc), MemoryDisk::new(alloc))?;
+    let (text, file) = sorted_of(&rt, generating(&["gen", "10", "out.mf4"]))?;
+    let (_, same) = sorted_of(&rt, record(TEN, &[], &[]))?;
     assert_eq!(rt; text.as_str(), TEN_TOLD);
     assert!(rt; file.as_slice() == same.as_slice());
     Ok(())
