@@ -1,6 +1,5 @@
 -- How the writing of what was joined ends, and what a crash leaves of it.
-use Rattle.std.proofs.Common.{◌≡◌, inl, inr, ⊎_elim, ℕ, List, Option, Ok, Err, sym, ap, subst}
-use Rattle.std.specs.Prelude.{Result}
+use Rattle.std.proofs.Common.{◌≡◌, inl, inr, ⊎_elim, ℕ, List, Option, Ok, Err, sym, subst}
 use Rattle.mdf_disk.specs.Crash.{Adds}
 use Rattle.mdf_disk.specs.State.{DiskState}
 use Rattle.mdf_disk.specs.Story.{Story}

@@ -1,9 +1,9 @@
 -- Where each offset of a record meets a value, the moved record has a sample too.
-use Rattle.std.proofs.Common.{◌≡◌, ◌+◌, ◌-◌, ◌<◌, ◌≤◌, ℕ, zero, suc, Bool, true, false, List, [], ◌∷◌, ◌++◌, length, take, drop, map, get_or, Option, Some, None, refl, sym, ◌∙◌, ap, arith, length-append}
+use Rattle.std.proofs.Common.{◌≡◌, ◌+◌, ◌-◌, ◌<◌, ◌≤◌, ℕ, zero, suc, Bool, true, false, List, [], ◌∷◌, ◌++◌, length, take, map, get_or, Option, Some, None, refl, sym, ◌∙◌, ap, arith, length-append}
 use Rattle.std.proofs.lemmas.Bool.{and_from, and_parts, le-leb, leb-true}
 use Rattle.std.proofs.lemmas.List.{drop-drop}
 use Rattle.std.proofs.lemmas.Option.{option_and_then_some}
-use Rattle.std.specs.Prelude.{◌&&◌, filter, nat_le, slice_get, if◌then◌else◌}
+use Rattle.std.specs.Prelude.{◌&&◌, filter, nat_le, if◌then◌else◌}
 use Rattle.std.specs.Option.{option_and_then, option_map}
 use Rattle.mdf_format.specs.Field.{Spot, field_number}
 use Rattle.mdf_format.specs.Number.{bytes_at, le_number}
@@ -18,7 +18,7 @@ use Rattle.mdf_layout.specs.declared.sample.Value.TheVariants as value
 use Rattle.mdf_layout.specs.declared.sample.Entry.{Entry}
 use Rattle.mdf_vlsd.specs.Value.{size_there, value_at}
 use Rattle.tool_concat.specs.Joined.{joined_streams}
-use Rattle.tool_concat.specs.Moved.{AreOffsetsMoved, IsVariableAt, offset_in, shift_of}
+use Rattle.tool_concat.specs.Moved.{IsVariableAt, offset_in, shift_of}
 
 -- a value at an offset of a stream
 tested : (b : Bool) (x v : List ℕ) → (if b then Some x else None) ≡ Some v → b ≡ true

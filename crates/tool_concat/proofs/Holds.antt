@@ -1,12 +1,12 @@
 -- Where no channel is too wide, each record of a group can be moved.
-use Rattle.std.proofs.Common.{◌≡◌, ◌+◌, ◌<◌, ◌≤◌, ◌^◌, inl, inr, ℕ, false, List, Some, length, sym, ◌∙◌, ap, subst, arith}
+use Rattle.std.proofs.Common.{◌≡◌, ◌+◌, ◌^◌, inl, inr, ℕ, false, List, Some, sym, ◌∙◌, ap, subst}
 use Rattle.std.proofs.lemmas.Bool.{both_ways, cases_lt}
 use Rattle.std.specs.Prelude.{slice_get}
 use Rattle.mdf_layout.specs.Rule.{is_variable}
 use Rattle.mdf_layout.specs.declared.field.FieldRow.{FieldRow}
 use Rattle.mdf_layout.specs.Layout.{Layout}
 use Rattle.mdf_model.specs.declared.part.Measure.{Measure}
-use Rattle.tool_concat.specs.Moved.{AreMoved, IsVariableAt, offset_in, shift_of}
+use Rattle.tool_concat.specs.Moved.{AreMoved, offset_in, shift_of}
 use Rattle.tool_concat.specs.Placed.{AreAllHeld}
 use Rattle.tool_concat.specs.Wide.{HasPast, IsNoneWide, IsWide, data_at}
 use Rattle.tool_concat.proofs.Apart.{is_variable_of, one_row}

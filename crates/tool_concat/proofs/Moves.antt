@@ -1,12 +1,12 @@
 -- Offsets that are moved one after another.
-use Rattle.std.proofs.Common.{◌≡◌, ◌≢◌, ◌+◌, ◌<◌, ◌≤◌, ◌^◌, inl, inr, ⊎_elim, ℕ, Bool, true, false, List, length, Some, refl, sym, ◌∙◌, ap, subst, arith}
+use Rattle.std.proofs.Common.{◌≡◌, ◌+◌, ◌<◌, ◌≤◌, ◌^◌, ℕ, false, List, length, Some, refl, sym, ◌∙◌, ap, subst, arith}
 use Rattle.std.proofs.lemmas.Bool.{both_ways}
 use Rattle.std.specs.Prelude.{slice_get}
 use Rattle.mdf_bits.proofs.Spots.{same_number}
 use Rattle.mdf_format.specs.Field.{HasBit, bit_of, covered_end}
 use Rattle.mdf_layout.specs.Rule.{is_variable, spot_in}
 use Rattle.mdf_layout.specs.declared.field.FieldRow.{FieldRow}
-use Rattle.tool_concat.specs.Moved.{AreOffsetsMoved, IsOfNone, IsVariableAt, offset_in, shift_of}
+use Rattle.tool_concat.specs.Moved.{AreOffsetsMoved, IsVariableAt, offset_in, shift_of}
 use Rattle.tool_concat.specs.Placed.{AreHeld, AreOffsetsPlaced}
 use Rattle.tool_concat.proofs.Apart.{is_variable_of, one_row}
 use Rattle.tool_concat.proofs.Steps.{each_more}

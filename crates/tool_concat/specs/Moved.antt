@@ -1,6 +1,6 @@
 -- The records of a group, moved behind those of another: the offset of each channel of variable length rises by the length of
 -- the stream that comes before its own.
-use Rattle.std.specs.Prelude.{ℕ, zero, suc, ◌≡◌, ◌+◌, ◌<◌, ◌^◌, List, [], ◌++◌, length, take, drop, slice_get, slice_index_or, Some}
+use Rattle.std.specs.Prelude.{ℕ, zero, suc, ◌≡◌, ◌+◌, ◌<◌, List, [], ◌++◌, length, take, drop, slice_get, slice_index_or, Some}
 use Rattle.mdf_format.specs.Field.{HasBit, bit_of, field_number}
 use Rattle.mdf_content.specs.Samples.{record_at}
 use Rattle.mdf_layout.specs.Layout.{Layout}

@@ -1,5 +1,5 @@
 -- Offsets that can be moved one after another, as the code does it.
-use Rattle.std.specs.Prelude.{ℕ, ◌≡◌, ◌≢◌, ◌+◌, ◌<◌, ◌^◌, List, length}
+use Rattle.std.specs.Prelude.{ℕ, ◌≢◌, ◌+◌, ◌<◌, ◌^◌, List, length}
 use Rattle.mdf_format.specs.Field.{HasBit}
 use Rattle.mdf_format.specs.Row.{IsNumberPlaced}
 use Rattle.mdf_layout.specs.Layout.{Layout}

@@ -1,5 +1,5 @@
 -- Offsets that their fields do not hold once they are moved.
-use Rattle.std.specs.Prelude.{ℕ, ◌≡◌, ◌+◌, ◌<◌, ◌≤◌, ◌^◌, List, length, take, slice_index_or}
+use Rattle.std.specs.Prelude.{ℕ, ◌+◌, ◌<◌, ◌≤◌, ◌^◌, List, length, take, slice_index_or}
 use Rattle.mdf_content.specs.Samples.{record_at}
 use Rattle.mdf_layout.specs.Layout.{Layout}
 use Rattle.mdf_layout.specs.declared.field.FieldRow.{FieldRow}

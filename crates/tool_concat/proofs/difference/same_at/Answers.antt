@@ -1,5 +1,4 @@
-use Rattle.std.proofs.Common.{◌≡◌, ap, subst, sym}
-use Rattle.mdf_group.specs.declared.row.GroupRow.{GroupRow}
+use Rattle.std.proofs.Common.{◌≡◌, subst, sym}
 use Rattle.mdf_model.specs.declared.part.GroupPart.{GroupPart}
 use Rattle.tool_concat.specs.Same.{SameGroup}
 use Rattle.tool_concat.proofs.Groups.{item_of}

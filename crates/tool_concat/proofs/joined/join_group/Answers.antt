@@ -1,10 +1,9 @@
-use Rattle.std.proofs.Common.{◌≡◌, ◌≢◌, ◌+◌, ◌*◌, ◌++◌, ℕ, List, length, get_or, set, refl, sym, ◌∙◌, ap, subst, arith, get_or-set_other, get_or-set_same, length-set}
+use Rattle.std.proofs.Common.{◌≡◌, ◌+◌, ◌*◌, ◌++◌, ℕ, List, length, get_or, sym, ◌∙◌, ap, arith, get_or-set_other, get_or-set_same, length-set}
 use Rattle.mdf_layout.specs.Layout.{Layout, record_size}
-use Rattle.mdf_content.specs.Samples.{AreSamples}
 use Rattle.mdf_model.specs.declared.part.GroupPart.{GroupPart}
 use Rattle.mdf_model.specs.declared.part.Measure.{Measure}
 use Rattle.mdf_model.specs.Measurement.{Measured, with_content}
-use Rattle.tool_concat.specs.Joined.{IsJoinedGroup, joined_streams}
+use Rattle.tool_concat.specs.Joined.{joined_streams}
 use Rattle.tool_concat.proofs.Groups.{content_samples, item_of, same_count}
 use Rattle.tool_concat.proofs.Holds.{parts_held, parts_moved}
 use Rattle.tool_concat.proofs.joined.join_group.Goals as goal

@@ -1,4 +1,4 @@
-use Rattle.std.proofs.Common.{◌≡◌, ◌+◌, ◌-◌, ◌^◌, min, ℕ, List, sym, ◌∙◌, ap, arith}
+use Rattle.std.proofs.Common.{◌≡◌, ℕ, ◌∙◌, ap, arith}
 use Rattle.mdf_sorted.specs.Made.{report_for}
 use Rattle.mdf_tool.specs.declared.made.Report.{Report}
 use Rattle.tool_concat.specs.Concat.{dropped_of}

@@ -1,4 +1,4 @@
-use Rattle.std.proofs.Common.{◌≡◌, ◌+◌, ◌<◌, ◌^◌, ℕ, List, [], false, true, length, get_or, refl, sym, ◌∙◌, ap, subst, arith}
+use Rattle.std.proofs.Common.{◌≡◌, ◌+◌, ◌<◌, ◌^◌, ℕ, [], false, true, length, get_or, refl, sym, ◌∙◌, ap, subst, arith}
 use Rattle.mdf_format.specs.Row.{IsNumberPlaced}
 use Rattle.mdf_layout.specs.Rule.{is_variable, spot_in}
 use Rattle.tool_concat.specs.Moved.{IsVariableAt, offset_in, shift_of}

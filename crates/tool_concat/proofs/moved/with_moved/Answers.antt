@@ -1,4 +1,4 @@
-use Rattle.std.proofs.Common.{◌≡◌, ◌+◌, ◌++◌, [], ℕ, List, refl, sym, ◌∙◌, ap, subst, add-one, append-nil, append_assoc}
+use Rattle.std.proofs.Common.{◌+◌, ◌++◌, [], ℕ, List, refl, sym, ◌∙◌, ap, subst, add-one, append-nil, append_assoc}
 use Rattle.tool_concat.specs.Moved.{AreMoved, IsMoved}
 use Rattle.tool_concat.proofs.Apart.{offsets_placed}
 use Rattle.tool_concat.proofs.moved.with_moved.Goals as goal

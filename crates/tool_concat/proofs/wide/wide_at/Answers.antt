@@ -1,7 +1,6 @@
-use Rattle.std.proofs.Common.{◌≡◌, ◌<◌, ◌*◌, ℕ, List, length, get_or, sym, ◌∙◌, ap, subst}
+use Rattle.std.proofs.Common.{◌*◌, ℕ, List, length, get_or, sym, ◌∙◌, ap}
 use Rattle.mdf_layout.specs.Layout.{Layout, record_size}
 use Rattle.mdf_model.specs.declared.part.GroupPart.{GroupPart}
-use Rattle.mdf_model.specs.declared.part.Measure.{Measure}
 use Rattle.std.specs.Prelude.{IfNone}
 use Rattle.tool_concat.specs.Wide.{IsWide}
 use Rattle.tool_concat.proofs.Groups.{item_of}
