@@ -5,9 +5,10 @@
 #
 # usage: bench/gen/run.sh [RUNS]
 #
-# It is run by hand and is no part of the gate. It needs the built program (./mdf4rec) and a C compiler, and works in a folder of
-# its own under out/, so that both write to the same disk. Both have to print the same lines and make the same file; the twin
-# takes the start time from the recording that is made first.
+# It is run by hand and is no part of the gate. It needs the built program (./mdf4rec), python3 and a C compiler, and works in a
+# folder of its own under out/, so that both write to the same disk. Both have to print the same lines and make the same head and
+# the same records of each group, in order; since the program's four sources run at once, the order of records of different groups
+# is any. The twin takes the start time from the recording that is made first, and has one source after another.
 set -euo pipefail
 
 here="$(cd "$(dirname "$0")" && pwd)"
@@ -28,7 +29,8 @@ recorder="$top/crates/mdf_cli/out/mdf_cli"
 "$recorder" gen "$count" "$work/first.mf4" > "$work/ours"
 "$work/twin" "$work/first.mf4" "$work/made.mf4" "$count" > "$work/twins"
 cmp "$work/ours" "$work/twins"
-cmp "$work/first.mf4" "$work/made.mf4"
+diff <(python3 "$here/streams.py" "$work/first.mf4") <(python3 "$here/streams.py" "$work/made.mf4")
+before
 ours="$(cost /dev/null "$recorder" gen "$count" "$work/made.mf4")"
 twin="$(cost /dev/null "$work/twin" "$work/first.mf4" "$work/made.mf4" "$count")"
 awk -v ours="$ours" -v twin="$twin" 'BEGIN { printf "gen %d, C %d, ratio %.2f\n", ours, twin, ours / twin }'
