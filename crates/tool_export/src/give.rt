@@ -1,15 +1,28 @@
-ghost use Rattle.std.specs.Prelude.{◌≡◌, ◌++◌};
+ghost use Rattle.std.specs.Prelude.{◌≡◌, ◌≤◌, ◌++◌, IfOk};
 ghost use Rattle.mdf_port.specs.State.{sink_state};
 ghost use Rattle.tool_export.specs.Export.{GivesText};
-ghost use Rattle.tool_export.specs.Table.{line_of, names_line, sample_line, sample_lines, table_text};
+ghost use Rattle.tool_export.specs.Table.{line_of, names_line, sample_lines, table_text};
 
-use crate::line::Line;
+use crate::line::{Line, text_of};
 use crate::samples::SampleList;
+use csv::Writer;
 use mdf_group::ChannelRow;
-use mdf_layout::Entry;
-use mdf_num::Stop;
+use mdf_num::{Memory, Stop};
 use mdf_port::{Sink, give_all};
 use std::alloc::Global;
+
+/// How many lines are made at once.
+const PAGE: u64 = 512;
+
+/// Gives a text.
+fn give_text<K: Sink>(sink: &mut K, text: &[u8]) -> Result<(), Stop>
+    ensures { GivesText text.now (sink_state K.Sink sink.old) (sink_state K.Sink sink.new) result }
+{
+    match give_all(sink, text) {
+        Ok(()) => Ok(()),
+        Err(_) => Err(Stop::Failed),
+    }
+}
 
 /// Gives a line.
 fn give_line<K: Sink>(alloc: Global, sink: &mut K, line: &Line) -> Result<(), Stop>
@@ -18,10 +31,7 @@ fn give_line<K: Sink>(alloc: Global, sink: &mut K, line: &Line) -> Result<(), St
     let Ok(bytes) = line.bytes(alloc) else {
         return Err(Stop::Memory);
     };
-    match give_all(sink, bytes.as_slice()) {
-        Ok(()) => Ok(()),
-        Err(_) => Err(Stop::Failed),
-    }
+    give_text(sink, bytes.as_slice())
 }
 
 /// Gives the line of the names.
@@ -39,24 +49,31 @@ fn give_names<K: Sink>(
     give_line(alloc, sink, line)
 }
 
-/// Gives the line of a sample.
-fn give_sample<K: Sink>(
+/// The lines of the samples from one on, up to another.
+fn lines_between<L: SampleList>(
     alloc: Global,
-    sink: &mut K,
     line: &mut Line,
-    field: &mut Vec<u8>,
-    index: u64,
-    entries: &[Entry],
-) -> Result<(), Stop>
-    ensures { GivesText (sample_line index entries.now) (sink_state K.Sink sink.old) (sink_state K.Sink sink.new) result }
+    list: &L,
+    from: u64,
+    to: u64,
+) -> Result<Vec<u8>, Memory>
+    requires order { from ≤ to }
+    requires within { to ≤ L.count list.now }
+    ensures { IfOk result (λ lines. sample_lines (L.sample list.now) to ≡ sample_lines (L.sample list.now) from ++ lines.items) }
 {
-    let Ok(()) = line.set_sample(alloc, field, index, entries) else {
-        return Err(Stop::Memory);
-    };
-    give_line(alloc, sink, line)
+    let mut writer = Writer::from_writer(Vec::new(alloc));
+    let mut field = Vec::new(alloc);
+    let mut index = from;
+    while index < to {
+        let entries = list.sample(alloc, index)?;
+        line.set_sample(alloc, &mut field, index, entries.as_slice())?;
+        line.write(&mut writer)?;
+        index += 1;
+    }
+    text_of(writer)
 }
 
-/// Gives the lines of all samples.
+/// Gives the lines of all samples, some of them at once.
 fn give_samples<L: SampleList, K: Sink>(
     alloc: Global,
     sink: &mut K,
@@ -65,17 +82,20 @@ fn give_samples<L: SampleList, K: Sink>(
 ) -> Result<(), Stop>
     ensures { GivesText (sample_lines (L.sample list.now) (L.count list.now)) (sink_state K.Sink sink.old) (sink_state K.Sink sink.new) result }
 {
-    let mut field = Vec::new(alloc);
-    for index in 0..list.count() {
-        let Ok(entries) = list.sample(alloc, index) else {
+    let count = list.count();
+    let mut index = 0;
+    while index < count {
+        let to = index + PAGE.min(count - index);
+        let Ok(lines) = lines_between(alloc, line, list, index, to) else {
             return Err(Stop::Memory);
         };
-        give_sample(alloc, sink, line, &mut field, index, entries.as_slice())?;
+        give_text(sink, lines.as_slice())?;
+        index = to;
     }
     Ok(())
 }
 
-/// Gives the table of channels and their samples. Each line is made in memory and then given.
+/// Gives the table of channels and their samples. The lines are made in memory, some of them at once, and then given.
 ///
 /// # Errors
 /// `Failed` where the sink failed, and want of memory; then it has a front of the table.

@@ -1,4 +1,5 @@
-ghost use Rattle.std.specs.Prelude.{◌≡◌, ◌++◌, ◌∷◌, [], map, decimal, codes, IfOk, OnOk, OnErr};
+ghost use Rattle.std.specs.Prelude.{◌≡◌, ◌++◌, ◌∷◌, [], map, decimal, codes, false, IfOk, OnOk, OnErr};
+ghost use Rattle.csv.specs.Writing.{default_writer, fields_written, has_written, writer_pending, writer_setup, writer_under};
 ghost use Rattle.tool_export.specs.Table.{channel_text, entry_text, line_of};
 
 use crate::text::{name_text, write_entry};
@@ -8,6 +9,16 @@ use mdf_layout::Entry;
 use mdf_num::Memory;
 use std::alloc::Global;
 use std::marker::Model;
+
+/// The text that a CSV writer made in memory.
+pub(crate) fn text_of(writer: Writer<Vec<u8>>) -> Result<Vec<u8>, Memory>
+    ensures { IfOk result (λ text. text.items ≡ (writer_under writer).items ++ writer_pending writer) }
+{
+    let Ok(text) = writer.into_inner() else {
+        return Err(Memory);
+    };
+    Ok(text)
+}
 
 /// A line of a table. Contracts see it as its fields.
 #[derive(Drop)]
@@ -68,6 +79,24 @@ impl Line {
             return Err(Memory);
         };
         Ok(bytes)
+    }
+
+    /// Adds the line to the text that a CSV writer with its defaults makes in memory.
+    #[tactic(auto, unfolding(crate::specs::Table::line_of))]
+    pub(crate) fn write(&self, writer: &mut Writer<Vec<u8>>) -> Result<(), Memory>
+        requires fields { fields_written writer.old ≡ 0 }
+        requires clean { has_written writer.old ≡ false }
+        requires setup { writer_setup writer.old ≡ default_writer }
+        ensures text { OnOk result ((writer_under writer.new).items ++ writer_pending writer.new
+            ≡ (writer_under writer.old).items ++ writer_pending writer.old ++ line_of self.now) }
+        ensures fields { OnOk result (fields_written writer.new ≡ 0) }
+        ensures clean { OnOk result (has_written writer.new ≡ false) }
+        ensures setup { OnOk result (writer_setup writer.new ≡ default_writer) }
+    {
+        let Ok(()) = writer.write_byte_record(&self.record) else {
+            return Err(Memory);
+        };
+        Ok(())
     }
 
     /// Makes it the line of the names of channels.

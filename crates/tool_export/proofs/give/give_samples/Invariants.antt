@@ -1,4 +1,4 @@
-use Rattle.std.proofs.Common.{◌≤◌}
+use Rattle.std.proofs.Common.{◌≤◌, ◌-◌}
 use Rattle.std.specs.Io.KnownBytes.{Appends}
 use Rattle.tool_export.specs.Table.{sample_lines}
 use Rattle.tool_export.proofs.give.give_samples.Given as goal
@@ -8,4 +8,8 @@ abbrev pub invariant-loop-index : goal.invariant-loop-index
 invariant-loop-index g l = record {
   given : Appends (g.K.Sink.held l.initial.sink) (g.K.Sink.held l.sink) (sample_lines (g.L.SampleList.sample l.list) l.index);
   later : g.K.Sink.faults l.initial.sink ≤ g.K.Sink.faults l.sink;
+  within : l.index ≤ l.count;
 }
+
+abbrev pub decreases-loop-index : goal.decreases-loop-index
+decreases-loop-index g l = l.count - l.index
