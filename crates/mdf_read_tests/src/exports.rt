@@ -41,7 +41,7 @@ const TABLES: [Row; 9] = [
         9,
         "Ok(2) index,\"a,b\"\"c\"\n0,7\n1,8\n",
     ),
-    (&[], 0, 2, "Err(Failed) index,\n0,7\n"),
+    (&[], 0, 1, "Err(Failed) index,\n"),
 ];
 
 fn line(alloc: Global, answer: &Result<u64, ExportFault>, given: &[u8]) -> Result<String, Memory> {
