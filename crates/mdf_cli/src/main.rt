@@ -6,19 +6,25 @@ use mdf_num::{Bytes, Memory, Rows};
 use mdf_port::{StdSink, StdSource};
 use mdf_run::{Finished, Open, run, run_unread};
 use std::fs::File;
-use std::io::Error;
+use std::io::{Error, ErrorKind};
 use std::mem::forget;
 use std::process::ExitCode;
 use std::rt::{Clock, Env, Files};
 use std::time::{SystemTime, UNIX_EPOCH};
 use std::{env, str};
 
-/// The words after the program's name. Words that are no text count as none.
+/// The words after the program's name. Words that are no text count as none, and want of memory is told.
 fn words<R: Env + AllocGlobal>(rt: &R) -> Result<Rows<Bytes>, Memory> {
     let alloc = rt.alloc();
     let mut words = Rows::empty(alloc);
-    let Ok(args) = env::args(rt) else {
-        return Ok(words);
+    let args = match env::args(rt) {
+        Ok(args) => args,
+        Err(error) => {
+            return match error.kind() {
+                ErrorKind::OutOfMemory => Err(Memory),
+                _ => Ok(words),
+            };
+        }
     };
     for word in args.skip(1) {
         words.push(Bytes::from_slice(alloc, word.as_bytes())?)?;

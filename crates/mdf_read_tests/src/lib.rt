@@ -5,6 +5,8 @@
 #[cfg(test)]
 mod blocks;
 #[cfg(test)]
+mod concats;
+#[cfg(test)]
 mod convs;
 #[cfg(test)]
 mod cuts;

@@ -27,6 +27,16 @@ const OPENED: Given<'static> = Given {
     ..FINALIZE
 };
 
+pub const CUT: Given<'static> = Given {
+    words: &["cut", "in.mf4", "out.mf4", "1", "3"],
+    ..FINALIZE
+};
+
+const EXPORT: Given<'static> = Given {
+    words: &["export", "in.mf4", "0"],
+    ..FINALIZE
+};
+
 // Lengths from one up to the one before another, and what is said of a file that is cut to one of them: that the block is missing
 // which a reader comes to first of those that end behind the cut.
 type Cuts = (usize, usize, &'static str);
@@ -139,16 +149,31 @@ where
     Ok(made)
 }
 
+/// What these commands say of the finished file and of the sorted one, cut to each length.
+fn all_said_of_cuts<R>(rt: &R, commands: &[Given<'static>]) -> Result<(), Fail>
+where
+    R: AllocGlobal + Threads + Wait + Sync + Abort,
+{
+    let (_, file) = finalized(rt, recorded(rt, COUNTING)?, &[])?;
+    let sorted = sorted(rt, &file)?;
+    for given in commands {
+        all_cut_as_told(rt, *given, &file, &FINISHED)?;
+        all_cut_as_told(rt, *given, &sorted, &SORTED)?;
+    }
+    all_cut_as_told(rt, CHECK, &file, &[(1027, 1033, "0 valid\n")])?;
+    all_cut_as_told(rt, CHECK, &sorted, &[(1232, 1233, "0 valid\n")])
+}
+
 #[test]
 fn a_finished_file_is_cut_to_each_length(rt: HostRuntime) -> Result<(), Fail> {
-    let (_, file) = finalized(&rt, recorded(&rt, COUNTING)?, &[])?;
-    let sorted = sorted(&rt, &file)?;
-    for given in [CHECK, INFO, SORT] {
-        all_cut_as_told(&rt, given, &file, &FINISHED)?;
-        all_cut_as_told(&rt, given, &sorted, &SORTED)?;
-    }
-    all_cut_as_told(&rt, CHECK, &file, &[(1027, 1033, "0 valid\n")])?;
-    all_cut_as_told(&rt, CHECK, &sorted, &[(1232, 1233, "0 valid\n")])
+    all_said_of_cuts(&rt, &[CHECK, INFO])
+}
+
+#[test]
+fn a_finished_file_is_cut_to_each_length_before_another_is_made(
+    rt: HostRuntime,
+) -> Result<(), Fail> {
+    all_said_of_cuts(&rt, &[SORT, CUT, EXPORT])
 }
 
 #[test]

@@ -1,6 +1,7 @@
 //! Every fault and every stop: each test goes up to the first call that a run does not make.
 ghost use Rattle.std.specs.Prelude.{◌≡◌, None};
 
+use crate::cuts::CUT;
 use crate::finalizing::{FINALIZE, SORT, finalized};
 use crate::runs::{
     COUNTING, Ended, Given, failing_disk, line, made, numbers, ran, record, recorded, told,
@@ -160,7 +161,7 @@ where
 }
 
 // The commands that make a file of a file, and whether that is a finished one.
-const MAKING: [(Given<'static>, bool); 2] = [(FINALIZE, false), (SORT, true)];
+const MAKING: [(Given<'static>, bool); 3] = [(FINALIZE, false), (SORT, true), (CUT, true)];
 
 // The calls of the output's disk are an attach, the closed first byte, a sync, the rest, a sync, the first byte, and a sync.
 fn stands_faults_of_its_output<R>(rt: &R, given: Given<'_>, input: &Bytes) -> Result<(), Fail>
@@ -187,12 +188,14 @@ fn a_made_file_stands_a_fault_of_each_call_of_its_disk(rt: HostRuntime) -> Resul
 }
 
 // The commands that read a file, and whether that is a finished one.
-const READING: [(&[&str], bool); 5] = [
+const READING: [(&[&str], bool); 7] = [
     (&["opened", "in.mf4"], false),
     (&["finalize", "in.mf4", "out.mf4"], false),
     (&["check", "in.mf4"], true),
     (&["info", "in.mf4"], true),
     (&["sort", "in.mf4", "out.mf4"], true),
+    (&["cut", "in.mf4", "out.mf4", "1", "3"], true),
+    (&["export", "in.mf4", "0"], true),
 ];
 
 /// A command without a script whose sink fails at these calls.

@@ -1,4 +1,5 @@
-ghost use Rattle.std.specs.Prelude.{◌≡◌, ◌≤◌, true, None, [], ◌∷◌, All, IfOk, length};
+ghost use Rattle.std.specs.Prelude.{◌≡◌, ◌≤◌, true, None, List, [], ◌∷◌, All, IfOk, length};
+ghost use Rattle.mdf_layout.specs.declared.sample.Sample.{Sample};
 ghost use Rattle.mdf_layout.specs.Layout.{Layout};
 ghost use Rattle.mdf_layout.specs.Record.{SampleFits, encoded_size};
 ghost use Rattle.mdf_layout.specs.Written.{AreApart};
@@ -8,6 +9,7 @@ ghost use Rattle.book_owned.specs.Begun.{IsNewFile};
 
 use crate::disks::{image, name};
 use crate::layouts::{sample, word_row};
+use crate::views::WantsOnce;
 use book_owned::{Book, Marks, NoView, Shown};
 use mdf_disk::{Disk, MemoryDisk, Role};
 use mdf_gate::{GateFault, GatedFile, Opened, opened};
@@ -76,7 +78,7 @@ fn created<D: Disk + Drop, R: Abort>(
 }
 
 /// A channel of 64-bit unsigned numbers.
-fn one_row(alloc: Global) -> Result<Rows<FieldRow>, Memory>
+pub fn one_row(alloc: Global) -> Result<Rows<FieldRow>, Memory>
     ensures stored { IfOk result (λ rows. All IsStored rows) }
     ensures few { IfOk result (λ rows. length rows ≤ 128) }
 {
@@ -133,22 +135,25 @@ pub fn file_failing_at<R: AllocGlobal + Abort>(
     created(rt, alloc, disk)
 }
 
-/// A book over a new file, with these limits in bytes.
-pub fn begun<R: AllocGlobal + Abort>(
+/// A book over a new file, with these limits in bytes and this view.
+pub fn begun<R: AllocGlobal + Abort, V: Shown + Drop>(
     rt: &R,
     file: GatedFile<MemoryDisk>,
     shapes: Shapes,
     block: u32,
     session: u64,
-) -> Result<Book<MemoryDisk, NoView>, Fail>
+    view: V,
+) -> Result<Book<MemoryDisk, V>, Fail>
     requires created { IsNewFile ⟦<MemoryDisk as Disk>⟧ file }
     requires one { (shape : Layout) × (shapes ≡ shape ∷ []) × (length shape.rows ≤ 128) × AreApart shape.rows × All IsStored shape.rows }
+    requires nothing_shown { (V.shows view []) × (V.count view ≡ 0) }
+    requires nothing_handed { (handed : List Sample) → V.hands view handed → handed ≡ [] }
     ensures { IfOk result (λ book. book.terms.layouts ≡ shapes) }
 {
     assert!(rt; 1 <= block);
     assert!(rt; block <= 16_777_216);
     assert!(rt; session <= 268_435_456);
-    match Book::begin(rt.alloc(), file, shapes, block, session, NoView::new()) {
+    match Book::begin(rt.alloc(), file, shapes, block, session, view) {
         Ok(book) => Ok(book),
         Err((memory, file, _)) => {
             drop(file.into_disk());
@@ -158,10 +163,10 @@ pub fn begun<R: AllocGlobal + Abort>(
 }
 
 /// A sample of this number, whose record has room in a block.
-fn sample_of<R: AllocGlobal + Abort>(
+fn sample_of<R: AllocGlobal + Abort, V: Shown>(
     rt: &R,
     shape: &Shape,
-    book: &Book<MemoryDisk, NoView>,
+    book: &Book<MemoryDisk, V>,
     number: u64,
 ) -> Result<Sample, Fail>
     requires { book.now.terms.layouts ≡ shape.now ∷ [] }
@@ -176,10 +181,10 @@ fn sample_of<R: AllocGlobal + Abort>(
 }
 
 /// Appends a sample of this number, or flushes, and tells the answer.
-fn step<R>(
+fn step<R, V: Shown<Note = ()>>(
     rt: &R,
     shape: &Shape,
-    book: &mut Book<MemoryDisk, NoView>,
+    book: &mut Book<MemoryDisk, V>,
     task: Option<u64>,
 ) -> Result<String, Fail>
 where
@@ -197,10 +202,10 @@ where
 }
 
 /// Does these tasks, and tells the answers, each behind the one before on a line of its own.
-fn feed<R>(
+fn feed<R, V: Shown<Note = ()>>(
     rt: &R,
     shape: &Shape,
-    book: &mut Book<MemoryDisk, NoView>,
+    book: &mut Book<MemoryDisk, V>,
     tasks: &[Option<u64>],
 ) -> Result<String, Fail>
 where
@@ -236,7 +241,10 @@ struct Ended {
 }
 
 /// Closes a book that gave these answers.
-fn closed(answers: Result<String, Fail>, book: Book<MemoryDisk, NoView>) -> Result<Ended, Fail> {
+fn closed<V: Shown + Drop>(
+    answers: Result<String, Fail>,
+    book: Book<MemoryDisk, V>,
+) -> Result<Ended, Fail> {
     let pending = book.pending();
     let (disk, _, marks, view) = book.close();
     Ok(Ended {
@@ -248,14 +256,20 @@ fn closed(answers: Result<String, Fail>, book: Book<MemoryDisk, NoView>) -> Resu
     })
 }
 
-fn record<R>(rt: &R, recording: &Recording) -> Result<Ended, Fail>
+fn record<R, V: Shown<Note = ()> + Drop>(
+    rt: &R,
+    recording: &Recording,
+    view: V,
+) -> Result<Ended, Fail>
 where
     R: AllocGlobal + Abort + Threads + Wait + Sync,
+    requires nothing_shown { (V.shows view []) × (V.count view ≡ 0) }
+    requires nothing_handed { (handed : List Sample) → V.hands view handed → handed ≡ [] }
 {
     let rows = one_row(rt.alloc())?;
     let (shape, shapes) = shapes_of(rt, &rows, 8)?;
     let file = file_failing_at(rt, recording.failing)?;
-    let mut book = begun(rt, file, shapes, recording.block, recording.session)?;
+    let mut book = begun(rt, file, shapes, recording.block, recording.session, view)?;
     let answers = feed(rt, &shape, &mut book, recording.tasks);
     closed(answers, book)
 }
@@ -336,7 +350,7 @@ fn told<R>(rt: &R, recording: &Recording) -> Result<String, Fail>
 where
     R: AllocGlobal + Abort + Threads + Wait + Sync,
 {
-    let ended = record(rt, recording)?;
+    let ended = record(rt, recording, NoView::new())?;
     line(rt.alloc(), &ended)
 }
 
@@ -429,7 +443,7 @@ const BLOCKS: &[u8; 89] = b"##DT\0\0\0\0\x2A\0\0\0\0\0\0\0\0\0\0\0\0\0\0\0\
 
 #[test]
 fn a_recording_of_two_blocks(rt: HostRuntime) -> Result<(), Fail> {
-    let ended = record(&rt, &TWO_BLOCKS)?;
+    let ended = record(&rt, &TWO_BLOCKS, NoView::new())?;
     let file = ended.disk.bytes();
     assert_eq!(rt; file.get(232..), Some(BLOCKS.as_slice()));
     Ok(())
@@ -464,7 +478,7 @@ fn left_of<R: AllocGlobal + Abort>(rt: &R, disk: &MemoryDisk) -> Result<String, 
 
 #[test]
 fn crash_in_each_call(rt: HostRuntime) -> Result<(), Fail> {
-    let ended = record(&rt, &TWO_BLOCKS)?;
+    let ended = record(&rt, &TWO_BLOCKS, NoView::new())?;
     assert_eq!(rt; left_of(&rt, &ended.disk)?.as_str(), LEFT);
     Ok(())
 }
@@ -507,11 +521,33 @@ fn a_sample_is_put_where_it_has_room(rt: HostRuntime) -> Result<(), Fail> {
     let rows = one_row(rt.alloc())?;
     let (shape, shapes) = shapes_of(&rt, &rows, 8)?;
     let file = file_failing_at(&rt, &[])?;
-    let mut book = begun(&rt, file, shapes, 9, SESSION)?;
+    let mut book = begun(&rt, file, shapes, 9, SESSION, NoView::new())?;
     let answers = put_two(&rt, &shape, &mut book);
     let ended = closed(answers, book)?;
     assert_eq!(rt; ended.answers.as_str(), "Accepted { place: 0 }, no room");
     assert_eq!(rt; ended.pending, 9);
     assert_eq!(rt; ended.disk.calls(), 8);
+    Ok(())
+}
+
+// The second flush finds no memory to show the third sample, and the next one, which makes no call of the disk and no mark,
+// shows it. The file is made by eight calls, and each hand-over makes four.
+const SHOWN_LATER: Recording = Recording {
+    failing: &[],
+    block: 65_536,
+    session: SESSION,
+    tasks: &[Some(1), Some(2), None, Some(3), None, None],
+};
+
+#[test]
+fn refused_publish_is_made_up_later(rt: HostRuntime) -> Result<(), Fail> {
+    let ended = record(&rt, &SHOWN_LATER, WantsOnce::new())?;
+    assert_eq!(rt;
+        line(rt.alloc(), &ended)?.as_str(),
+        "Accepted { place: 0 }\nAccepted { place: 1 }\nDone { through: 2, shown: 2, note: () }\n\
+         Accepted { place: 2 }\nDone { through: 3, shown: 2, note: () }\nDone { through: 3, shown: 3, note: () }\n\
+         7:0 11:2 15:3 shown 3 pending 0 bytes 321 blocks 2"
+    );
+    assert_eq!(rt; ended.disk.calls(), 16);
     Ok(())
 }

@@ -23,3 +23,5 @@ mod seals;
 mod streams;
 #[cfg(test)]
 mod values;
+#[cfg(test)]
+mod views;

@@ -106,7 +106,7 @@ where
     let rows = two_rows(rt.alloc())?;
     let (shape, shapes) = shapes_of(rt, &rows, 16)?;
     let file = file_failing_at(rt, &[])?;
-    let mut book = begun(rt, file, shapes, 65_536, SESSION)?;
+    let mut book = begun(rt, file, shapes, 65_536, SESSION, NoView::new())?;
     let done = append_all(rt, &shape, &mut book, &VALUES);
     let (disk, _, _, _) = book.close();
     done?;

@@ -12,7 +12,7 @@ use mdf_port::{Sink, give_all};
 use std::alloc::Global;
 
 /// How many lines are made at once.
-const PAGE: u64 = 512;
+const PAGE: u64 = 2048;
 
 /// Gives a text.
 fn give_text<K: Sink>(sink: &mut K, text: &[u8]) -> Result<(), Stop>

@@ -1,0 +1,195 @@
+//! Views: one that wants memory once, and one that a reader looks at.
+ghost use Rattle.std.specs.Prelude.{◌≡◌, ◌≤◌, [], ◌∷◌, All, IfOk, length};
+ghost use Rattle.mdf_layout.specs.Layout.{Layout};
+ghost use Rattle.mdf_layout.specs.Written.{AreApart};
+ghost use Rattle.mdf_layout.specs.Stored.{IsStored};
+ghost use Rattle.book_owned.specs.Begun.{IsNewFile};
+
+use crate::books::{SESSION, file_failing_at, one_row, shapes_of};
+use crate::layouts::sample;
+use book_owned::{Book, Flush, Shown};
+use book_view::{LiveReader, LiveView};
+use mdf_disk::{Disk, MemoryDisk};
+use mdf_gate::GatedFile;
+use mdf_layout::{Sample, Shape, Shapes};
+use mdf_num::Memory;
+use std::process::Abort;
+use std::sync::Wait;
+use std::test::Fail;
+use std::thread::Threads;
+
+/// A view that counts, and finds no memory at its second publishing.
+#[derive(Drop)]
+pub struct WantsOnce {
+    count: u64,
+    published: u8,
+}
+
+impl WantsOnce {
+    pub fn new() -> WantsOnce
+        ensures { result.count ≡ 0 }
+    {
+        WantsOnce {
+            count: 0,
+            published: 0,
+        }
+    }
+}
+
+impl Shown for WantsOnce {
+    ghost use Rattle.std.specs.Prelude.{◌≡◌, [], length};
+
+    type Note = ();
+
+    ghost shows = { λ view samples. length samples ≡ view.count };
+
+    ghost hands = { λ view samples. samples ≡ [] };
+
+    ghost count = { λ view. view.count };
+
+    ghost which = { λ view. 0 };
+
+    ghost tells = { λ note which shown. Unit {0} };
+
+    fn publish<R: Threads + Wait + Sync>(
+        &mut self,
+        _rt: &R,
+        samples: &[Sample],
+    ) -> Result<(), Memory> {
+        self.published = self.published.saturating_add(1);
+        if self.published == 2 {
+            return Err(Memory);
+        }
+        self.count += samples.len() as u64;
+        Ok(())
+    }
+
+    fn shown(&self) -> u64 {
+        self.count
+    }
+
+    fn told(&mut self) {}
+}
+
+/// A book and a reader of its view.
+struct Watched {
+    book: Book<MemoryDisk, LiveView>,
+    reader: LiveReader,
+    ghost same: { reader.which ≡ book.terms.which },
+}
+
+/// A book over a new file, with a reader of its view.
+fn begin_watched<R: AllocGlobal + Wait>(
+    rt: &R,
+    file: GatedFile<MemoryDisk>,
+    shapes: Shapes,
+) -> Result<Watched, Fail>
+    requires created { IsNewFile ⟦<MemoryDisk as Disk>⟧ file }
+    requires one { (shape : Layout) × (shapes ≡ shape ∷ []) × (length shape.rows ≤ 128) × AreApart shape.rows × All IsStored shape.rows }
+    ensures { IfOk result (λ watched. watched.book.terms.layouts ≡ shapes) }
+{
+    let (view, mut readers) = match LiveView::begin(rt, rt.alloc(), 2) {
+        Ok(begun) => begun,
+        Err(memory) => {
+            drop(file.into_disk());
+            return Err(memory.into());
+        }
+    };
+    let Some(reader) = readers.pop() else {
+        unreachable!()
+    };
+    match Book::begin(rt.alloc(), file, shapes, 65_536, SESSION, view) {
+        Ok(book) => Ok(Watched { book, reader }),
+        Err((memory, file, view)) => {
+            drop(file.into_disk());
+            view.end(rt);
+            Err(memory.into())
+        }
+    }
+}
+
+/// Appends a sample, whatever the answer.
+fn append<R>(rt: &R, shape: &Shape, watched: &mut Watched, sample: Sample)
+where
+    R: AllocGlobal + Abort + Threads + Wait + Sync,
+    requires { watched.old.book.terms.layouts ≡ shape.now ∷ [] }
+    ensures { watched.new.book.terms ≡ watched.old.book.terms }
+{
+    assert!(rt; sample.group == 0);
+    assert!(rt; shape.fits(&sample));
+    assert!(rt; watched.book.size_of(&sample) <= watched.book.block_limit());
+    let _answer = watched.book.append(rt, sample);
+}
+
+/// Flushes, and lets the reader learn the note.
+fn flush<R: Threads + Wait + Sync>(rt: &R, watched: Watched) -> Watched
+    ensures { result.book.terms ≡ watched.book.terms }
+{
+    let Watched {
+        mut book,
+        mut reader,
+    } = watched;
+    if let Flush::Done { note, .. } = book.flush(rt) {
+        reader.learn(note);
+    }
+    Watched { book, reader }
+}
+
+/// How many samples the reader sees, or the last number where it is refused.
+fn look(watched: Watched) -> (Watched, u64)
+    ensures { result.0.book.terms ≡ watched.book.terms }
+{
+    let Watched { book, reader } = watched;
+    match reader.view() {
+        Ok(view) => {
+            let count = view.len();
+            let reader = view.leave();
+            (Watched { book, reader }, count)
+        }
+        Err(reader) => (Watched { book, reader }, u64::MAX),
+    }
+}
+
+/// What the reader sees before the first flush, after two samples, after their flush, after one sample more, and after its
+/// flush.
+fn seen<R>(
+    rt: &R,
+    shape: &Shape,
+    watched: Watched,
+    first: Sample,
+    second: Sample,
+    third: Sample,
+) -> [u64; 5]
+where
+    R: AllocGlobal + Abort + Threads + Wait + Sync,
+    requires { watched.book.terms.layouts ≡ shape.now ∷ [] }
+{
+    let (mut watched, nothing) = look(watched);
+    append(rt, shape, &mut watched, first);
+    append(rt, shape, &mut watched, second);
+    let (watched, pending) = look(watched);
+    let (mut watched, two) = look(flush(rt, watched));
+    append(rt, shape, &mut watched, third);
+    let (watched, still_two) = look(watched);
+    let (watched, three) = look(flush(rt, watched));
+    let Watched { book, reader: _ } = watched;
+    let (_, _, _, view) = book.close();
+    view.end(rt);
+    [nothing, pending, two, still_two, three]
+}
+
+#[test]
+fn a_view_after_the_first_note(rt: HostRuntime) -> Result<(), Fail> {
+    let rows = one_row(rt.alloc())?;
+    let (shape, shapes) = shapes_of(&rt, &rows, 8)?;
+    let first = sample(rt.alloc(), &[1])?;
+    let second = sample(rt.alloc(), &[2])?;
+    let third = sample(rt.alloc(), &[3])?;
+    let file = file_failing_at(&rt, &[])?;
+    let watched = begin_watched(&rt, file, shapes)?;
+    assert_eq!(rt;
+        seen(&rt, &shape, watched, first, second, third),
+        [0, 0, 2, 2, 3]
+    );
+    Ok(())
+}
