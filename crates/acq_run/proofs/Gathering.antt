@@ -71,49 +71,53 @@ ran_of basis book terms table number seat closed feds accepted (DiskFault before
 ran_of basis book terms table number seat closed feds accepted Memory driven =
     ran_all basis book terms table number seat closed feds accepted Memory driven driven.drives.ends
 
--- all sources
-module _ {F : Type 0} (left : F → List Fed) (table : TableId) (basis : Basis) where
-  abbrev pub seats_of : List (Worker F) → List Place
-  seats_of workers = map (λ (w : Worker F). w.seat) workers
+-- as many seats as sources
+new_seats-length : (table : TableId) (basis : Basis) (first count : ℕ) → length (new_seats table basis first count) ≡ count
+new_seats-length table basis first zero = refl
+new_seats-length table basis first (suc count) = omega (arith, new_seats-length table basis (suc first) count)
 
-  abbrev pub feeds_of : List (Worker F) → List F
-  feeds_of workers = map (λ (w : Worker F). w.feed) workers
+pub seats_count : (table : TableId) (basis : Basis) (seats : List Place) (sources : ℕ) → seats ≡ new_seats table basis 0 sources → length seats ≡ sources
+seats_count table basis seats sources is = ap length is ∙ new_seats-length table basis 0 sources
+
+-- all sources
+module _ {F L : Type 0} (left : F → List Fed) (table : TableId) (basis : Basis) where
+  abbrev pub seats_of : List (Worker F L) → List Place
+  seats_of workers = map (λ (w : Worker F L). w.seat) workers
+
+  abbrev pub feeds_of : List (Worker F L) → List F
+  feeds_of workers = map (λ (w : Worker F L). w.feed) workers
+
+  abbrev pub followers_of : List (Worker F L) → List L
+  followers_of workers = map (λ (w : Worker F L). w.follower) workers
 
   -- the seats at the beginning, one by one
-  first_seat : (first : ℕ) (worker : Worker F) (workers : List (Worker F)) → seats_of (worker ∷ workers) ≡ new_seats table basis first (length (worker ∷ workers))
+  first_seat : (first : ℕ) (worker : Worker F L) (workers : List (Worker F L)) → seats_of (worker ∷ workers) ≡ new_seats table basis first (length (worker ∷ workers))
       → worker.seat ≡ new_seat table basis first
   first_seat first worker workers is = ap (λ (seats : List Place). get_or seats 0 worker.seat) is
 
-  later_seats : (first : ℕ) (worker : Worker F) (workers : List (Worker F)) → seats_of (worker ∷ workers) ≡ new_seats table basis first (length (worker ∷ workers))
+  later_seats : (first : ℕ) (worker : Worker F L) (workers : List (Worker F L)) → seats_of (worker ∷ workers) ≡ new_seats table basis first (length (worker ∷ workers))
       → seats_of workers ≡ new_seats table basis (suc first) (length workers)
   later_seats first worker workers is = ap (λ (seats : List Place). drop 1 seats) is
 
-  new_seats-length : (first count : ℕ) → length (new_seats table basis first count) ≡ count
-  new_seats-length first zero = refl
-  new_seats-length first (suc count) = omega (arith, new_seats-length (suc first) count)
-
   -- as many workers as seats
-  pub seated_count : (workers : List (Worker F)) (seats : List Place) (sources : ℕ) → seats_of workers ≡ seats → seats ≡ new_seats table basis 0 sources
+  pub seated_count : (workers : List (Worker F L)) (seats : List Place) (sources : ℕ) → seats_of workers ≡ seats → seats ≡ new_seats table basis 0 sources
       → length workers ≡ sources
   seated_count workers seats sources are is =
-      omega (arith, length-map workers (λ (w : Worker F). w.seat), ap length are, ap length is, new_seats-length 0 sources)
+      omega (arith, length-map workers (λ (w : Worker F L). w.seat), ap length are, ap length is, new_seats-length table basis 0 sources)
 
-  pub seats_count : (seats : List Place) (sources : ℕ) → seats ≡ new_seats table basis 0 sources → length seats ≡ sources
-  seats_count seats sources is = ap length is ∙ new_seats-length 0 sources
-
-  pub seated : (workers : List (Worker F)) (seats : List Place) (sources : ℕ) → seats_of workers ≡ seats → seats ≡ new_seats table basis 0 sources
+  pub seated : (workers : List (Worker F L)) (seats : List Place) (sources : ℕ) → seats_of workers ≡ seats → seats ≡ new_seats table basis 0 sources
       → seats_of workers ≡ new_seats table basis 0 (length workers)
   seated workers seats sources are is = are ∙ is ∙ ap (new_seats table basis 0) (sym (seated_count workers seats sources are is))
 
   -- each worker was driven from a new seat, with the feed that it had
-  abbrev pub AllDriven : ℕ → List (Worker F) → List (Worker F) → Type 0
+  abbrev pub AllDriven : ℕ → List (Worker F L) → List (Worker F L) → Type 0
   AllDriven first [] [] = Unit {0}
   AllDriven first (old ∷ olds) (new ∷ news) =
       HasDriven (new_seat table basis first) new.seat (left old.feed) new.accepted new.ended × AllDriven (suc first) olds news
   AllDriven first _ _ = ⊥
 
-  pub all_driven : (first : ℕ) (olds news : List (Worker F)) → seats_of olds ≡ new_seats table basis first (length olds) → length news ≡ length olds
-      → ((k : ℕ) (d : Worker F) → k < length olds
+  pub all_driven : (first : ℕ) (olds news : List (Worker F L)) → seats_of olds ≡ new_seats table basis first (length olds) → length news ≡ length olds
+      → ((k : ℕ) (d : Worker F L) → k < length olds
       → HasDriven (get_or olds k d).seat (get_or news k d).seat (left (get_or olds k d).feed) (get_or news k d).accepted (get_or news k d).ended)
       → AllDriven first olds news
   all_driven first [] [] seats same each = tt
@@ -124,13 +128,19 @@ module _ {F : Type 0} (left : F → List Fed) (table : TableId) (basis : Basis) 
     all_driven (suc first) olds news (later_seats first old olds seats) (omega (arith, same)) (λ k d within. each (suc k) d (omega (arith, within))),
   )
 
-  pub of_table : (first : ℕ) (olds news : List (Worker F)) → AllDriven first olds news → AreOf table (seats_of news)
+  all_long : (first : ℕ) (olds news : List (Worker F L)) → AllDriven first olds news → length news ≡ length olds
+  all_long first [] [] all = refl
+  all_long first [] (new ∷ news) all = absurd all
+  all_long first (old ∷ olds) [] all = absurd all
+  all_long first (old ∷ olds) (new ∷ news) all = omega (arith, all_long (suc first) olds news all.1)
+
+  pub of_table : (first : ℕ) (olds news : List (Worker F L)) → AllDriven first olds news → AreOf table (seats_of news)
   of_table first [] [] all = tt
   of_table first [] (new ∷ news) all = absurd all
   of_table first (old ∷ olds) [] all = absurd all
   of_table first (old ∷ olds) (new ∷ news) all = (all.0.seat.table_is, of_table (suc first) olds news all.1)
 
-  pub has_number : (first : ℕ) (olds news : List (Worker F)) → AllDriven first olds news → (n : ℕ) → first ≤ n → n < first + length olds → HasNumber n (seats_of news)
+  pub has_number : (first : ℕ) (olds news : List (Worker F L)) → AllDriven first olds news → (n : ℕ) → first ≤ n → n < first + length olds → HasNumber n (seats_of news)
   has_number first [] [] all n low high = absurd (omega (arith, low, high))
   has_number first [] (new ∷ news) all n low high = absurd all
   has_number first (old ∷ olds) [] all n low high = absurd all
@@ -141,7 +151,7 @@ module _ {F : Type 0} (left : F → List Fed) (table : TableId) (basis : Basis) 
         above a b low differs = ⊎_elim (λ less. omega (arith, less)) (λ more. absurd (differs (omega (arith, low, more)))) (cases_lt a b)
 
   module _ {D V : Type 0} (owners : List ℕ) (alike : (group : ℕ) → slice_index basis.owners group ≡ slice_index owners group) (book : Account D V) (terms : book.terms ≡ basis.terms) where
-    pub all_ran : (first : ℕ) (olds news : List (Worker F)) → AllDriven first olds news → Closes basis book (seats_of news)
+    pub all_ran : (first : ℕ) (olds news : List (Worker F L)) → AllDriven first olds news → Closes basis book (seats_of news)
         → AllRan owners book first (map left (feeds_of olds)) (map driven_of news)
     all_ran first [] [] all closes = tt
     all_ran first [] (new ∷ news) all closes = absurd all
@@ -154,8 +164,8 @@ module _ {F : Type 0} (left : F → List Fed) (table : TableId) (basis : Basis) 
 
   -- the workers may begin
   pub all_ready : (owners : List ℕ) (terms : Terms) → ((group : ℕ) → slice_index basis.owners group ≡ slice_index owners group) → basis.terms ≡ terms
-      → (first : ℕ) (workers : List (Worker F)) → seats_of workers ≡ new_seats table basis first (length workers)
-      → AllMayFeed owners terms first (map left (feeds_of workers)) → All (λ (w : Worker F). IsReady table w.seat (left w.feed)) workers
+      → (first : ℕ) (workers : List (Worker F L)) → seats_of workers ≡ new_seats table basis first (length workers)
+      → AllMayFeed owners terms first (map left (feeds_of workers)) → All (λ (w : Worker F L). IsReady table w.seat (left w.feed)) workers
   all_ready owners terms alike same first [] seats may k d within = absurd (omega (arith, within))
   all_ready owners terms alike same first (worker ∷ workers) seats may zero d within =
       subst (λ (s : Place). IsReady table s (left worker.feed)) (sym (first_seat first worker workers seats)) (record {
@@ -167,26 +177,53 @@ module _ {F : Type 0} (left : F → List Fed) (table : TableId) (basis : Basis) 
   all_ready owners terms alike same first (worker ∷ workers) seats may (suc k) d within =
       all_ready owners terms alike same (suc first) workers (later_seats first worker workers seats) may.1 k d (omega (arith, within))
 
+  -- what followers know at the beginning, and in the end
+  module _ (follows : L → ℕ → List Sample → Type 0) where
+    pub all_follow : (terms : Terms) → basis.terms ≡ terms → (first : ℕ) (workers : List (Worker F L)) → seats_of workers ≡ new_seats table basis first (length workers)
+        → All (λ (l : L). follows l terms.which []) (followers_of workers)
+        → All (λ (w : Worker F L). follows w.follower w.seat.know.basis.terms.which w.seat.know.seen) workers
+    all_follow terms same first [] seats all k d within = absurd (omega (arith, within))
+    all_follow terms same first (worker ∷ workers) seats all zero d within =
+        subst (λ (s : Place). follows worker.follower s.know.basis.terms.which s.know.seen) (sym (first_seat first worker workers seats))
+        (subst (λ (t : Terms). follows worker.follower t.which []) (sym same) (all 0 worker.follower (omega arith)))
+    all_follow terms same first (worker ∷ workers) seats all (suc k) d within =
+        all_follow terms same (suc first) workers (later_seats first worker workers seats) (λ j e less. all (suc j) e (omega (arith, less))) k d (omega (arith, within))
+
+    module _ (stays : (l : L) (which : ℕ) (seen more : List Sample) → follows l which seen → IsPrefix seen more → follows l which more)
+        {D V : Type 0} (book : Account D V) where
+      pub still_follow : (first : ℕ) (olds news : List (Worker F L)) → AllDriven first olds news → Closes basis book (seats_of news)
+          → ((k : ℕ) (d : Worker F L) → k < length olds
+          → follows (get_or news k d).follower (get_or news k d).seat.know.basis.terms.which (get_or news k d).seat.know.seen)
+          → All (λ (l : L). follows l basis.terms.which book.history) (followers_of news)
+      still_follow first [] [] all closes each k d within = absurd (omega (arith, within))
+      still_follow first [] (new ∷ news) all closes each k d within = absurd all
+      still_follow first (old ∷ olds) [] all closes each k d within = absurd all
+      still_follow first (old ∷ olds) (new ∷ news) all closes each zero d within =
+          stays new.follower basis.terms.which new.seat.know.seen book.history
+          (subst (λ (b : Basis). follows new.follower b.terms.which new.seat.know.seen) all.0.drives.does.later.basis_is (each 0 new (omega arith))) closes.0.seen
+      still_follow first (old ∷ olds) (new ∷ news) all closes each (suc k) d within =
+          still_follow (suc first) olds news all.1 closes.1 (λ j e less. each (suc j) e (omega (arith, less))) k d (omega (arith, within))
+
   -- The vector of the workers was lent as a slice, and what was lent came back with what each did.
-  pub record HaveWorked (lent news after : List (Worker F)) (feeds : List F) : Type 0 where
+  pub record HaveWorked (lent news after : List (Worker F L)) (feeds : List F) : Type 0 where
     pub all : AllDriven 0 lent news
     pub count : length lent ≡ length feeds
     pub feeds_are : feeds_of lent ≡ feeds
     pub after_is : after ≡ news
 
-  pub have_worked : (workers lent news : List (Worker F)) (len sources : ℕ) (seats : List Place) (feeds : List F) → seats_of workers ≡ seats
+  pub have_worked : (workers lent news : List (Worker F L)) (len sources : ℕ) (seats : List Place) (feeds : List F) → seats_of workers ≡ seats
       → seats ≡ new_seats table basis 0 sources → feeds_of workers ≡ feeds → lent ≡ workers → length news ≡ length lent → length lent ≡ len
-      → ((k : ℕ) (d : Worker F) → k < length lent
+      → ((k : ℕ) (d : Worker F L) → k < length lent
       → HasDriven (get_or lent k d).seat (get_or news k d).seat (left (get_or lent k d).feed) (get_or news k d).accepted (get_or news k d).ended)
       → HaveWorked lent news (take len (news ++ drop (length news) workers)) feeds
   have_worked workers lent news len sources seats feeds are is fed same long lent_is each = record {
-    all = all_driven 0 lent news (subst (λ (ws : List (Worker F)). seats_of ws ≡ new_seats table basis 0 (length ws)) (sym same) (seated workers seats sources are is)) long each;
-    count = omega (arith, ap length same, ap length fed, length-map workers (λ (w : Worker F). w.feed));
+    all = all_driven 0 lent news (subst (λ (ws : List (Worker F L)). seats_of ws ≡ new_seats table basis 0 (length ws)) (sym same) (seated workers seats sources are is)) long each;
+    count = omega (arith, ap length same, ap length fed, length-map workers (λ (w : Worker F L). w.feed));
     feeds_are = ap feeds_of same ∙ fed;
     after_is = take_at news (drop (length news) workers) len (long ∙ lent_is);
   }
 
-  module _ (lent news after : List (Worker F)) (feeds : List F) (worked : HaveWorked lent news after feeds) where
+  module _ (lent news after : List (Worker F L)) (feeds : List F) (worked : HaveWorked lent news after feeds) where
     pub worked_of_table : (seats : List Place) → seats ≡ seats_of after → AreOf table seats
     worked_of_table seats are = subst (AreOf table) (sym (are ∙ ap seats_of worked.after_is)) (of_table 0 lent news worked.all)
 
@@ -194,10 +231,26 @@ module _ {F : Type 0} (left : F → List Fed) (table : TableId) (basis : Basis) 
     worked_numbers seats are n less =
         subst (HasNumber n) (sym (are ∙ ap seats_of worked.after_is)) (has_number 0 lent news worked.all n (omega arith) (omega (arith, less, worked.count)))
 
+    pub worked_count : (followers : List L) → followers ≡ followers_of after → length followers ≡ length feeds
+    worked_count followers are =
+        omega (arith, ap length are, length-map after (λ (w : Worker F L). w.follower), ap length worked.after_is, all_long 0 lent news worked.all, worked.count)
+
+    pub worked_follow : (follows : L → ℕ → List Sample → Type 0)
+        → ((l : L) (which : ℕ) (seen more : List Sample) → follows l which seen → IsPrefix seen more → follows l which more)
+        → {D V : Type 0} (book : Account D V) (terms : Terms) → basis.terms ≡ terms → (seats : List Place) (followers : List L) → seats ≡ seats_of after
+        → followers ≡ followers_of after → Closes basis book seats
+        → ((k : ℕ) (d : Worker F L) → k < length lent
+        → follows (get_or news k d).follower (get_or news k d).seat.know.basis.terms.which (get_or news k d).seat.know.seen)
+        → All (λ (l : L). follows l terms.which book.history) followers
+    worked_follow follows stays book terms same seats followers are is closes each =
+        subst (All (λ (l : L). follows l terms.which book.history)) (sym (is ∙ ap followers_of worked.after_is))
+        (subst (λ (t : Terms). All (λ (l : L). follows l t.which book.history) (followers_of news)) same
+        (still_follow follows stays book 0 lent news worked.all (subst (Closes basis book) (are ∙ ap seats_of worked.after_is) closes) each))
+
     module _ {D V : Type 0} (owners : List ℕ) (alike : (group : ℕ) → slice_index basis.owners group ≡ slice_index owners group) (book : Account D V) (terms : book.terms ≡ basis.terms) where
       pub worked_ran : (seats : List Place) (all : List Driven) → seats ≡ seats_of after → all ≡ map driven_of after → Closes basis book seats
           → AllRan owners book 0 (map left feeds) all
       worked_ran seats all are is closes =
-          subst (λ ds. AllRan owners book 0 (map left feeds) ds) (sym (is ∙ ap (λ (ws : List (Worker F)). map driven_of ws) worked.after_is))
+          subst (λ ds. AllRan owners book 0 (map left feeds) ds) (sym (is ∙ ap (λ (ws : List (Worker F L)). map driven_of ws) worked.after_is))
           (subst (λ fs. AllRan owners book 0 (map left fs) (map driven_of news)) worked.feeds_are
           (all_ran owners alike book terms 0 lent news worked.all (subst (Closes basis book) (are ∙ ap seats_of worked.after_is) closes)))

@@ -1,4 +1,4 @@
 mod Doing
 mod Owning
-mod Gathering
+pub mod Gathering
 pub mod Later

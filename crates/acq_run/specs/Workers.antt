@@ -14,5 +14,5 @@ pub record IsReady (table : TableId) (seat : Place) (left : List Fed) : Type 0 w
   pub few : length left < 2 ^ 64
 
 -- what a worker did
-abbrev pub driven_of : {F : Type 0} → Worker F → Driven
+abbrev pub driven_of : {F L : Type 0} → Worker F L → Driven
 driven_of worker = record { accepted = worker.accepted; ended = worker.ended }

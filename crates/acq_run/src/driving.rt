@@ -1,19 +1,17 @@
-//! How a source works, and how all work at once.
-ghost use Rattle.std.specs.Prelude.{ℕ, ◌≡◌, ◌<◌, ◌^◌, List, [], ◌∷◌, length, All, IfOk, IfErr};
-ghost use Rattle.std.specs.List.{slice_index_or};
+//! How a source works.
+ghost use Rattle.std.specs.Prelude.{◌≡◌, List, [], ◌∷◌, IfOk, IfErr};
 ghost use Rattle.acq_run.specs.Tasks.{IsTask, MayFeed};
 ghost use Rattle.acq_run.specs.Works.{Does, Drives, Ends, HasDriven, IsSameSeat};
 ghost use Rattle.acq_run.specs.Workers.{IsReady};
 ghost use Rattle.acq_run.specs.declared.tasks.Fed.{Fed};
 
-use crate::following::{Follower, Nobody};
+use crate::following::Follower;
 use crate::tasks::{Fed, Feed};
 use crate::work::{Driven, Ended, Worker};
-use book_owned::{Append, Flush, NoView, Shown};
+use book_owned::{Append, Flush, Shown};
 use book_shared::{SharedBook, SourceSeat};
 use mdf_disk::Disk;
 use std::sync::Wait;
-use std::thread;
 use std::thread::Threads;
 
 /// Does one task of a source, and answers how many samples were accepted.
@@ -92,46 +90,25 @@ pub fn drive_with<R: Threads + Wait + Sync, D: Disk, V: Shown, F: Feed, L: Follo
     unreachable!()
 }
 
-/// Does what a worker's feed hands in, in order, up to its end or to the first that is not done, and keeps how many samples
-/// were accepted and why the work ended.
-pub fn drive<R: Threads + Wait + Sync, D: Disk, F: Feed>(
+/// Does what a worker's feed hands in, in order, up to its end or to the first that is not done, tells its follower of each
+/// flush that was done, and keeps how many samples were accepted and why the work ended.
+pub fn drive<R: Threads + Wait + Sync, D: Disk, V: Shown, F: Feed, L: Follower<V>>(
     rt: &R,
-    book: &SharedBook<D, NoView>,
-    worker: &mut Worker<F>,
+    book: &SharedBook<D, V>,
+    worker: &mut Worker<F, L>,
 )
     requires ready { IsReady book.now.table worker.old.seat (F.left worker.old.feed) }
+    requires follows { L.follows worker.old.follower worker.old.seat.know.basis.terms.which worker.old.seat.know.seen }
     ensures driven { HasDriven worker.old.seat worker.new.seat (F.left worker.old.feed) worker.new.accepted worker.new.ended }
+    ensures follows { L.follows worker.new.follower worker.new.seat.know.basis.terms.which worker.new.seat.know.seen }
 {
     let Driven { accepted, ended } = drive_with(
         rt,
         book,
         &mut worker.seat,
         &mut worker.feed,
-        &mut Nobody,
+        &mut worker.follower,
     );
     worker.accepted = accepted;
     worker.ended = ended;
-}
-
-/// Drives all workers at once, each in a thread of its own where so many can be started.
-pub fn drive_all<R: Threads + Wait + Sync, D: Disk + Send, F: Feed + Send>(
-    rt: &R,
-    book: &SharedBook<D, NoView>,
-    workers: &mut [Worker<F>],
-)
-    requires all { All (λ worker. IsReady book.now.table worker.seat (F.left worker.feed)) workers.old }
-    ensures all { (k : ℕ) (d : _) → k < length workers.old
-        → HasDriven (slice_index_or workers.old k d).seat (slice_index_or workers.new k d).seat (F.left (slice_index_or workers.old k d).feed)
-        (slice_index_or workers.new k d).accepted (slice_index_or workers.new k d).ended }
-{
-    let threads = workers.len().max(1);
-    thread::for_each_mut(
-        rt,
-        workers,
-        threads,
-        &|_place: usize, worker: &mut Worker<F>|
-            requires ready { IsReady book.now.table worker.old.seat (F.left worker.old.feed) }
-            ensures driven { HasDriven worker.old.seat worker.new.seat (F.left worker.old.feed) worker.new.accepted worker.new.ended }
-        { drive(rt, book, worker) },
-    );
 }

@@ -2,7 +2,7 @@ ghost use Rattle.std.specs.Prelude.{◌≤◌, ℕ, List, length, take};
 ghost use mathlib.Core.List.{IsPrefix};
 ghost use Rattle.mdf_layout.specs.declared.sample.Sample.{Sample};
 
-use book_owned::{NoView, Shown};
+use book_owned::Shown;
 
 /// Who is told of each flush of a source that was done.
 pub trait Follower<V: Shown> {
@@ -16,16 +16,4 @@ pub trait Follower<V: Shown> {
 
     /// It stays so when the source has seen more.
     ghost stays: { (follower : Self) (which : ℕ) (seen more : List Sample) → follows follower which seen → IsPrefix seen more → follows follower which more };
-}
-
-/// Nobody: a view that shows nobody anything needs no more.
-#[derive(Clone, Copy, Debug)]
-pub struct Nobody;
-
-impl Follower<NoView> for Nobody {
-    ghost follows = { λ follower which seen. Unit {0} };
-
-    ghost stays = { λ follower which seen more is begins. tt };
-
-    fn follow(&mut self, _shown: u64, _note: ()) {}
 }

@@ -4,7 +4,7 @@ ghost use Rattle.std.specs.Vec.{vec_capacity};
 ghost use Rattle.acq_run.specs.Ran.{AllRan, AllMayFeed};
 ghost use Rattle.acq_run.specs.Workers.{driven_of};
 
-use crate::driving::drive_all;
+use crate::nobody::{Nobody, drive_all};
 use crate::tasks::Feed;
 use crate::work::{Driven, Ended, Worker};
 use book_owned::{Book, NoView};
@@ -15,45 +15,74 @@ use std::alloc::Global;
 use std::sync::Wait;
 use std::thread::Threads;
 
-/// Gives each seat its feed, in order.
-fn seat_all<F: Drop>(workers: &mut Vec<Worker<F>>, seats: Vec<SourceSeat>, feeds: Vec<F>)
+/// Gives each seat its feed and its follower, in order.
+pub fn seat_all<F: Drop, L: Drop>(
+    workers: &mut Vec<Worker<F, L>>,
+    seats: Vec<SourceSeat>,
+    feeds: Vec<F>,
+    followers: Vec<L>,
+)
     requires count { length seats.items ≡ length feeds.items }
+    requires followers { length followers.items ≡ length feeds.items }
     requires empty { workers.old.items ≡ [] }
     requires room { length feeds.items ≤ vec_capacity workers.old }
     ensures seats { map (λ worker. worker.seat) workers.new.items ≡ seats.items }
     ensures feeds { map (λ worker. worker.feed) workers.new.items ≡ feeds.items }
+    ensures followers { map (λ worker. worker.follower) workers.new.items ≡ followers.items }
 {
     let mut seats = seats.into_iter();
+    let mut followers = followers.into_iter();
     for feed in feeds {
-        match seats.next() {
-            Some(seat) => workers.push_reserved(Worker {
+        match (seats.next(), followers.next()) {
+            (Some(seat), Some(follower)) => workers.push_reserved(Worker {
                 seat,
                 feed,
+                follower,
                 accepted: 0,
                 ended: Ended::Running,
             }),
-            None => unreachable!(),
+            _ => unreachable!(),
         }
     }
 }
 
-/// Takes the workers apart: their seats, and what they did, in order.
-fn part_all<F: Drop>(workers: Vec<Worker<F>>, seats: &mut Vec<SourceSeat>, all: &mut Vec<Driven>)
-    requires empty { (seats.old.items ≡ []) × (all.old.items ≡ []) }
-    requires room { (length workers.items ≤ vec_capacity seats.old) × (length workers.items ≤ vec_capacity all.old) }
+/// Takes the workers apart: their seats, what they did, and their followers, in order.
+pub fn part_all<F: Drop, L: Drop>(
+    workers: Vec<Worker<F, L>>,
+    seats: &mut Vec<SourceSeat>,
+    all: &mut Vec<Driven>,
+    followers: &mut Vec<L>,
+)
+    requires empty { (seats.old.items ≡ []) × (all.old.items ≡ []) × (followers.old.items ≡ []) }
+    requires room { (length workers.items ≤ vec_capacity seats.old) × (length workers.items ≤ vec_capacity all.old)
+        × (length workers.items ≤ vec_capacity followers.old) }
     ensures seats { seats.new.items ≡ map (λ worker. worker.seat) workers.items }
     ensures driven { all.new.items ≡ map driven_of workers.items }
+    ensures followers { followers.new.items ≡ map (λ worker. worker.follower) workers.items }
 {
     for worker in workers {
         let Worker {
             seat,
             feed: _,
+            follower,
             accepted,
             ended,
         } = worker;
         seats.push_reserved(seat);
         all.push_reserved(Driven { accepted, ended });
+        followers.push_reserved(follower);
     }
+}
+
+/// So many that are told nothing.
+fn nobodies(alloc: Global, count: usize) -> Result<Vec<Nobody>, Memory>
+    ensures { IfOk result (λ nobodies. length nobodies.items ≡ count) }
+{
+    let mut nobodies = Vec::new(alloc);
+    for _ in 0..count {
+        nobodies.push(Nobody)?;
+    }
+    Ok(nobodies)
 }
 
 /// Shares a book that has no sample yet among sources, one for each feed, drives all of them at once, and hands the book
@@ -87,9 +116,15 @@ pub fn record_all<R: Threads + Wait + Sync, D: Disk + Send, F: Feed + Send + Dro
     let Ok(mut all) = Vec::with_capacity(alloc, count) else {
         return Err((Memory, book));
     };
+    let Ok(mut followed) = Vec::with_capacity(alloc, count) else {
+        return Err((Memory, book));
+    };
+    let Ok(followers) = nobodies(alloc, count) else {
+        return Err((Memory, book));
+    };
     let (shared, seats) = SharedBook::begin(alloc, book, owners, count as u8)?;
-    seat_all(&mut workers, seats, feeds);
+    seat_all(&mut workers, seats, feeds, followers);
     drive_all(rt, &shared, workers.as_mut_slice());
-    part_all(workers, &mut back, &mut all);
+    part_all(workers, &mut back, &mut all, &mut followed);
     Ok((shared.close(back), all))
 }

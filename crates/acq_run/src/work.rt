@@ -26,11 +26,12 @@ pub struct Driven {
     pub ended: Ended,
 }
 
-/// A source at work: its seat at the book, its feed, and what it did.
+/// A source at work: its seat at the book, its feed, who is told of its flushes, and what it did.
 #[derive(Drop)]
-pub struct Worker<F> {
+pub struct Worker<F, L> {
     pub seat: SourceSeat,
     pub feed: F,
+    pub follower: L,
     pub accepted: u64,
     pub ended: Ended,
 }

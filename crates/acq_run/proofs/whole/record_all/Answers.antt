@@ -8,10 +8,10 @@ use Rattle.acq_run.proofs.whole.record_all.Goals as goal
 pub seat_all-requires-clause-count : goal.seat_all-requires-clause-count
 seat_all-requires-clause-count g c =
     let book = c.in_ok-shared.shared in
-    omega (arith, seats_count g.F.Feed.left book.table book.basis c.in_ok-shared.seats.items _ c.in_ok-shared.ensures.seats, c.len-count.ensures, c.args.feeds.ok.0, c.requires.sources.1)
+    omega (arith, seats_count book.table book.basis c.in_ok-shared.seats.items _ c.in_ok-shared.ensures.seats, c.len-count.ensures, c.args.feeds.ok.0, c.requires.sources.1)
 
-pub drive_all-requires-clause-all : goal.drive_all-requires-clause-all
-drive_all-requires-clause-all g c κs within =
+pub drive_all-requires-clause-ready : goal.drive_all-requires-clause-ready
+drive_all-requires-clause-ready g c κs within =
     let book = c.in_ok-shared.shared in
     let shared = c.in_ok-shared.ensures.shared in
     let workers = c.seat_all.new.workers.items in
@@ -29,7 +29,7 @@ close-requires-clause-table g c =
     let lent = c.as_mut_slice.result.now in
     let news = c.drive_all.new.workers in
     let worked = have_worked left book.table book.basis c.seat_all.new.workers.items lent news c.seat_all.new.workers.len _ c.in_ok-shared.seats.items c.args.feeds.items
-    c.seat_all.ensures.seats c.in_ok-shared.ensures.seats c.seat_all.ensures.feeds c.as_mut_slice.ensures.value c.drive_all.auto.workers c.as_mut_slice.ensures.len c.drive_all.ensures.all in
+    c.seat_all.ensures.seats c.in_ok-shared.ensures.seats c.seat_all.ensures.feeds c.as_mut_slice.ensures.value c.drive_all.auto.workers c.as_mut_slice.ensures.len c.drive_all.ensures.driven in
     worked_of_table left book.table book.basis lent news _ c.args.feeds.items worked c.part_all.new.seats.items c.part_all.ensures.seats
 
 pub close-requires-clause-all : goal.close-requires-clause-all
@@ -39,7 +39,7 @@ close-requires-clause-all g c number below =
     let lent = c.as_mut_slice.result.now in
     let news = c.drive_all.new.workers in
     let worked = have_worked left book.table book.basis c.seat_all.new.workers.items lent news c.seat_all.new.workers.len _ c.in_ok-shared.seats.items c.args.feeds.items
-    c.seat_all.ensures.seats c.in_ok-shared.ensures.seats c.seat_all.ensures.feeds c.as_mut_slice.ensures.value c.drive_all.auto.workers c.as_mut_slice.ensures.len c.drive_all.ensures.all in
+    c.seat_all.ensures.seats c.in_ok-shared.ensures.seats c.seat_all.ensures.feeds c.as_mut_slice.ensures.value c.drive_all.auto.workers c.as_mut_slice.ensures.len c.drive_all.ensures.driven in
     worked_numbers left book.table book.basis lent news _ c.args.feeds.items worked c.part_all.new.seats.items c.part_all.ensures.seats number
     (omega (arith, below, c.in_ok-shared.ensures.shared.sources_is, c.len-count.ensures, c.args.feeds.ok.0, c.requires.sources.1))
 
@@ -51,6 +51,6 @@ returns-clause-ran g c =
     let lent = c.as_mut_slice.result.now in
     let news = c.drive_all.new.workers in
     let worked = have_worked left book.table book.basis c.seat_all.new.workers.items lent news c.seat_all.new.workers.len _ c.in_ok-shared.seats.items c.args.feeds.items
-    c.seat_all.ensures.seats c.in_ok-shared.ensures.seats c.seat_all.ensures.feeds c.as_mut_slice.ensures.value c.drive_all.auto.workers c.as_mut_slice.ensures.len c.drive_all.ensures.all in
+    c.seat_all.ensures.seats c.in_ok-shared.ensures.seats c.seat_all.ensures.feeds c.as_mut_slice.ensures.value c.drive_all.auto.workers c.as_mut_slice.ensures.len c.drive_all.ensures.driven in
     worked_ran left book.table book.basis lent news _ c.args.feeds.items worked c.args.owners.now shared.owners_are c.close.result c.close.ensures.terms
     c.part_all.new.seats.items c.part_all.new.all.items c.part_all.ensures.seats c.part_all.ensures.driven c.close.ensures.seats

@@ -1,0 +1,65 @@
+-- A reader knows what was shown when it has learnt a note.
+use Rattle.std.proofs.Common.{◌≡◌, ℕ, zero, suc, ◌≤◌, ◌<◌, max, map, All, List, [], ◌∷◌, ◌++◌, length, take, Option, Some, None, refl, sym, ◌∙◌, ap, subst, ⊎_elim, arith, length-append}
+use Rattle.std.proofs.lemmas.Bool.{cases_lt}
+use Rattle.std.proofs.Math.Seq.{take-append_seam}
+use mathlib.Core.List.{IsPrefix}
+use Rattle.mdf_layout.specs.declared.sample.Sample.{Sample}
+use Rattle.mdf_gate.proofs.Carrying.{prefix_take, prefix_trans}
+use Rattle.book_view.specs.Known.{Known, Note}
+use Rattle.acq_live.specs.Watching.{AnyLooks, IsOf, Looks, Watches}
+use Rattle.acq_live.specs.declared.watcher.Watcher.{Watcher}
+
+-- so many samples of the history are the note's
+noted : (seen samples : List Sample) (shown : ℕ) → samples ≡ take shown seen → take (length samples) seen ≡ samples
+noted seen samples shown is =
+    let begins : IsPrefix samples seen = subst (λ list. IsPrefix list seen) (sym is) (prefix_take shown seen) in
+    ap (take (length samples)) (sym begins.1) ∙ take-append_seam samples begins.0
+
+not_more : (seen samples : List Sample) (shown : ℕ) → samples ≡ take shown seen → length samples ≤ length seen
+not_more seen samples shown is =
+    let begins : IsPrefix samples seen = subst (λ list. IsPrefix list seen) (sym is) (prefix_take shown seen) in
+    omega (arith, ap length begins.1, length-append samples begins.0)
+
+module _ (watcher : Watcher) (which shown : ℕ) (seen : List Sample) (note : Note) (is : Watches watcher which seen) (note_is : note.samples ≡ take shown seen) (told : ℕ) (told_is : told ≡ max watcher.told (length note.samples)) where
+  within : told ≤ length seen
+  within = omega (arith, told_is, is.within, not_more seen note.samples shown note_is)
+
+  module _ (before now : Known) (there : watcher.reader ≡ Some before) (looks : Looks before note now) where
+    knows : IsPrefix (take told seen) now.samples
+    knows =
+        ⊎_elim
+        (λ (less : watcher.told < length note.samples).
+        let same : take told seen ≡ note.samples = ap (λ n. take n seen) (omega (arith, told_is, less)) ∙ noted seen note.samples shown note_is in
+        subst (λ list. IsPrefix list now.samples) (sym same) looks.told)
+        (λ (more : length note.samples ≤ watcher.told).
+        let same : take told seen ≡ take watcher.told seen = ap (λ n. take n seen) (omega (arith, told_is, more)) in
+        subst (λ list. IsPrefix list now.samples) (sym same) (prefix_trans (take watcher.told seen) before.samples now.samples (is.knows before there) looks.seen))
+        (cases_lt watcher.told (length note.samples))
+
+    watches_reader : Watches (record { reader = Some now; told = told }) which seen
+    watches_reader = record {
+      within = within;
+      of_view = ap suc looks.which ∙ subst (λ (r : Option Known). IsOf r which) there is.of_view;
+      knows = λ reader same. let is_now : now ≡ reader = cc in subst (λ r. IsPrefix (take told seen) r.samples) is_now knows;
+    }
+
+  -- it has learnt a note of what is shown
+  pub watches_noted : (before now : Option Known) → watcher.reader ≡ before → AnyLooks before note now → Watches (record { reader = now; told = told }) which seen
+  watches_noted None now there looks = record {
+    within = within;
+    of_view = subst (λ (r : Option Known). IsOf r which) (there ∙ sym looks) is.of_view;
+    knows = λ reader same. absurd (cc (looks, same));
+  }
+  watches_noted (Some before) None there looks = absurd looks
+  watches_noted (Some before) (Some now) there looks = watches_reader before now there looks
+
+-- readers that know nothing, when nothing was seen
+pub watch_first : (which : ℕ) (readers : List Known) → All (λ reader. reader ≡ record { samples = []; which = which; refusals = 0 }) readers
+    → All (λ (watcher : Watcher). Watches watcher (suc which) []) (map (λ (reader : Known). record { reader = Some reader; told = 0 }) readers)
+watch_first which [] each k d within = absurd (omega (arith, within))
+watch_first which (reader ∷ readers) each zero d within = record {
+  within = omega arith;
+  of_view = ap (λ (r : Known). suc r.which) (each 0 reader (omega arith));
+  knows = λ other is. (other.samples, refl);
+}
+watch_first which (reader ∷ readers) each (suc k) d within = watch_first which readers (λ j e less. each (suc j) e (omega (arith, less))) k d (omega (arith, within))

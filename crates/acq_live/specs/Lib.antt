@@ -1,0 +1,3 @@
+pub mod Audience
+pub mod Watching
+pub mod Stays

@@ -1,0 +1,16 @@
+-- A reader knows what was shown when its source has seen more.
+use Rattle.std.proofs.Common.{◌≡◌, ℕ, List, ◌++◌, length, take, sym, ◌∙◌, ap, subst, arith, length-append}
+use Rattle.std.proofs.lemmas.List.{take-append-le}
+use mathlib.Core.List.{IsPrefix}
+use Rattle.mdf_layout.specs.declared.sample.Sample.{Sample}
+use Rattle.acq_live.specs.Watching.{Watches}
+use Rattle.acq_live.specs.declared.watcher.Watcher.{Watcher}
+
+pub watches_on : (watcher : Watcher) (which : ℕ) (seen more : List Sample) → Watches watcher which seen → IsPrefix seen more → Watches watcher which more
+watches_on watcher which seen more is (rest, begins) =
+    let same : take watcher.told seen ≡ take watcher.told more =
+    sym (take-append-le watcher.told seen rest is.within) ∙ ap (take watcher.told) begins in record {
+      within = omega (arith, is.within, ap length begins, length-append seen rest);
+      of_view = is.of_view;
+      knows = λ reader there. subst (λ told. IsPrefix told reader.samples) same (is.knows reader there);
+    }

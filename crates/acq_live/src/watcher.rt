@@ -1,0 +1,106 @@
+ghost use Rattle.std.specs.Prelude.{ℕ, suc, ◌≡◌, List, length, All};
+ghost use Rattle.std.specs.Option.{ForSome};
+ghost use Rattle.mdf_layout.specs.declared.sample.Sample.{Sample};
+ghost use Rattle.acq_live.specs.Watching.{AnyLooks, Looks, Watches, counted};
+
+use crate::Audience;
+use acq_run::Follower;
+use book_view::{LiveReader, Told};
+
+/// The reader of a source, where the recording is looked at live, and how many samples were shown at the source's flushes so
+/// far, at most.
+#[derive(Drop)]
+pub struct Watcher {
+    pub(crate) reader: Option<LiveReader>,
+    pub(crate) told: u64,
+}
+
+/// The reader when it has learnt the note, taken a view and left it. Where the view was refused it knows what the note tells
+/// of all the same.
+pub fn look(mut reader: LiveReader, note: Told) -> LiveReader
+    requires { note.which ≡ reader.which }
+    ensures { Looks reader note result }
+{
+    reader.learn(note);
+    match reader.view() {
+        Ok(view) => view.leave(),
+        Err(reader) => reader,
+    }
+}
+
+/// The same, where there is a reader.
+fn any_looks(reader: Option<LiveReader>, note: Told) -> Option<LiveReader>
+    requires { ForSome reader (λ reader. note.which ≡ reader.which) }
+    ensures { AnyLooks reader note result }
+{
+    match reader {
+        Some(reader) => Some(look(reader, note)),
+        None => None,
+    }
+}
+
+/// How many samples a reader finds shown when it has learnt this note: the fewer of those that it finds in a view and those
+/// that the note tells of, or the latter where the view is refused.
+fn found(mut reader: LiveReader, note: Told) -> u64
+    requires { note.which ≡ reader.which }
+    ensures { result ≡ length note.samples }
+{
+    let told = note.count();
+    reader.learn(note);
+    match reader.view() {
+        Ok(view) => {
+            let shown = view.len();
+            drop(view.leave());
+            shown.min(told)
+        }
+        Err(_) => told,
+    }
+}
+
+/// The reader of the first of these watchers, where it has one.
+fn first_reader(watchers: Vec<Watcher>) -> Option<LiveReader>
+    ensures { (which : ℕ) (seen : List Sample) → All (λ watcher. Watches watcher which seen) watchers.items → ForSome result (λ reader. suc reader.which ≡ which) }
+{
+    match watchers.into_iter().next() {
+        Some(Watcher { reader, told: _ }) => reader,
+        None => None,
+    }
+}
+
+/// How many samples the first of these watchers finds shown, by a view that it takes when it has learnt this note. None
+/// exactly where there is no note.
+pub fn last_look(watchers: Vec<Watcher>, note: Option<Told>) -> Option<u64>
+    requires { (which : ℕ) × (seen : List Sample) × All (λ watcher. Watches watcher which seen) watchers.items × ForSome note (λ note. suc note.which ≡ which) }
+    ensures { result ≡ counted note }
+{
+    let note = note?;
+    match first_reader(watchers) {
+        Some(reader) => Some(found(reader, note)),
+        None => Some(note.count()),
+    }
+}
+
+impl Watcher {
+    /// A watcher that no flush has told anything.
+    pub(crate) fn new(reader: Option<LiveReader>) -> Watcher
+        ensures { result ≡ record { reader = reader; told = 0 } }
+    {
+        Watcher { reader, told: 0 }
+    }
+}
+
+impl Follower<Audience> for Watcher {
+    ghost use Rattle.acq_live.specs.Watching.{Watches};
+    ghost use Rattle.acq_live.specs.Stays.{watches_on};
+
+    ghost follows = { Watches };
+
+    ghost stays = { watches_on };
+
+    fn follow(&mut self, _shown: u64, note: Option<Told>) {
+        if let Some(note) = note {
+            self.told = self.told.max(note.count());
+            self.reader = any_looks(self.reader.take(), note);
+        }
+    }
+}
