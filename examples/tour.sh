@@ -16,14 +16,22 @@ show() {
   eval "$1" 2>&1
 }
 
-# A drive of two sources is recorded, finished and looked at.
+# A drive of two sources, which run at once, is recorded, finished and looked at.
 show 'mdf4rec record drive.mf4 < two_sources.txt'
-show 'mdf4rec opened drive.mf4'
 show 'mdf4rec finalize drive.mf4 finished.mf4'
 show 'mdf4rec check finished.mf4'
 show 'mdf4rec info finished.mf4'
+
+# It is sorted, cut to a range of its times, and printed as a table.
 show 'mdf4rec sort finished.mf4 sorted.mf4'
-show 'mdf4rec check sorted.mf4'
+show 'mdf4rec export sorted.mf4 0'
+show 'mdf4rec cut sorted.mf4 part.mf4 1500 2500'
+show 'mdf4rec check part.mf4'
+show 'mdf4rec export part.mf4 1'
+
+# A generated recording.
+show 'mdf4rec gen 1000 many.mf4'
+show 'mdf4rec opened many.mf4'
 
 # A recording that the system kills when its file would grow past 1,024 bytes: what was flushed is all there.
 show "(printf 'group 0 g\\nchannel t u64 master\\nbegin\\n'; seq 100 | sed 's/.*/0 &\\n! 0/'; echo end) > hundred.txt"
