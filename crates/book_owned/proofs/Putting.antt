@@ -2,7 +2,7 @@
 use Rattle.std.proofs.Common.{◌≡◌, ◌+◌, ◌<◌, ◌≤◌, ◌^◌, ℕ, Bool, zero, suc, List, [], ◌∷◌, ◌++◌, length, take, drop, get_or, refl, sym, ◌∙◌, ap, subst, arith, rules, length-append}
 use Rattle.std.proofs.lemmas.List.{drop-append-le, take-append-le}
 use Rattle.std.proofs.lemmas.List.Sums.{sum_by-cons}
-use Rattle.std.specs.Prelude.{is_some}
+use Rattle.std.specs.Prelude.{is_some, IfSome}
 use Rattle.std.specs.List.{All, concat}
 use Rattle.std.proofs.lemmas.List.Elements.{All-push}
 use mathlib.Core.List.{IsPrefix}
@@ -17,6 +17,7 @@ use Rattle.mdf_layout.proofs.Behind.{pending_more, no_encodings}
 use Rattle.mdf_layout.proofs.Sizes.{encodings-length}
 use Rattle.mdf_gate.specs.Gated.{Gated}
 use Rattle.mdf_gate.specs.Images.{Opens, head_of}
+use Rattle.mdf_gate.specs.Carried.{Carries}
 use Rattle.mdf_gate.proofs.Carrying.{carries_opened, carries_begun}
 use Rattle.book_owned.specs.Members.{DiskOf, ViewOf}
 use Rattle.book_owned.specs.Marks.{durable, AreRising}
@@ -27,6 +28,7 @@ use Rattle.book_owned.specs.declared.in_memory.InMemory.{InMemory}
 use Rattle.book_owned.specs.declared.mark.Mark.{Mark}
 use Rattle.book_owned.proofs.Costs.{history_cost-append}
 use Rattle.book_owned.proofs.Keeping.{kept_longer}
+use Rattle.book_owned.proofs.Turning.{holds_told, told_on}
 
 -- no samples begin any
 nothing_begins : (samples : List Sample) → IsPrefix [] samples
@@ -106,6 +108,8 @@ module _ {D V N : Type 0} (disk : DiskOf D) (view : ViewOf V N) where
           kept = record { marks_hold = kept.marks_hold; start_holds = kept.start_holds; marks_rise = kept.marks_rise };
           written = λ going. subst (IsWritten (disk.content file.disk) (disk.story file.disk) file.first file.place old.shapes) (sym same) (book.back.written going);
           reach = λ going. subst (λ h. file.place ≤ 2 ^ 61 + history_cost old.shapes h) (sym same) (book.back.reach going);
+          near = λ going. subst (λ h. IfSome (disk.story file.disk) (λ _. file.place ≤ length (head_of (disk.story file.disk) file.first) + history_cost old.shapes h))
+              (sym same) (book.back.near going);
         };
       })
 
@@ -120,9 +124,10 @@ module _ {D V N : Type 0} (disk : DiskOf D) (view : ViewOf V N) where
       → front.history.items ≡ [] → front.marks.items ≡ record { moment = disk.moment file.disk; through = 0 } ∷ [] → front.held ≡ 0
       → front.block.bytes ≡ []
       → view.shows front.view [] → view.count front.view ≡ 0 → ((handed : List Sample) → view.hands front.view handed → handed ≡ [])
-      → HoldsSince (disk.story file.disk) (disk.moment file.disk) (Opens (head_of (disk.story file.disk) file.first) [])
+      → HoldsSince (disk.story file.disk) (disk.moment file.disk) (Opens (head_of (disk.story file.disk) file.first) [] file.place)
+      → IfSome (disk.story file.disk) (λ _. file.place ≤ length (head_of (disk.story file.disk) file.first))
       → AreNext front.shapes [] front.next → IsBook disk view front file
-  book_begun front file created admissible history_is marks_are held_is bytes_are shown counted handed leaves next =
+  book_begun front file created admissible history_is marks_are held_is bytes_are shown counted handed leaves bare next =
       let head = head_of (disk.story file.disk) file.first in
       let first : Mark = record { moment = disk.moment file.disk; through = 0 } in
       let durable_is : durable front.marks.items ≡ 0 = ap durable marks_are in
@@ -131,8 +136,9 @@ module _ {D V N : Type 0} (disk : DiskOf D) (view : ViewOf V N) where
       let mark_holds : MarkHolds front.shapes head (disk.story file.disk) (disk.moment file.disk) front.history.items first = record {
         past = omega arith;
         within = omega arith;
-        carries = λ f left. let h = leaves f left in
-            carries_opened front.shapes head front.history.items [] [] f h.0 h.1 (no_encodings front.shapes []) (front.history.items, refl);
+        carries = holds_told (disk.story file.disk) (disk.moment file.disk) (Carries front.shapes head front.history.items 0) _ bare
+            (λ close f left. carries_opened front.shapes head front.history.items [] [] file.place f (leaves f left) (no_encodings front.shapes []) (front.history.items, refl)
+            (omega (arith, close)));
       } in
       record {
         counted = record {
@@ -171,6 +177,7 @@ module _ {D V N : Type 0} (disk : DiskOf D) (view : ViewOf V N) where
             records = subst (AreEncodingsBehind front.shapes [] (concat [])) (sym (taken (durable front.marks.items))) (no_encodings front.shapes []);
           };
           reach = λ going. omega (arith, created.short);
+          near = λ going. told_on (disk.story file.disk) (disk.story file.disk) _ _ refl (λ close. omega (arith, close)) bare;
         };
       } where
         take_nil : (n : ℕ) → take {A = Sample} n [] ≡ []

@@ -75,6 +75,22 @@ pub rises_told : (old new : Option Story) → is_some new ≡ is_some old → (P
 rises_told None new same P has = subst (λ b. OnTrue b P) (sym same) tt
 rises_told (Some s) new same P has = subst (λ b. OnTrue b P) (sym same) has
 
+-- the same of what follows from it
+pub told_on : (old new : Option Story) (P Q : Type 0) → is_some new ≡ is_some old → (P → Q) → IfSome old (λ _. P) → IfSome new (λ _. Q)
+told_on old None P Q same follows has = tt
+told_on None (Some s) P Q same follows has = absurd (cc same)
+told_on (Some old) (Some s) P Q same follows has = follows has
+
+-- Of a disk that tells no story nothing is said: it is enough to look at one that tells it.
+pub adds_told : (old new : Option Story) (P : List ℕ → Type 0) (Q : Type 0) → is_some new ≡ is_some old → IfSome old (λ _. Q) → (Q → Adds old new P) → Adds old new P
+adds_told None None P Q same has adds = λ t file left. absurd left
+adds_told None (Some s) P Q same has adds = absurd (cc same)
+adds_told (Some s) new P Q same has adds = adds has
+
+pub holds_told : (story : Option Story) (t : ℕ) (P : List ℕ → Type 0) (Q : Type 0) → IfSome story (λ _. Q) → (Q → HoldsSince story t P) → HoldsSince story t P
+holds_told None t P Q has holds = λ file left. absurd left
+holds_told (Some s) t P Q has holds = holds has
+
 module _ {D V N : Type 0} (disk : DiskOf D) (view : ViewOf V N) (front : InMemory V) (file file' : Gated D) (block : Buffered) where
   abbrev layouts : List Layout
   layouts = front.shapes
@@ -89,15 +105,20 @@ module _ {D V N : Type 0} (disk : DiskOf D) (view : ViewOf V N) (front : InMemor
   terms = terms_of disk view front file
 
   -- what joins while the pending records are appended carries the durable samples
-  pub adds_carry : IsBook disk view front file → file.failed ≡ false
+  pub adds_carry : IsBook disk view front file → file.failed ≡ false → front.block.bytes ≢ []
+      → is_some (disk.story file'.disk) ≡ is_some (disk.story file.disk)
       → ((blocks : List (List ℕ)) → RestsOn (disk.content file.disk) (disk.story file.disk) file.first blocks file.place
-      → Adds (disk.story file.disk) (disk.story file'.disk) (OpensEither terms.head blocks front.block.bytes))
+      → Adds (disk.story file.disk) (disk.story file'.disk) (OpensEither terms.head blocks front.block.bytes (aligned (file.place + 24 + length front.block.bytes))))
       → Adds (disk.story file.disk) (disk.story file'.disk) (Carries layouts terms.head history through)
-  adds_carry book going adds =
+  adds_carry book going some told adds =
       let written = book.back.written going in
-      adds_more (disk.story file.disk) (disk.story file'.disk) (OpensEither terms.head written.blocks front.block.bytes) (Carries layouts terms.head history through)
-      (carries_either layouts terms.head history through written.blocks front.block.bytes book.pending.through written.records (book.pending.records going))
-      (adds written.blocks written.rests)
+      let next = aligned (file.place + 24 + length front.block.bytes) in
+      let small = block_small layouts (take through history) (drop through history) front.block.bytes (book.pending.records going) some in
+      adds_told (disk.story file.disk) (disk.story file'.disk) (Carries layouts terms.head history through) _ told (book.back.near going)
+      (λ near. adds_more (disk.story file.disk) (disk.story file'.disk) (OpensEither terms.head written.blocks front.block.bytes next) (Carries layouts terms.head history through)
+      (carries_either layouts terms.head history through written.blocks front.block.bytes next book.pending.through written.records (book.pending.records going)
+      (omega (arith, near, small, cost_parts layouts history through)))
+      (adds written.blocks written.rests))
 
   -- what is counted stays where the buffer keeps its limit
   counted_with : (marks : Stock Mark) → IsCounted front → block.limit ≡ front.block.limit → IsCounted (record front { block = block; marks = marks })
@@ -136,6 +157,7 @@ module _ {D V N : Type 0} (disk : DiskOf D) (view : ViewOf V N) (front : InMemor
           (kept_later terms (state_of disk file.disk) (state_of disk file'.disk) history front.marks.items adds later told book.back.kept);
       written = λ going. absurd (both going);
       reach = λ going. absurd (both going);
+      near = λ going. absurd (both going);
     };
   } where
     both : file'.failed ≡ false → ⊥
@@ -157,7 +179,7 @@ module _ {D V N : Type 0} (disk : DiskOf D) (view : ViewOf V N) (front : InMemor
         → ((blocks : List (List ℕ)) → RestsOn (disk.content file.disk) (disk.story file.disk) file.first blocks file.place
         → RestsOn (disk.content file'.disk) (disk.story file'.disk) file'.first (blocks ++ front.block.bytes ∷ []) file'.place)
         → ((blocks : List (List ℕ)) → RestsOn (disk.content file'.disk) (disk.story file'.disk) file'.first blocks file'.place
-        → HoldsSince (disk.story file'.disk) (disk.moment file'.disk) (Opens terms.head blocks))
+        → HoldsSince (disk.story file'.disk) (disk.moment file'.disk) (Opens terms.head blocks file'.place))
         → file'.place ≡ aligned (file.place + 24 + length front.block.bytes)
         → IsBook disk view after file'
     book_marked book going some marks_are emptied limit same adds later strictly told at through_is rests leaves place =
@@ -166,10 +188,13 @@ module _ {D V N : Type 0} (disk : DiskOf D) (view : ViewOf V N) (front : InMemor
         let whole : AreEncodingsBehind layouts [] (concat (written.blocks ++ front.block.bytes ∷ [])) history =
         subst (λ bytes. AreEncodingsBehind layouts [] bytes history) (sym (concat_one_more layouts terms.head written.blocks front.block.bytes))
         (all_written layouts history through (concat written.blocks) front.block.bytes written.records (book.pending.records going)) in
-        let holds : HoldsSince (disk.story file'.disk) (disk.moment file'.disk) (Carries layouts terms.head history (length history)) =
-        λ f left. let h = leaves (written.blocks ++ front.block.bytes ∷ []) rest f left in
-        carries_opened layouts terms.head history history (written.blocks ++ front.block.bytes ∷ []) f h.0 h.1 whole (prefix_self history) in
         let small = block_small layouts (take through history) (drop through history) front.block.bytes (book.pending.records going) some in
+        let near : IfSome (disk.story file'.disk) (λ _. file'.place ≤ length terms.head + history_cost layouts history) =
+        told_on (disk.story file.disk) (disk.story file'.disk) _ _ told (λ before. omega (arith, place, before, small, cost_parts layouts history through)) (book.back.near going) in
+        let holds : HoldsSince (disk.story file'.disk) (disk.moment file'.disk) (Carries layouts terms.head history (length history)) =
+        holds_told (disk.story file'.disk) (disk.moment file'.disk) (Carries layouts terms.head history (length history)) _ near
+        (λ close f left. carries_opened layouts terms.head history history (written.blocks ++ front.block.bytes ∷ []) file'.place f
+        (leaves (written.blocks ++ front.block.bytes ∷ []) rest f left) whole (prefix_self history) close) in
         let more = some_pending layouts history through front.block.bytes (book.pending.records going) some in
         let kept0 = kept_later terms (state_of disk file.disk) (state_of disk file'.disk) history front.marks.items adds later told book.back.kept in
         let kept1 = kept_marked terms (state_of disk file'.disk) (disk.moment file.disk) history front.marks.items mark kept0
@@ -195,6 +220,8 @@ module _ {D V N : Type 0} (disk : DiskOf D) (view : ViewOf V N) (front : InMemor
             written = λ g. record { blocks = written.blocks ++ front.block.bytes ∷ []; rests = rest; records = subst (AreEncodingsBehind layouts [] _) (sym all) whole };
             reach = λ g. subst (λ h. file'.place ≤ 2 ^ 61 + history_cost layouts h) (sym all)
                 (omega (arith, place, book.back.reach going, small, cost_parts layouts history through));
+            near = λ g. subst (λ (t : Terms). IfSome (disk.story file'.disk) (λ _. file'.place ≤ length t.head + history_cost layouts (take (durable marks) history))) (sym same)
+                (subst (λ h. IfSome (disk.story file'.disk) (λ _. file'.place ≤ length terms.head + history_cost layouts h)) (sym all) near);
           };
         } where
           longer : (handed : List Sample) → IsPrefix handed (take through history) → IsPrefix handed history

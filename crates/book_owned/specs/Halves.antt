@@ -1,5 +1,5 @@
 -- The halves of a book: what it holds in memory, and its file.
-use Rattle.std.specs.Prelude.{ℕ, ◌≡◌, ◌≢◌, ◌+◌, ◌^◌, ◌≤◌, Bool, false, List, [], ◌∷◌, ◌++◌, length, take, drop, All, sum_by, Option, is_some}
+use Rattle.std.specs.Prelude.{ℕ, ◌≡◌, ◌≢◌, ◌+◌, ◌^◌, ◌≤◌, Bool, false, List, [], ◌∷◌, ◌++◌, length, take, drop, All, sum_by, Option, is_some, IfSome}
 use Rattle.std.specs.List.{concat}
 use Rattle.mdf_disk.specs.Story.{Story}
 use Rattle.mdf_disk.specs.State.{state_of}
@@ -72,11 +72,14 @@ pub record IsWritten (content : Option (List ℕ)) (story : Option Story) (first
   pub rests : RestsOn content story first blocks place
   pub records : AreEncodingsBehind layouts [] (concat blocks) samples
 
--- What the file keeps whatever happens, and where it stands while no call failed.
+-- What the file keeps whatever happens, and where it stands while no call failed: where the disk tells its story, no
+-- further behind its head than what the durable samples cost.
 pub record IsBack {D V : Type 0} (disk : DiskOf D) (front : InMemory V) (file : Gated D) (terms : Terms) : Type 0 where
   pub kept : IsKept terms (state_of disk file.disk) front.history.items front.marks.items
   pub written : file.failed ≡ false → IsWritten (disk.content file.disk) (disk.story file.disk) file.first file.place front.shapes (take (durable front.marks.items) front.history.items)
   pub reach : file.failed ≡ false → file.place ≤ 2 ^ 61 + history_cost front.shapes (take (durable front.marks.items) front.history.items)
+  pub near : file.failed ≡ false
+      → IfSome (disk.story file.disk) (λ _. file.place ≤ length terms.head + history_cost front.shapes (take (durable front.marks.items) front.history.items))
 
 -- the halves of a book between two calls
 pub record IsBook {D V N : Type 0} (disk : DiskOf D) (view : ViewOf V N) (front : InMemory V) (file : Gated D) : Type 0 where

@@ -5,6 +5,7 @@ use Rattle.std.proofs.lemmas.List.{take_at}
 use Rattle.std.proofs.lemmas.Option.{same_Some}
 use mathlib.Core.List.{IsPrefix}
 use Rattle.mdf_format.specs.Number.{aligned}
+use Rattle.mdf_format.specs.Recording.{AreUnits}
 use Rattle.mdf_disk.specs.Story.{Moment, Story, MayLeave, Agrees, LeftInOne, LeftSince, settled}
 use Rattle.mdf_disk.specs.Crash.{Adds, HoldsSince}
 use Rattle.mdf_disk.proofs.Crash.{adds_more, now_more, settled_leaves}
@@ -57,16 +58,17 @@ rests_on_after E (Ok done) None None None (Some file) clock first blocks place b
 pub adds_after : (old new : Option Story) (content : Option (List ℕ)) (clock first : ℕ) (blocks : List (List ℕ)) (place : ℕ) (body : List ℕ)
     → Agrees old content clock → RestsOn content old first blocks place → place % 8 ≡ 0 → 24 + length body < 2 ^ 64 → is_some new ≡ is_some old
     → ((kept : List ℕ) → IsKept content old kept → length kept ≡ place + 1 → Adds old new (IsStage place kept (payload_of body)))
-    → Adds old new (OpensEither (head_of old first) blocks body)
+    → Adds old new (OpensEither (head_of old first) blocks body (aligned (place + 24 + length body)))
 adds_after None None content clock first blocks place body agrees rests on_eight small told adds = λ t file left. inl left
 adds_after None (Some s) content clock first blocks place body agrees rests on_eight small told adds = absurd (cc told)
 adds_after (Some s) new None clock first blocks place body agrees rests on_eight small told adds = absurd (cc agrees.content_is)
 adds_after (Some s) new (Some file) clock first blocks place body agrees rests on_eight small told adds =
     let is : file ≡ s.now.content = same_Some _ _ agrees.content_is in
-    subst (λ (bytes : List ℕ). Adds (Some s) new (OpensEither (take first bytes) blocks body)) is
-    (adds_more (Some s) new (IsStage place file (payload_of body)) (OpensEither (take first file) blocks body)
+    subst (λ (bytes : List ℕ). Adds (Some s) new (OpensEither (take first bytes) blocks body (aligned (place + 24 + length body)))) is
+    (subst (λ (last : ℕ). Adds (Some s) new (OpensEither (take first file) blocks body last)) (next_is place (length body) on_eight)
+    (adds_more (Some s) new (IsStage place file (payload_of body)) (OpensEither (take first file) blocks body (place + room_of (length body)))
     (stage_opens first blocks place file rests.rests body on_eight small)
-    (adds file (rests_kept (Some s) file clock first blocks place agrees rests) rests.rests.ends))
+    (adds file (rests_kept (Some s) file clock first blocks place agrees rests) rests.rests.ends)))
 
 -- no moment is as late as the present one
 pub none_later : (past : List Moment) (t : ℕ) (file : List ℕ) → length past ≤ t → LeftInOne past t file → ⊥
@@ -75,25 +77,37 @@ none_later (moment ∷ past) t file late left = ⊎_elim (λ now. absurd (omega 
 
 -- Of a file at rest, all of it kept, a crash from now on leaves its head and its blocks.
 pub rests_leaves : (content : Option (List ℕ)) (story : Option Story) (clock first : ℕ) (blocks : List (List ℕ)) (place : ℕ) → Agrees story content clock
-    → RestsOn content story first blocks place → HoldsSince story clock (Opens (head_of story first) blocks)
+    → RestsOn content story first blocks place → HoldsSince story clock (Opens (head_of story first) blocks place)
 rests_leaves content None clock first blocks place agrees rests file left = absurd left
 rests_leaves None (Some s) clock first blocks place agrees rests file left = absurd (cc agrees.content_is)
 rests_leaves (Some bytes) (Some s) clock first blocks place agrees rests file left =
     let is : s.now.content ≡ bytes = same_Some _ _ (sym agrees.content_is) in
     let now : MayLeave s.now file = ⊎_elim (λ here. here.1) (λ older. absurd (none_later s.past clock file (omega (arith, agrees.moment_is)) older)) left in
     let same : file ≡ s.now.content = settled_leaves s.now.content file (subst (λ (m : Moment). MayLeave m file) rests.kept now) in
-    subst (Opens (take first s.now.content) blocks) (sym same)
-    (subst (λ (whole : List ℕ). Opens (take first whole) blocks whole) (sym is) (rests_opens first blocks place bytes rests.rests))
+    subst (Opens (take first s.now.content) blocks place) (sym same)
+    (subst (λ (whole : List ℕ). Opens (take first whole) blocks place whole) (sym is) (rests_opens first blocks place bytes rests.rests))
+
+-- the head of a file at rest with no block goes up to its place
+pub rests_bare : (content : Option (List ℕ)) (story : Option Story) (clock first place : ℕ) → Agrees story content clock
+    → RestsOn content story first [] place → IfSome story (λ _. place ≤ length (head_of story first))
+unfolding AreUnits
+rests_bare content None clock first place agrees rests = tt
+rests_bare None (Some s) clock first place agrees rests = absurd (cc agrees.content_is)
+rests_bare (Some bytes) (Some s) clock first place agrees rests =
+    let is : bytes ≡ s.now.content = same_Some _ _ agrees.content_is in
+    let long : length (take first s.now.content) ≡ first =
+    subst (λ (whole : List ℕ). length (take first whole) ≡ first) is (length-head first [] place bytes rests.rests) in
+    omega (arith, long, rests.rests.units)
 
 -- the head stays, also where the calls failed
-pub head_stays : (old new : Option Story) (content after : Option (List ℕ)) (clock later first : ℕ) (blocks : List (List ℕ)) (place : ℕ) (body : List ℕ)
+pub head_stays : (old new : Option Story) (content after : Option (List ℕ)) (clock later first : ℕ) (blocks : List (List ℕ)) (place last : ℕ) (body : List ℕ)
     → Agrees old content clock → Agrees new after later → clock ≤ later → RestsOn content old first blocks place → is_some new ≡ is_some old
-    → Adds old new (OpensEither (head_of old first) blocks body) → head_of new first ≡ head_of old first
-head_stays None None content after clock later first blocks place body agrees then up rests told adds = refl
-head_stays None (Some n) content after clock later first blocks place body agrees then up rests told adds = absurd (cc told)
-head_stays (Some s) None content after clock later first blocks place body agrees then up rests told adds = absurd (cc told)
-head_stays (Some s) (Some n) None after clock later first blocks place body agrees then up rests told adds = absurd (cc agrees.content_is)
-head_stays (Some s) (Some n) (Some bytes) after clock later first blocks place body agrees then up rests told adds =
+    → Adds old new (OpensEither (head_of old first) blocks body last) → head_of new first ≡ head_of old first
+head_stays None None content after clock later first blocks place last body agrees then up rests told adds = refl
+head_stays None (Some n) content after clock later first blocks place last body agrees then up rests told adds = absurd (cc told)
+head_stays (Some s) None content after clock later first blocks place last body agrees then up rests told adds = absurd (cc told)
+head_stays (Some s) (Some n) None after clock later first blocks place last body agrees then up rests told adds = absurd (cc agrees.content_is)
+head_stays (Some s) (Some n) (Some bytes) after clock later first blocks place last body agrees then up rests told adds =
     let is : bytes ≡ s.now.content = same_Some _ _ agrees.content_is in
     let left : LeftSince (Some n) clock n.now.content = inl (omega (arith, up, then.moment_is), then.possible) in
     let prefix : IsPrefix (take first s.now.content) n.now.content =

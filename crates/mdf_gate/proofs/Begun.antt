@@ -39,9 +39,9 @@ module _ (head : List ℕ) (recording : IsRecordingHead head) where
       get_or_append_left head (0 ∷ []) 0 place (omega (arith, long, below))
       ∙ in_mark head (codes "UnFinMF ") place below recording.recording.form.unfinalized
 
-  opens : Opens head [] whole
+  opens : Opens head [] (length head) whole
   opens =
-      subst (λ (front : List ℕ). Opens front [] whole) (take_at head (0 ∷ []) (length head) (omega arith))
+      subst (λ (front : List ℕ). Opens front [] (length head) whole) (take_at head (0 ∷ []) (length head) (omega arith))
       (rests_opens (length head) [] (length head) whole (head_rests head recording))
 
   second : (file : List ℕ) → IsWholeButFirst whole file → get_or file 1 0 ≡ 110
@@ -57,7 +57,7 @@ module _ (head : List ℕ) (recording : IsRecordingHead head) where
 
   pub whole_begun : (file : List ℕ) → IsWholeButFirst whole file → IsBegun head file
   whole_begun file all = ⊎_elim
-      (λ is_first. inr (subst (Opens head []) (is_whole file all is_first) opens))
+      (λ is_first. inr (subst (Opens head [] (length head)) (is_whole file all is_first) opens))
       (λ other. inl (λ mdf. ⊎_elim
       (λ finalized. absurd (omega (arith, second file all, in_mark file (codes "MDF     ") 1 (omega arith) finalized)))
       (λ unfinalized. absurd (other (in_mark file (codes "UnFinMF ") 0 (omega arith) unfinalized)))

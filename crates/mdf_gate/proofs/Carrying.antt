@@ -1,18 +1,19 @@
 -- What a file carries, of a longer history and of fewer samples.
-use Rattle.std.proofs.Common.{◌≡◌, ◌≤◌, ◌⊎◌, ℕ, List, [], ◌∷◌, ◌++◌, length, take, drop, Option, Some, None, refl, sym, ◌∙◌, ap, subst, inl, inr, ⊎_elim, arith, append_assoc, length-append}
+use Rattle.std.proofs.Common.{◌≡◌, ◌+◌, ◌≤◌, ◌⊎◌, ℕ, List, [], ◌∷◌, ◌++◌, length, take, drop, Option, Some, None, refl, sym, ◌∙◌, ap, subst, inl, inr, ⊎_elim, arith, append_assoc, length-append}
 use Rattle.std.proofs.lemmas.List.{take-append-drop, length-take-le, append-nil}
 use Rattle.std.proofs.lemmas.List.Folds.{concat-append}
+use Rattle.std.proofs.lemmas.List.Sums.{sum_by-append}
 use Rattle.std.specs.Prelude.{IfSome}
 use Rattle.std.specs.List.{concat}
 use Rattle.mdf_disk.specs.Story.{Story}
 use mathlib.Core.List.{IsPrefix}
 use Rattle.mdf_layout.specs.Layout.{Layout}
 use Rattle.mdf_layout.specs.Behind.{AreEncodingsBehind}
+use Rattle.mdf_layout.specs.Record.{cost_of, history_cost}
 use Rattle.mdf_layout.specs.declared.sample.Sample.{Sample}
 use Rattle.mdf_layout.proofs.Behind.{all_written, no_encodings}
 use Rattle.mdf_layout.proofs.Bridge.{encodings_read}
-use Rattle.mdf_gate.specs.Recording.{IsOpened}
-use Rattle.mdf_gate.specs.Images.{IsNotMdf, IsBegun, OpensEither}
+use Rattle.mdf_gate.specs.Images.{IsNotMdf, IsBegun, Opens, OpensEither}
 use Rattle.mdf_gate.specs.Carried.{Carries, IsCarried, IsEncoded}
 use Rattle.mdf_gate.specs.Gated.{RestsOn}
 use Rattle.mdf_gate.proofs.Resting.{rests_opens}
@@ -34,6 +35,10 @@ prefix_take n xs = (drop n xs, take-append-drop n xs)
 pub prefix-length : {A : Type 0} (xs ys : List A) → IsPrefix xs ys → length xs ≤ length ys
 prefix-length xs ys (rest, is) = omega (arith, ap length is, length-append xs rest)
 
+-- a longer history costs no less
+cost_longer : (layouts : List Layout) (history longer : List Sample) → IsPrefix history longer → history_cost layouts history ≤ history_cost layouts longer
+cost_longer layouts history longer (rest, is) = omega (arith, ap (history_cost layouts) is, sum_by-append (cost_of layouts) history rest)
+
 module _ (layouts : List Layout) (head : List ℕ) where
   -- of a longer history, and of fewer samples
   pub carries_longer : (history longer : List Sample) (through : ℕ) (file : List ℕ) → IsPrefix history longer
@@ -44,6 +49,7 @@ module _ (layouts : List Layout) (head : List ℕ) where
     carried = c.carried;
     beginning = prefix_trans c.samples history longer c.beginning begins;
     enough = c.enough;
+    ends = omega (arith, c.ends, cost_longer layouts history longer begins);
   }
 
   pub carries_fewer : (history : List Sample) (through fewer : ℕ) (file : List ℕ) → fewer ≤ through
@@ -54,17 +60,20 @@ module _ (layouts : List Layout) (head : List ℕ) where
     carried = c.carried;
     beginning = c.beginning;
     enough = omega (arith, c.enough);
+    ends = c.ends;
   }
 
   -- a file with these opened blocks carries their samples
-  pub carries_opened : (history samples : List Sample) (blocks : List (List ℕ)) (file : List ℕ) → IsPrefix head file → IsOpened file blocks
-      → AreEncodingsBehind layouts [] (concat blocks) samples → IsPrefix samples history → Carries layouts head history (length samples) file
-  carries_opened history samples blocks file begins opened records beginning = record {
+  pub carries_opened : (history samples : List Sample) (blocks : List (List ℕ)) (place : ℕ) (file : List ℕ) → Opens head blocks place file
+      → AreEncodingsBehind layouts [] (concat blocks) samples → IsPrefix samples history → place ≤ length head + history_cost layouts history
+      → Carries layouts head history (length samples) file
+  carries_opened history samples blocks place file (begins, opened, ends) records beginning near = record {
     begins = begins;
     samples = samples;
     carried = record { blocks = blocks; opened = opened; records = encodings_read layouts (concat blocks) samples records };
     beginning = beginning;
     enough = omega arith;
+    ends = omega (arith, ends, near);
   }
 
   -- the records of the blocks and of one block more
@@ -72,25 +81,26 @@ module _ (layouts : List Layout) (head : List ℕ) where
   concat_one_more blocks body = concat-append blocks (body ∷ []) ∙ ap (λ last. concat blocks ++ last) (append-nil body)
 
   -- while a block with the records of the last samples is appended
-  pub carries_either : (history : List Sample) (through : ℕ) (blocks : List (List ℕ)) (body : List ℕ) → through ≤ length history
+  pub carries_either : (history : List Sample) (through : ℕ) (blocks : List (List ℕ)) (body : List ℕ) (place : ℕ) → through ≤ length history
       → AreEncodingsBehind layouts [] (concat blocks) (take through history) → AreEncodingsBehind layouts (take through history) body (drop through history)
-      → (file : List ℕ) → OpensEither head blocks body file → Carries layouts head history through file
-  carries_either history through blocks body within before behind file (begins, opened) =
+      → place ≤ length head + history_cost layouts history
+      → (file : List ℕ) → OpensEither head blocks body place file → Carries layouts head history through file
+  carries_either history through blocks body place within before behind near file (begins, opened, ends) =
       let long : length (take through history) ≡ through = length-take-le through history within in
       let all : AreEncodingsBehind layouts [] (concat (blocks ++ body ∷ [])) history =
       subst (λ bytes. AreEncodingsBehind layouts [] bytes history) (sym (concat_one_more blocks body))
       (all_written layouts history through (concat blocks) body before behind) in
       ⊎_elim
       (λ without. subst (λ n. Carries layouts head history n file) long
-      (carries_opened history (take through history) blocks file begins without before (prefix_take through history)))
+      (carries_opened history (take through history) blocks place file (begins, without, ends) before (prefix_take through history) near))
       (λ with. carries_fewer history (length history) through file within
-      (carries_opened history history (blocks ++ body ∷ []) file begins with all (prefix_self history)))
+      (carries_opened history history (blocks ++ body ∷ []) place file (begins, with, ends) all (prefix_self history) near))
       opened
 
   -- a file that was just begun carries no sample
   pub carries_begun : (history : List Sample) (file : List ℕ) → IsBegun head file → IsNotMdf file ⊎ Carries layouts head history 0 file
   carries_begun history file begun =
-      ⊎_elim inl (λ h. inr (carries_opened history [] [] file h.0 h.1 (no_encodings layouts []) (history, refl))) begun
+      ⊎_elim inl (λ h. inr (carries_opened history [] [] (length head) file h (no_encodings layouts []) (history, refl) (omega arith))) begun
 
 -- the content of a file at rest carries the samples of its blocks, as they are written
 pub rests_carry : (layouts : List Layout) (content : Option (List ℕ)) (story : Option Story) (first place : ℕ) (blocks : List (List ℕ)) (samples : List Sample)

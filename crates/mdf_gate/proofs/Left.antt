@@ -1,13 +1,15 @@
 -- What a crash may leave where all was kept and then one range was written.
 use Rattle.std.proofs.Common.{◌≡◌, ◌⊎◌, inl, inr, ℕ, suc, ◌+◌, ◌≤◌, ◌<◌, List, [], ◌∷◌, ◌++◌, length, take, drop, get_or, refl, sym, ◌∙◌, ap, arith, length-append, length-drop, take-append-drop, append_assoc}
 use Rattle.std.proofs.lemmas.List.{same_lists, get_or_default, get_or-drop, get_or-take, get_or_append_left, get_or-append-add, length-take-le, drop_more, take_at, drop_at}
-use mathlib.Core.List.{IsPrefix}
 use Rattle.mdf_format.specs.Number.{patched}
-use Rattle.mdf_gate.specs.Images.{IsTorn, IsButGate}
+use Rattle.mdf_gate.specs.Images.{IsTorn, IsGrown, IsButGate}
 
 -- behind the end: the file with something behind it
-pub left_behind : (kept : List ℕ) (count : ℕ) (file : List ℕ) → IsTorn (length kept) count kept file → IsPrefix kept file
-left_behind kept count file left = (drop (length kept) file, ap (λ (front : List ℕ). front ++ drop (length kept) file) (sym front) ∙ take-append-drop (length kept) file)
+pub left_behind : (kept payload file : List ℕ) → IsTorn (length kept) (length payload) kept file → IsGrown kept payload file
+left_behind kept payload file left = (
+  (drop (length kept) file, ap (λ (front : List ℕ). front ++ drop (length kept) file) (sym front) ∙ take-append-drop (length kept) file),
+  omega (arith, left.not_longer),
+)
   where
     long : length (take (length kept) file) ≡ length kept
     long = length-take-le (length kept) file left.not_shorter

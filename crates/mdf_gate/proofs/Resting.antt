@@ -145,8 +145,12 @@ module _ (first : ℕ) (blocks : List (List ℕ)) (place : ℕ) (file : List ℕ
     pub still_units : AreUnits other (first_place other) blocks place
     still_units = subst (λ (at : ℕ). AreUnits other at blocks place) (sym first_is) units_from
 
-    pub opens_before : ¬ IsOpenPlace other place → Opens head blocks other
-    opens_before closed = (still_head, (place, record { recording = still_recording; units = still_units; closed = closed }))
+    pub opens_before : (last : ℕ) → place + length rest ≤ last + 1 → ¬ IsOpenPlace other place → Opens head blocks last other
+    opens_before last within closed = (
+      still_head,
+      (place, record { recording = still_recording; units = still_units; closed = closed }),
+      omega (arith, within, length-front, length-append front rest),
+    )
 
     pub one_more : IsUnit other place → AreUnits other first (blocks ++ unit_data other place ∷ []) (next_place other place)
     one_more unit = AreUnits-push other first blocks place units_from unit
@@ -181,7 +185,7 @@ module _ (first : ℕ) (blocks : List (List ℕ)) (place : ℕ) (file : List ℕ
     closed = closed_after;
   }
 
-  opens_after : Opens (take first file) (blocks ++ body ∷ []) appended
+  opens_after : Opens (take first file) (blocks ++ body ∷ []) next appended
   opens_after = (
     still_head first blocks place file rests (35 ∷ payload_of body),
     (
@@ -192,31 +196,40 @@ module _ (first : ℕ) (blocks : List (List ℕ)) (place : ℕ) (file : List ℕ
         closed = λ is_open. absurd (omega (arith, closed_after, is_open));
       },
     ),
+    omega (arith, length-opened (take place file) body place is_place on_eight small),
   )
 
-  opens_still : (gate : ℕ) (rest : List ℕ) → ¬ (gate ≡ 35) → Opens (take first file) blocks (take place file ++ gate ∷ rest)
-  opens_still gate rest shut =
-      opens_before first blocks place file rests (gate ∷ rest) (λ is_open. shut (sym (get_or_at (take place file) gate rest 0 place is_place) ∙ is_open))
+  room_is : length (payload_of body) ≡ room_of (length body)
+  room_is = length-payload (take place file) body place is_place on_eight small
+
+  opens_still : (gate : ℕ) (rest : List ℕ) → length rest ≤ room_of (length body) → ¬ (gate ≡ 35)
+      → Opens (take first file) blocks next (take place file ++ gate ∷ rest)
+  opens_still gate rest short shut =
+      opens_before first blocks place file rests (gate ∷ rest) next (omega (arith, short))
+      (λ is_open. shut (sym (get_or_at (take place file) gate rest 0 place is_place) ∙ is_open))
 
   -- behind a gate of any value
-  gated : (gate : ℕ) → (gate ≡ 35) ⊎ (gate ≡ 35 → ⊥) → OpensEither (take first file) blocks body (take place file ++ gate ∷ payload_of body)
+  gated : (gate : ℕ) → (gate ≡ 35) ⊎ (gate ≡ 35 → ⊥) → OpensEither (take first file) blocks body next (take place file ++ gate ∷ payload_of body)
   gated gate (inl is_open) =
-      subst (λ (g : ℕ). OpensEither (take first file) blocks body (take place file ++ g ∷ payload_of body)) (sym is_open) (opens_after.0, inr opens_after.1)
-  gated gate (inr shut) = let still = opens_still gate (payload_of body) shut in (still.0, inl still.1)
+      subst (λ (g : ℕ). OpensEither (take first file) blocks body next (take place file ++ g ∷ payload_of body)) (sym is_open)
+      (opens_after.0, inr opens_after.1, opens_after.2)
+  gated gate (inr shut) = let still = opens_still gate (payload_of body) (omega (arith, room_is)) shut in (still.0, inl still.1, still.2)
 
-  pub stage_opens : (other : List ℕ) → IsStage place file (payload_of body) other → OpensEither (take first file) blocks body other
-  stage_opens other (inl longer) =
-      let is : take place file ++ 0 ∷ longer.0 ≡ other =
-      sym (append_assoc (take place file) (0 ∷ []) longer.0) ∙ ap (λ (part : List ℕ). part ++ longer.0) (sym (parts first blocks place file rests)) ∙ longer.1 in
-      let still = opens_still 0 longer.0 (λ e. absurd (omega (arith, e))) in
-      subst (OpensEither (take first file) blocks body) is (still.0, inl still.1)
-  stage_opens other (inr gate) = subst (OpensEither (take first file) blocks body) (sym gate.1) (gated gate.0 (cases_eq gate.0 35))
+  pub stage_opens : (other : List ℕ) → IsStage place file (payload_of body) other → OpensEither (take first file) blocks body next other
+  stage_opens other (inl grown) =
+      let behind = grown.0.0 in
+      let is : take place file ++ 0 ∷ behind ≡ other =
+      sym (append_assoc (take place file) (0 ∷ []) behind) ∙ ap (λ (part : List ℕ). part ++ behind) (sym (parts first blocks place file rests)) ∙ grown.0.1 in
+      let short : length behind ≤ room_of (length body) = omega (arith, grown.1, room_is, ap length grown.0.1, length-append file behind) in
+      let still = opens_still 0 behind short (λ e. absurd (omega (arith, e))) in
+      subst (OpensEither (take first file) blocks body next) is (still.0, inl still.1, still.2)
+  stage_opens other (inr gate) = subst (OpensEither (take first file) blocks body next) (sym gate.1) (gated gate.0 (cases_eq gate.0 35))
 
 -- of a file at rest, all of it kept, a crash leaves a file with its head and its blocks
-pub rests_opens : (first : ℕ) (blocks : List (List ℕ)) (place : ℕ) (file : List ℕ) → Rests first blocks place file → Opens (take first file) blocks file
+pub rests_opens : (first : ℕ) (blocks : List (List ℕ)) (place : ℕ) (file : List ℕ) → Rests first blocks place file → Opens (take first file) blocks place file
 rests_opens first blocks place file rests =
-    subst (Opens (take first file) blocks) (sym (parts first blocks place file rests))
-    (opens_before first blocks place file rests (0 ∷ []) (λ is_open. absurd (omega (arith, get_or_at (take place file) 0 [] 0 place (length-front first blocks place file rests), is_open))))
+    subst (Opens (take first file) blocks place) (sym (parts first blocks place file rests))
+    (opens_before first blocks place file rests (0 ∷ []) place (omega arith) (λ is_open. absurd (omega (arith, get_or_at (take place file) 0 [] 0 place (length-front first blocks place file rests), is_open))))
 
 -- a head and a closed gate are at rest with no block
 pub head_rests : (head : List ℕ) → IsRecordingHead head → Rests (length head) [] (length head) (head ++ 0 ∷ [])

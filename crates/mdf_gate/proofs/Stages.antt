@@ -40,7 +40,7 @@ module _ (place : ℕ) (kept payload : List ℕ) (ends : length kept ≡ place +
       ∙ append_assoc (take place kept) (get_or kept place 0 ∷ []) payload
 
   pub first_stage : (file : List ℕ) → IsTorn (place + 1) (length payload) kept file → IsStage place kept payload file
-  first_stage file torn = inl (left_behind kept (length payload) file (subst (λ (at : ℕ). IsTorn at (length payload) kept file) (sym ends) torn))
+  first_stage file torn = inl (left_behind kept payload file (subst (λ (at : ℕ). IsTorn at (length payload) kept file) (sym ends) torn))
 
   pub second_stage : (file : List ℕ) → IsTorn place 1 (patched (place + 1) payload kept) file → IsStage place kept payload file
   second_stage file torn =

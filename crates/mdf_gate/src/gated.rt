@@ -116,7 +116,8 @@ impl<D: Disk> GatedFile<D> {
         ensures content { OnOk result (D.content self.new.disk
             ≡ option_map (opened_at self.old.place (payload_of block.old.bytes)) (D.content self.old.disk)) }
         ensures any_moment { (blocks : List (List ℕ)) → RestsOn (D.content self.old.disk) (D.story self.old.disk) self.old.first blocks self.old.place
-            → Adds (D.story self.old.disk) (D.story self.new.disk) (OpensEither (head_of (D.story self.old.disk) self.old.first) blocks block.old.bytes) }
+            → Adds (D.story self.old.disk) (D.story self.new.disk) (OpensEither (head_of (D.story self.old.disk) self.old.first) blocks block.old.bytes
+            (aligned (self.old.place + 24 + length block.old.bytes))) }
         ensures head { head_of (D.story self.new.disk) self.new.first ≡ head_of (D.story self.old.disk) self.old.first }
         ensures place { OnOk result (self.new.place ≡ aligned (self.old.place + 24 + length block.old.bytes)) }
         ensures going { OnOk result (self.new.failed ≡ false) }
@@ -158,7 +159,7 @@ impl<D: Disk> GatedFile<D> {
     pub fn moment(&self) -> u64
         ensures moment { result ≡ D.moment self.now.disk }
         ensures leaves { (blocks : List (List ℕ)) → RestsOn (D.content self.now.disk) (D.story self.now.disk) self.now.first blocks self.now.place
-            → HoldsSince (D.story self.now.disk) result (Opens (head_of (D.story self.now.disk) self.now.first) blocks) }
+            → HoldsSince (D.story self.now.disk) result (Opens (head_of (D.story self.now.disk) self.now.first) blocks self.now.place) }
     {
         self.disk.moment()
     }

@@ -15,7 +15,7 @@ append-requires-clause-short g c =
 pub returns-in_default-clause-book : goal.returns-in_default-clause-book
 returns-in_default-clause-book g c =
     let adds = adds_carry g.D.Disk g.V.Shown
-    c.args.front.now c.args.file.now c.append.new.self c.append.new.block c.requires.book c.requires.going c.append.ensures.any_moment in
+    c.args.front.now c.args.file.now c.append.new.self c.append.new.block c.requires.book c.requires.going c.requires.some c.append.ensures.told c.append.ensures.any_moment in
     book_failed g.D.Disk g.V.Shown
     c.args.front.now c.args.file.now c.append.new.self c.append.new.block c.requires.book
     c.in_default.ensures.left c.append.ensures.limit c.in_default.ensures.failed (search rules) adds c.append.ensures.moment c.append.ensures.told
@@ -36,7 +36,7 @@ returns-in_default-clause-fault g c =
 pub returns-clause-book : goal.returns-clause-book
 returns-clause-book g c =
     let adds = adds_carry g.D.Disk g.V.Shown
-    c.args.front.now c.args.file.now c.append.new.self c.append.new.block c.requires.book c.requires.going c.append.ensures.any_moment in
+    c.args.front.now c.args.file.now c.append.new.self c.append.new.block c.requires.book c.requires.going c.requires.some c.append.ensures.told c.append.ensures.any_moment in
     book_marked g.D.Disk g.V.Shown
     c.args.front.now c.args.file.now c.append.new.self c.append.new.block
     (record { moment = c.moment.result; through = c.len.result }) c.put.new.self.items c.put.new.self.spare
@@ -44,6 +44,6 @@ returns-clause-book g c =
     (rises_told _ _ c.append.ensures.told _ c.in-Ok.ensures.rises) c.append.ensures.told
     c.moment.ensures.moment c.len.ensures
     c.in-Ok.ensures.rests
-    (λ blocks rests. subst (λ head. HoldsSince (g.D.Disk.story c.append.new.self.disk) (g.D.Disk.moment c.append.new.self.disk) (Opens head blocks)) c.append.ensures.head
-    (subst (λ t. HoldsSince (g.D.Disk.story c.append.new.self.disk) t (Opens (head_of (g.D.Disk.story c.append.new.self.disk) c.append.new.self.first) blocks)) c.moment.ensures.moment (c.moment.ensures.leaves blocks rests)))
+    (λ blocks rests. subst (λ head. HoldsSince (g.D.Disk.story c.append.new.self.disk) (g.D.Disk.moment c.append.new.self.disk) (Opens head blocks c.append.new.self.place)) c.append.ensures.head
+    (subst (λ t. HoldsSince (g.D.Disk.story c.append.new.self.disk) t (Opens (head_of (g.D.Disk.story c.append.new.self.disk) c.append.new.self.first) blocks c.append.new.self.place)) c.moment.ensures.moment (c.moment.ensures.leaves blocks rests)))
     (c.in-Ok.ensures.place)

@@ -20,7 +20,7 @@ returns-in_err-write-clause-head g c = rw (← c.self.view_is) (
     let small : 24 + length body < 2 ^ 64 = omega (arith, c.requires.short) in
     let going : file.failed ≡ false = ap (λ (s : Gated _). s.failed) c.self.view_is ∙ c.requires.going in
     let rests = c.self.invariant.1.rests going in
-    head_stays (g.D.Disk.story file.disk) (g.D.Disk.story c.write.new.disk) (g.D.Disk.content file.disk) (g.D.Disk.content c.write.new.disk) _ _ file.first rests.0 file.place body
+    head_stays (g.D.Disk.story file.disk) (g.D.Disk.story c.write.new.disk) (g.D.Disk.content file.disk) (g.D.Disk.content c.write.new.disk) _ _ file.first rests.0 file.place _ body
     (g.met.D.Disk.agrees file.disk) (g.met.D.Disk.agrees c.write.new.disk) c.write.ensures.moment rests.1 c.write.ensures.told
     (adds_after (g.D.Disk.story file.disk) (g.D.Disk.story c.write.new.disk) (g.D.Disk.content file.disk) _ file.first rests.0 file.place body
     (g.met.D.Disk.agrees file.disk) rests.1 c.self.invariant.1.on_eight small c.write.ensures.told c.write.ensures.any_moment))
@@ -77,7 +77,7 @@ returns-clause-head g c = rw (← c.self.view_is) (
     let small : 24 + length body < 2 ^ 64 = omega (arith, c.requires.short) in
     let going : file.failed ≡ false = ap (λ (s : Gated _). s.failed) c.self.view_is ∙ c.requires.going in
     let rests = c.self.invariant.1.rests going in
-    head_stays (g.D.Disk.story file.disk) (g.D.Disk.story c.write.new.disk) (g.D.Disk.content file.disk) (g.D.Disk.content c.write.new.disk) _ _ file.first rests.0 file.place body
+    head_stays (g.D.Disk.story file.disk) (g.D.Disk.story c.write.new.disk) (g.D.Disk.content file.disk) (g.D.Disk.content c.write.new.disk) _ _ file.first rests.0 file.place _ body
     (g.met.D.Disk.agrees file.disk) (g.met.D.Disk.agrees c.write.new.disk) c.write.ensures.moment rests.1 c.write.ensures.told
     (adds_after (g.D.Disk.story file.disk) (g.D.Disk.story c.write.new.disk) (g.D.Disk.content file.disk) _ file.first rests.0 file.place body
     (g.met.D.Disk.agrees file.disk) rests.1 c.self.invariant.1.on_eight small c.write.ensures.told c.write.ensures.any_moment))
