@@ -5,6 +5,7 @@ use Rattle.std.specs.Prelude.{Option as Opt, Some}
 use mathlib.Core.Option.{some, some-injective, some-ne-none}
 use mathlib.Core.List.{IsPrefix}
 use lib.ListN.{get_elem?}
+use Rattle.std.proofs.lemmas.List.Elements.{All-nil}
 use Rattle.std.proofs.lemmas.Bool.{cond_both, cond-true, cond-false, eq-eqb, ne_eqb, lt-ltb, le-ltb, leb-true, leb-false, cases_eq, cases_lt, false≢true}
 use Rattle.atomic_table.specs.Table.{State, Splits, Joins, opening, Final, Seen}
 use Rattle.atomic_table.proofs.Lists.{at_set, at_snoc, set_else}
@@ -13,14 +14,14 @@ use Rattle.mdf_layout.specs.declared.sample.Sample.{Sample}
 use Rattle.book_owned.specs.Account.{Account}
 use Rattle.book_owned.specs.declared.mark.Mark.{Mark}
 use Rattle.book_shared.specs.Basis.{Basis, Turn, idle, holding}
-use Rattle.book_shared.specs.Rule.{World, total, times_in, has, holds_turn, AreOwn, AreOld, Names, Knows, SeatsKnow, Runs}
+use Rattle.book_shared.specs.Rule.{World, total, times_in, has, holds_turn, AreOwn, AreOld, AreOfSources, Names, Knows, SeatsKnow, Runs}
 use Rattle.book_shared.specs.Parts.{first_part, other_parts, kept_part, split_part, longer, joined, spent}
 use Rattle.book_shared.specs.Fixed.{sources_from, first_view}
 use Rattle.book_shared.specs.Ends.{Ended}
 use Rattle.book_shared.specs.declared.view.View.{View}
 use Rattle.book_shared.proofs.Sums.{total-append, total-set, terms_le}
 use Rattle.book_shared.proofs.Lists.{counts_first, old_later, names_none, one_if}
-use Rattle.book_shared.proofs.Keeps.{once_most}
+use Rattle.book_shared.proofs.Keeps.{once_most, one_below}
 
 -- the first source and the others
 times_parts : (n : ℕ) (mine : List (ℕ × List Sample)) → times_in n (first_part mine) + times_in n (other_parts mine) ≡ times_in n mine
@@ -97,6 +98,7 @@ module _ {D V : Type 0} where
           each = λ k x there. ⊎_elim
               (λ old. ⊎_elim (λ t. subst (Knows basis w) t.1 (kept_knows basis w v none_held know)) (λ t. run.seats.each k x t.1) (at_set s.views id k a x old))
               (λ is. subst (Knows basis w) is (split_knows basis w v none_held know)) (at_snoc (set s.views id a) b x k there);
+          only = run.seats.only;
         };
         slot = run.slot;
       }
@@ -194,6 +196,7 @@ module _ {D V : Type 0} where
               (λ t. ⊎_elim (λ p. subst (Knows basis w) p.1 (joined_knows basis w v x none_held some_mine (run.seats.each id v at) (run.seats.each other x x_at))) (λ p. run.seats.each k y p.1)
               (at_set s.views id k u y t.1))
               (at_set (set s.views id u) other k spent y y_at);
+          only = run.seats.only;
         };
         slot = run.slot;
       }
@@ -252,6 +255,7 @@ module _ {D V : Type 0} where
         seats = record {
           once = λ n. omega (arith, times_all basis.sources n);
           each = only_one (Knows basis w) (first_view basis) (first_knows basis w none_yet);
+          only = subst (AreOfSources basis) (sym none_yet) (All-nil _);
         };
         slot = record {
           here = λ _. record { book = book; homes_are = refl; has_it = record { history = refl; marks = refl; stopped = refl; terms = terms } };
@@ -268,9 +272,6 @@ total_none f (x ∷ xs) none_counts = omega (arith, none_counts 0 x refl, total_
 source_of : (mine : List (ℕ × List Sample)) → 0 < length mine → (n : ℕ) × (0 < times_in n mine)
 source_of [] some_part = absurd (omega (arith, some_part))
 source_of (part ∷ parts) some_part = (part.0, counts_first part.0 part.1 parts)
-
-one_below : (n count : ℕ) → 0 < cond (nat_lt n count) 1 0 → n < count
-one_below n count counted = ⊎_elim (λ less. less) (λ more. absurd (omega (arith, counted, ap one_if (le-ltb n count more)))) (cases_lt n count)
 
 named_mine : (w : World) (x : View) (t : Turn) → Names w x t → (0 < length x.mine → ⊥) → holds_turn t ≡ 0
 named_mine w x idle names none_there = refl
@@ -310,4 +311,5 @@ module _ {D V : Type 0} where
         mine = subst (λ h. AreOwn basis.owners h v.mine) (sym has_it.history) know.mine;
         olds = know.olds;
         terms = has_it.terms;
+        only = subst (AreOfSources basis) (sym has_it.history) run.seats.only;
       }

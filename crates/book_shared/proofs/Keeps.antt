@@ -1,12 +1,13 @@
 -- A load, an exchange and a store keep the rule.
 use Rattle.std.proofs.Common.{◌≡◌, ℕ, ◌+◌, ◌*◌, ◌%◌, ◌<◌, ◌≤◌, ◌≢◌, Bool, true, false, List, [], ◌∷◌, ◌++◌, length, set, refl, sym, ap, ◌∙◌, subst, ⊎_elim, arith}
-use Rattle.std.specs.Prelude.{◌==◌, slice_index, slice_set, nat_lt, MatchBool}
+use Rattle.std.specs.Prelude.{◌==◌, cond, slice_index, slice_set, nat_lt, MatchBool}
 use Rattle.std.specs.Prelude.{Option as Opt, Some, None}
 use mathlib.Core.Option.{some, none}
 use mathlib.Core.List.{IsPrefix}
 use lib.ListN.{get_elem?}
 use prog.Atomic.{either}
-use Rattle.std.proofs.lemmas.Bool.{eq-eqb, ne_eqb}
+use Rattle.std.proofs.lemmas.Bool.{cases_lt, eq-eqb, le-ltb, ne_eqb}
+use Rattle.std.proofs.lemmas.List.Elements.{All-append, All-cons, All-nil}
 use Rattle.atomic_table.specs.Table.{State, Me, step, Act, keeps, takes, gives, Valid, stepped, carried_after, Allows}
 use Rattle.atomic_table.proofs.Lists.{at_set, exchanged}
 use Rattle.mdf_gate.proofs.Carrying.{prefix_self, prefix_trans, prefix_append}
@@ -14,11 +15,11 @@ use Rattle.mdf_layout.specs.declared.sample.Sample.{Sample}
 use Rattle.book_owned.specs.Account.{Account}
 use Rattle.book_owned.specs.declared.mark.Mark.{Mark}
 use Rattle.book_shared.specs.Basis.{Basis, Turn, idle, holding}
-use Rattle.book_shared.specs.Rule.{World, total, has, holds_turn, AreOwn, Names, Knows, TurnsCount, SeatsKnow, Has, AtHome, Runs}
+use Rattle.book_shared.specs.Rule.{World, total, times_in, has, holds_turn, AreOwn, AreOfSources, Names, Knows, TurnsCount, SeatsKnow, Has, AtHome, Runs}
 use Rattle.book_shared.specs.Plays.{recount, looked, taking, given, Meets, AreFrom, Returns, Holds, Looks, Wins, Takes, Gives}
 use Rattle.book_shared.specs.declared.view.View.{View}
 use Rattle.book_shared.proofs.Sums.{total-set, term_le, terms_le}
-use Rattle.book_shared.proofs.Lists.{own_same, own_recount, times_recount, none_of, old_later, names_none}
+use Rattle.book_shared.proofs.Lists.{own_same, own_recount, times_recount, none_of, old_later, names_none, one_if}
 
 -- the turns after a step of one seat
 pub turns_moved : (word word' : ℕ) (views : List View) (j : ℕ) (v u : View) → TurnsCount word views → get_elem? views j ≡ some v → word' < 18446744073709551615
@@ -33,10 +34,11 @@ turns_moved word word' views j v u count at few held taken = record {
 -- and what the seats know
 pub seats_moved : (basis : Basis) (w w' : World) (views : List View) (j : ℕ) (v u : View) → SeatsKnow basis w views → get_elem? views j ≡ some v
     → ((n : ℕ) → has n u ≡ has n v) → Knows basis w' u → ((k : ℕ) (x : View) → k ≢ j → get_elem? views k ≡ some x → Knows basis w' x)
-    → SeatsKnow basis w' (set views j u)
-seats_moved basis w w' views j v u know at same mine others = record {
+    → AreOfSources basis w'.history → SeatsKnow basis w' (set views j u)
+seats_moved basis w w' views j v u know at same mine others only = record {
   once = λ n. omega (arith, total-set (has n) views j v u at, know.once n, same n);
   each = λ k x at'. ⊎_elim (λ t. subst (Knows basis w') t.1 mine) (λ t. others k x t.0 t.1) (at_set views j k u x at');
+  only = only;
 }
 
 -- a source is at most one seat's
@@ -90,6 +92,19 @@ others_own basis w views know j k v x added apart at there from =
     (λ mine. omega (arith, some_of, mine, terms_le (has n) views j k v x apart at there, once_most (nat_lt n basis.sources) (total (has n) views) (know.once n))))
     (know.each k x there).mine
 
+-- a source that is some seat's is one of the sources
+pub one_below : (n count : ℕ) → 0 < cond (nat_lt n count) 1 0 → n < count
+one_below n count counted = ⊎_elim (λ less. less) (λ more. absurd (omega (arith, counted, ap one_if (le-ltb n count more)))) (cases_lt n count)
+
+-- samples of the sources of a seat are of sources that have a seat
+only_seated : (basis : Basis) (w : World) (views : List View) → SeatsKnow basis w views → (j : ℕ) (v : View) → get_elem? views j ≡ some v → (added : List Sample)
+    → AreFrom basis.owners v.mine added → AreOfSources basis added
+only_seated basis w views know j v at [] from = All-nil _
+only_seated basis w views know j v at (sample ∷ added) from =
+    let n = slice_index basis.owners sample.group in
+    All-cons (λ (s : Sample). slice_index basis.owners s.group < basis.sources) sample added (one_below n basis.sources (omega (arith, from.0, term_le (has n) views j v at, know.once n)))
+    (only_seated basis w views know j v at added from.1)
+
 -- the names of a turn, and what is owed by them
 holder_of : (w : World) (v : View) (t : Turn) (history : List Sample) (marks : List Mark) (stopped : Bool) → t ≡ holding history marks stopped → Names w v t
     → Names w v (holding history marks stopped)
@@ -115,7 +130,7 @@ module _ {D V : Type 0} where
     words = ap (λ ws. slice_set ws 0 n) run.words ∙ ap (λ k. k ∷ []) is;
     turns = turns_moved run.shared.word run.shared.word s.views id v (looked v n) run.turns at run.turns.few refl refl;
     seats = seats_moved basis run.shared run.shared s.views id v (looked v n) run.seats at (λ k. refl)
-        (looked_knows basis run.shared v n is (run.seats.each id v at)) (λ k x apart there. run.seats.each k x there);
+        (looked_knows basis run.shared v n is (run.seats.each id v at)) (λ k x apart there. run.seats.each k x there) run.seats.only;
     slot = run.slot;
   }
 
@@ -171,7 +186,7 @@ module _ {D V : Type 0} where
         turns = turns_moved w.word (w.word + 1) s.views id v u run.turns at (omega (arith, low)) (omega (arith, calm, run.turns.held, even)) (omega (arith, even));
         seats = seats_moved basis w w' s.views id v u run.seats at (λ k. refl) (taking_knows basis w v home.book home.has_it some_mine (run.seats.each id v at))
             (λ k x apart there. knows_on basis w w' x (run.seats.each k x there) (omega arith) (prefix_self w.history) (prefix_self w.marks) (λ is. is)
-            (run.seats.each k x there).mine (omega (arith, term_le (λ (y : View). holds_turn y.turn) s.views k x there, run.turns.held, even)));
+            (run.seats.each k x there).mine (omega (arith, term_le (λ (y : View). holds_turn y.turn) s.views k x there, run.turns.held, even))) run.seats.only;
         slot = record {
           here = λ is. absurd (omega (arith, is, even));
           away = λ _. ap (λ hs. slice_set hs 0 none) home.homes_are;
@@ -275,7 +290,8 @@ module _ {D V : Type 0} where
             (given_knows basis w v book basis_is know history back_is.marks_go_on)
             (λ k x apart there. knows_on basis w (back w book) x (run.seats.each k x there) (omega arith) history back_is.marks_go_on back_is.stays
             (subst (λ h. AreOwn basis.owners h x.mine) (sym back_is.history_is) (others_own basis w s.views run.seats id k v x back_is.added apart at there from))
-            (omega (arith, terms_le (λ (y : View). holds_turn y.turn) s.views id k v x apart at there, run.turns.held, holder)));
+            (omega (arith, terms_le (λ (y : View). holds_turn y.turn) s.views id k v x apart at there, run.turns.held, holder)))
+            (subst (AreOfSources basis) (sym back_is.history_is) (All-append (λ (s : Sample). slice_index basis.owners s.group < basis.sources) w.history back_is.added run.seats.only (only_seated basis w s.views run.seats id v at back_is.added from)));
         slot = record {
           here = λ _. record {
             book = book;

@@ -5,7 +5,7 @@ use mathlib.Core.List.{IsPrefix}
 use lib.ListN.{get_elem?}
 use Rattle.book_owned.specs.Account.{Account}
 use Rattle.book_shared.specs.Basis.{Basis}
-use Rattle.book_shared.specs.Rule.{AreOwn, AreOld}
+use Rattle.book_shared.specs.Rule.{AreOwn, AreOld, AreOfSources}
 use Rattle.book_shared.specs.declared.view.View.{View}
 
 -- the book lies in the slot, and what the seat knew is so of it
@@ -18,3 +18,4 @@ pub record Ended {D V : Type 0} (basis : Basis) (v : View) (slots : List (Opt (A
   pub mine : AreOwn basis.owners book.history v.mine
   pub olds : AreOld v.seen v.kept v.olds
   pub terms : book.terms ≡ basis.terms
+  pub only : AreOfSources basis book.history

@@ -1,5 +1,5 @@
 -- The rule of the turn: what is so of the word, of the book's place and of what all seats know, between any two steps.
-use Rattle.std.specs.Prelude.{ℕ, ◌≡◌, ◌+◌, ◌*◌, ◌%◌, ◌<◌, ◌≤◌, ◌==◌, nat_lt, cond, Bool, true, List, [], ◌∷◌, length}
+use Rattle.std.specs.Prelude.{ℕ, ◌≡◌, ◌+◌, ◌*◌, ◌%◌, ◌<◌, ◌≤◌, ◌==◌, nat_lt, cond, slice_index, All, Bool, true, List, [], ◌∷◌, length}
 use Rattle.std.specs.Prelude.{Option as Opt, Some}
 use mathlib.Core.Option.{Option as Home, some, none}
 use mathlib.Core.List.{IsPrefix}
@@ -70,10 +70,15 @@ pub record TurnsCount (word : ℕ) (views : List View) : Type 0 where
   pub held : total (λ v. holds_turn v.turn) views ≡ word % 2
   pub taken : 2 * total (λ v. v.turns) views ≡ word + word % 2
 
--- Of the seats: each source is one seat's, and what each seat knows is so.
+-- a source that has a seat owns the group of each sample
+abbrev pub AreOfSources : Basis → List Sample → Type 0
+AreOfSources basis history = All (λ sample. slice_index basis.owners sample.group < basis.sources) history
+
+-- Of the seats: each source is one seat's, what each seat knows is so, and each sample of the history is of one of the sources.
 pub record SeatsKnow (basis : Basis) (w : World) (views : List View) : Type 0 where
   pub once : (n : ℕ) → total (has n) views ≡ cond (nat_lt n basis.sources) 1 0
   pub each : (j : ℕ) (v : View) → get_elem? views j ≡ some v → Knows basis w v
+  pub only : AreOfSources basis w.history
 
 -- the book has this history, these marks and this stop, and its terms are those
 pub record Has {D V : Type 0} (basis : Basis) (w : World) (book : Account D V) : Type 0 where

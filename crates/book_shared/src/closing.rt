@@ -7,6 +7,7 @@ ghost use Rattle.book_owned.specs.Account.{Account};
 ghost use Rattle.book_shared.specs.Basis.{idle};
 ghost use Rattle.book_shared.specs.Covers.{AreCovered};
 ghost use Rattle.book_shared.specs.Place.{IsSingle};
+ghost use Rattle.book_shared.specs.Rule.{AreOfSources};
 ghost use Rattle.book_shared.specs.Seats.{AreOf, HasNumber, Closes};
 
 use crate::rule::Both;
@@ -76,6 +77,7 @@ impl<D: Disk, V: Shown> SharedBook<D, V> {
         requires all { (number : ℕ) → number < self.basis.sources → HasNumber number seats.items }
         ensures terms { result.terms ≡ self.basis.terms }
         ensures seats { Closes self.basis result seats.items }
+        ensures sources { AreOfSources self.basis result.history }
     {
         let whole = gather(&self, seats);
         let SharedBook { table } = self;

@@ -3,6 +3,7 @@ use Rattle.std.specs.Mem.Slots.{slots_items}
 use Rattle.book_owned.specs.Account.{Account}
 use Rattle.book_shared.specs.Fixed.{basis_of}
 use Rattle.book_shared.specs.Place.{Common}
+use Rattle.book_shared.specs.Rule.{AreOfSources}
 use Rattle.book_shared.specs.Seats.{Closes}
 use Rattle.book_shared.proofs.Covering.{finished, closes, same_book}
 use Rattle.book_shared.proofs.shared.SharedBook.close.Goals as goal
@@ -38,3 +39,14 @@ returns-clause-seats g c =
     subst (λ (b : Common). Closes b.basis c.book_of.result c.args.seats.items) c.self.view_is
     (subst (λ a. Closes basis a c.args.seats.items) (same_book slots ended.book c.book_of.result ended.slot_is c.book_of.ensures)
     (closes basis whole slots ended c.args.seats.items c.gather-whole.ensures.covers))
+
+pub returns-clause-sources : goal.returns-clause-sources
+returns-clause-sources g c =
+    let basis = basis_of c.self.inside.table.shared.key in
+    let whole = c.gather-whole.result.me.0 in
+    let slots = slots_items c.close_with.result.slots in
+    let ended = finished basis c.gather-whole.result.id whole (slots_items c.close_with.result.words) slots
+    c.args.seats.items c.gather-whole.ensures.calm c.gather-whole.ensures.covers
+    (λ number less. c.requires.all number (subst (λ (b : Common). number < b.basis.sources) c.self.view_is less)) c.close_with.ensures.values.2 in
+    subst (λ (b : Common). AreOfSources b.basis c.book_of.result.history) c.self.view_is
+    (subst (λ (a : Account g.row.D.Denot g.row.V.Denot). AreOfSources basis a.history) (same_book slots ended.book c.book_of.result ended.slot_is c.book_of.ensures) ended.only)
