@@ -6,6 +6,7 @@
 mod fault;
 mod known;
 mod law;
+mod listed;
 mod places;
 mod record;
 mod splitter;

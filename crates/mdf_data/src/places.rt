@@ -1,27 +1,29 @@
 ghost use Rattle.std.specs.Prelude.{◌≡◌, ◌+◌, ◌*◌, ◌^◌, ◌<◌, ◌++◌, ◌∷◌, [], length, slice_get, OnOk, OnErr};
 ghost use Rattle.mdf_data.specs.Places.{steps};
 
-use mdf_num::{Memory, Numbers};
+use crate::listed::Listed;
+use mdf_num::Memory;
 use std::alloc::Global;
 use std::marker::Model;
 
-/// The places of the records of a group. Contracts see them as the list. Places at equal steps take no memory.
+/// The places of the records of a group. Contracts see them as the list. Places at equal steps take no memory, and others 4
+/// bytes each, or 8 from the first on that is not below 2^32.
 #[derive(Debug, Drop)]
 pub struct Places {
     even: u64,
     step: u64,
-    listed: Numbers,
+    listed: Listed,
 }
 
 impl Model for Places {
-    ghost use Rattle.std.specs.Prelude.{List, ℕ, ◌++◌, ◌*◌, ◌<◌, ◌^◌, length};
+    ghost use Rattle.std.specs.Prelude.{List, ℕ, ◌++◌, ◌*◌, ◌<◌, ◌^◌};
     ghost use Rattle.mdf_data.specs.Places.{steps};
 
     ghost Value = { List ℕ };
 
     ghost view = { λ p. steps p.even p.step 0 ++ p.listed };
 
-    ghost invariant = { λ p. (p.even < 2 ^ 62) × (p.even * p.step < 2 ^ 62) × (length p.listed < 2 ^ 62) };
+    ghost invariant = { λ p. (p.even < 2 ^ 62) × (p.even * p.step < 2 ^ 62) };
 }
 
 impl Places {
@@ -32,7 +34,7 @@ impl Places {
         Places {
             even: 0,
             step: 0,
-            listed: Numbers::empty(alloc),
+            listed: Listed::empty(alloc),
         }
     }
 
@@ -45,7 +47,7 @@ impl Places {
         Places {
             even: count,
             step,
-            listed: Numbers::empty(alloc),
+            listed: Listed::empty(alloc),
         }
     }
 
@@ -62,7 +64,7 @@ impl Places {
         if i < self.even {
             return Some(i * self.step);
         }
-        self.listed.get(i - self.even).copied()
+        self.listed.get(i - self.even)
     }
 
     /// Adds a place at the end. After an error the places are as before.
@@ -73,9 +75,6 @@ impl Places {
         ensures ok { OnOk result (self.new ≡ self.old ++ place ∷ []) }
         ensures err { OnErr result (self.new ≡ self.old) }
     {
-        if self.listed.len() >= (1 << 62) - 1 {
-            return Err(Memory);
-        }
         self.listed.push(place)
     }
 }

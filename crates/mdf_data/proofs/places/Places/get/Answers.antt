@@ -14,5 +14,5 @@ pub returns : goal.returns
 returns c =
     let inside = c.self.inside in
     let i = c.args.i in
-    c.copied.ensures ∙ c.get.ensures ∙ sym (steps_past inside.even inside.step 0 i inside.listed c.if-i-self.false)
+    c.get.ensures ∙ sym (steps_past inside.even inside.step 0 i inside.listed c.if-i-self.false)
     ∙ ap (λ (places : List ℕ). slice_get places i) c.self.view_is

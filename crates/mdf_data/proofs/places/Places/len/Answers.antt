@@ -10,4 +10,4 @@ returns c =
     let long : length c.args.self.now ≡ inside.even + length inside.listed =
     ap length (sym c.self.view_is) ∙ length-append (steps inside.even inside.step 0) inside.listed
     ∙ ap (λ (n : ℕ). n + length inside.listed) (length-steps inside.even inside.step 0) in
-    omega (arith, long, c.len.ensures)
+    omega (arith, long, c.len.ensures.len)
