@@ -1,5 +1,5 @@
 -- Places at equal steps.
-use Rattle.std.proofs.Common.{◌≡◌, ◌+◌, ◌-◌, ◌*◌, ◌<◌, ◌≤◌, ℕ, zero, suc, List, ◌++◌, length, Some, refl, ◌∙◌, ap, arith}
+use Rattle.std.proofs.Common.{◌≡◌, ◌+◌, ◌-◌, ◌*◌, ◌<◌, ◌≤◌, ℕ, zero, suc, List, ◌++◌, [], ◌∷◌, length, Some, refl, sym, ◌∙◌, ap, arith, append-nil}
 use Rattle.std.specs.List.{slice_get}
 use Rattle.mdf_data.specs.Places.{steps}
 
@@ -21,3 +21,10 @@ steps_past zero step from i rest past = let same : i ≡ i - 0 = omega arith in 
 steps_past (suc count) step from zero rest past = absurd (omega (arith, past))
 steps_past (suc count) step from (suc i) rest past =
     steps_past count step (from + step) i rest (omega (arith, past)) ∙ (let same : i - count ≡ suc i - suc count = omega arith in ap (slice_get rest) same)
+
+-- places of which none is listed are all at equal steps
+pub steps_alone : (even step : ℕ) (listed now : List ℕ) → steps even step 0 ++ listed ≡ now → length listed ≡ 0 → now ≡ steps (length now) step 0
+steps_alone even step [] now is none =
+    let same : now ≡ steps even step 0 = sym is ∙ append-nil (steps even step 0) in
+    same ∙ ap (λ (n : ℕ). steps n step 0) (sym (ap length same ∙ length-steps even step 0))
+steps_alone even step (x ∷ xs) now is none = absurd (omega (arith, none))

@@ -1,4 +1,4 @@
-ghost use Rattle.std.specs.Prelude.{◌≡◌, ◌+◌, ◌*◌, ◌^◌, ◌<◌, ◌++◌, ◌∷◌, [], length, slice_get, OnOk, OnErr};
+ghost use Rattle.std.specs.Prelude.{◌≡◌, ◌+◌, ◌*◌, ◌^◌, ◌<◌, ◌++◌, ◌∷◌, [], length, slice_get, IfSome, OnOk, OnErr};
 ghost use Rattle.mdf_data.specs.Places.{steps};
 
 use crate::listed::Listed;
@@ -65,6 +65,17 @@ impl Places {
             return Some(i * self.step);
         }
         self.listed.get(i - self.even)
+    }
+
+    /// The step, where all places stand at equal steps from 0 on.
+    pub fn step(&self) -> Option<u64>
+        ensures { IfSome result (λ step. self.now ≡ steps (length self.now) step 0) }
+    {
+        if self.listed.len() == 0 {
+            Some(self.step)
+        } else {
+            None
+        }
     }
 
     /// Adds a place at the end. After an error the places are as before.
