@@ -7,3 +7,4 @@ pub mod Takes
 pub mod Spots
 pub mod Strictness
 pub mod Samples
+pub mod Evens

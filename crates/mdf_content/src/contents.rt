@@ -6,7 +6,7 @@ ghost use Rattle.mdf_format.specs.Number.{bytes_at};
 ghost use Rattle.mdf_num.specs.Halt.{HaltCause, StopCause};
 ghost use Rattle.mdf_block.specs.Refusal.{Gives, IsPlain};
 ghost use Rattle.mdf_stream.specs.Parts.{stream_of, stream_size, ArePartsInside};
-ghost use Rattle.mdf_data.specs.Places.{HaveRoom};
+ghost use Rattle.mdf_data.specs.Places.{HaveRoom, steps};
 ghost use Rattle.mdf_group.specs.Group.{is_variable};
 ghost use Rattle.mdf_content.specs.Fault.{read_refusal};
 ghost use Rattle.mdf_content.specs.Records.{known_of, record_size};
@@ -30,7 +30,7 @@ ghost use Rattle.mdf_content.specs.Contents.{
 use crate::layouts::{is_variable, layout_in, layouts_in};
 use crate::lower::view_of;
 use crate::records::{count_at, counted_in, record_size, records_in};
-use crate::values::{Held, Records, place_at, places_or, streams_in, values_table};
+use crate::values::{Held, Records, bytes_in, place_at, places_or, streams_in, values_table};
 use crate::visit::{Visit, gathered_in};
 use crate::{ReadFault, Room};
 use mdf_block::Kind;
@@ -103,8 +103,8 @@ fn add_record<P: Span>(
     }
 }
 
-/// The bytes of so many records of a size, one record behind the other.
-fn content_in<P: Span>(
+/// The bytes of so many records of a size, one record behind the other, which are read record by record, wherever they stand.
+fn listed_content_in<P: Span>(
     alloc: Global,
     span: &mut P,
     view: &DataView,
@@ -142,6 +142,53 @@ fn content_in<P: Span>(
         row += 1;
     }
     Ok(content)
+}
+
+/// The same of records that stand one behind the other from the begin of the stream on, which are read at once.
+fn even_content_in<P: Span>(
+    alloc: Global,
+    span: &mut P,
+    view: &DataView,
+    size: u64,
+    places: &Places,
+    count: u64,
+    room: &mut Room,
+) -> Result<Bytes, Stop>
+    requires even { places.now ≡ steps (length places.now) size 0 }
+    requires inside { ArePartsInside (P.size span.old) view.now }
+    requires room { AllByRecursion (λ place. place + size ≤ stream_size view.now) places.now }
+    requires few { count ≤ length places.now }
+    ensures content { IfOk result (λ content. (f : List ℕ) → P.bytes span.old ≡ Some f → content ≡ content_of (stream_of f view.now) size (take count places.now)) }
+    ensures same { P.bytes span.new ≡ P.bytes span.old }
+    ensures size { P.size span.new ≡ P.size span.old }
+    ensures cause { StopCause true (P.faults span.old) (P.faults span.new) result }
+{
+    let _total = view.len();
+    bytes_in(alloc, span, view, count * size, room)
+}
+
+/// The bytes of so many records of a size, one record behind the other.
+fn content_in<P: Span>(
+    alloc: Global,
+    span: &mut P,
+    view: &DataView,
+    size: u64,
+    places: &Places,
+    count: u64,
+    room: &mut Room,
+) -> Result<Bytes, Stop>
+    requires inside { ArePartsInside (P.size span.old) view.now }
+    requires room { AllByRecursion (λ place. place + size ≤ stream_size view.now) places.now }
+    requires few { count ≤ length places.now }
+    ensures content { IfOk result (λ content. (f : List ℕ) → P.bytes span.old ≡ Some f → content ≡ content_of (stream_of f view.now) size (take count places.now)) }
+    ensures same { P.bytes span.new ≡ P.bytes span.old }
+    ensures size { P.size span.new ≡ P.size span.old }
+    ensures cause { StopCause true (P.faults span.old) (P.faults span.new) result }
+{
+    if places.step() == Some(size) {
+        return even_content_in(alloc, span, view, size, places, count, room);
+    }
+    listed_content_in(alloc, span, view, size, places, count, room)
 }
 
 /// What is read of a group that holds no values, whose records have these places.

@@ -390,7 +390,7 @@ fn offsets_met_in<P: Span>(
 }
 
 /// So many bytes of a stream.
-fn bytes_in<P: Span>(
+pub(crate) fn bytes_in<P: Span>(
     alloc: Global,
     span: &mut P,
     view: &DataView,

@@ -1,7 +1,7 @@
 use Rattle.std.proofs.Common.{◌≡◌, ◌-◌, ◌≤◌, ℕ, List, Some, length, take}
 use Rattle.mdf_stream.specs.Parts.{stream_of}
 use Rattle.mdf_content.specs.Contents.{content_of}
-use Rattle.mdf_content.proofs.contents.content_in.Given as goal
+use Rattle.mdf_content.proofs.contents.listed_content_in.Given as goal
 
 abbrev pub invariant-loop-row : goal.invariant-loop-row
 invariant-loop-row g l = record {
