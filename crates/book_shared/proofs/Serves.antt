@@ -1,7 +1,7 @@
 -- A turn, from the load to the store, and what the seat knows after it.
 use Rattle.std.proofs.Common.{◌≡◌, ℕ, ◌+◌, ◌%◌, ◌<◌, ◌≤◌, Bool, List, [], ◌∷◌, ◌++◌, length, take, drop, fold, refl, sym, ap, ◌∙◌, subst, ⊎_elim, arith, append-nil}
 use Rattle.std.specs.Prelude.{◌==◌, slice_index, slice_get, MatchBool, IsSomeAnd}
-use Rattle.std.specs.Prelude.{Option as Opt, Some, None}
+use Rattle.std.specs.Prelude.{Option as Opt, Some}
 use mathlib.Core.Option.{none}
 use Rattle.std.proofs.lemmas.Bool.{eq-eqb, cond-true}
 use Rattle.std.proofs.lemmas.List.{take_at}
@@ -9,7 +9,7 @@ use Rattle.atomic_table.specs.Table.{step, rest}
 use Rattle.mdf_gate.proofs.Carrying.{prefix_trans}
 use Rattle.mdf_disk.specs.declared.disk.Disk.{Ghosts as DiskOf}
 use Rattle.mdf_layout.specs.History.{source_samples}
-use Rattle.mdf_layout.specs.Record.{cost_of, encoded_size, history_cost, history_size}
+use Rattle.mdf_layout.specs.Record.{SampleFits, cost_of, encoded_size, history_cost, history_size}
 use Rattle.mdf_layout.specs.declared.sample.Sample.{Sample}
 use Rattle.book_owned.specs.Account.{Account, Steps, Terms}
 use Rattle.book_owned.specs.Answers.{AppendAnswers, FlushAnswers, MarksAll, accepted_by}
@@ -22,10 +22,10 @@ use Rattle.book_owned.specs.declared.answer.Flush.{Flush}
 use Rattle.book_owned.specs.declared.answer.Flush.TheVariants as flush
 use Rattle.book_shared.specs.Basis.{holding}
 use Rattle.book_shared.specs.Rule.{times_in, AreOwn}
-use Rattle.book_shared.specs.Plays.{recount, looked, given, AreFrom, Holds, Wins, Takes, Gives}
+use Rattle.book_shared.specs.Plays.{recount, looked, given, AreFrom, Holds, Wins, Takes}
 use Rattle.book_shared.specs.Place.{own_part, IsSingle}
-use Rattle.book_shared.specs.Turns.{Took, Served}
-use Rattle.book_shared.specs.Told.{Told, Appends, Tries, tried_by, Puts, HasMark, FlushTold, Flushes, Turned, TriesBook}
+use Rattle.book_shared.specs.Turns.{Took, Served, Waited, Rests, MayTake, Works}
+use Rattle.book_shared.specs.Told.{Told, Appends, Tries, tried_by, Puts, HasMark, FlushTold, Flushes, FlushesAll, IsNoted, Turned, TriesBook}
 use Rattle.book_shared.specs.declared.answer.Try.{Try}
 use Rattle.book_shared.specs.declared.answer.Try.TheVariants.{Busy, NeedsFlush, Answered}
 use Rattle.book_shared.specs.declared.view.View.{View}
@@ -82,6 +82,13 @@ mine_grows owners history added (part ∷ parts) number single own all =
 take_all : {A : Type 0} (xs : List A) → take (length xs) xs ≡ xs
 take_all xs = ap (λ ys. take (length xs) ys) (sym (append-nil xs)) ∙ take_at xs [] (length xs) refl
 
+-- counted anew, a seat of one source is one
+single_again : (owners : List ℕ) (history : List Sample) (mine : List (ℕ × List Sample)) (number : ℕ) → mine ≡ (number, own_part mine) ∷ []
+    → recount owners history mine ≡ (number, own_part (recount owners history mine)) ∷ []
+single_again owners history mine number single =
+    let counted : recount owners history mine ≡ (number, source_samples owners history number) ∷ [] = ap (λ parts. recount owners history parts) single in
+    counted ∙ ap (λ parts. (number, own_part parts) ∷ []) (sym counted)
+
 module _ {D V : Type 0} where
   pub took_now : (v : View) (carried : List (ℕ × Opt (Account D V))) (m n : Here D V) (word found : ℕ) → m ≡ seat_of (looked v word) carried → Takes (step 1 0 word (word + 1) none) m found n
       → found ≡ word → word % 2 ≡ 0 → word < 18446744073709551614
@@ -104,20 +111,35 @@ module _ {D V : Type 0} where
         ),
       )
 
-  -- the book that is taken out of the slot is the one that was taken
-  pub took_carried : (v u w : View) (carried : List (ℕ × Opt (Account D V))) (a b : Account D V) → carried ≡ holds_book a → carried ≡ holds_book b → w ≡ u → Took v u a → Took v w b
-  took_carried v u w carried a b first second same took =
-      subst (λ x. Took v x b) (sym same) (subst (Took v u) (ap (λ (c : List (ℕ × Opt (Account D V))). book_in c a) (sym first ∙ second)) took)
+  -- the turn was taken after some steps that took nothing
+  pub took_later : (v u w : View) (book : Account D V) → Waited v u → Took u w book → Took v w book
+  took_later v u w book waited took =
+      subst (λ y. Took y w book → Took v w book) (sym waited.rest) (λ now. record {
+        rest = now.rest;
+        meets = record { seen = now.meets.seen; kept = now.meets.kept; knows = now.meets.knows; mine = now.meets.mine; terms = now.meets.terms };
+        odd = now.odd;
+        low = now.low;
+      }) took
 
-  -- the book lies in the slot that the seat carries
-  pub put_back : (v : View) (carried : List (ℕ × Opt (Account D V))) (m : Here D V) (book : Account D V) → carried ≡ (0, None) ∷ [] → m ≡ seat_of v ((0, Some book) ∷ rest carried)
-      → m ≡ seat_of v (holds_book book)
-  put_back v carried m book empty is = is ∙ ap (λ (c : List (ℕ × Opt (Account D V))). seat_of v ((0, Some book) ∷ rest c)) empty
+  -- the book in its slot was worked on
+  pub works_on : (v : View) (carried : List (ℕ × Opt (Account D V))) (first then : Account D V) (does : Account D V → Account D V → Type 0)
+      → carried ≡ (0, Some first) ∷ rest carried → does first then → Works (seat_of v carried) (seat_of v ((0, Some then) ∷ rest carried)) does
+  works_on v carried first then does is done =
+      λ old held. (then, ap (λ c. (0, Some then) ∷ rest c) held, subst (λ book. does book then) (ap (λ (c : List (ℕ × Opt (Account D V))). book_in c first) (sym is ∙ held)) done)
 
-  pub gave_now : (v : View) (m n : Here D V) (slots word : ℕ) (book : Account D V) → m ≡ seat_of v (holds_book book) → Gives (step slots 0 (word + 1) 0 none) m (word + 1) n
-      → n ≡ seat_of (given v (word + 1) book) []
-  gave_now v m n slots word book is gives =
-      gives book (ap (λ (x : Here D V). x.1) is) ∙ ap (λ (x : Here D V). seat_of (given x.0 (word + 1) book) []) is
+  -- a book that is out with a seat at its turn
+  abbrev pub Turning : View → Here D V → Type 0
+  Turning v m = (book : Account D V) × (m.1 ≡ holds_book book) × Took v m.0 book
+
+  -- it may take the sample
+  pub may_take : (v : View) (m : Here D V) (sample : Sample) → Turning v m → SampleFits v.basis.terms.layouts sample
+      → encoded_size v.basis.terms.layouts sample ≤ v.basis.terms.block_limit → (book : Account D V) × (m.1 ≡ holds_book book) × MayTake book sample
+  may_take v m sample turn fits size =
+      (turn.0, turn.1, subst (λ (t : Terms). SampleFits t.layouts sample × (encoded_size t.layouts sample ≤ t.block_limit)) (sym turn.2.meets.terms) (fits, size))
+
+  -- the seat after the book was given back
+  pub gave_now : (u w : View) (x : Here D V) (word : ℕ) (book : Account D V) → w ≡ u → x ≡ seat_of (given w word book) [] → x.0 ≡ given u word book
+  gave_now u w x word book same is = ap (λ (seat : Here D V). seat.0) is ∙ ap (λ y. given y word book) same
 
   -- the seat while it holds the turn
   abbrev pub turning : View → View → Account D V → View
@@ -164,6 +186,15 @@ module _ {D V : Type 0} where
   pub turned_now : (v u x : View) (word : ℕ) (old new : Account D V) → Took v u old → x ≡ given u word new → Turned x old new
   turned_now v u x word old new took is =
       subst (λ y. Turned y old new) (sym (after_turn v u x word old new took is)) (record { found = refl; terms = took.meets.terms; history = refl; marks = refl; stopped = refl })
+
+  -- the seat has no turn, and is still one of a source
+  pub rests_now : (v u x : View) (word : ℕ) (old new : Account D V) → Took v u old → x ≡ given u word new → Rests v x
+  rests_now v u x word old new took is =
+      subst (λ y. Rests v y) (sym (after_turn v u x word old new took is)) (record {
+        calm = refl;
+        basis_is = refl;
+        single = λ number single. single_again v.basis.owners new.history v.mine number single;
+      })
 
   told_append : {N : Type 0} (disk : DiskOf D) (view : ViewOf V N) (v u : View) (word : ℕ) (old new : Account D V) (sample : Sample) (answer : Append) → old.terms ≡ v.basis.terms
       → AppendAnswers disk view old new sample answer → Told (given (turning v u old) word new) old.history sample answer
@@ -290,3 +321,26 @@ module _ {D V N : Type 0} (disk : DiskOf D) (view : ViewOf V N) (told : Bool) (v
           served_given v u word old new [] number took steps single (adds_none v.basis.owners v.mine number),
           told_flush rising same_history answer answers,
         )
+
+module _ {D V N : Type 0} (disk : DiskOf D) (view : ViewOf V N) (v u : View) (word : ℕ) (old new : Account D V) where
+  all_given : new.history ≡ old.history → (answer : Flush N) → FlushAnswers disk view old new answer → FlushesAll (given (turning v u old) word new) answer
+  all_given same (flush.Done through shown note) is = is.2 ∙ ap length (sym same)
+  all_given same (flush.DiskFault before after) is = tt
+  all_given same (flush.Stopped mark) is = tt
+
+  noted_given : old.terms ≡ v.basis.terms → new.history ≡ old.history → (answer : Flush N) → FlushAnswers disk view old new answer
+      → IsNoted view (given (turning v u old) word new) answer
+  noted_given terms same (flush.Done through shown note) is =
+      subst (λ h. view.tells note v.basis.terms.which (take shown h)) (sym same) (subst (λ (t : Terms). view.tells note t.which (take shown old.history)) terms is.7)
+  noted_given terms same (flush.DiskFault before after) is = tt
+  noted_given terms same (flush.Stopped mark) is = tt
+
+  module _ (x : View) (answer : Flush N) (took : Took v u old) (steps : Steps old new []) (answers : FlushAnswers disk view old new answer) (is : x ≡ given u word new) where
+    unchanged : new.history ≡ old.history
+    unchanged = steps.history ∙ append-nil old.history
+
+    pub all_now : FlushesAll x answer
+    all_now = subst (λ y. FlushesAll y answer) (sym (after_turn v u x word old new took is)) (all_given unchanged answer answers)
+
+    pub noted_now : IsNoted view x answer
+    noted_now = subst (λ y. IsNoted view y answer) (sym (after_turn v u x word old new took is)) (noted_given took.meets.terms unchanged answer answers)

@@ -1,6 +1,9 @@
 -- What a seat knows after a turn, and after none.
-use Rattle.std.specs.Prelude.{ℕ, ◌≡◌, ◌+◌, ◌%◌, ◌<◌, ◌≤◌, ◌⊎◌, true, List, ◌++◌}
+use Rattle.std.specs.Prelude.{ℕ, ◌≡◌, ◌+◌, ◌%◌, ◌<◌, ◌≤◌, ◌⊎◌, true, List, [], ◌∷◌, ◌++◌}
+use Rattle.std.specs.Prelude.{Option as Opt, Some}
 use mathlib.Core.List.{IsPrefix}
+use Rattle.atomic_table.specs.Table.{Me}
+use Rattle.mdf_layout.specs.Record.{SampleFits, encoded_size}
 use Rattle.mdf_layout.specs.declared.sample.Sample.{Sample}
 use Rattle.book_owned.specs.Account.{Account}
 use Rattle.book_shared.specs.Basis.{idle, holding}
@@ -45,3 +48,11 @@ pub record Rests (v u : View) : Type 0 where
   pub calm : u.turn ≡ idle
   pub basis_is : u.basis ≡ v.basis
   pub single : (number : ℕ) → IsSingle v number → IsSingle u number
+
+-- the book may be asked to take the sample
+abbrev pub MayTake : {D V : Type 0} → Account D V → Sample → Type 0
+MayTake book sample = SampleFits book.terms.layouts sample × (encoded_size book.terms.layouts sample ≤ book.terms.block_limit)
+
+-- the book that is out with a seat was worked on where it lies
+abbrev pub Works : {D V : Type 0} → Me (Opt (Account D V)) View → Me (Opt (Account D V)) View → (Account D V → Account D V → Type 0) → Type 0
+Works {D} {V} before now does = (old : Account D V) → before.1 ≡ (0, Some old) ∷ [] → (new : Account D V) × (now.1 ≡ (0, Some new) ∷ []) × does old new

@@ -1,14 +1,16 @@
-//! The calls of a shared book. Each takes the book out of the slot under the turn, calls it, and gives it back.
-ghost use Rattle.std.specs.Prelude.{ℕ, ◌≡◌, ◌+◌, ◌%◌, ◌<◌, ◌≤◌, [], ◌∷◌, ◌++◌, length, slice_index, Some, None, IfOk, IfErr};
+//! The calls of a shared book. Each takes the book under the turn, calls it where it lies, and gives it back.
+ghost use Rattle.std.specs.Prelude.{ℕ, ◌≡◌, ◌+◌, ◌%◌, ◌<◌, ◌≤◌, [], ◌∷◌, ◌++◌, length, slice_index, is_some, Some, None, IfOk, IfErr};
 ghost use mathlib.Core.Option.{none};
 ghost use Rattle.atomic_table.specs.Table.{step};
 ghost use Rattle.mdf_layout.specs.Record.{SampleFits, encoded_size};
 ghost use Rattle.book_owned.specs.Account.{Account, Steps};
+ghost use Rattle.book_owned.specs.Answers.{AppendAnswers, FlushAnswers, accepted_by};
+ghost use Rattle.book_owned.specs.Marks.{AreRising};
 ghost use Rattle.book_shared.specs.Basis.{idle};
 ghost use Rattle.book_shared.specs.Rule.{AreOld};
 ghost use Rattle.book_shared.specs.Plays.{looked, given, Holds, Takes};
 ghost use Rattle.book_shared.specs.Place.{IsSingle};
-ghost use Rattle.book_shared.specs.Turns.{Took, Waited, IsBusy, Rests};
+ghost use Rattle.book_shared.specs.Turns.{Took, Waited, IsBusy, Rests, MayTake, Works};
 ghost use Rattle.book_shared.specs.Told.{Appends, Tries, Puts, tried_by, Flushes, FlushesAll, IsNoted, AppendsBook, TriesBook, FlushesBook};
 
 use crate::Try;
@@ -95,34 +97,16 @@ impl<D: Disk, V: Shown> SharedBook<D, V> {
             .compare_exchange::<Take>(seat, 0, word, word + 1)
     }
 
-    /// The book that is out with the seat.
-    fn carry(&self, seat: &mut Chair<D, V>) -> Book<D, V>
-        requires table { seat.old.table_id ≡ self.now.table }
-        requires book { (book : Account D V) × (seat.old.me.1 ≡ (0, Some book) ∷ []) }
-        ensures table { seat.new.table_id ≡ seat.old.table_id }
-        ensures book { seat.old.me.1 ≡ (0, Some result) ∷ [] }
-        ensures seat { seat.new.me ≡ (seat.old.me.0, (0, None) ∷ []) }
-    {
-        match self.table.shared.exchange(seat, 0, None) {
-            Some(book) => book,
-            None => unreachable!(),
-        }
-    }
-
-    /// Gives the book back, and wakes who waits for the turn.
-    fn give(&self, seat: &mut Chair<D, V>, word: u64, book: Book<D, V>)
+    /// Gives the book that is out with the seat back, and wakes who waits for the turn.
+    fn give(&self, seat: &mut Chair<D, V>, word: u64)
         requires table { seat.old.table_id ≡ self.now.table }
         requires word { word ≡ seat.old.me.0.met }
         requires low { word ≤ 18446744073709551613 }
-        requires returns { Holds seat.old.me.0 book }
-        requires seat { seat.old.me.1 ≡ (0, None) ∷ [] }
+        requires returns { (book : Account D V) × (seat.old.me.1 ≡ (0, Some book) ∷ []) × Holds seat.old.me.0 book }
         ensures table { seat.new.table_id ≡ seat.old.table_id }
-        ensures given { seat.new.me ≡ (given seat.old.me.0 (word + 1) book, []) }
+        ensures free { seat.new.me.1 ≡ [] }
+        ensures given { (book : Account D V) → seat.old.me.1 ≡ (0, Some book) ∷ [] → seat.new.me ≡ (given seat.old.me.0 (word + 1) book, []) }
     {
-        match self.table.shared.exchange(seat, 0, Some(book)) {
-            None => {}
-            Some(_book) => unreachable!(),
-        }
         self.table.shared.store::<Give>(seat, 0, word + 1);
         self.table.shared.wake_all(0);
     }
@@ -149,19 +133,18 @@ impl<D: Disk, V: Shown> SharedBook<D, V> {
         Ok(word + 1)
     }
 
-    /// Takes the turn, and waits for it where another seat has it. Answers the word that it made, and the book.
-    fn seize<R: Wait>(&self, rt: &R, seat: &mut Chair<D, V>) -> (u64, Book<D, V>)
+    /// Takes the turn, and waits for it where another seat has it. Answers the word that it made.
+    fn seize<R: Wait>(&self, rt: &R, seat: &mut Chair<D, V>) -> u64
         requires table { seat.old.table_id ≡ self.now.table }
         requires free { seat.old.me.1 ≡ [] }
         requires some_source { 0 < length seat.old.me.0.mine }
         ensures table { seat.new.table_id ≡ seat.old.table_id }
-        ensures word { result.0 ≡ seat.new.me.0.met }
-        ensures seat { seat.new.me.1 ≡ (0, None) ∷ [] }
-        ensures took { Took seat.old.me.0 seat.new.me.0 result.1 }
+        ensures word { result ≡ seat.new.me.0.met }
+        ensures took { (book : Account D V) × (seat.new.me.1 ≡ (0, Some book) ∷ []) × Took seat.old.me.0 seat.new.me.0 book }
     {
         for _ in rt.forever() {
             match self.try_take(seat) {
-                Ok(word) => return (word, self.carry(seat)),
+                Ok(word) => return word,
                 Err(word) if word % 2 == 1 => {
                     self.table.shared.park(rt, 0, (word % 4294967296) as u32)
                 }
@@ -169,6 +152,54 @@ impl<D: Disk, V: Shown> SharedBook<D, V> {
             }
         }
         unreachable!()
+    }
+
+    /// Appends to the book that is out with the seat, where it lies.
+    fn append_out<R: Threads + Wait + Sync>(
+        &self,
+        rt: &R,
+        seat: &mut Chair<D, V>,
+        sample: Sample,
+    ) -> Append
+        requires table { seat.old.table_id ≡ self.now.table }
+        requires book { (book : Account D V) × (seat.old.me.1 ≡ (0, Some book) ∷ []) × MayTake book sample }
+        ensures table { seat.new.table_id ≡ seat.old.table_id }
+        ensures view { seat.new.me.0 ≡ seat.old.me.0 }
+        ensures works { Works seat.old.me seat.new.me (λ old new. Steps old new (accepted_by result sample) × AppendAnswers D.Disk V.Shown old new sample result) }
+    {
+        match seat.slot_mut(&self.table.shared, 0) {
+            Some(book) => book.append(rt, sample),
+            None => unreachable!(),
+        }
+    }
+
+    /// Flushes the book that is out with the seat, where it lies.
+    fn flush_out<R: Threads + Wait + Sync>(&self, rt: &R, seat: &mut Chair<D, V>) -> Flush<V::Note>
+        requires table { seat.old.table_id ≡ self.now.table }
+        requires book { (book : Account D V) × (seat.old.me.1 ≡ (0, Some book) ∷ []) }
+        ensures table { seat.new.table_id ≡ seat.old.table_id }
+        ensures view { seat.new.me.0 ≡ seat.old.me.0 }
+        ensures works { Works seat.old.me seat.new.me (λ old new. Steps old new [] × FlushAnswers D.Disk V.Shown old new result
+            × AreRising (is_some (D.story new.disk)) new.marks) }
+    {
+        match seat.slot_mut(&self.table.shared, 0) {
+            Some(book) => book.flush(rt),
+            None => unreachable!(),
+        }
+    }
+
+    /// Tries to put a sample into the book that is out with the seat, where it lies.
+    fn try_out(&self, seat: &mut Chair<D, V>, sample: Sample) -> Try
+        requires table { seat.old.table_id ≡ self.now.table }
+        requires book { (book : Account D V) × (seat.old.me.1 ≡ (0, Some book) ∷ []) × MayTake book sample }
+        ensures table { seat.new.table_id ≡ seat.old.table_id }
+        ensures view { seat.new.me.0 ≡ seat.old.me.0 }
+        ensures works { Works seat.old.me seat.new.me (λ old new. Steps old new (tried_by result sample) × Puts D.Disk V.Shown old new sample result) }
+    {
+        match seat.slot_mut(&self.table.shared, 0) {
+            Some(book) => put_in(book, sample),
+            None => unreachable!(),
+        }
     }
 
     /// `append`, over the seat at the table.
@@ -189,9 +220,9 @@ impl<D: Disk, V: Shown> SharedBook<D, V> {
         ensures appends { Appends seat.old.me.0 seat.new.me.0 sample result }
         ensures book { AppendsBook D.Disk V.Shown seat.new.me.0 sample result }
     {
-        let (word, mut book) = self.seize(rt, seat);
-        let answer = book.append(rt, sample);
-        self.give(seat, word, book);
+        let word = self.seize(rt, seat);
+        let answer = self.append_out(rt, seat, sample);
+        self.give(seat, word);
         answer
     }
 
@@ -208,9 +239,9 @@ impl<D: Disk, V: Shown> SharedBook<D, V> {
         ensures noted { IsNoted V.Shown seat.new.me.0 result }
         ensures book { FlushesBook D.Disk V.Shown seat.new.me.0 result }
     {
-        let (word, mut book) = self.seize(rt, seat);
-        let answer = book.flush(rt);
-        self.give(seat, word, book);
+        let word = self.seize(rt, seat);
+        let answer = self.flush_out(rt, seat);
+        self.give(seat, word);
         answer
     }
 
@@ -230,9 +261,8 @@ impl<D: Disk, V: Shown> SharedBook<D, V> {
     {
         match self.try_take(seat) {
             Ok(word) => {
-                let mut book = self.carry(seat);
-                let answer = put_in(&mut book, sample);
-                self.give(seat, word, book);
+                let answer = self.try_out(seat, sample);
+                self.give(seat, word);
                 answer
             }
             Err(word) => Try::Busy { word, sample },
