@@ -16,6 +16,7 @@ use mdf_disk::Disk;
 use mdf_num::Memory;
 use std::alloc::Global;
 use std::snapshot::Snapshot;
+use std::sync::atomic::AtomicU64;
 
 /// The owners of the groups, with 0 for a group that is not there.
 fn table_of(owners: &[u8]) -> [u8; 64]
@@ -107,7 +108,10 @@ impl<D: Disk, V: Shown> SharedBook<D, V> {
         slots.push_reserved(Some(book));
         match Table::new(alloc, &[0], slots, &fixed) {
             Ok((table, first)) => {
-                let shared = SharedBook { table };
+                let shared = SharedBook {
+                    table,
+                    waiting: AtomicU64::new(0),
+                };
                 part(&shared, first, &mut seats, fixed.owners, sources);
                 Ok((shared, seats))
             }

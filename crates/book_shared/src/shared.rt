@@ -26,6 +26,8 @@ use std::alloc::Global;
 use std::marker::Model;
 use std::mem;
 use std::sync::Wait;
+use std::sync::atomic::AtomicU64;
+use std::sync::atomic::Ordering::SeqCst;
 use std::thread::Threads;
 
 /// The greatest even turn word. From it no turn is taken any more.
@@ -35,6 +37,9 @@ const LAST: u64 = 18446744073709551614;
 /// the next odd one takes it out, and gives it back when it changes the word to the next even one.
 pub struct SharedBook<D: Disk, V: Shown> {
     pub(crate) table: Table<Option<Book<D, V>>, View, Fixed<Book<D, V>>, Running, Global>,
+    /// How many seats are about to sleep, or sleep, until the turn is given back. No promise rests on it: where there is none,
+    /// nobody has to be woken.
+    pub(crate) waiting: AtomicU64,
 }
 
 impl<D: Disk, V: Shown> Model for SharedBook<D, V> {
@@ -108,7 +113,9 @@ impl<D: Disk, V: Shown> SharedBook<D, V> {
         ensures given { (book : Account D V) → seat.old.me.1 ≡ (0, Some book) ∷ [] → seat.new.me ≡ (given seat.old.me.0 (word + 1) book, []) }
     {
         self.table.shared.store::<Give>(seat, 0, word + 1);
-        self.table.shared.wake_all(0);
+        if self.waiting.load(SeqCst) > 0 {
+            self.table.shared.wake_all(0);
+        }
     }
 
     /// Takes the turn by one load and at most one exchange, and answers the word that it made. At `Err` the turn was not
@@ -133,6 +140,14 @@ impl<D: Disk, V: Shown> SharedBook<D, V> {
         Ok(word + 1)
     }
 
+    /// Sleeps until the turn is given back, unless the turn word is another one already. The seat is counted before the word is
+    /// looked at, and who gives the turn back looks at the count behind its store: so one of the two sees the other.
+    fn sleep<R: Wait>(&self, rt: &R, word: u64) {
+        self.waiting.fetch_add(1, SeqCst);
+        self.table.shared.park(rt, 0, (word % 4294967296) as u32);
+        self.waiting.fetch_sub(1, SeqCst);
+    }
+
     /// Takes the turn, and waits for it where another seat has it. Answers the word that it made.
     fn seize<R: Wait>(&self, rt: &R, seat: &mut Chair<D, V>) -> u64
         requires table { seat.old.table_id ≡ self.now.table }
@@ -145,9 +160,7 @@ impl<D: Disk, V: Shown> SharedBook<D, V> {
         for _ in rt.forever() {
             match self.try_take(seat) {
                 Ok(word) => return word,
-                Err(word) if word % 2 == 1 => {
-                    self.table.shared.park(rt, 0, (word % 4294967296) as u32)
-                }
+                Err(word) if word % 2 == 1 => self.sleep(rt, word),
                 Err(_word) => {}
             }
         }
