@@ -1,4 +1,5 @@
 mod Heads
+mod Lengths
 mod Feeding
 mod Begins
 pub mod Runs

@@ -27,7 +27,9 @@ use Rattle.mdf_gate.specs.Carried.{IsCarried, IsEncoded}
 use Rattle.book_owned.specs.Marks.{durable}
 use Rattle.book_owned.specs.declared.view.NoView.{NoView}
 use Rattle.acq_script.specs.Tasks.{samples_of}
+use Rattle.acq_script.specs.Stage.{IsScript}
 use Rattle.acq_script.specs.declared.script.Script.{Script}
+use Rattle.mdf_carried.specs.Recovers.{IsReadHead}
 use Rattle.acq_script.specs.declared.script.Task.{Task}
 use Rattle.acq_run.specs.Works as Fed
 use Rattle.acq_run.specs.Ran.{AllRan}
@@ -134,6 +136,7 @@ module _ {D N : Type 0} (tells : DiskOf D) (shows : ViewOf NoView N)
     marks_rise = kept.marks_rise;
     own_prefix = λ s tasks there. let at = at_source s tasks there in own_begins owners flushed s tasks at.driven at.ran;
     flush_lines = λ s tasks there. let at = at_source s tasks there in own_flushes owners flushed s tasks at.driven at.ran;
+    cost = subst (λ (t : Terms). history_cost t.layouts flushed.history ≤ t.session_limit) terms_are closes.within;
   }
 
   accepted_are : AreAccepted script left accepted.items
@@ -164,7 +167,7 @@ module _ {D N : Type 0} (tells : DiskOf D) (shows : ViewOf NoView N)
         let ran_all = whole_ran owners flushed s tasks at.driven (each_done (ends_of ran.all) u (sym is ∙ ran.told) s (told_of at.driven.ended) at.how_is) at.ran in
         sym (group_of_source owners flushed.history group) ∙ ap (λ n. group_samples (source_samples owners flushed.history n) group) owner
         ∙ ap (λ h. group_samples h group) ran_all.0;
-    cost = subst (λ (t : Terms). history_cost t.layouts flushed.history ≤ t.session_limit) terms_are closes.within;
+    cost = recorded_is.cost;
     saved = saved durable_all;
   }
   completes (Err e) is ok durable_all = absurd (true≢false (sym ok))
@@ -254,6 +257,7 @@ recorded_told script front front' None middle first start start' outcome' is tol
   marks_rise = recorded.marks_rise;
   own_prefix = recorded.own_prefix;
   flush_lines = recorded.flush_lines;
+  cost = recorded.cost;
 }
 recorded_told script front front' (Some s) (Some middle) (Some first) start start' outcome' is told told' front_is start_is recorded =
     subst (λ h. IsRecorded script h start' outcome') front_is (subst (λ n. IsRecorded script front n outcome') start_is recorded)
@@ -269,11 +273,11 @@ close_earlier script earlier faults left (Some problem) later comes = comes
 
 -- what was recorded into a file that was made on a disk
 pub record_comes : {C : Type 0} (tells : DiskOf C) (Says : Script → Type 0) (Refuses : Fault → Type 0) (name : List ℕ) (now : ℕ) (out : C) (script : Script) (file : Gated C) (left : Outcome) (end : RecordEnd)
-    → Says script → tells.asked file.disk ≡ Some (name, Create) → HoldsSince (tells.story file.disk) (tells.moment out) (IsBegun (script_head now script))
+    → Says script → IsScript script → IsReadHead now script.plan.rows → tells.asked file.disk ≡ Some (name, Create) → HoldsSince (tells.story file.disk) (tells.moment out) (IsBegun (script_head now script))
     → IfSome (tells.story file.disk) (λ _. head_of (tells.story file.disk) file.first ≡ script_head now script) → is_some (tells.story file.disk) ≡ is_some (tells.story out)
     → IfSome (tells.story out) (λ _. file.start ≡ tells.moment out) → tells.faults out ≤ file.faults → HasRun tells script file left end
     → RecordComes Says Refuses name now (state_of tells out) left end
-record_comes tells Says Refuses name now out script file left end says asked_is begun head_is told start_is later run = of_end end run.comes where
+record_comes tells Says Refuses name now out script file left end says is_script readable asked_is begun head_is told start_is later run = of_end end run.comes where
   of_end : (e : RecordEnd) → RunComes script (state_of tells file.disk) (head_of (tells.story file.disk) file.first) file.start file.faults left e
       → RecordComes Says Refuses name now (state_of tells out) left e
   of_end (Refused problem) comes = record {
@@ -290,6 +294,8 @@ record_comes tells Says Refuses name now out script file left end says asked_is 
   of_end (Closed accepted samples last problem) comes = record {
     script = script;
     says = says;
+    is_script = is_script;
+    readable = readable;
     recorded = recorded_told script (head_of (tells.story file.disk) file.first) (script_head now script) left.disk.story (tells.story file.disk) (tells.story out)
         file.start (tells.moment out) left refl run.told told head_is start_is comes.recorded;
     accepted_is = comes.accepted_is;
@@ -320,6 +326,8 @@ comes_as Says Says' Refuses Refuses' says refuses name now disk left (Refused pr
 comes_as Says Says' Refuses Refuses' says refuses name now disk left (Closed accepted samples last problem) comes = record {
   script = comes.script;
   says = says comes.script comes.says;
+  is_script = comes.is_script;
+  readable = comes.readable;
   recorded = comes.recorded;
   accepted_is = comes.accepted_is;
   samples_is = comes.samples_is;

@@ -1,10 +1,10 @@
 -- What is recovered of what a crash may leave of a recording.
-use Rattle.std.proofs.Common.{false, ◌≡◌, ◌%◌, inl, inr, ⊎_elim, ℕ, List, [], ◌∷◌, ◌++◌, map, get_or, Option, Some, None, refl, sym, ◌∙◌, ap, subst, arith}
+use Rattle.std.proofs.Common.{false, ◌≡◌, ◌≤◌, ◌⊎◌, ◌%◌, inl, inr, ⊎_elim, ℕ, List, [], ◌∷◌, ◌++◌, map, get_or, Option, Some, None, refl, sym, ◌∙◌, ap, subst, arith}
 use Rattle.std.proofs.lemmas.Bool.{cond-false}
 use Rattle.std.specs.Prelude.{nat_eq, is_some, IfSome}
 use Rattle.std.specs.List.{AllByRecursion}
 use Rattle.mdf_format.specs.Number.{bytes_at}
-use Rattle.mdf_disk.specs.Story.{Story, Agrees}
+use Rattle.mdf_disk.specs.Story.{Story, Agrees, LeftSince}
 use Rattle.mdf_disk.specs.Crash.{HoldsSince}
 use Rattle.mdf_disk.specs.State.{DiskState, state_of}
 use Rattle.book_owned.specs.Members.{DiskOf}
@@ -13,6 +13,7 @@ use Rattle.mdf_group.specs.declared.row.GroupRow.{GroupRow}
 use Rattle.mdf_group.specs.Group.{is_variable}
 use Rattle.mdf_group.specs.Recordable.{IsRecordableGroup, AreRecordable}
 use Rattle.mdf_layout.specs.Layout.{Layout}
+use Rattle.mdf_layout.specs.Record.{history_cost}
 use Rattle.mdf_layout.specs.declared.sample.Sample.{Sample}
 use Rattle.mdf_content.specs.Layouts as contents
 use Rattle.mdf_content.specs.Layouts.{field_of}
@@ -21,16 +22,17 @@ use Rattle.mdf_gate.specs.Gated.{Gated}
 use Rattle.mdf_gate.specs.Images.{IsNotMdf, IsBegun, head_of}
 use Rattle.mdf_gate.specs.Carried.{Carries}
 use Rattle.mdf_gate.proofs.Carrying.{carries_begun}
-use Rattle.mdf_carried.specs.Recovers.{IsReadHead, Recovers, IsNoneOrRecovers}
+use Rattle.mdf_carried.specs.Recovers.{IsReadHead, Recovers}
 use Rattle.acq_script.specs.Plan as plans
 use Rattle.acq_script.specs.Plan.{IsPlan}
 use Rattle.acq_script.specs.declared.script.Script.{Script}
 use Rattle.mdf_record.specs.Head.{script_head}
 use Rattle.mdf_record.specs.Record.{IsRecorded, Outcome}
 use Rattle.mdf_record.specs.Recorded.{HasRun, RunComes}
-use Rattle.mdf_record.specs.Recovers.{MarksRecover, StartRecovers, AreRecovered}
+use Rattle.mdf_record.specs.Recovers.{IsFinalizable, MarksRecover, StartRecovers, AreRecovered}
 use Rattle.mdf_record.specs.declared.record.RecordEnd.{RecordEnd}
 use Rattle.mdf_record.specs.declared.record.RecordEnd.TheVariants.{Refused, Closed}
+use Rattle.mdf_record.proofs.Lengths.{head_short}
 use Rattle.mdf_record.proofs.Recording.{recorded_told}
 
 -- two disks of one story are at one moment
@@ -76,14 +78,29 @@ begun_none file begun =
     ⊎_elim (λ none. none) (λ begins. zero_first file (ap (λ (xs : List ℕ). get_or xs 0 0) (sym begins.0.1))) (begun (0 ∷ []))
 
 pub none_recovered : (story : Option Story) (start : ℕ) → ((head : List ℕ) → HoldsSince story start (IsBegun head)) → StartRecovers story start []
-none_recovered story start begun = λ file may. inl (begun_none file (λ head. begun head file may))
+none_recovered story start begun =
+    let none : (file : List ℕ) → LeftSince story start file → IsNotMdf file = λ file may. begun_none file (λ head. begun head file may) in
+    record { recovers = λ file may. inl (none file may); finalizable = λ file may. inl (none file may) }
+
+-- what carries samples of no more than the greatest session limit is finalized
+carries_finalizable : CarriedIsRecovered → (start : ℕ) (rows : List GroupRow) (layouts : List Layout) (history : List Sample) (through : ℕ) (file : List ℕ)
+    → AreRecordable rows → IsReadHead start rows → layouts ≡ map contents.layout_of rows → history_cost layouts history ≤ 268435456
+    → Carries layouts (head_file start rows) history through file → IsFinalizable file
+carries_finalizable law start rows layouts history through file are read layouts_are cost carries = record {
+  readable = (law start rows layouts history through file are read layouts_are carries).readable;
+  short = omega (arith, carries.ends, cost, head_short start rows are read);
+}
 
 -- a file that was just begun
-pub begun_recovered : CarriedIsRecovered → (start : ℕ) (rows : List GroupRow) (file : List ℕ) → AreRecordable rows → IsReadHead start rows
-    → IsBegun (head_file start rows) file → IsNoneOrRecovers [] file
-begun_recovered law start rows file are read begun =
-    ⊎_elim inl (λ carries. inr (law start rows (map contents.layout_of rows) [] 0 file are read refl carries))
-    (carries_begun (map contents.layout_of rows) (head_file start rows) [] file begun)
+pub begun_recovered : CarriedIsRecovered → (story : Option Story) (since start : ℕ) (rows : List GroupRow) → AreRecordable rows → IsReadHead start rows
+    → HoldsSince story since (IsBegun (head_file start rows)) → StartRecovers story since []
+begun_recovered law story since start rows are read begun = record {
+  recovers = λ file may. ⊎_elim inl (λ carries. inr (law start rows (map contents.layout_of rows) [] 0 file are read refl carries)) (carried file may);
+  finalizable = λ file may. ⊎_elim inl
+      (λ carries. inr (carries_finalizable law start rows (map contents.layout_of rows) [] 0 file are read refl (omega arith) carries)) (carried file may);
+} where
+  carried : (file : List ℕ) → LeftSince story since file → IsNotMdf file ⊎ Carries (map contents.layout_of rows) (head_file start rows) [] 0 file
+  carried file may = carries_begun (map contents.layout_of rows) (head_file start rows) [] file (begun file may)
 
 -- the layouts of a plan are those of its rows
 layouts_same : (rows : List GroupRow) → AllByRecursion IsRecordableGroup rows → map plans.layout_of rows ≡ map contents.layout_of rows
@@ -104,6 +121,12 @@ module _ (law : CarriedIsRecovered) (now : ℕ) (script : Script) (plan : IsPlan
       → Recovers history through file
   carries_recovers history through file carries = law now script.plan.rows script.plan.shapes history through file plan.planned read layouts_are carries
 
+  finalizable : (history : List Sample) (through : ℕ) (file : List ℕ) → history_cost script.plan.shapes history ≤ script.plan.session
+      → Carries script.plan.shapes (script_head now script) history through file → IsFinalizable file
+  finalizable history through file cost carries =
+      carries_finalizable law now script.plan.rows script.plan.shapes history through file plan.planned read layouts_are
+      (omega (arith, cost, plan.limits.session_high)) carries
+
   recorded_recovers : (start : ℕ) (left : Outcome) → IsRecorded script (script_head now script) start left → AreRecovered start left
   recorded_recovers start left recorded = record {
     marks_recover = λ k mark within.
@@ -111,8 +134,12 @@ module _ (law : CarriedIsRecovered) (now : ℕ) (script : Script) (plan : IsPlan
           past = hold.past;
           within = hold.within;
           recovers = λ file may. carries_recovers left.history (get_or left.marks k mark).through file (hold.carries file may);
+          finalizable = λ file may. finalizable left.history (get_or left.marks k mark).through file recorded.cost (hold.carries file may);
         };
-    start_recovers = λ file may. ⊎_elim inl (λ carries. inr (carries_recovers left.history 0 file carries)) (recorded.start_holds file may);
+    start_recovers = record {
+      recovers = λ file may. ⊎_elim inl (λ carries. inr (carries_recovers left.history 0 file carries)) (recorded.start_holds file may);
+      finalizable = λ file may. ⊎_elim inl (λ carries. inr (finalizable left.history 0 file recorded.cost carries)) (recorded.start_holds file may);
+    };
   }
 
   pub run_recovers : {C : Type 0} (tells : DiskOf C) (out : C) (file : Gated C) (left : Outcome) (end : RecordEnd)
@@ -127,7 +154,7 @@ module _ (law : CarriedIsRecovered) (now : ℕ) (script : Script) (plan : IsPlan
       marks_recover = subst (MarksRecover left.disk.story left.disk.moment left.history) (sym comes.3) (λ k mark within. absurd (omega (arith, within)));
       start_recovers = subst (StartRecovers left.disk.story (tells.moment out)) (sym comes.2)
           (subst (λ (d : DiskState). StartRecovers d.story (tells.moment out) []) (sym comes.1)
-          (λ image may. begun_recovered law now script.plan.rows image plan.planned read (begun image may)));
+          (begun_recovered law (tells.story file.disk) (tells.moment out) now script.plan.rows plan.planned read begun));
     }
     of_end (Closed accepted samples last problem) comes =
         recorded_recovers (tells.moment out) left

@@ -146,8 +146,8 @@ CloseComes script faults left (Some (fault.SessionFull held size limit)) = IsFul
 CloseComes script faults left (Some fault.Memory) = IsShort script left
 CloseComes script faults left (Some _) = ⊥
 
--- What a recording of this script keeps, whatever happened: of its marks, of what a crash since its start may leave, and of
--- the samples and the flushes of each source.
+-- What a recording of this script keeps, whatever happened: of its marks, of what a crash since its start may leave, of the
+-- samples and the flushes of each source, and that all samples cost no more than the session limit.
 pub record IsRecorded (script : Script) (head : List ℕ) (start : ℕ) (left : Outcome) : Type 0 where
   pub marks_hold : MarksHold script.plan.shapes head left.disk.story left.disk.moment left.history left.marks
   pub start_holds : StartHolds script.plan.shapes head left.disk.story start left.history
@@ -155,3 +155,4 @@ pub record IsRecorded (script : Script) (head : List ℕ) (start : ℕ) (left : 
   pub own_prefix : OfSources script (λ source tasks. IsPrefix (source_samples script.plan.owners left.history source) (samples_of tasks))
   pub flush_lines : OfSources script (λ source tasks. AreOwnMarked script.plan.owners source left.history left.marks
       (λ n. n < length (source_samples script.plan.owners left.history source)) [] tasks)
+  pub cost : history_cost script.plan.shapes left.history ≤ script.plan.session

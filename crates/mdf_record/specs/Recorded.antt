@@ -14,7 +14,9 @@ use Rattle.book_owned.specs.Account.{Account}
 use Rattle.book_owned.specs.Kept.{HoldsDurable, IsKept}
 use Rattle.book_owned.specs.declared.view.NoView.{NoView}
 use Rattle.book_owned.specs.Marks.{durable}
+use Rattle.acq_script.specs.Stage.{IsScript}
 use Rattle.acq_script.specs.declared.script.Script.{Script}
+use Rattle.mdf_carried.specs.Recovers.{IsReadHead}
 use Rattle.script_gen.specs.Generated.{generated_script}
 use Rattle.mdf_record.specs.Head.{script_head}
 use Rattle.mdf_record.specs.Script.{SaysScript, ScriptFaultComes}
@@ -52,6 +54,8 @@ pub record IsRefused (Says : Script → Type 0) (Refuses : Fault → Type 0) (na
 pub record IsClosed (Says : Script → Type 0) (name : List ℕ) (now : ℕ) (disk : DiskState) (left : Outcome) (accepted : List ℕ) (samples last : ℕ) (fault : Option Fault) : Type 0 where
   pub script : Script
   pub says : Says script
+  pub is_script : IsScript script
+  pub readable : IsReadHead now script.plan.rows
   pub recorded : IsRecorded script (script_head now script) disk.moment left
   pub accepted_is : AreAccepted script left accepted
   pub samples_is : samples ≡ length left.history

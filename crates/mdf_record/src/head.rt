@@ -1,4 +1,4 @@
-ghost use Rattle.std.specs.Prelude.{◌≡◌, ◌^◌, ◌<◌, length, IfOk};
+ghost use Rattle.std.specs.Prelude.{◌≡◌, ◌≤◌, length, IfOk};
 ghost use Rattle.mdf_group.specs.Recordable.{AreRecordable};
 ghost use Rattle.mdf_gate.specs.Gated.{IsRecordingHead};
 ghost use Rattle.mdf_spell.specs.Recording.{head_file};
@@ -9,9 +9,6 @@ use mdf_num::{Bytes, Memory, Rows};
 use mdf_spell::recording_head;
 use std::alloc::Global;
 
-/// No memory holds a head of so many bytes.
-const LONGEST: usize = 1 << 61;
-
 /// The head of a recording of these groups, up to the place where its data begin, with this start time in ns: what
 /// `recording_head` gives.
 ///
@@ -21,12 +18,9 @@ pub(crate) fn head_for(alloc: Global, start_ns: u64, rows: &Rows<GroupRow>) -> R
     requires { AreRecordable rows.now }
     ensures head { IfOk result (λ head. head ≡ head_file start_ns rows.now) }
     ensures recording { IfOk result (λ head. IsRecordingHead head) }
-    ensures short { IfOk result (λ head. length head < 2 ^ 61) }
+    ensures short { IfOk result (λ head. length head ≤ 524288) }
     ensures readable { IfOk result (λ _. IsReadHead start_ns rows.now) }
 {
     let head = recording_head(alloc, start_ns, rows)?;
-    if head.as_slice().len() >= LONGEST {
-        return Err(Memory);
-    }
     Ok(head)
 }

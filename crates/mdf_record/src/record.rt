@@ -14,8 +14,8 @@ ghost use Rattle.mdf_port.specs.State.{sink_state, source_state};
 ghost use Rattle.mdf_command.specs.Texts.{Gives, Prints, numbered};
 ghost use Rattle.mdf_record.specs.Record.{fault_text, outcome, record_status, record_text, source_line, summary_text};
 ghost use Rattle.mdf_record.specs.Recorded.{RecordComes, Closes, HasRun};
-ghost use Rattle.mdf_record.specs.Recovers.{AreRecovered};
-ghost use Rattle.mdf_carried.specs.Recovers.{IsReadHead, IsNoneOrRecovers};
+ghost use Rattle.mdf_record.specs.Recovers.{AreRecovered, StartRecovers};
+ghost use Rattle.mdf_carried.specs.Recovers.{IsReadHead};
 
 use crate::gate::Gate;
 use crate::head::head_for;
@@ -109,7 +109,7 @@ fn create<C: Disk>(
     ensures refused { IfErr result (λ refused. IsUnmade name.now (head_file now_ns rows.now) (state_of C.Disk out) (state_of C.Disk refused.1) refused.0) }
     ensures untouched { IfErr result (λ refused. C.asked refused.1 ≡ None → refused.1 ≡ out) }
     ensures readable { IfOk result (λ _. IsReadHead now_ns rows.now) }
-    ensures recovers { IfErr result (λ refused. HoldsSince (C.story refused.1) (C.moment out) (IsNoneOrRecovers [])) }
+    ensures recovers { IfErr result (λ refused. StartRecovers (C.story refused.1) (C.moment out) []) }
 {
     what_is_carried_is_recovered();
     let Ok(head) = head_for(alloc, now_ns, rows) else {

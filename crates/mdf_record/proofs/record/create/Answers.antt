@@ -96,7 +96,7 @@ returns-in-Err-clause-recovers g c =
     let begun = begun_since (head_file c.args.now_ns c.args.rows.now) (disk.story out) (disk.story made) (disk.story after) (disk.content out) (disk.moment out)
     (laws.agrees out) (laws.unattached out (laws.unasked out c.requires.asked)) c.attach.ensures.story
     (subst (λ h. Adds (disk.story made) (disk.story after) (IsBegun h)) (c.as_slice.ensures ∙ c.in-Ok.ensures.head) c.in-Err.ensures.any_moment) in
-    λ file may. begun_recovered c.what_is_carried_is_recovered.ensures c.args.now_ns c.args.rows.now file c.requires.rows c.in-Ok.ensures.readable (begun file may)
+    begun_recovered c.what_is_carried_is_recovered.ensures (disk.story after) (disk.moment out) c.args.now_ns c.args.rows.now c.requires.rows c.in-Ok.ensures.readable begun
 
 -- the file is begun at the moment of the disk before it was attached, where the disk tells its story
 pub returns-in-Ok-made-clause-start : goal.returns-in-Ok-made-clause-start
