@@ -60,15 +60,16 @@ fn sample_of(alloc: Global, sample: u64) -> Result<Sample, Memory>
     ensures { IfOk result (λ made. made ≡ sample_of sample) }
 {
     let group = sample % SOURCES;
-    let mut values = Rows::empty(alloc);
-    values.push(valid(Value::Unsigned(sample)))?;
-    values.push(valid(Value::Unsigned(number_of(sample))))?;
-    if group == 3 {
-        values.push(valid(Value::Bytes(bytes_of(alloc, sample)?)))?;
+    let has_bytes = group == 3;
+    let mut values = Vec::with_capacity(alloc, if has_bytes { 3 } else { 2 })?;
+    values.push_reserved(valid(Value::Unsigned(sample)));
+    values.push_reserved(valid(Value::Unsigned(number_of(sample))));
+    if has_bytes {
+        values.push_reserved(valid(Value::Bytes(bytes_of(alloc, sample)?)));
     }
     Ok(Sample {
         group: group as u16,
-        values,
+        values: Rows::from_vec(values),
     })
 }
 
