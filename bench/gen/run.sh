@@ -1,7 +1,8 @@
 #!/usr/bin/env bash
 # Counts the instructions, or without valgrind the best time in microseconds, of `gen` of a million samples, and of a twin in
 # straight C (that of bench/record) that makes and keeps the same samples and writes the same file with the same calls. Prints both
-# numbers and their ratio, which is to be at most 1.5, and how many bytes of memory each holds at most.
+# numbers and their ratio, which is to be at most 1.5, and how many bytes of memory each holds at most, beside what all samples cost
+# and 16 MiB, which `gen` is to hold at most.
 #
 # usage: bench/gen/run.sh [RUNS]
 #
@@ -27,7 +28,7 @@ before() { rm -f "$work/made.mf4"; }
 recorder="$top/crates/mdf_cli/out/mdf_cli"
 
 "$recorder" gen "$count" "$work/first.mf4" > "$work/ours"
-"$work/twin" "$work/first.mf4" "$work/made.mf4" "$count" > "$work/twins"
+"$work/twin" "$work/first.mf4" "$work/made.mf4" "$count" > "$work/twins" 2> "$work/costs"
 cmp "$work/ours" "$work/twins"
 diff <(python3 "$here/streams.py" "$work/first.mf4") <(python3 "$here/streams.py" "$work/made.mf4")
 before
@@ -37,6 +38,7 @@ awk -v ours="$ours" -v twin="$twin" 'BEGIN { printf "gen %d, C %d, ratio %.2f\n"
 before
 held="$(peak "$recorder" gen "$count" "$work/made.mf4")"
 before
-twin_held="$(peak "$work/twin" "$work/first.mf4" "$work/made.mf4" "$count")"
+twin_held="$(peak "$work/twin" "$work/first.mf4" "$work/made.mf4" "$count" 2> "$work/told")"
 awk -v ours="$held" -v twin="$twin_held" \
-    'BEGIN { printf "peak memory: gen %d, C %d, ratio %.2f\n", ours, twin, ours / twin }'
+    -v most="$(($(cat "$work/costs") + 16777216))" \
+    'BEGIN { printf "peak memory: gen %d, at most %d, C %d\n", ours, most, twin }'

@@ -2,7 +2,8 @@
 # Counts the instructions, or without valgrind the best time in microseconds, of `record` of a script of 100,000 samples of two
 # channels of words, and of one of 60,000 samples with channels of all kinds; and of a twin in straight C that reads the script
 # whole, keeps each sample and writes the same file with the same calls. Prints both numbers for each script and their ratio,
-# which is to be at most 1.5.
+# which is to be at most 1.5. Then prints the most memory that `record` holds, which is to be at most what all samples cost, the
+# script and 16 MiB.
 #
 # usage: bench/record/run.sh [RUNS]
 #
@@ -27,10 +28,10 @@ recorder="$top/crates/mdf_cli/out/mdf_cli"
 
 # records the script of this name with both programs
 compare() {
-    local script="$work/$1.txt" ours twin
+    local script="$work/$1.txt" ours twin most
     python3 "$here/$1.py" > "$script"
     "$recorder" record "$work/$1.mf4" < "$script" > "$work/ours"
-    "$work/twin" "$work/$1.mf4" "$work/twin.mf4" < "$script" > "$work/twins"
+    "$work/twin" "$work/$1.mf4" "$work/twin.mf4" < "$script" > "$work/twins" 2> "$work/costs"
     cmp "$work/ours" "$work/twins"
     cmp "$work/$1.mf4" "$work/twin.mf4"
     rm "$work/twin.mf4"
@@ -38,6 +39,10 @@ compare() {
     twin="$(cost "$script" "$work/twin" "$work/$1.mf4" "$work/made.mf4")"
     awk -v name="$1" -v ours="$ours" -v twin="$twin" \
         'BEGIN { printf "%s: record %d, C %d, ratio %.2f\n", name, ours, twin, ours / twin }'
+    before
+    ours="$(peak "$recorder" record "$work/made.mf4" < "$script")"
+    most=$(($(cat "$work/costs") + $(stat -c %s "$script") + 16777216))
+    awk -v ours="$ours" -v most="$most" 'BEGIN { printf "peak memory: record %d, at most %d\n", ours, most }'
 }
 
 compare words

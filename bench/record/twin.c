@@ -1,7 +1,7 @@
 /* Records a script as `record` does, in straight C: it reads the script whole, keeps each sample, and writes the same file with
    the same calls. It takes every line but `live`, and prints the same lines. The start time is that of a recording that was
    made from the same script. With a number it makes and keeps the samples of the generated script of so many in place of reading
-   one, as `gen` does.
+   one, as `gen` does. On standard error it says what all samples cost, in bytes.
 
    usage: twin RECORDING OUT < SCRIPT
           twin RECORDING OUT COUNT */
@@ -630,7 +630,8 @@ static void append(struct file *file, const struct task *task, uint64_t *held) {
     pack(file, task);
 }
 
-static void record(struct file *file) {
+// what all samples cost
+static uint64_t record(struct file *file) {
     uint64_t held = 0;
     for (uint32_t source = 0; source < sources; source++) {
         struct list *list = &lists[source];
@@ -644,6 +645,7 @@ static void record(struct file *file) {
         }
     }
     write_block(file);
+    return held;
 }
 
 static void tell(void) {
@@ -670,8 +672,9 @@ int main(int argc, char **argv) {
     }
     struct head head = head_of(word(told + 136));
     struct file file = create(argv[2], head);
-    record(&file);
+    uint64_t cost = record(&file);
     close(file.out);
     tell();
+    fprintf(stderr, "%" PRIu64 "\n", cost);
     return 0;
 }
