@@ -1,7 +1,7 @@
 #!/usr/bin/env bash
-# Compares `finalize` of a recording of 250 MB with a plain copy of the file with one sync. Prints the best time of each in
-# microseconds and their ratio, which is to be at most 1.5, and the peak memory of `finalize` in bytes and its ratio to the size of
-# the file, which is to be at most 2.2.
+# Compares `finalize` of two recordings of 250 MB, one of small records and one of wide ones, with a plain copy of the file with one
+# sync. Prints of each the best times in microseconds and their ratio, which is to be at most 1.5, and the peak memory of `finalize`
+# in bytes and its ratio to the size of the file, which is to be at most 2.2.
 #
 # usage: bench/finalize/run.sh [RUNS]
 #
@@ -21,14 +21,20 @@ before() { rm -f "$work/made.mf4"; }
 
 "$top/mdf4rec" opened "$top/examples/two_blocks.mf4" > "$work/said" # builds the program where it is stale
 maker="$top/crates/mdf_cli/out/mdf_cli"
-file="$work/recording.mf4"
-python3 "$here/../make.py" recording 250000000 "$file"
+# compares both on a recording of this shape
+compare() {
+    local file="$work/$1.mf4" ours copy memory
+    python3 "$here/../make.py" "$1" 250000000 "$file"
+    ours="$(best /dev/null "$top/mdf4rec" finalize "$file" "$work/made.mf4")"
+    "$maker" check "$work/made.mf4" | grep -qx valid
+    copy="$(best /dev/null dd if="$file" of="$work/made.mf4" bs=4M conv=fsync status=none)"
+    memory="$(before && peak "$top/mdf4rec" finalize "$file" "$work/made.mf4")"
+    awk -v name="$1" -v ours="$ours" -v copy="$copy" -v memory="$memory" -v size="$(stat -c %s "$file")" 'BEGIN {
+        printf "%s, time: finalize %d, copy %d, ratio %.2f\n", name, ours, copy, ours / copy
+        printf "%s, memory: finalize %d, file %d, ratio %.2f\n", name, memory, size, memory / size
+    }'
+    rm "$file"
+}
 
-ours="$(best /dev/null "$maker" finalize "$file" "$work/made.mf4")"
-"$maker" check "$work/made.mf4" | grep -qx valid
-copy="$(best /dev/null dd if="$file" of="$work/made.mf4" bs=4M conv=fsync status=none)"
-memory="$(before && peak "$maker" finalize "$file" "$work/made.mf4")"
-awk -v ours="$ours" -v copy="$copy" -v memory="$memory" -v size="$(stat -c %s "$file")" 'BEGIN {
-    printf "time: finalize %d, copy %d, ratio %.2f\n", ours, copy, ours / copy
-    printf "memory: finalize %d, file %d, ratio %.2f\n", memory, size, memory / size
-}'
+compare recording # records of 17 to 25 bytes, with values of variable length
+compare wide      # records of 801 bytes

@@ -37,6 +37,6 @@ awk -v ours="$ours" -v twin="$twin" 'BEGIN { printf "sort %d, C %d, ratio %.2f\n
 
 file="$work/large.mf4"
 python3 "$here/../make.py" unsorted 250000000 "$file"
-memory="$(before && peak "$maker" sort "$file" "$work/made.mf4")"
+memory="$(before && peak "$top/mdf4rec" sort "$file" "$work/made.mf4")"
 awk -v memory="$memory" -v size="$(stat -c %s "$file")" \
     'BEGIN { printf "memory: sort %d, file %d, ratio %.2f\n", memory, size, memory / size }'
