@@ -4,7 +4,9 @@ ghost use Rattle.mdf_stream.specs.Parts.{stream_size, ArePartsInside};
 use crate::files::{Piece, file_of, put_number, set_link};
 use crate::span::span_over;
 use mdf_block::Kind;
-use mdf_data::{DataView, Known, Size, Splitter, places_alone, places_in, view_data, view_data_in};
+use mdf_data::{
+    DataView, Known, Places, Size, Splitter, places_alone, places_in, view_data, view_data_in,
+};
 use mdf_num::{Memory, Rows, SliceSpan, Span, Stop};
 use std::alloc::Global;
 use std::test::Fail;
@@ -125,7 +127,7 @@ const RECORDS: &[(u8, &[Known], &[u8], &str)] = &[
         1,
         &[EIGHT, TWO],
         b"\x01aaaaaaaa\x02bb\x01cccccccc",
-        "Ok(Rows { items: [Places { even: 0, step: 0, listed: Rows { items: [1, 13] } }, Places { even: 0, step: 0, listed: Rows { items: [10] } }] })",
+        "Ok(Rows { items: [Places { even: 0, step: 0, listed: Listed { short: [1, 13], long: Rows { items: [] } } }, Places { even: 0, step: 0, listed: Listed { short: [10], long: Rows { items: [] } } }] })",
     ),
     (
         1,
@@ -144,7 +146,7 @@ const RECORDS: &[(u8, &[Known], &[u8], &str)] = &[
         1,
         &[VALUES],
         b"\x03\x02\0\0\0xy\x03\0\0\0\0",
-        "Ok(Rows { items: [Places { even: 0, step: 0, listed: Rows { items: [1, 8] } }] })",
+        "Ok(Rows { items: [Places { even: 0, step: 0, listed: Listed { short: [1, 8], long: Rows { items: [] } } }] })",
     ),
     (
         1,
@@ -159,7 +161,7 @@ const RECORDS: &[(u8, &[Known], &[u8], &str)] = &[
             size: Size::Fixed(1),
         }],
         b"\x01\x02a\x01\x02b",
-        "Ok(Rows { items: [Places { even: 0, step: 0, listed: Rows { items: [2, 5] } }] })",
+        "Ok(Rows { items: [Places { even: 0, step: 0, listed: Listed { short: [2, 5], long: Rows { items: [] } } }] })",
     ),
     (
         4,
@@ -177,13 +179,13 @@ const RECORDS: &[(u8, &[Known], &[u8], &str)] = &[
             size: Size::Fixed(0),
         }],
         b"\xff\xff\xff\xff\xff\xff\xff\xff",
-        "Ok(Rows { items: [Places { even: 0, step: 0, listed: Rows { items: [8] } }] })",
+        "Ok(Rows { items: [Places { even: 0, step: 0, listed: Listed { short: [8], long: Rows { items: [] } } }] })",
     ),
     (
         1,
         &[TWO, TWO],
         b"\x02ab",
-        "Ok(Rows { items: [Places { even: 0, step: 0, listed: Rows { items: [1] } }, Places { even: 0, step: 0, listed: Rows { items: [] } }] })",
+        "Ok(Rows { items: [Places { even: 0, step: 0, listed: Listed { short: [1], long: Rows { items: [] } } }, Places { even: 0, step: 0, listed: Listed { short: [], long: Rows { items: [] } } }] })",
     ),
 ];
 
@@ -661,7 +663,7 @@ fn a_span_that_stops_stops_the_places(rt: HostRuntime) -> Result<(), Fail> {
         (
             2,
             Stop::Failed,
-            "Ok(Rows { items: [Places { even: 0, step: 0, listed: Rows { items: [4] } }, Places { even: 0, step: 0, listed: Rows { items: [1] } }] })",
+            "Ok(Rows { items: [Places { even: 0, step: 0, listed: Listed { short: [4], long: Rows { items: [] } } }, Places { even: 0, step: 0, listed: Listed { short: [1], long: Rows { items: [] } } }] })",
         ),
     ] {
         assert_eq!(rt; places_stopped(rt.alloc(), *calls, *stop)?.as_str(), *told);
@@ -676,31 +678,31 @@ const ALONE: &[(u64, Size, u64, &str)] = &[
         20,
         Size::Fixed(9),
         0,
-        "Places { even: 2, step: 9, listed: Rows { items: [77] } } 3 Some(0) Some(9) None",
+        "Places { even: 2, step: 9, listed: Listed { short: [77], long: Rows { items: [] } } } 3 Some(0) Some(9) None",
     ),
     (
         8,
         Size::Fixed(9),
         0,
-        "Places { even: 0, step: 9, listed: Rows { items: [77] } } 1 Some(77) None None",
+        "Places { even: 0, step: 9, listed: Listed { short: [77], long: Rows { items: [] } } } 1 Some(77) None None",
     ),
     (
         9,
         Size::Fixed(9),
         5,
-        "Places { even: 1, step: 9, listed: Rows { items: [77] } } 2 Some(0) Some(77) None",
+        "Places { even: 1, step: 9, listed: Listed { short: [77], long: Rows { items: [] } } } 2 Some(0) Some(77) None",
     ),
     (
         5,
         Size::Fixed(0),
         7,
-        "Places { even: 7, step: 0, listed: Rows { items: [77] } } 8 Some(0) Some(0) None",
+        "Places { even: 7, step: 0, listed: Listed { short: [77], long: Rows { items: [] } } } 8 Some(0) Some(0) None",
     ),
     (
         5,
         Size::Variable,
         7,
-        "Places { even: 0, step: 0, listed: Rows { items: [77] } } 1 Some(77) None None",
+        "Places { even: 0, step: 0, listed: Listed { short: [77], long: Rows { items: [] } } } 1 Some(77) None None",
     ),
 ];
 
@@ -725,5 +727,28 @@ fn places_without_ids_are_told(rt: HostRuntime) -> Result<(), Fail> {
             *told
         );
     }
+    Ok(())
+}
+
+// Places around the last one that takes 4 bytes; one that is smaller follows one that is not.
+const FAR: &[u64] = &[4_294_967_295, 4_294_967_296, 5];
+
+#[test]
+fn places_past_four_bytes_are_kept(rt: HostRuntime) -> Result<(), Fail> {
+    let mut places = Places::empty(rt.alloc());
+    assert_eq!(rt; places.step(), Some(0));
+    for place in FAR {
+        places.push(*place)?;
+    }
+    assert_eq!(rt; places.len(), 3);
+    assert_eq!(rt; places.step(), None);
+    assert_eq!(rt; places.get(0), Some(4_294_967_295));
+    assert_eq!(rt; places.get(1), Some(4_294_967_296));
+    assert_eq!(rt; places.get(2), Some(5));
+    assert_eq!(rt; places.get(3), None);
+    assert_eq!(rt;
+        places_alone(rt.alloc(), 20, Size::Fixed(9), 0).step(),
+        Some(9)
+    );
     Ok(())
 }
