@@ -1,10 +1,11 @@
-/* Makes a sorted file of a finalized one as `sort` and `cut` do, in straight C: it reads the file whole, goes over the records once
-   for each group, and writes the same file with the same calls. It takes files of one data group whose blocks have names and no
-   other texts, as make.py makes them, and masters of 64 bits. The time of the new entry of the history is that of a file that was
-   made first.
+/* Makes a sorted file of a finalized one as `sort` and `cut` do, or of two as `concat` does, in straight C: it reads the files whole,
+   goes over the records once for each group, and writes the same file with the same calls. It takes files of one data group whose
+   blocks have names and no other texts, as make.py makes them, masters and offsets of 64 bits, and two files with the same groups.
+   The time of the new entry of the history is that of a file that was made first.
 
    usage: made sort FIRST IN OUT
-          made cut FIRST IN OUT FROM TO */
+          made cut FIRST IN OUT FROM TO
+          made concat FIRST IN IN OUT */
 #include <fcntl.h>
 #include <stdbool.h>
 #include <stdint.h>
@@ -23,16 +24,27 @@ struct part {
 struct group {
     const uint8_t *block;
     uint64_t id, size, values; // the address of the group of the values of its channel, or 0
-    uint32_t master;           // the byte of the master in a record
+    uint32_t master, offset;   // the bytes of the master and of the offset in a record
     bool holds_values, mastered;
+};
+
+// a file, and the parts of its stream
+struct source {
+    uint8_t *file;
+    uint64_t size;
+    struct part *parts;
+    size_t part_count;
 };
 
 static uint8_t *file, *made;
 static uint64_t size, used;
+static struct source sources[2];
+static size_t source_count;
 static struct part *parts;
 static size_t part_count, part, place; // the next byte: its part, and its place in it
 static struct group groups[GROUPS];
 static uint32_t group_count;
+static const char *title; // of the new entry of the history
 static bool cuts;
 static uint64_t from, to; // of the masters that are kept
 
@@ -107,7 +119,10 @@ static void read_groups(uint64_t at) {
         group->size = number(fields + 24, 4) + number(fields + 28, 4);
         for (uint64_t channel = link_of(block_at, 1); channel != 0;) {
             const uint8_t *row = block(channel, "##CN");
-            if (body(row)[0] == 1) group->values = link_of(row, 5);
+            if (body(row)[0] == 1) {
+                group->values = link_of(row, 5);
+                group->offset = (uint32_t)number(body(row) + 4, 4);
+            }
             if (body(row)[0] == 2 && !group->mastered) {
                 group->mastered = true;
                 group->master = (uint32_t)number(body(row) + 4, 4);
@@ -150,10 +165,19 @@ static bool is_kept(const struct group *group) {
     return from <= master && master < to;
 }
 
-// goes over all records, and puts those of a group behind what is made; answers how many they are
-static uint64_t gather(const struct group *wanted, uint8_t id_size) {
-    uint64_t count = 0;
+static void read_from(const struct source *source) {
+    file = source->file;
+    size = source->size;
+    parts = source->parts;
+    part_count = source->part_count;
     part = place = 0;
+}
+
+// goes over all records of a file, and puts those of a group behind what is made, with their offsets so much larger; answers how
+// many they are
+static uint64_t gather_from(const struct source *source, const struct group *wanted, uint8_t id_size, uint64_t shift) {
+    uint64_t count = 0;
+    read_from(source);
     while (part < part_count) {
         uint8_t head[8] = {0};
         if (id_size > 0) take(head, id_size);
@@ -168,9 +192,31 @@ static uint64_t gather(const struct group *wanted, uint8_t id_size) {
         }
         take(kept ? made + used : NULL, len);
         if (!kept || !is_kept(group)) continue;
+        if (group->values != 0 && shift != 0) put(used + group->offset, number(made + used + group->offset, 8) + shift);
         used += len;
         count++;
     }
+    return count;
+}
+
+// how many bytes the values of a group have in the first file, with their lengths
+static uint64_t values_of(const struct group *group, uint8_t id_size) {
+    uint64_t before = used;
+    for (uint32_t k = 0; k < group_count; k++)
+        if (sources[0].file + group->values == groups[k].block) gather_from(&sources[0], &groups[k], id_size, 0);
+    uint64_t length = used - before;
+    used = before;
+    return length;
+}
+
+// the same of all files one behind the other
+static uint64_t gather(const struct group *wanted, uint8_t id_size) {
+    uint64_t count = gather_from(&sources[0], wanted, id_size, 0);
+    if (source_count == 2) {
+        uint64_t shift = wanted->values == 0 ? 0 : values_of(wanted, id_size);
+        count += gather_from(&sources[1], wanted, id_size, shift);
+    }
+    read_from(&sources[0]);
     return count;
 }
 
@@ -231,10 +277,11 @@ static uint64_t time_of(const char *name) {
 }
 
 static void add_head(const uint8_t *head, uint64_t time) {
-    const char *comment = cuts ? "<FHcomment><TX>cut</TX><tool_id>mdf4rec</tool_id><tool_vendor>none</tool_vendor>"
-                                 "<tool_version>1</tool_version></FHcomment>"
-                               : "<FHcomment><TX>sort</TX><tool_id>mdf4rec</tool_id><tool_vendor>none</tool_vendor>"
-                                 "<tool_version>1</tool_version></FHcomment>";
+    char comment[256];
+    snprintf(comment, sizeof comment,
+             "<FHcomment><TX>%s</TX><tool_id>mdf4rec</tool_id><tool_vendor>none</tool_vendor>"
+             "<tool_version>1</tool_version></FHcomment>",
+             title);
     memset(made, 0, 64);
     memcpy(made, "MDF     4.10    mdf4rec ", 24);
     made[28] = 154;
@@ -325,21 +372,37 @@ static void write_sealed(const char *name) {
     close(out);
 }
 
+// reads a file, and follows the link to its data; answers its data group
+static const uint8_t *add_source(const char *name) {
+    struct source *source = &sources[source_count++];
+    source->file = read_whole(name, &source->size);
+    read_from(source);
+    const uint8_t *data = block(link_of(block(64, "##HD"), 0), "##DG");
+    follow(link_of(data, 2));
+    source->parts = parts;
+    source->part_count = part_count;
+    return data;
+}
+
 int main(int words, char **word) {
-    cuts = words == 7 && strcmp(word[1], "cut") == 0;
-    need(cuts || (words == 5 && strcmp(word[1], "sort") == 0), "usage: made sort FIRST IN OUT, or made cut FIRST IN OUT FROM TO");
+    const char *usage = "usage: made sort FIRST IN OUT, made cut FIRST IN OUT FROM TO, or made concat FIRST IN IN OUT";
+    need(words >= 5, usage);
+    title = word[1];
+    cuts = strcmp(title, "cut") == 0;
+    bool joins = strcmp(title, "concat") == 0;
+    need(words == (cuts ? 7 : joins ? 6 : 5) && (cuts || joins || strcmp(title, "sort") == 0), usage);
     if (cuts) {
         from = strtoull(word[5], NULL, 10);
         to = strtoull(word[6], NULL, 10);
     }
     uint64_t time = time_of(word[2]);
-    file = read_whole(word[3], &size);
-    made = malloc(size + TREE);
+    const uint8_t *data = add_source(word[3]);
+    if (joins) add_source(word[4]);
+    made = malloc(sources[0].size + sources[1].size + TREE);
     need(made != NULL, "memory");
-    const uint8_t *head = block(64, "##HD"), *data = block(link_of(head, 0), "##DG");
-    add_head(head, time);
+    read_from(&sources[0]);
+    add_head(block(64, "##HD"), time);
     read_groups(link_of(data, 1));
-    follow(link_of(data, 2));
     uint64_t last = 64, samples = 0;
     uint32_t count = 0;
     for (uint32_t k = 0; k < group_count; k++) {
@@ -350,7 +413,7 @@ int main(int words, char **word) {
         samples += number(made + link_of(made + at, 1) + 80, 8);
         count++;
     }
-    write_sealed(word[4]);
+    write_sealed(word[joins ? 5 : 4]);
     printf("groups %u samples %llu dropped 0\n", count, (unsigned long long)samples);
     return 0;
 }
