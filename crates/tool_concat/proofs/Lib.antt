@@ -8,3 +8,4 @@ mod Holds
 mod Streams
 mod Groups
 mod Ends
+mod Plain

@@ -14,6 +14,10 @@ pub record IsVariableAt (rows : List FieldRow) (k : ℕ) (row : FieldRow) : Type
   pub there : slice_get rows k ≡ Some row
   pub kind : row.kind ≡ Variable
 
+-- no channel is
+abbrev pub HasNoOffsets : List FieldRow → Type 0
+HasNoOffsets rows = (k : ℕ) (row : FieldRow) → ¬ IsVariableAt rows k row
+
 -- how long the stream of channel k is, of those of the channels of variable length in order
 abbrev pub shift_of : List FieldRow → List (List ℕ) → ℕ → ℕ
 shift_of rows streams k = length (slice_index_or streams (streams_before rows k) [])

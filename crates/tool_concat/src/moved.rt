@@ -1,10 +1,10 @@
-ghost use Rattle.std.specs.Prelude.{ℕ, ◌≡◌, ◌+◌, ◌*◌, ◌^◌, ◌<◌, ◌++◌, List, length, take, IfOk, OnOk};
+ghost use Rattle.std.specs.Prelude.{ℕ, ◌≡◌, ◌+◌, ◌*◌, ◌^◌, ◌<◌, ◌++◌, List, length, take, IsTrue, IfOk, OnOk};
 ghost use Rattle.mdf_format.specs.Field.{HasBit, bit_of};
 ghost use Rattle.mdf_format.specs.Row.{IsNumberPlaced};
 ghost use Rattle.mdf_layout.specs.Layout.{record_size};
 ghost use Rattle.mdf_layout.specs.Rule.{spot_in};
 ghost use Rattle.mdf_layout.specs.declared.field.FieldKind.TheVariants as kinds;
-ghost use Rattle.tool_concat.specs.Moved.{AreMoved, AreOffsetsMoved, IsMoved, offset_in};
+ghost use Rattle.tool_concat.specs.Moved.{AreMoved, AreOffsetsMoved, HasNoOffsets, IsMoved, offset_in};
 ghost use Rattle.tool_concat.specs.Placed.{AreAllHeld, AreHeld, AreOffsetsPlaced};
 
 use crate::record::{is_variable, offset_field, record_in, row_at, stream_length};
@@ -65,6 +65,36 @@ fn add_moved(
     content.push_pair(scratch.as_slice(), inval)
 }
 
+/// Whether none of the channels is of variable length.
+fn has_no_offsets(rows: &[FieldRow]) -> bool
+    ensures { IsTrue result → HasNoOffsets rows.now }
+{
+    for row in rows {
+        if is_variable(*row) {
+            return false;
+        }
+    }
+    true
+}
+
+/// The records of a group without offsets behind bytes. There is nothing to move, so that they are copied at once.
+fn with_others(
+    alloc: Global,
+    before: &[u8],
+    shape: &Shape,
+    streams: &[ValueStream],
+    others: &[u8],
+    count: u64,
+) -> Result<Bytes, Memory>
+    requires long { length others.now ≡ count * record_size shape.now }
+    requires none { HasNoOffsets shape.now.rows }
+    ensures { IfOk result (λ content. (moved : List ℕ) × (content ≡ before.now ++ moved) × AreMoved shape.now streams.now others.now count moved) }
+{
+    let mut content = Bytes::from_slice(alloc, before)?;
+    content.push_slice(others)?;
+    Ok(content)
+}
+
 /// The records of a group behind bytes, with their offsets moved by the lengths of streams.
 pub(crate) fn with_moved(
     alloc: Global,
@@ -78,6 +108,9 @@ pub(crate) fn with_moved(
     requires held { AreAllHeld shape.now streams.now others.now count }
     ensures { IfOk result (λ content. (moved : List ℕ) × (content ≡ before.now ++ moved) × AreMoved shape.now streams.now others.now count moved) }
 {
+    if has_no_offsets(shape.fields().as_slice()) {
+        return with_others(alloc, before, shape, streams, others, count);
+    }
     let mut content = Bytes::from_slice(alloc, before)?;
     let mut scratch = Vec::new(alloc);
     let _fields = shape.fields();
