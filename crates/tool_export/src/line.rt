@@ -5,7 +5,7 @@ ghost use Rattle.tool_export.specs.Table.{channel_text, entry_text, line_of};
 use crate::text::{name_text, write_entry};
 use csv::{ByteRecord, Writer};
 use mdf_group::ChannelRow;
-use mdf_layout::Entry;
+use mdf_layout::{Entry, Value};
 use mdf_num::Memory;
 use std::alloc::Global;
 use std::marker::Model;
@@ -111,7 +111,27 @@ impl Line {
         Ok(())
     }
 
-    /// Makes it the line of the sample with this index. The text of a field is made in a place of its own.
+    /// Adds the text of an entry. It is made in a place of its own, but for that of a valid number without a sign.
+    fn push_entry(
+        &mut self,
+        alloc: Global,
+        field: &mut Vec<u8>,
+        entry: &Entry,
+    ) -> Result<(), Memory>
+        ensures { OnOk result (self.new ≡ self.old ++ entry_text entry.now ∷ []) }
+    {
+        match &entry.value {
+            Value::Unsigned(number) if entry.valid => {
+                self.push(itoa::Buffer::new().format(*number).as_bytes())
+            }
+            _ => {
+                write_entry(alloc, field, entry)?;
+                self.push(field.as_slice())
+            }
+        }
+    }
+
+    /// Makes it the line of the sample with this index.
     pub(crate) fn set_sample(
         &mut self,
         alloc: Global,
@@ -124,8 +144,7 @@ impl Line {
         self.clear();
         self.push(itoa::Buffer::new().format(index).as_bytes())?;
         for entry in entries {
-            write_entry(alloc, field, entry)?;
-            self.push(field.as_slice())?;
+            self.push_entry(alloc, field, entry)?;
         }
         Ok(())
     }
