@@ -1,5 +1,5 @@
 -- What a recording keeps, whatever happened.
-use Rattle.std.proofs.Common.{◌≡◌, ◌⊎◌, ◌<◌, ◌≤◌, inl, inr, ⊎_elim, ℕ, List, [], ◌∷◌, length, Option, Some, None, Ok, refl, subst, arith}
+use Rattle.std.proofs.Common.{◌≡◌, ◌≢◌, ◌⊎◌, ◌<◌, ◌≤◌, inl, inr, ⊎_elim, ℕ, List, [], ◌∷◌, length, Option, Some, None, Ok, refl, subst, arith}
 use Rattle.std.specs.Prelude.{is_some, slice_get, IfSome, IsSomeAnd}
 use mathlib.Core.List.{IsPrefix}
 use Rattle.mdf_port.specs.State.{SinkState}
@@ -8,7 +8,7 @@ use Rattle.mdf_layout.specs.History.{source_samples}
 use Rattle.mdf_layout.specs.declared.sample.Sample.{Sample}
 use Rattle.mdf_gate.proofs.Carrying.{carries_begun}
 use Rattle.book_owned.specs.Kept.{MarksHold, StartHolds}
-use Rattle.book_owned.specs.Marks.{AreRising}
+use Rattle.book_owned.specs.Marks.{AreRising, durable}
 use Rattle.book_owned.specs.declared.mark.Mark.{Mark}
 use Rattle.acq_script.specs.Script.{script_of}
 use Rattle.acq_script.specs.Tasks.{samples_of}
@@ -59,6 +59,16 @@ completes : (script : Script) (faults : ℕ) (left : Outcome) (result : ℕ) (pr
 completes script faults left result None is done comes = comes
 completes script faults left result (Some problem) is done comes = absurd (not_done problem result is done)
 
+-- all that was accepted is durable but where a disk failed
+saves : (script : Script) (faults : ℕ) (left : Outcome) (result : ℕ) (problem : Option Fault)
+    → (result ≡ fault_code problem) ⊎ (result ≡ unwritten_status (fault_code problem)) → result ≢ 4
+    → CloseComes script faults left problem → durable left.marks ≡ length left.history
+saves script faults left result None is other comes = comes.saved.all_durable
+saves script faults left result (Some fault.Device) is other comes = absurd (⊎_elim other other is)
+saves script faults left result (Some (fault.SessionFull held size limit)) is other comes = comes.are.saved.all_durable
+saves script faults left result (Some fault.Memory) is other comes = comes.are.saved.all_durable
+saves script faults left result (Some _) is other comes = absurd comes
+
 same_script : (text : List ℕ) (script other : Script) → script_of text ≡ Ok script → script_of text ≡ Ok other → other ≡ script
 same_script text script other is also = cc
 
@@ -92,6 +102,7 @@ module _ (Says : Script → Type 0) (Refuses : Fault → Type 0) (name : List �
     flush_lines = λ source tasks there. none_own script.plan.owners source [] [] 0 [] tasks (omega arith);
     complete = λ done. absurd (not_done problem status is done);
     some_marks = λ done. absurd (not_done problem status is done);
+    saved = λ begun. absurd (omega (arith, begun.0));
   }) where
     begun : IsUnread Refuses out disk problem ⊎ IsNotBegun Says name now out disk problem → HoldsSince disk.story out.moment (IsBegun (script_head now script))
     begun (inl unread) = unread.begun (script_head now script)
@@ -112,6 +123,7 @@ module _ (Says : Script → Type 0) (Refuses : Fault → Type 0) (name : List �
         flush_lines = recorded.flush_lines;
         complete = λ done. completes script out.faults left status problem is done comes;
         some_marks = λ done. some_from marks recorded.marks_rise.first;
+        saved = λ begun. saves script out.faults left status problem is begun.1 comes;
       }
 
   of_end : (end : RecordEnd) → RecordComes Says Refuses name now out left end

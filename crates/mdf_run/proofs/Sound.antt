@@ -8,7 +8,7 @@ use Rattle.mdf_content.specs.Fault.{read_refusal}
 use Rattle.mdf_content.specs.declared.fault.ReadFault.{ReadFault}
 use Rattle.mdf_model.specs.Measurement.{Measured, measurement}
 use Rattle.mdf_session.specs.Session.{session}
-use Rattle.mdf_carried.specs.Recovers.{IsReadable}
+use Rattle.mdf_record.specs.Recovers.{IsFinalizable}
 use Rattle.mdf_tool.specs.declared.made.Report.{Report}
 use Rattle.mdf_command.specs.Faults.{INPUT_LIMIT, fault_line, fault_status, refused_status}
 use Rattle.mdf_command.specs.Load.{IsLoaded, IsOver}
@@ -104,11 +104,11 @@ module _ (disk : DiskState) (file : List ℕ) (told : disk.content ≡ Some file
 
 -- each file that is read as a recording is finalized
 pub read_is_finalized : (Makes : List ℕ → List ℕ → Report → Type 0) (disk disk' out out' : DiskState) (sink sink' : SinkState) (status : ℕ) (content : Option (List ℕ)) → disk.content ≡ content
-    → EndsMaking Makes IsNoRecording disk disk' out out' sink sink' status → IfSome content (λ file. IsReadable file → length file ≤ INPUT_LIMIT → IsDoneOrLacked status)
+    → EndsMaking Makes IsNoRecording disk disk' out out' sink sink' status → IfSome content (λ file. IsFinalizable file → IsDoneOrLacked status)
 read_is_finalized Makes disk disk' out out' sink sink' status None told ends = tt
-read_is_finalized Makes disk disk' out out' sink sink' status (Some file) told ends = λ readable short.
-    making_well disk file told short Makes IsNoRecording disk' out out'
-    (λ refused fails. not_refused (read_refusal refused) (session file) readable.found readable.is_read fails) sink sink' status ends
+read_is_finalized Makes disk disk' out out' sink sink' status (Some file) told ends = λ finalizable.
+    making_well disk file told finalizable.short Makes IsNoRecording disk' out out'
+    (λ refused fails. not_refused (read_refusal refused) (session file) finalizable.readable.found finalizable.readable.is_read fails) sink sink' status ends
 
 -- and each finished file is sorted and cut
 pub measured_is_made : (Makes : List ℕ → List ℕ → Report → Type 0) (disk disk' out out' : DiskState) (sink sink' : SinkState) (status : ℕ) (content : Option (List ℕ)) → disk.content ≡ content

@@ -1,11 +1,11 @@
 -- What `run` keeps of a recording, whatever happens.
-use Rattle.std.specs.Prelude.{ℕ, ◌≡◌, ◌⊎◌, ◌<◌, List, [], length, Option, Some, Ok, is_some}
+use Rattle.std.specs.Prelude.{ℕ, ◌≡◌, ◌≢◌, ◌⊎◌, ◌<◌, List, [], length, Option, Some, Ok, is_some}
 use mathlib.Core.List.{IsPrefix}
 use Rattle.mdf_disk.specs.State.{DiskState}
 use Rattle.mdf_layout.specs.History.{source_samples}
 use Rattle.mdf_layout.specs.declared.sample.Sample.{Sample}
 use Rattle.book_owned.specs.Kept.{MarksHold, StartHolds}
-use Rattle.book_owned.specs.Marks.{AreRising}
+use Rattle.book_owned.specs.Marks.{AreRising, durable}
 use Rattle.book_owned.specs.declared.mark.Mark.{Mark}
 use Rattle.acq_script.specs.Script.{script_of}
 use Rattle.acq_script.specs.Tasks.{samples_of}
@@ -42,6 +42,11 @@ IsDone status = (status ≡ 0) ⊎ (status ≡ 6)
 abbrev pub IsDoneOrLacked : ℕ → Type 0
 IsDoneOrLacked status = (status ≡ 0) ⊎ ((status ≡ 4) ⊎ ((status ≡ 6) ⊎ (status ≡ 7)))
 
+-- A recording was begun, since it has marks, and no disk failed: that of a full session has status 5, and that for which
+-- memory was wanted 7.
+abbrev pub HasSaved : ℕ → List Mark → Type 0
+HasSaved status marks = (0 < length marks) × (status ≢ 4)
+
 -- the file is a finalized one that is read
 pub record IsMeasured (file : List ℕ) : Type 0 where
   pub found : Measured
@@ -63,3 +68,4 @@ pub record Keeps (start now : ℕ) (script : Script) (disk : DiskState) (history
       (λ n. n < length (source_samples script.plan.owners history source)) [] tasks)
   pub complete : IsDone status → IsComplete script (record { disk = disk; history = history; marks = marks })
   pub some_marks : IsDone status → 0 < length marks
+  pub saved : HasSaved status marks → durable marks ≡ length history

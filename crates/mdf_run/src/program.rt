@@ -24,11 +24,10 @@ ghost use Rattle.mdf_layout.specs.History.{source_samples};
 ghost use Rattle.mdf_record.specs.Head.{script_head};
 ghost use Rattle.mdf_record.specs.Record.{IsComplete, OfSources, outcome};
 ghost use Rattle.mdf_record.specs.Recorded.{EndsGenerated, EndsRecord};
-ghost use Rattle.mdf_record.specs.Recovers.{MarksRecover, StartRecovers};
-ghost use Rattle.mdf_carried.specs.Recovers.{IsReadable};
+ghost use Rattle.mdf_record.specs.Recovers.{IsFinalizable, MarksRecover, StartRecovers};
 ghost use Rattle.mdf_recovered.specs.Samples.{IsRecovered};
 ghost use Rattle.mdf_command.specs.Faults.{INPUT_LIMIT};
-ghost use Rattle.mdf_run.specs.Kept.{IfRecorded, OfRecording, RecordsNothing, HasGroup, IsDone, IsDoneOrLacked, IsMeasured};
+ghost use Rattle.mdf_run.specs.Kept.{IfRecorded, OfRecording, RecordsNothing, HasGroup, HasSaved, IsDone, IsDoneOrLacked, IsMeasured};
 
 use crate::recording::{record_generated, record_source};
 use book_owned::Marks;
@@ -164,17 +163,19 @@ where
         → IsComplete script (outcome C.Disk result.out result.history.items result.marks.items)) }
 
     // What a reader recovers of a recording by the tree of the file itself, whatever happens: of each crash since a mark, and
-    // since the start; and of each crash since the last mark where the status is 0, or 6.
+    // since the start; and of each crash since the last mark where the status is 0, or 6, or where no disk failed since the
+    // recording was begun, as in a full session.
     ensures marks_recover { IfRecorded words.now
         (MarksRecover (C.story result.out) (C.moment result.out) result.history.items result.marks.items) }
     ensures start_recovers { IfRecorded words.now
         (StartRecovers (C.story result.out) (C.moment out) result.history.items) }
-    ensures all_recovered { OfRecording words.now (S.left source.old) (λ _. IsDone result.status
+    ensures all_recovered { OfRecording words.now (S.left source.old) (λ _. IsDone result.status ⊎ HasSaved result.status result.marks.items
         → HoldsSince (C.story result.out) (last_mark result.marks.items).moment (λ file. IsRecovered file result.history.items)) }
 
-    // Each file that is read as a recording is finalized, unless it is too long, a disk fails or memory is wanted.
+    // Each file that a recording leaves but those that are no MDF, and each other that is read as a recording and is not too
+    // long, is finalized, unless a disk fails or memory is wanted.
     ensures finalizes { (input output : List ℕ) → AsksFinalize words.now input output
-        → IfSome (A.content first) (λ file. IsReadable file → length file ≤ INPUT_LIMIT → IsDoneOrLacked result.status) }
+        → IfSome (A.content first) (λ file. IsFinalizable file → IsDoneOrLacked result.status) }
 
     // So is each finished file sorted and cut, and each group of one exported.
     ensures sorts { (input output : List ℕ) → AsksSort words.now input output

@@ -17,7 +17,7 @@ use Rattle.mdf_inspect.specs.Export.{EndsExport}
 use Rattle.mdf_record.specs.Record.{outcome}
 use Rattle.mdf_record.specs.Recorded.{EndsGenerated}
 use Rattle.mdf_run.proofs.Asked.{as_asked, if_none, of_generated, of_none, of_record}
-use Rattle.mdf_run.proofs.Recovered.{all_is_recovered}
+use Rattle.mdf_run.proofs.Recovered.{all_is_recovered, has_saved}
 use Rattle.mdf_run.proofs.Sound.{group_is_exported, measured_is_made, read_is_finalized}
 use Rattle.mdf_run.proofs.Words.{of_group, of_range, passed}
 use Rattle.mdf_run.proofs.program.run.Goals as goal
@@ -66,9 +66,8 @@ pub returns-in-Some-Record-clause-all_recovered : goal.returns-in-Some-Record-cl
 returns-in-Some-Record-clause-all_recovered g c =
     let m = c.in-Some-Record in
     of_record c.args.words.now (g.S.Source.left c.args.source.now) _ m.output.now (asked c.args.words.now m.field-0 (Record m.output) m.field-0-is m.ensures)
-    (λ text told script means done.
-    let keeps = c.record_source.ensures.keeps text told script means in
-    all_is_recovered _ _ _ _ c.record_source.ensures.recovered.marks_recover (keeps.complete done).saved.all_durable (keeps.some_marks done))
+    (λ text told script means ended. all_is_recovered _ _ _ _ c.record_source.ensures.recovered.marks_recover
+    (has_saved _ _ _ _ _ _ _ (c.record_source.ensures.keeps text told script means) ended))
 
 pub returns-in-Some-Gen-clause-marks_hold : goal.returns-in-Some-Gen-clause-marks_hold
 returns-in-Some-Gen-clause-marks_hold g c =
@@ -111,7 +110,7 @@ returns-in-Some-Gen-clause-all_recovered g c =
     let m = c.in-Some-Gen in
     let keeps = c.record_generated.ensures.keeps in
     of_generated c.args.words.now (g.S.Source.left c.args.source.now) _ m.samples m.output.now (asked c.args.words.now m.field-0 (Gen m.samples m.output) m.field-0-is m.ensures)
-    (λ done. all_is_recovered _ _ _ _ c.record_generated.ensures.recovered.marks_recover (keeps.complete done).saved.all_durable (keeps.some_marks done))
+    (λ ended. all_is_recovered _ _ _ _ c.record_generated.ensures.recovered.marks_recover (has_saved _ _ _ _ _ _ _ keeps ended))
 
 pub returns-in-Some-Record-clause-marks_recover : goal.returns-in-Some-Record-clause-marks_recover
 returns-in-Some-Record-clause-marks_recover g c = (λ name asks. c.record_source.ensures.recovered.marks_recover, λ samples name asks. c.record_source.ensures.recovered.marks_recover)
