@@ -1,7 +1,8 @@
 -- Recordings of whole scripts.
-use Rattle.std.specs.Prelude.{ℕ, ◌≡◌, ◌≤◌, ◌<◌, List, [], length, slice_index, Some}
+use Rattle.std.specs.Prelude.{ℕ, ◌≡◌, ◌≤◌, ◌<◌, List, [], length, slice_index, Some, None}
 use Rattle.std.specs.List.{slice_index_or}
 use Rattle.mdf_disk.specs.Story.{Story, IsNow}
+use Rattle.mdf_disk.specs.State.{DiskState}
 use Rattle.mdf_layout.specs.History.{group_samples}
 use Rattle.mdf_layout.specs.declared.sample.Sample.{Sample}
 use Rattle.mdf_spell.specs.Standing.{AreBytes}
@@ -10,6 +11,7 @@ use Rattle.acq_script.specs.Tasks.{samples_of}
 use Rattle.acq_script.specs.declared.script.Script.{Script}
 use Rattle.mdf_record.specs.Head.{script_head}
 use Rattle.mdf_record.specs.Record.{IsComplete, Outcome}
+use Rattle.mdf_record.specs.Recorded.{IsClosed}
 
 -- the samples of a group that the group's source hands in, in order
 abbrev pub script_samples : Script → ℕ → List Sample
@@ -27,6 +29,22 @@ pub record LeavesWhole (script : Script) (start : ℕ) (left : Outcome) (file : 
   pub begun : ℕ
   pub past : begun ≤ left.disk.moment
   pub start_holds : StartHolds script.plan.shapes (script_head start script) left.disk.story begun left.history
+  pub story : Story
+  pub told : left.disk.story ≡ Some story
+  pub now : IsNow story left.disk.content left.disk.moment
+  pub content : left.disk.content ≡ Some file
+  pub bytes : AreBytes file
+
+-- The command `record` was given the script at this time in ns, on a disk that was as this one before, ended with no fault, and
+-- left this file: the disk tells of each moment what a crash would have left, and this file is what it holds now.
+pub record IsRecordedTo (script : Script) (start : ℕ) (left : Outcome) (file : List ℕ) : Type 0 where
+  pub name : List ℕ
+  pub disk : DiskState
+  pub accepted : List ℕ
+  pub samples : ℕ
+  pub last : ℕ
+  pub closed : IsClosed (λ said. said ≡ script) name start disk left accepted samples last None
+  pub past : disk.moment ≤ left.disk.moment
   pub story : Story
   pub told : left.disk.story ≡ Some story
   pub now : IsNow story left.disk.content left.disk.moment

@@ -3,4 +3,6 @@
 
 mod law;
 
-pub use law::scripts_that_agree_give_one_sorted_file;
+pub use law::{
+    recordings_that_agree_give_one_sorted_file, scripts_that_agree_give_one_sorted_file,
+};
