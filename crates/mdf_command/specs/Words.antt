@@ -16,6 +16,7 @@ pub data Request : Type 0 where
   sorted : (input output : List ℕ) → Request
   cut : (input output : List ℕ) (from to : ℤ) → Request
   exported : (input : List ℕ) (group : ℕ) → Request
+  joined : (input second output : List ℕ) → Request
   generated : (samples : ℕ) (output : List ℕ) → Request
 
 -- the first word of each command
@@ -28,6 +29,7 @@ name_text name.Info = codes "info"
 name_text name.Sort = codes "sort"
 name_text name.Cut = codes "cut"
 name_text name.Export = codes "export"
+name_text name.Concat = codes "concat"
 name_text name.Gen = codes "gen"
 
 -- the word is that of this command, and of none
@@ -54,6 +56,7 @@ name_of (described input) = name.Info
 name_of (sorted input output) = name.Sort
 name_of (cut input output from to) = name.Cut
 name_of (exported input group) = name.Export
+name_of (joined input second output) = name.Concat
 name_of (generated samples output) = name.Gen
 
 abbrev pub arguments_of : Request → List (List ℕ)
@@ -65,6 +68,7 @@ arguments_of (described input) = input ∷ []
 arguments_of (sorted input output) = input ∷ output ∷ []
 arguments_of (cut input output from to) = input ∷ output ∷ signed_decimal from ∷ signed_decimal to ∷ []
 arguments_of (exported input group) = input ∷ decimal group ∷ []
+arguments_of (joined input second output) = input ∷ second ∷ output ∷ []
 arguments_of (generated samples output) = decimal samples ∷ output ∷ []
 
 -- an end of a range of numbers is from -2 ^ 63 to 2 ^ 64 - 1
@@ -137,6 +141,10 @@ AsksCut words input output from to = Asks words (cut input output from to)
 abbrev pub AsksExport : List (List ℕ) → List ℕ → ℕ → Type 0
 AsksExport words input group = Asks words (exported input group)
 
+-- `concat A B OUT`
+abbrev pub AsksConcat : List (List ℕ) → List ℕ → List ℕ → List ℕ → Type 0
+AsksConcat words input second output = Asks words (joined input second output)
+
 -- `gen N OUT`
 abbrev pub AsksGenerated : List (List ℕ) → ℕ → List ℕ → Type 0
 AsksGenerated words samples output = Asks words (generated samples output)
@@ -151,6 +159,7 @@ input_of (described input) = Some input
 input_of (sorted input output) = Some input
 input_of (cut input output from to) = Some input
 input_of (exported input group) = Some input
+input_of (joined input second output) = Some input
 input_of (generated samples output) = None
 
 abbrev pub output_of : Request → Option (List ℕ)
@@ -162,7 +171,13 @@ output_of (described input) = None
 output_of (sorted input output) = Some output
 output_of (cut input output from to) = Some output
 output_of (exported input group) = None
+output_of (joined input second output) = Some output
 output_of (generated samples output) = Some output
+
+-- the second file that it reads
+abbrev pub second_of : Request → Option (List ℕ)
+second_of (joined input second output) = Some second
+second_of _ = None
 
 -- the words ask for a file to be made
 abbrev pub AsksToMake : List (List ℕ) → List ℕ → Type 0
@@ -172,6 +187,11 @@ AsksToMake words output = (request : Request) × Asks words request × (output_o
 abbrev pub AsksInput : List (List ℕ) → Option (List ℕ × Role) → Type 0
 AsksInput words asked = (asked ≡ None)
     ⊎ ((request : Request) × (input : List ℕ) × Asks words request × (input_of request ≡ Some input) × (asked ≡ Some (input, Read)))
+
+-- so the disk of the second input
+abbrev pub AsksSecond : List (List ℕ) → Option (List ℕ × Role) → Type 0
+AsksSecond words asked = (asked ≡ None)
+    ⊎ ((request : Request) × (second : List ℕ) × Asks words request × (second_of request ≡ Some second) × (asked ≡ Some (second, Read)))
 
 -- the output disk was asked for nothing, or for the output that the words name, to be made
 abbrev pub AsksOutput : List (List ℕ) → Option (List ℕ × Role) → Type 0

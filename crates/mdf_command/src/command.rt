@@ -20,6 +20,7 @@ pub enum Name {
     Sort,
     Cut,
     Export,
+    Concat,
     Gen,
 }
 
@@ -51,6 +52,9 @@ impl Name {
         }
         if word == b"export".as_slice() {
             return Some(Name::Export);
+        }
+        if word == b"concat".as_slice() {
+            return Some(Name::Concat);
         }
         if word == b"gen".as_slice() {
             return Some(Name::Gen);
@@ -94,6 +98,12 @@ pub enum Command<'a> {
         output: &'a Bytes,
         from: i128,
         to: i128,
+    },
+    /// `concat A B OUT`
+    Concat {
+        input: &'a Bytes,
+        second: &'a Bytes,
+        output: &'a Bytes,
     },
     /// `export IN GROUP`: the group of this number, counted from 0.
     Export {
@@ -141,6 +151,11 @@ pub fn command_of(words: &Rows<Bytes>) -> Option<Command<'_>>
         (Name::Export, [input, group]) => Some(Command::Export {
             input,
             group: number_of(group.as_slice())?,
+        }),
+        (Name::Concat, [input, second, output]) => Some(Command::Concat {
+            input,
+            second,
+            output,
         }),
         (Name::Gen, [samples, output]) => Some(Command::Gen {
             samples: samples_of(samples.as_slice())?,

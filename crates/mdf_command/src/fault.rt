@@ -42,6 +42,10 @@ pub enum Fault {
     Read(ReadFault),
     /// The input has only so many groups with samples, and none of the number that was said.
     NoGroup { said: u64, groups: u32 },
+    /// This group is not the same in both inputs, or one of them has no such group.
+    Differs { group: u32 },
+    /// An offset of this channel of this group is not held by its bits once it is moved.
+    Wide { group: u32, channel: u32 },
 }
 
 impl Fault {
@@ -59,7 +63,8 @@ impl Fault {
             Fault::Memory => 7,
             Fault::Script { .. } => 8,
             Fault::Read(ReadFault::Memory) => 7,
-            Fault::Read(_) | Fault::NoGroup { .. } => 3,
+            Fault::Read(_) | Fault::NoGroup { .. } | Fault::Differs { .. } | Fault::Wide { .. } =>
+                3,
         }
     }
 
@@ -100,6 +105,14 @@ impl Fault {
             Fault::NoGroup { said, groups } => {
                 give_texts(sink, b"no group ", *said, b" of ", u64::from(*groups))
             }
+            Fault::Differs { group } => give_text(sink, b"differs group ", u64::from(*group)),
+            Fault::Wide { group, channel } => give_texts(
+                sink,
+                b"wide group ",
+                u64::from(*group),
+                b" channel ",
+                u64::from(*channel),
+            ),
         }
     }
 }

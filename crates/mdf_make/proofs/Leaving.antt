@@ -17,8 +17,13 @@ use Rattle.mdf_make.specs.Finalize.{Finalizes, IsNoRecording}
 use Rattle.mdf_make.specs.Sort.{IsNotMeasured, Sorts}
 use Rattle.mdf_make.specs.Cut.{Cuts}
 use Rattle.mdf_make.specs.Tool.{IsImage, ToolEnds}
-use Rattle.mdf_command.specs.Load.{IsLoaded, LoadFaultComes}
-use Rattle.mdf_make.specs.Making.{MakeComes, MakesNothing, MakingComes}
+use Rattle.tool_concat.specs.Concat.{ConcatEnds, Joining}
+use Rattle.tool_concat.specs.declared.fault.ConcatFault.{ConcatFault}
+use Rattle.tool_concat.specs.declared.fault.ConcatFault.TheVariants as concat
+use Rattle.mdf_make.specs.Concat.{AreNotJoined, Joins, fault_of_concat}
+use Rattle.mdf_command.specs.Load.{IsOver, LoadFaultComes}
+use Rattle.mdf_format.specs.Cause.{Rose}
+use Rattle.mdf_make.specs.Making.{Inputs, MakeComes, MakesNothing, MakingComes}
 use Rattle.mdf_command.specs.declared.fault.Fault.{Fault}
 use Rattle.mdf_command.specs.declared.fault.Fault.TheVariants as fault
 
@@ -61,8 +66,8 @@ module _ (Makes : List ℕ → Report → Type 0) (Refuses : Fault → Type 0) (
   make_fault : (problem : Fault) → ToolEnds Makes Refuses mid out' (Err problem) → MakeComes Makes Refuses out out' (Err problem)
   make_fault fault.Device ends = omega (arith, later, ends)
   make_fault fault.Memory ends = nothing ends
-  make_fault (fault.Read refused) ends = (ends.0, nothing ends.1)
-  make_fault problem ends = absurd ends
+  make_fault (fault.InputOver size limit) ends = absurd ends
+  make_fault problem ends = (ends.0, nothing ends.1)
 
   pub make_ends : (end : Result Report Fault) → ToolEnds Makes Refuses mid out' end → MakeComes Makes Refuses out out' end
   make_ends (Ok report) ends = record { bytes = ends.0; is_of = ends.1; kept = ends.2 }
@@ -73,31 +78,37 @@ module _ (Makes : List ℕ → Report → Type 0) (Refuses : Fault → Type 0) (
       since_fresh (IsImage Makes) (nothing_left Makes) out.story out'.story out.content out.moment agrees fresh
       (subst (λ s. Adds s out'.story (IsImage Makes)) same adds)
 
--- of an input that was not loaded nothing was made
-pub load_fault : (Makes : List ℕ → List ℕ → Report → Type 0) (Refuses : List ℕ → Fault → Type 0) (old new out : DiskState) → Agrees out.story out.content out.moment
-    → IsFresh out.story → (problem : Fault) → LoadFaultComes old new problem → MakingComes Makes Refuses old new out out (Err problem)
-load_fault Makes Refuses old new out agrees fresh fault.Device comes = inl comes
-load_fault Makes Refuses old new out agrees fresh (fault.InputOver size limit) comes =
-    (comes, still_nothing out.story out.story out.content out.moment agrees fresh refl)
-load_fault Makes Refuses old new out agrees fresh fault.Memory comes = still_nothing out.story out.story out.content out.moment agrees fresh refl
-load_fault Makes Refuses old new out agrees fresh problem comes = absurd comes
+-- of inputs of which one was not loaded nothing was made
+module _ {Input : Type 0} (inputs : Inputs Input) (Makes : Input → List ℕ → Report → Type 0) (Refuses : Input → Fault → Type 0) where
+  pub load_fault : (old new out : DiskState) → (Rose old.faults new.faults → inputs.Failed) → ((size limit : ℕ) → IsOver old size limit → inputs.IsOver size limit)
+      → Agrees out.story out.content out.moment → IsFresh out.story → (problem : Fault) → LoadFaultComes old new problem
+      → MakingComes inputs Makes Refuses out out (Err problem)
+  load_fault old new out failed over agrees fresh fault.Device comes = inl (failed comes)
+  load_fault old new out failed over agrees fresh (fault.InputOver size limit) comes =
+      (over size limit comes, still_nothing out.story out.story out.content out.moment agrees fresh refl)
+  load_fault old new out failed over agrees fresh fault.Memory comes = still_nothing out.story out.story out.content out.moment agrees fresh refl
+  load_fault old new out failed over agrees fresh problem comes = absurd comes
 
--- what was made of an input that was loaded
-module _ (Makes : List ℕ → List ℕ → Report → Type 0) (Refuses : List ℕ → Fault → Type 0) (old new out out' : DiskState) (file : List ℕ) (loaded : IsLoaded old file) where
-  made_of : (problem : Fault) → MakeComes (Makes file) (Refuses file) out out' (Err problem) → MakingComes Makes Refuses old new out out' (Err problem)
-  made_of fault.Device comes = inr comes
-  made_of fault.Memory comes = comes
-  made_of (fault.Read refused) comes = ((file, loaded, comes.0), comes.1)
-  made_of problem comes = absurd comes
+  -- what was made of inputs that were loaded
+  module _ (out out' : DiskState) (input : Input) (loaded : inputs.AreLoaded input) where
+    made_of : (problem : Fault) → MakeComes (Makes input) (Refuses input) out out' (Err problem) → MakingComes inputs Makes Refuses out out' (Err problem)
+    made_of fault.Device comes = inr comes
+    made_of fault.Memory comes = comes
+    made_of (fault.InputOver size limit) comes = absurd comes
+    made_of problem comes = ((input, loaded, comes.0), comes.1)
 
-  pub making_ends : (end : Result Report Fault) → MakeComes (Makes file) (Refuses file) out out' end → MakingComes Makes Refuses old new out out' end
-  making_ends (Ok report) made = (file, loaded, made)
-  making_ends (Err problem) comes = made_of problem comes
+    pub making_ends : (end : Result Report Fault) → MakeComes (Makes input) (Refuses input) out out' end → MakingComes inputs Makes Refuses out out' end
+    making_ends (Ok report) made = (input, loaded, made)
+    making_ends (Err problem) comes = made_of problem comes
 
 -- what holds of each file holds of the one that is told
 pub of_any : (told : Option (List ℕ)) (P : List ℕ → Type 0) → ((file : List ℕ) → P file) → IfSome told P
 of_any None P holds = tt
 of_any (Some file) P holds = holds file
+
+-- and what holds of each two of both that are
+pub any_pair : (told other : Option (List ℕ)) (P : List ℕ → List ℕ → Type 0) → ((one two : List ℕ) → P one two) → IfSome told (λ one. IfSome other (λ two. P one two))
+any_pair told other P holds = of_any told (λ one. IfSome other (λ two. P one two)) (λ one. of_any other (λ two. P one two) (λ two. holds one two))
 
 -- the fault of a tool, as the program tells it
 pub finalize_fault : (file : List ℕ) (now : ℕ) (old new : DiskState) (problem : ToolFault) → FinalizeEnds file now old new (Err problem)
@@ -117,6 +128,15 @@ pub cut_fault : (file : List ℕ) (asked : Cutting) (old new : DiskState) (probl
 cut_fault file asked old new (tool.Read refused) ends = (ends.1, ends.2)
 cut_fault file asked old new tool.Failed ends = ends
 cut_fault file asked old new tool.Memory ends = ends
+
+pub concat_fault : (asked : Joining) (old new : DiskState) (problem : ConcatFault) → ConcatEnds asked old new (Err problem)
+    → ToolEnds (Joins asked) (AreNotJoined asked) old new (Err (fault_of_concat problem))
+concat_fault asked old new (concat.First refused) ends = (inl (ends.0, ends.1), ends.2)
+concat_fault asked old new (concat.Second refused) ends = (inr (ends.0, (ends.1, ends.2)), ends.3)
+concat_fault asked old new (concat.Differs group) ends = ends
+concat_fault asked old new (concat.Wide group channel) ends = ends
+concat_fault asked old new concat.Failed ends = ends
+concat_fault asked old new concat.Memory ends = ends
 
 -- what holds of a range holds of the same one
 pub same_range : (P : Cutting → Type 0) (from to from' to' : ℤ) (now : ℕ) → from' ≡ from → to' ≡ to → P (record { from = from'; to = to'; now = now })

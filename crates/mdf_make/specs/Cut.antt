@@ -4,7 +4,7 @@ use Rattle.mdf_disk.specs.State.{DiskState}
 use Rattle.mdf_port.specs.State.{SinkState}
 use Rattle.mdf_tool.specs.declared.made.Report.{Report}
 use Rattle.tool_cut.specs.Cut.{Cutting, IsCutOf}
-use Rattle.mdf_make.specs.Making.{EndsMaking}
+use Rattle.mdf_make.specs.Making.{EndsMaking, one_input}
 use Rattle.mdf_make.specs.Sort.{IsNotMeasured}
 
 -- it makes the sorted file of a file's measurement with those records alone whose master lies in a range, at a time in ns
@@ -14,4 +14,4 @@ Cuts asked file bytes report = IsCutOf file asked bytes report
 -- How the command ends, by what the disks of the input and of the output and the sink tell before and after. It refuses a
 -- file for the first fault of its measurement.
 abbrev pub EndsCut : Cutting → DiskState → DiskState → DiskState → DiskState → SinkState → SinkState → ℕ → Type 0
-EndsCut asked = EndsMaking (Cuts asked) IsNotMeasured
+EndsCut asked disk disk' = EndsMaking (one_input disk disk') (Cuts asked) IsNotMeasured

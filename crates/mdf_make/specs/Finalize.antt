@@ -7,7 +7,7 @@ use Rattle.mdf_port.specs.State.{SinkState}
 use Rattle.mdf_session.specs.Session.{session}
 use Rattle.mdf_tool.specs.declared.made.Report.{Report}
 use Rattle.tool_final.specs.Finalize.{IsFinalizedOf}
-use Rattle.mdf_make.specs.Making.{EndsMaking}
+use Rattle.mdf_make.specs.Making.{EndsMaking, one_input}
 use Rattle.mdf_command.specs.declared.fault.Fault.{Fault}
 use Rattle.mdf_command.specs.declared.fault.Fault.TheVariants as fault
 
@@ -22,4 +22,4 @@ IsNoRecording file _ = ⊥
 
 -- How the command ends, by what the disks of the input and of the output and the sink tell before and after.
 abbrev pub EndsFinalize : ℕ → DiskState → DiskState → DiskState → DiskState → SinkState → SinkState → ℕ → Type 0
-EndsFinalize now = EndsMaking (Finalizes now) IsNoRecording
+EndsFinalize now disk disk' = EndsMaking (one_input disk disk') (Finalizes now) IsNoRecording

@@ -3,3 +3,4 @@ pub mod Making
 pub mod Finalize
 pub mod Sort
 pub mod Cut
+pub mod Concat

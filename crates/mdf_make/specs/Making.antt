@@ -32,20 +32,29 @@ abbrev pub MakeComes : (List ℕ → Report → Type 0) → (Fault → Type 0) �
 MakeComes Makes Refuses out out' (Ok report) = IsMade Makes out' report
 MakeComes Makes Refuses out out' (Err fault.Device) = Rose out.faults out'.faults
 MakeComes Makes Refuses out out' (Err fault.Memory) = MakesNothing out out'
-MakeComes Makes Refuses out out' (Err (fault.Read refused)) = Refuses (fault.Read refused) × MakesNothing out out'
-MakeComes Makes Refuses out out' (Err _) = ⊥
+MakeComes Makes Refuses out out' (Err (fault.InputOver size limit)) = ⊥
+MakeComes Makes Refuses out out' (Err problem) = Refuses problem × MakesNothing out out'
 
--- The command ends so only where this holds of the disks of the input and of the output before and after: what the tool
--- makes of the input is kept whole; or a disk failed; or a crash leaves nothing of the output, since the input is too long
+-- What the disks of the inputs tell before and after: what was loaded of them, that one of them failed, and that the file of
+-- one has more bytes than an input may have.
+pub record Inputs (Input : Type 0) : Type 1 where
+  pub AreLoaded : Input → Type 0
+  pub Failed : Type 0
+  pub IsOver : ℕ → ℕ → Type 0
+
+-- one input, of which its bytes are loaded
+abbrev pub one_input : DiskState → DiskState → Inputs (List ℕ)
+one_input old new = record { AreLoaded = IsLoaded old; Failed = Rose old.faults new.faults; IsOver = IsOver old }
+
+-- The command ends so only where this holds of the disks of the inputs and of the output before and after: what the tool
+-- makes of the input is kept whole; or a disk failed; or a crash leaves nothing of the output, since an input is too long
 -- or refused, or memory was wanted.
-abbrev pub MakingComes : (List ℕ → List ℕ → Report → Type 0) → (List ℕ → Fault → Type 0) → DiskState → DiskState → DiskState → DiskState → Result Report Fault → Type 0
-MakingComes Makes Refuses old new out out' (Ok report) = (file : List ℕ) × IsLoaded old file × IsMade (Makes file) out' report
-MakingComes Makes Refuses old new out out' (Err fault.Device) = Rose old.faults new.faults ⊎ Rose out.faults out'.faults
-MakingComes Makes Refuses old new out out' (Err (fault.InputOver size limit)) = IsOver old size limit × MakesNothing out out'
-MakingComes Makes Refuses old new out out' (Err fault.Memory) = MakesNothing out out'
-MakingComes Makes Refuses old new out out' (Err (fault.Read refused)) =
-    ((file : List ℕ) × IsLoaded old file × Refuses file (fault.Read refused)) × MakesNothing out out'
-MakingComes Makes Refuses old new out out' (Err _) = ⊥
+abbrev pub MakingComes : {Input : Type 0} → Inputs Input → (Input → List ℕ → Report → Type 0) → (Input → Fault → Type 0) → DiskState → DiskState → Result Report Fault → Type 0
+MakingComes {Input = Input} inputs Makes Refuses out out' (Ok report) = (input : Input) × inputs.AreLoaded input × IsMade (Makes input) out' report
+MakingComes inputs Makes Refuses out out' (Err fault.Device) = inputs.Failed ⊎ Rose out.faults out'.faults
+MakingComes inputs Makes Refuses out out' (Err (fault.InputOver size limit)) = inputs.IsOver size limit × MakesNothing out out'
+MakingComes inputs Makes Refuses out out' (Err fault.Memory) = MakesNothing out out'
+MakingComes {Input = Input} inputs Makes Refuses out out' (Err problem) = ((input : Input) × inputs.AreLoaded input × Refuses input problem) × MakesNothing out out'
 
 abbrev pub making_text : Result Report Fault → List ℕ
 making_text (Ok report) = report_line report
@@ -55,7 +64,7 @@ abbrev pub making_status : Result Report Fault → ℕ
 making_status (Ok report) = 0
 making_status (Err fault) = fault_status fault
 
--- How the command ends, by what the disks of the input and of the output and the sink tell before and after.
-abbrev pub EndsMaking : (List ℕ → List ℕ → Report → Type 0) → (List ℕ → Fault → Type 0) → DiskState → DiskState → DiskState → DiskState → SinkState → SinkState → ℕ → Type 0
-EndsMaking Makes Refuses disk disk' out out' sink sink' status =
-    (end : Result Report Fault) × MakingComes Makes Refuses disk disk' out out' end × Prints (making_text end) (making_status end) sink sink' status
+-- How the command ends, by what the disks of the inputs and of the output and the sink tell before and after.
+abbrev pub EndsMaking : {Input : Type 0} → Inputs Input → (Input → List ℕ → Report → Type 0) → (Input → Fault → Type 0) → DiskState → DiskState → SinkState → SinkState → ℕ → Type 0
+EndsMaking inputs Makes Refuses out out' sink sink' status =
+    (end : Result Report Fault) × MakingComes inputs Makes Refuses out out' end × Prints (making_text end) (making_status end) sink sink' status

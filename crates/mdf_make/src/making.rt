@@ -5,7 +5,7 @@ ghost use Rattle.mdf_disk.specs.State.{state_of};
 ghost use Rattle.mdf_disk.specs.declared.role.Role.TheVariants.{Create, Read};
 ghost use Rattle.mdf_port.specs.State.{sink_state};
 ghost use Rattle.mdf_command.specs.Texts.{Gives, Prints};
-ghost use Rattle.mdf_make.specs.Making.{EndsMaking, MakeComes, MakingComes, making_status, making_text, report_line};
+ghost use Rattle.mdf_make.specs.Making.{EndsMaking, MakeComes, MakingComes, one_input, making_status, making_text, report_line};
 ghost use Rattle.mdf_make.specs.Tool.{IsImage};
 
 use crate::tool::Tool;
@@ -18,7 +18,7 @@ use mdf_tool::Report;
 use std::alloc::Global;
 
 /// Makes a file of these bytes, of this name.
-fn make<T: Tool + Drop, C: Disk>(
+pub(crate) fn make<T: Tool + Drop, C: Disk>(
     alloc: Global,
     tool: T,
     file: Bytes,
@@ -46,7 +46,7 @@ fn make_of<T: Tool + Drop, A: Disk, C: Disk>(
 ) -> Result<Report, Fault>
     requires first { A.asked first.old ≡ None }
     requires out { C.asked out.old ≡ None }
-    ensures comes { MakingComes (T.makes tool) (T.refuses tool) (state_of A.Disk first.old) (state_of A.Disk first.new) (state_of C.Disk out.old) (state_of C.Disk out.new) result }
+    ensures comes { MakingComes (one_input (state_of A.Disk first.old) (state_of A.Disk first.new)) (T.makes tool) (T.refuses tool) (state_of C.Disk out.old) (state_of C.Disk out.new) result }
     ensures any_moment { IfSome (A.content first.old) (λ file. HoldsSince (C.story out.new) (C.moment out.old) (IsImage (T.makes tool file))) }
     ensures input { (A.asked first.new ≡ None) ⊎ (A.asked first.new ≡ Some (input.now, Read)) }
     ensures input_content { A.content first.new ≡ A.content first.old }
@@ -96,7 +96,7 @@ fn status(end: &Result<Report, Fault>) -> u8
 }
 
 /// Prints how a command ended, and answers the program's status.
-fn report<K: Sink>(sink: &mut K, end: &Result<Report, Fault>) -> u8
+pub(crate) fn report<K: Sink>(sink: &mut K, end: &Result<Report, Fault>) -> u8
     ensures { Prints (making_text end.now) (making_status end.now) (sink_state K.Sink sink.old) (sink_state K.Sink sink.new) result }
 {
     let given = give_end(sink, end);
@@ -115,7 +115,7 @@ pub(crate) fn run_tool<T: Tool + Drop, K: Sink, A: Disk, C: Disk>(
 ) -> u8
     requires first { A.asked first.old ≡ None }
     requires out { C.asked out.old ≡ None }
-    ensures ends { EndsMaking (T.makes tool) (T.refuses tool) (state_of A.Disk first.old) (state_of A.Disk first.new) (state_of C.Disk out.old) (state_of C.Disk out.new)
+    ensures ends { EndsMaking (one_input (state_of A.Disk first.old) (state_of A.Disk first.new)) (T.makes tool) (T.refuses tool) (state_of C.Disk out.old) (state_of C.Disk out.new)
         (sink_state K.Sink sink.old) (sink_state K.Sink sink.new) result }
     ensures any_moment { IfSome (A.content first.old) (λ file. HoldsSince (C.story out.new) (C.moment out.old) (IsImage (T.makes tool file))) }
     ensures input { (A.asked first.new ≡ None) ⊎ (A.asked first.new ≡ Some (input.now, Read)) }

@@ -52,6 +52,8 @@ not_done fault.Memory result is done = absurd (omega (arith, is, done))
 not_done (fault.Script number) result is done = absurd (omega (arith, is, done))
 not_done (fault.Read refused) result is done = not_read (read_refusal refused) result is done
 not_done (fault.NoGroup said groups) result is done = absurd (omega (arith, is, done))
+not_done (fault.Differs group) result is done = absurd (omega (arith, is, done))
+not_done (fault.Wide group channel) result is done = absurd (omega (arith, is, done))
 
 completes : (script : Script) (faults : ℕ) (left : Outcome) (result : ℕ) (problem : Option Fault)
     → (result ≡ fault_code problem) ⊎ (result ≡ unwritten_status (fault_code problem)) → IsDone result

@@ -3,3 +3,4 @@ mod Keeps
 mod Recovered
 mod Sound
 mod Words
+mod Joinable

@@ -8,6 +8,7 @@ use Rattle.mdf_content.specs.Fault.{read_refusal}
 use Rattle.mdf_content.specs.declared.fault.ReadFault.{ReadFault}
 use Rattle.mdf_model.specs.Measurement.{Measured, measurement}
 use Rattle.mdf_session.specs.Session.{session}
+use Rattle.mdf_carried.specs.Recovers.{IsReadable}
 use Rattle.mdf_record.specs.Recovers.{IsFinalizable}
 use Rattle.mdf_tool.specs.declared.made.Report.{Report}
 use Rattle.mdf_command.specs.Faults.{INPUT_LIMIT, fault_line, fault_status, refused_status}
@@ -17,7 +18,7 @@ use Rattle.mdf_command.specs.declared.fault.Fault.{Fault}
 use Rattle.mdf_command.specs.declared.fault.Fault.TheVariants as fault
 use Rattle.mdf_make.specs.Finalize.{IsNoRecording}
 use Rattle.mdf_make.specs.Sort.{IsNotMeasured}
-use Rattle.mdf_make.specs.Making.{EndsMaking, MakingComes, making_text, making_status}
+use Rattle.mdf_make.specs.Making.{EndsMaking, Inputs, MakingComes, making_text, making_status, one_input}
 use Rattle.mdf_inspect.specs.Export.{EndsExport, LacksGroup, PrintsEnd, TableComes, TableFaultComes}
 use Rattle.mdf_inspect.specs.declared.table.TableEnd.{TableEnd}
 use Rattle.mdf_inspect.specs.declared.table.TableEnd.TheVariants.{Given, Unwritten, Refused}
@@ -25,11 +26,11 @@ use Rattle.mdf_run.specs.Kept.{HasGroup, IsDoneOrLacked, IsMeasured}
 use Rattle.mdf_run.proofs.Keeps.{was_status}
 
 -- one measurement is read of a file
-one_read : {A : Type 0} (read : Read A) (found other : A) → read ≡ Ok found → read ≡ Ok other → found ≡ other
+pub one_read : {A : Type 0} (read : Read A) (found other : A) → read ≡ Ok found → read ≡ Ok other → found ≡ other
 one_read read found other is also = cc
 
 -- what is read is not refused
-not_refused : {A : Type 0} (refusal : Option Refusal) (read : Read A) (found : A) → read ≡ Ok found → Fails refusal read → refused_status refusal ≡ 7
+pub not_refused : {A : Type 0} (refusal : Option Refusal) (read : Read A) (found : A) → read ≡ Ok found → Fails refusal read → refused_status refusal ≡ 7
 not_refused None read found is fails = refl
 not_refused {A = A} (Some refusal) read found is fails =
     let wrong : ◌≡◌ {A = Read A} (Ok found) (Err refusal) = sym is ∙ fails in cc
@@ -42,38 +43,37 @@ ends_well status result was (inr (inl device)) =
 ends_well status result was (inr (inr memory)) =
     ⊎_elim (λ same. inr (inr (inr (same ∙ memory)))) (λ other. inr (inr (inr (other ∙ ap unwritten_status memory)))) was
 
+-- a command that makes a file, of inputs of which none is too long, with a tool that refuses them for want of memory alone
+module _ {Input : Type 0} (inputs : Inputs Input) (Makes : Input → List ℕ → Report → Type 0) (Refuses : Input → Fault → Type 0) (out out' : DiskState)
+    (short : (size limit : ℕ) → ¬ inputs.IsOver size limit)
+    (takes : (input : Input) → inputs.AreLoaded input → (problem : Fault) → Refuses input problem → fault_status problem ≡ 7) where
+  making_fault : (problem : Fault) → MakingComes inputs Makes Refuses out out' (Err problem)
+      → (fault_status problem ≡ 0) ⊎ ((fault_status problem ≡ 4) ⊎ (fault_status problem ≡ 7))
+  making_fault fault.Device comes = inr (inl refl)
+  making_fault (fault.InputOver size limit) comes = absurd (short size limit comes.0)
+  making_fault fault.Memory comes = inr (inr refl)
+  making_fault problem comes = inr (inr (takes comes.0.0 comes.0.1 problem comes.0.2))
+
+  making_end : (end : Result Report Fault) → MakingComes inputs Makes Refuses out out' end
+      → (making_status end ≡ 0) ⊎ ((making_status end ≡ 4) ⊎ (making_status end ≡ 7))
+  making_end (Ok report) comes = inl refl
+  making_end (Err problem) comes = making_fault problem comes
+
+  pub making_well : (sink sink' : SinkState) (status : ℕ) → EndsMaking inputs Makes Refuses out out' sink sink' status → IsDoneOrLacked status
+  making_well sink sink' status ends =
+      ends_well (making_status ends.0) status (was_status (making_text ends.0) (making_status ends.0) sink sink' status ends.2) (making_end ends.0 ends.1)
+
 -- what is loaded of a disk that tells this file
 module _ (disk : DiskState) (file : List ℕ) (told : disk.content ≡ Some file) (short : length file ≤ INPUT_LIMIT) where
   said : (P : List ℕ → Type 0) → IfSome disk.content P → P file
   said P holds = subst (λ (content : Option (List ℕ)). IfSome content P) told holds
 
-  loaded_is : (loaded : List ℕ) → IsLoaded disk loaded → loaded ≡ file
+  pub loaded_is : (loaded : List ℕ) → IsLoaded disk loaded → loaded ≡ file
   loaded_is loaded is = said (λ f. loaded ≡ f) is.told
 
-  not_over : (size limit : ℕ) → ¬ IsOver disk size limit
+  pub not_over : (size limit : ℕ) → ¬ IsOver disk size limit
   not_over size limit is =
       let long : size ≡ length file = said (λ f. size ≡ length f) is.told in absurd (omega (arith, is.limit_is, is.over, long, short))
-
-  -- a command that makes a file of the input, with a tool that refuses it for want of memory alone
-  module _ (Makes : List ℕ → List ℕ → Report → Type 0) (Refuses : List ℕ → Fault → Type 0) (disk' out out' : DiskState)
-      (takes : (refused : ReadFault) → Refuses file (fault.Read refused) → refused_status (read_refusal refused) ≡ 7) where
-    making_fault : (problem : Fault) → MakingComes Makes Refuses disk disk' out out' (Err problem)
-        → (fault_status problem ≡ 0) ⊎ ((fault_status problem ≡ 4) ⊎ (fault_status problem ≡ 7))
-    making_fault fault.Device comes = inr (inl refl)
-    making_fault (fault.InputOver size limit) comes = absurd (not_over size limit comes.0)
-    making_fault fault.Memory comes = inr (inr refl)
-    making_fault (fault.Read refused) comes =
-        inr (inr (takes refused (subst (λ f. Refuses f (fault.Read refused)) (loaded_is comes.0.0 comes.0.1) comes.0.2)))
-    making_fault problem comes = absurd comes
-
-    making_end : (end : Result Report Fault) → MakingComes Makes Refuses disk disk' out out' end
-        → (making_status end ≡ 0) ⊎ ((making_status end ≡ 4) ⊎ (making_status end ≡ 7))
-    making_end (Ok report) comes = inl refl
-    making_end (Err problem) comes = making_fault problem comes
-
-    pub making_well : (sink sink' : SinkState) (status : ℕ) → EndsMaking Makes Refuses disk disk' out out' sink sink' status → IsDoneOrLacked status
-    making_well sink sink' status ends =
-        ends_well (making_status ends.0) status (was_status (making_text ends.0) (making_status ends.0) sink sink' status ends.2) (making_end ends.0 ends.1)
 
   -- a command that prints the table of a group that is there
   module _ (group : ℕ) (has : HasGroup file group) (disk' : DiskState) (sink between : SinkState) where
@@ -102,21 +102,31 @@ module _ (disk : DiskState) (file : List ℕ) (told : disk.content ≡ Some file
     table_well (Refused problem) sink' status comes prints =
         ends_well (fault_status problem) status (was_status (fault_line problem) (fault_status problem) between sink' status prints) (table_fault problem comes)
 
+-- a command that makes a file of one input, which it refuses for want of memory alone
+pub one_is_made : (Makes : List ℕ → List ℕ → Report → Type 0) (Refuses : List ℕ → Fault → Type 0) (IsSound : List ℕ → Type 0)
+    → ((file : List ℕ) → IsSound file → (problem : Fault) → Refuses file problem → fault_status problem ≡ 7)
+    → (disk disk' out out' : DiskState) (sink sink' : SinkState) (status : ℕ) (content : Option (List ℕ)) → disk.content ≡ content
+    → EndsMaking (one_input disk disk') Makes Refuses out out' sink sink' status
+    → IfSome content (λ file. IsSound file → length file ≤ INPUT_LIMIT → IsDoneOrLacked status)
+one_is_made Makes Refuses IsSound takes disk disk' out out' sink sink' status None told ends = tt
+one_is_made Makes Refuses IsSound takes disk disk' out out' sink sink' status (Some file) told ends = λ sound short.
+    making_well (one_input disk disk') Makes Refuses out out' (not_over disk file told short)
+    (λ input loaded problem refuses. takes file sound problem (subst (λ f. Refuses f problem) (loaded_is disk file told short input loaded) refuses)) sink sink' status ends
+
 -- each file that is read as a recording is finalized
-pub read_is_finalized : (Makes : List ℕ → List ℕ → Report → Type 0) (disk disk' out out' : DiskState) (sink sink' : SinkState) (status : ℕ) (content : Option (List ℕ)) → disk.content ≡ content
-    → EndsMaking Makes IsNoRecording disk disk' out out' sink sink' status → IfSome content (λ file. IsFinalizable file → IsDoneOrLacked status)
-read_is_finalized Makes disk disk' out out' sink sink' status None told ends = tt
-read_is_finalized Makes disk disk' out out' sink sink' status (Some file) told ends = λ finalizable.
-    making_well disk file told finalizable.short Makes IsNoRecording disk' out out'
-    (λ refused fails. not_refused (read_refusal refused) (session file) finalizable.readable.found finalizable.readable.is_read fails) sink sink' status ends
+pub read_is_taken : (file : List ℕ) → IsReadable file → (problem : Fault) → IsNoRecording file problem → fault_status problem ≡ 7
+read_is_taken file readable (fault.Read refused) fails = not_refused (read_refusal refused) (session file) readable.found readable.is_read fails
+read_is_taken file readable problem fails = absurd fails
+
+pub finalizable_is_taken : (content : Option (List ℕ)) (P : Type 0) → IfSome content (λ file. IsReadable file → length file ≤ INPUT_LIMIT → P)
+    → IfSome content (λ file. IsFinalizable file → P)
+finalizable_is_taken None P each = tt
+finalizable_is_taken (Some file) P each = λ finalizable. each finalizable.readable finalizable.short
 
 -- and each finished file is sorted and cut
-pub measured_is_made : (Makes : List ℕ → List ℕ → Report → Type 0) (disk disk' out out' : DiskState) (sink sink' : SinkState) (status : ℕ) (content : Option (List ℕ)) → disk.content ≡ content
-    → EndsMaking Makes IsNotMeasured disk disk' out out' sink sink' status → IfSome content (λ file. IsMeasured file → length file ≤ INPUT_LIMIT → IsDoneOrLacked status)
-measured_is_made Makes disk disk' out out' sink sink' status None told ends = tt
-measured_is_made Makes disk disk' out out' sink sink' status (Some file) told ends = λ measured short.
-    making_well disk file told short Makes IsNotMeasured disk' out out'
-    (λ refused fails. not_refused (read_refusal refused) (measurement file) measured.found measured.is_read fails) sink sink' status ends
+pub measured_is_taken : (file : List ℕ) → IsMeasured file → (problem : Fault) → IsNotMeasured file problem → fault_status problem ≡ 7
+measured_is_taken file measured (fault.Read refused) fails = not_refused (read_refusal refused) (measurement file) measured.found measured.is_read fails
+measured_is_taken file measured problem fails = absurd fails
 
 -- and each of its groups is exported
 pub group_is_exported : (group : ℕ) (disk disk' : DiskState) (sink sink' : SinkState) (status : ℕ) (content : Option (List ℕ)) → disk.content ≡ content

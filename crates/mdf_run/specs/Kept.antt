@@ -11,8 +11,10 @@ use Rattle.acq_script.specs.Script.{script_of}
 use Rattle.acq_script.specs.Tasks.{samples_of}
 use Rattle.acq_script.specs.declared.script.Script.{Script}
 use Rattle.script_gen.specs.Generated.{generated_script}
-use Rattle.mdf_command.specs.Words.{AsksGenerated, AsksRecord}
+use Rattle.mdf_command.specs.Words.{AsksConcat, AsksGenerated, AsksRecord}
 use Rattle.mdf_model.specs.Measurement.{Measured, measurement}
+use Rattle.tool_concat.specs.Difference.{AreAlike}
+use Rattle.tool_concat.specs.Wide.{NoneWideTo}
 use Rattle.mdf_record.specs.Head.{script_head}
 use Rattle.mdf_record.specs.Record.{IsComplete, OfSources}
 use Rattle.mdf_record.specs.Sources.{AreOwnMarked}
@@ -23,6 +25,10 @@ abbrev pub OfRecording : List (List ℕ) → Option (List ℕ) → (Script → T
 OfRecording words left P =
     ((name : List ℕ) → AsksRecord words name → (text : List ℕ) → left ≡ Some text → (script : Script) → script_of text ≡ Ok script → P script)
     × ((samples : ℕ) (name : List ℕ) → AsksGenerated words samples name → P (generated_script samples))
+
+-- the words ask for files to be joined
+abbrev pub AsksToJoin : List (List ℕ) → Type 0
+AsksToJoin words = (input second output : List ℕ) × AsksConcat words input second output
 
 -- this holds where the words ask for a recording
 abbrev pub IfRecorded : List (List ℕ) → Type 0 → Type 0
@@ -57,6 +63,15 @@ pub record HasGroup (file : List ℕ) (group : ℕ) : Type 0 where
   pub found : Measured
   pub is_read : measurement file ≡ Ok found
   pub there : group < length found.groups
+
+-- both files are finalized ones that are read, their groups are the same, and each offset is held once it is moved
+pub record AreJoinable (one two : List ℕ) : Type 0 where
+  pub first : Measured
+  pub second : Measured
+  pub first_is_read : measurement one ≡ Ok first
+  pub second_is_read : measurement two ≡ Ok second
+  pub alike : AreAlike first.groups second.groups
+  pub held : NoneWideTo first.groups second.groups (length first.groups)
 
 -- What is kept of a recording of this script that was begun at this moment of its disk and ended with this status.
 pub record Keeps (start now : ℕ) (script : Script) (disk : DiskState) (history : List Sample) (marks : List Mark) (status : ℕ) : Type 0 where

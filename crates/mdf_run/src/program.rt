@@ -6,7 +6,7 @@ ghost use Rattle.mdf_disk.specs.State.{state_of};
 ghost use Rattle.book_owned.specs.Kept.{MarksHold, StartHolds};
 ghost use Rattle.book_owned.specs.Marks.{AreRising, last_mark};
 ghost use Rattle.acq_script.specs.Tasks.{samples_of};
-ghost use Rattle.mdf_command.specs.Words.{AsksCheck, AsksCut, AsksExport, AsksFinalize, AsksGenerated, AsksInfo, AsksOpened, AsksRecord, AsksSort, AsksInput, AsksOutput, AsksToMake, IsUsage};
+ghost use Rattle.mdf_command.specs.Words.{AsksCheck, AsksConcat, AsksCut, AsksExport, AsksFinalize, AsksGenerated, AsksInfo, AsksOpened, AsksRecord, AsksSort, AsksInput, AsksOutput, AsksSecond, AsksToMake, IsUsage};
 ghost use Rattle.mdf_command.specs.Texts.{Prints, usage_line};
 ghost use Rattle.mdf_inspect.specs.Opened.{EndsOpened};
 ghost use Rattle.mdf_disk.specs.Crash.{HoldsSince};
@@ -15,6 +15,8 @@ ghost use Rattle.mdf_make.specs.Finalize.{EndsFinalize};
 ghost use Rattle.mdf_make.specs.Sort.{EndsSort};
 ghost use Rattle.tool_sort.specs.Sort.{IsSortImage};
 ghost use Rattle.mdf_make.specs.Cut.{EndsCut};
+ghost use Rattle.mdf_make.specs.Concat.{EndsConcat};
+ghost use Rattle.tool_concat.specs.Concat.{IsConcatImage};
 ghost use Rattle.tool_cut.specs.Cut.{IsCutImage};
 ghost use Rattle.mdf_inspect.specs.Check.{EndsCheck};
 ghost use Rattle.mdf_inspect.specs.Info.{EndsInfo};
@@ -27,7 +29,7 @@ ghost use Rattle.mdf_record.specs.Recorded.{EndsGenerated, EndsRecord};
 ghost use Rattle.mdf_record.specs.Recovers.{IsFinalizable, MarksRecover, StartRecovers};
 ghost use Rattle.mdf_recovered.specs.Samples.{IsRecovered};
 ghost use Rattle.mdf_command.specs.Faults.{INPUT_LIMIT};
-ghost use Rattle.mdf_run.specs.Kept.{IfRecorded, OfRecording, RecordsNothing, HasGroup, HasSaved, IsDone, IsDoneOrLacked, IsMeasured};
+ghost use Rattle.mdf_run.specs.Kept.{IfRecorded, OfRecording, RecordsNothing, AreJoinable, AsksToJoin, HasGroup, HasSaved, IsDone, IsDoneOrLacked, IsMeasured};
 
 use crate::recording::{record_generated, record_source};
 use book_owned::Marks;
@@ -36,7 +38,7 @@ use mdf_command::{Command, command_of, give_line, status_after};
 use mdf_disk::Disk;
 use mdf_inspect::{Question, run_export, run_opened, run_reading};
 use mdf_layout::Samples;
-use mdf_make::{run_cut, run_finalize, run_sort};
+use mdf_make::{run_concat, run_cut, run_finalize, run_sort};
 use mdf_num::{Bytes, Rows};
 use mdf_port::{Sink, Source};
 use mdf_record::Gate;
@@ -44,7 +46,7 @@ use std::alloc::Global;
 use std::sync::Wait;
 use std::thread::Threads;
 
-/// What is printed where the words are no command. It names the commands that are not built yet too.
+/// What is printed where the words are no command.
 const USAGE: &[u8] =
     b"usage: opened IN | record OUT | finalize IN OUT | check IN | info IN | sort IN OUT | cut IN OUT FROM TO | concat A B OUT | export IN GROUP | gen N OUT";
 
@@ -96,7 +98,7 @@ pub fn run<R, S, K, A, B, C, G>(
     source: &mut S,
     sink: &mut K,
     first: A,
-    _second: &mut B,
+    second: &mut B,
     out: C,
     gate: &G,
 ) -> Finished<A, C>
@@ -109,7 +111,7 @@ where
     C: Disk + Send,
     G: Gate + Sync,
     requires first { A.asked first ≡ None }
-    requires second { B.asked _second.old ≡ None }
+    requires second { B.asked second.old ≡ None }
     requires out { C.asked out ≡ None }
 
     // What each command prints and how it ends.
@@ -134,6 +136,9 @@ where
     ensures cut { (input output : List ℕ) (from to : ℤ) → AsksCut words.now input output from to
         → EndsCut (record { from = from; to = to; now = now_ns }) (state_of A.Disk first) (state_of A.Disk result.first) (state_of C.Disk out) (state_of C.Disk result.out)
         (sink_state K.Sink sink.old) (sink_state K.Sink sink.new) result.status }
+    ensures concat { (input other output : List ℕ) → AsksConcat words.now input other output
+        → EndsConcat now_ns (state_of A.Disk first) (state_of A.Disk result.first) (state_of B.Disk second.old) (state_of B.Disk second.new)
+        (state_of C.Disk out) (state_of C.Disk result.out) (sink_state K.Sink sink.old) (sink_state K.Sink sink.new) result.status }
     ensures export { (input : List ℕ) (group : ℕ) → AsksExport words.now input group
         → EndsExport group (state_of A.Disk first) (state_of A.Disk result.first)
         (sink_state K.Sink sink.old) (sink_state K.Sink sink.new) result.status }
@@ -177,13 +182,16 @@ where
     ensures finalizes { (input output : List ℕ) → AsksFinalize words.now input output
         → IfSome (A.content first) (λ file. IsFinalizable file → IsDoneOrLacked result.status) }
 
-    // So is each finished file sorted and cut, and each group of one exported.
+    // So is each finished file sorted and cut, each group of one exported, and each pair of them that can be joined is joined.
     ensures sorts { (input output : List ℕ) → AsksSort words.now input output
         → IfSome (A.content first) (λ file. IsMeasured file → length file ≤ INPUT_LIMIT → IsDoneOrLacked result.status) }
     ensures cuts { (input output : List ℕ) (from to : ℤ) → AsksCut words.now input output from to
         → IfSome (A.content first) (λ file. IsMeasured file → length file ≤ INPUT_LIMIT → IsDoneOrLacked result.status) }
     ensures exports { (input : List ℕ) (group : ℕ) → AsksExport words.now input group
         → IfSome (A.content first) (λ file. HasGroup file group → length file ≤ INPUT_LIMIT → IsDoneOrLacked result.status) }
+    ensures concats { (input other output : List ℕ) → AsksConcat words.now input other output
+        → IfSome (A.content first) (λ one. IfSome (B.content second.old) (λ two. AreJoinable one two
+        → length one ≤ INPUT_LIMIT → length two ≤ INPUT_LIMIT → IsDoneOrLacked result.status)) }
 
     // What may be left of the output of `finalize` at any moment: no MDF, or the finalized session of the input.
     ensures finalize_leaves { (input output : List ℕ) → AsksFinalize words.now input output
@@ -197,6 +205,11 @@ where
     ensures cut_leaves { (input output : List ℕ) (from to : ℤ) → AsksCut words.now input output from to
         → IfSome (A.content first) (λ file. HoldsSince (C.story result.out) (C.moment out) (IsCutImage file (record { from = from; to = to; now = now_ns }))) }
 
+    // And of the output of `concat`: no MDF, or the sorted file of the joined measurement of both inputs.
+    ensures concat_leaves { (input other output : List ℕ) → AsksConcat words.now input other output
+        → IfSome (A.content first) (λ one. IfSome (B.content second.old) (λ two. HoldsSince (C.story result.out) (C.moment out)
+        (IsConcatImage (record { first = one; second = two; now = now_ns })))) }
+
     // Another command has no history and no marks. Only `record` takes anything from the source.
     ensures no_history { RecordsNothing words.now → result.history.items ≡ [] }
     ensures no_marks { RecordsNothing words.now → result.marks.items ≡ [] }
@@ -204,15 +217,19 @@ where
 
     // A status that speaks of a disk, of the source or of the sink comes only where that has failed.
     ensures source_fault { result.status ≡ 2 → Rose (S.faults source.old) (S.faults source.new) }
-    ensures device_fault { result.status ≡ 4 → Rose (A.faults first) (A.faults result.first) ⊎ Rose (C.faults out) (C.faults result.out) }
+    ensures device_fault { result.status ≡ 4 → Rose (A.faults first) (A.faults result.first)
+        ⊎ (Rose (C.faults out) (C.faults result.out) ⊎ (AsksToJoin words.now × Rose (B.faults second.old) (B.faults second.new))) }
     ensures sink_fault { result.status ≡ 6 → Rose (K.faults sink.old) (K.faults sink.new) }
 
-    // The disks: only the input and the output that the words name are asked for, the one to be read and the other to be
-    // made; no content of an input changes, and a disk that is asked for nothing is as before.
+    // The disks: only the inputs and the output that the words name are asked for, those to be read and this one to be made;
+    // no content of an input changes, and a disk that is asked for nothing is as before.
     ensures input { AsksInput words.now (A.asked result.first) }
     ensures input_content { A.content result.first ≡ A.content first }
     ensures input_untouched { A.asked result.first ≡ None → result.first ≡ first }
-    ensures second { _second.new ≡ _second.old }
+    ensures second { AsksSecond words.now (B.asked second.new) }
+    ensures second_content { B.content second.new ≡ B.content second.old }
+    ensures second_untouched { B.asked second.new ≡ None → second.new ≡ second.old }
+    ensures second_alone { (¬ AsksToJoin words.now) → second.new ≡ second.old }
     ensures output { AsksOutput words.now (C.asked result.out) }
     ensures output_untouched { C.asked result.out ≡ None → result.out ≡ out }
     ensures out { ((output : List ℕ) → ¬ AsksToMake words.now output) → result.out ≡ out }
@@ -266,6 +283,20 @@ where
         Some(Command::Export { input, group }) => {
             let mut first = first;
             let status = run_export(alloc, input, group, sink, &mut first);
+            without_recording(alloc, status, first, out)
+        }
+        Some(
+            Command::Concat {
+                input,
+                second: other,
+                output,
+            },
+        ) => {
+            let mut first = first;
+            let mut out = out;
+            let status = run_concat(
+                alloc, input, other, output, now_ns, sink, &mut first, second, &mut out,
+            );
             without_recording(alloc, status, first, out)
         }
         Some(Command::Gen { samples, output }) => {

@@ -3,22 +3,24 @@ use Rattle.std.specs.Prelude.{IfSome, ℤ}
 use Rattle.mdf_disk.specs.Crash.{HoldsSince}
 use Rattle.tool_cut.specs.Cut.{IsCutImage}
 use Rattle.mdf_command.specs.Faults.{INPUT_LIMIT}
-use Rattle.mdf_run.specs.Kept.{HasGroup, IsDoneOrLacked}
+use Rattle.mdf_run.specs.Kept.{HasGroup, IsDoneOrLacked, IsMeasured}
 use Rattle.mdf_port.specs.State.{sink_state, source_state}
 use Rattle.mdf_disk.specs.State.{state_of}
-use Rattle.mdf_command.specs.Words.{Asks, opened, recorded, finalized, checked, described, sorted, cut, exported, generated}
+use Rattle.mdf_command.specs.Words.{Asks, opened, recorded, finalized, checked, described, sorted, cut, exported, joined, generated}
 use Rattle.mdf_command.specs.Commands.{request_of}
 use Rattle.mdf_command.specs.declared.command.Command.{Command}
-use Rattle.mdf_command.specs.declared.command.Command.TheVariants.{Record, Finalize, Sort, Cut, Export, Gen}
+use Rattle.mdf_command.specs.declared.command.Command.TheVariants.{Record, Finalize, Sort, Cut, Export, Concat, Gen}
 use Rattle.mdf_make.specs.Cut.{Cuts, EndsCut}
-use Rattle.mdf_make.specs.Finalize.{Finalizes}
-use Rattle.mdf_make.specs.Sort.{Sorts}
 use Rattle.mdf_inspect.specs.Export.{EndsExport}
 use Rattle.mdf_record.specs.Record.{outcome}
 use Rattle.mdf_record.specs.Recorded.{EndsGenerated}
 use Rattle.mdf_run.proofs.Asked.{as_asked, if_none, of_generated, of_none, of_record}
 use Rattle.mdf_run.proofs.Recovered.{all_is_recovered, has_saved}
-use Rattle.mdf_run.proofs.Sound.{group_is_exported, measured_is_made, read_is_finalized}
+use Rattle.mdf_run.proofs.Sound.{finalizable_is_taken, group_is_exported, measured_is_taken, one_is_made, read_is_taken}
+use Rattle.mdf_run.proofs.Joinable.{joinable_is_joined}
+use Rattle.mdf_carried.specs.Recovers.{IsReadable}
+use Rattle.mdf_make.specs.Finalize.{Finalizes, IsNoRecording}
+use Rattle.mdf_make.specs.Sort.{IsNotMeasured, Sorts}
 use Rattle.mdf_run.proofs.Words.{of_group, of_range, passed}
 use Rattle.mdf_run.proofs.program.run.Goals as goal
 
@@ -155,9 +157,11 @@ returns-in-Some-Gen-clause-no_marks g c =
 
 pub returns-in-Some-Finalize-clause-finalizes : goal.returns-in-Some-Finalize-clause-finalizes
 returns-in-Some-Finalize-clause-finalizes g c = λ input output asks.
-    rw c.without_recording-in-Some-Finalize.ensures.status (read_is_finalized (Finalizes c.args.now_ns) (state_of g.A.Disk c.args.first) (state_of g.A.Disk c.run_finalize-status.new.first)
-    (state_of g.C.Disk c.args.out) (state_of g.C.Disk c.run_finalize-status.new.out) (sink_state g.K.Sink c.args.sink.now) (sink_state g.K.Sink c.run_finalize-status.new.sink)
-    c.run_finalize-status.result (g.A.Disk.content c.args.first) refl c.run_finalize-status.ensures.ends)
+    let r = c.run_finalize-status in
+    rw c.without_recording-in-Some-Finalize.ensures.status (finalizable_is_taken (g.A.Disk.content c.args.first) (IsDoneOrLacked r.result)
+    (one_is_made (Finalizes c.args.now_ns) IsNoRecording IsReadable read_is_taken (state_of g.A.Disk c.args.first) (state_of g.A.Disk r.new.first)
+    (state_of g.C.Disk c.args.out) (state_of g.C.Disk r.new.out) (sink_state g.K.Sink c.args.sink.now) (sink_state g.K.Sink r.new.sink)
+    r.result (g.A.Disk.content c.args.first) refl r.ensures.ends))
 
 -- words that are no command ask for none
 pub returns-in-None-clause-opened : goal.returns-in-None-clause-opened
@@ -257,7 +261,7 @@ returns-in-Some-Sort-clause-sort_leaves g c = λ input output asks.
 -- each finished file is sorted
 pub returns-in-Some-Sort-clause-sorts : goal.returns-in-Some-Sort-clause-sorts
 returns-in-Some-Sort-clause-sorts g c = λ input output asks.
-    rw c.without_recording-in-Some-Sort.ensures.status (measured_is_made (Sorts c.args.now_ns) (state_of g.A.Disk c.args.first) (state_of g.A.Disk c.run_sort-status.new.first)
+    rw c.without_recording-in-Some-Sort.ensures.status (one_is_made (Sorts c.args.now_ns) IsNotMeasured IsMeasured measured_is_taken (state_of g.A.Disk c.args.first) (state_of g.A.Disk c.run_sort-status.new.first)
     (state_of g.C.Disk c.args.out) (state_of g.C.Disk c.run_sort-status.new.out) (sink_state g.K.Sink c.args.sink.now) (sink_state g.K.Sink c.run_sort-status.new.sink)
     c.run_sort-status.result (g.A.Disk.content c.args.first) refl c.run_sort-status.ensures.ends)
 
@@ -280,7 +284,7 @@ returns-in-Some-Cut-clause-cuts g c = λ input output from to asks.
     let mine = asked c.args.words.now m.field-0 (Cut m.input m.output m.from m.to) m.field-0-is m.ensures in
     let Ends : ℤ → ℤ → Type 0 = λ first last. EndsCut (record { from = first; to = last; now = c.args.now_ns }) (state_of g.A.Disk c.args.first) (state_of g.A.Disk r.new.first)
     (state_of g.C.Disk c.args.out) (state_of g.C.Disk r.new.out) (sink_state g.K.Sink c.args.sink.now) (sink_state g.K.Sink r.new.sink) r.result in
-    rw c.without_recording-in-Some-Cut.ensures.status (measured_is_made (Cuts (record { from = m.from; to = m.to; now = c.args.now_ns })) (state_of g.A.Disk c.args.first) (state_of g.A.Disk r.new.first)
+    rw c.without_recording-in-Some-Cut.ensures.status (one_is_made (Cuts (record { from = m.from; to = m.to; now = c.args.now_ns })) IsNotMeasured IsMeasured measured_is_taken (state_of g.A.Disk c.args.first) (state_of g.A.Disk r.new.first)
     (state_of g.C.Disk c.args.out) (state_of g.C.Disk r.new.out) (sink_state g.K.Sink c.args.sink.now) (sink_state g.K.Sink r.new.sink)
     r.result (g.A.Disk.content c.args.first) refl (passed Ends m.from m.to mine.1 r.ensures.ends))
 
@@ -341,3 +345,39 @@ returns-in-None-clause-export g c = λ input group asks. absurd (c.in-None.ensur
 
 pub returns-in-None-clause-exports : goal.returns-in-None-clause-exports
 returns-in-None-clause-exports g c = λ input group asks. absurd (c.in-None.ensures (exported input group) asks)
+
+-- and two that can be joined are
+pub returns-in-Some-Concat-clause-concats : goal.returns-in-Some-Concat-clause-concats
+returns-in-Some-Concat-clause-concats g c = λ input other output asks.
+    let r = c.run_concat-status in
+    rw c.without_recording-in-Some-Concat.ensures.status (joinable_is_joined c.args.now_ns (state_of g.A.Disk c.args.first) (state_of g.A.Disk r.new.first)
+    (state_of g.B.Disk c.args.second.now) (state_of g.B.Disk r.new.second) (state_of g.C.Disk c.args.out) (state_of g.C.Disk r.new.out)
+    (sink_state g.K.Sink c.args.sink.now) (sink_state g.K.Sink r.new.sink) r.result r.ensures.ends
+    (g.A.Disk.content c.args.first) (g.B.Disk.content c.args.second.now) refl refl)
+
+pub returns-in-Some-Concat-clause-concat_leaves : goal.returns-in-Some-Concat-clause-concat_leaves
+returns-in-Some-Concat-clause-concat_leaves g c = λ input other output asks.
+    rw c.without_recording-in-Some-Concat.ensures.out c.run_concat-status.ensures.any_moment
+
+pub returns-in-Some-Concat-clause-out : goal.returns-in-Some-Concat-clause-out
+returns-in-Some-Concat-clause-out g c = λ none.
+    let m = c.in-Some-Concat in
+    absurd (none m.output.now (
+      joined m.input.now m.other.now m.output.now,
+      asked c.args.words.now m.field-0 (Concat m.input m.other m.output) m.field-0-is m.ensures,
+      refl,
+    ))
+
+pub returns-in-None-clause-concat : goal.returns-in-None-clause-concat
+returns-in-None-clause-concat g c = λ input other output asks. absurd (c.in-None.ensures (joined input other output) asks)
+
+pub returns-in-None-clause-concats : goal.returns-in-None-clause-concats
+returns-in-None-clause-concats g c = λ input other output asks. absurd (c.in-None.ensures (joined input other output) asks)
+
+pub returns-in-None-clause-concat_leaves : goal.returns-in-None-clause-concat_leaves
+returns-in-None-clause-concat_leaves g c = λ input other output asks. absurd (c.in-None.ensures (joined input other output) asks)
+
+pub returns-in-Some-Concat-clause-second_alone : goal.returns-in-Some-Concat-clause-second_alone
+returns-in-Some-Concat-clause-second_alone g c = λ none.
+    let m = c.in-Some-Concat in
+    absurd (none (m.input.now, m.other.now, m.output.now, asked c.args.words.now m.field-0 (Concat m.input m.other m.output) m.field-0-is m.ensures))

@@ -8,3 +8,6 @@ returns-in-Script g c = rw c.in-Script.is c.give_line-in-Script.ensures
 
 pub returns-in-Read : goal.returns-in-Read
 returns-in-Read g c = rw c.in-Read.is c.give_read_line.ensures
+
+pub returns-in-Differs : goal.returns-in-Differs
+returns-in-Differs g c = rw c.in-Differs.is (rw c.from-in-Differs.ensures at c.give_text.ensures)
