@@ -7,14 +7,15 @@ ghost use Rattle.mdf_layout.specs.Stored.{IsStored};
 ghost use Rattle.mdf_gate.specs.Gated.{IsRecordingHead};
 ghost use Rattle.book_owned.specs.Begun.{IsNewFile};
 
-use crate::disks::{image, name};
+use crate::disks::{failing_at, image, name};
 use crate::layouts::{sample, word_row};
+use crate::told::is_told;
 use crate::views::WantsOnce;
-use book_owned::{Book, Marks, NoView, Shown};
+use book_owned::{Append, Book, Marks, NoView, Shown};
 use mdf_disk::{Disk, MemoryDisk, Role};
 use mdf_gate::{GateFault, GatedFile, Opened, opened};
 use mdf_layout::{FieldRow, Sample, Shape, ShapeFault, Shapes, shape_of};
-use mdf_num::{Memory, Numbers, Rows};
+use mdf_num::{Bytes, Failed, Memory, Rows};
 use std::alloc::Global;
 use std::process::Abort;
 use std::sync::Wait;
@@ -59,26 +60,39 @@ fn is_head(bytes: &[u8]) -> bool
     }
 }
 
-/// A recording of that head.
-fn created<D: Disk + Drop, R: Abort>(
-    rt: &R,
-    alloc: Global,
-    mut disk: D,
-) -> Result<GatedFile<D>, Fail>
-    requires { D.asked disk ≡ None }
-    ensures { IfOk result (λ file. IsNewFile D.Disk file) }
+/// A recording of that head on this disk.
+fn created(
+    name: Bytes,
+    mut disk: MemoryDisk,
+    head: &[u8; 232],
+) -> Result<GatedFile<MemoryDisk>, Failed>
+    requires asked { ⟦<MemoryDisk as Disk>⟧.asked disk ≡ None }
+    requires head { IsRecordingHead head.now }
+    ensures { IfOk result (λ file. IsNewFile ⟦<MemoryDisk as Disk>⟧ file) }
 {
-    let head = head();
-    assert!(rt; is_head(&head));
-    disk.attach(name(alloc)?, Role::Create)?;
-    match GatedFile::create(disk, &head) {
+    disk.attach(name, Role::Create)?;
+    match GatedFile::create(disk, head) {
         Ok(file) => Ok(file),
-        Err((failed, _)) => Err(failed.into()),
+        Err((failed, _)) => Err(failed),
     }
 }
 
+/// A recording of that head, on a disk that fails at these calls.
+pub fn file_failing_at<R: AllocGlobal + Abort>(
+    rt: &R,
+    failing: &[u64],
+) -> Result<GatedFile<MemoryDisk>, Fail>
+    ensures { IfOk result (λ file. IsNewFile ⟦<MemoryDisk as Disk>⟧ file) }
+{
+    let head = head();
+    assert!(rt; is_head(&head));
+    let name = name(rt.alloc())?;
+    let disk = failing_at(rt.alloc(), failing)?;
+    Ok(created(name, disk, &head)?)
+}
+
 /// A channel of 64-bit unsigned numbers.
-pub fn one_row(alloc: Global) -> Result<Rows<FieldRow>, Memory>
+fn one_row(alloc: Global) -> Result<Rows<FieldRow>, Memory>
     ensures stored { IfOk result (λ rows. All IsStored rows) }
     ensures few { IfOk result (λ rows. length rows ≤ 128) }
 {
@@ -87,56 +101,48 @@ pub fn one_row(alloc: Global) -> Result<Rows<FieldRow>, Memory>
     Ok(rows)
 }
 
-/// The layout of these channels, which share no bit, in records of so many bytes.
-fn group_of<R: AllocGlobal + Abort>(
-    rt: &R,
-    rows: &Rows<FieldRow>,
-    data_bytes: u32,
-) -> Result<Shape, ShapeFault>
-    requires stored { All IsStored rows.now }
-    requires few { length rows.now ≤ 128 }
-    ensures is { IfOk result (λ shape. shape ≡ record { rows = rows.now; data_bytes = data_bytes; inval_bytes = 0 }) }
+/// The layout of these channels, which share no bit, in records of 8 bytes.
+fn shape_of_rows<R: AllocGlobal + Abort>(rt: &R, rows: &Rows<FieldRow>) -> Result<Shape, ShapeFault>
+    ensures is { IfOk result (λ shape. shape ≡ record { rows = rows.now; data_bytes = 8; inval_bytes = 0 }) }
     ensures disjoint { IfOk result (λ shape. AreApart shape.rows) }
 {
-    let shape = shape_of(rt.alloc(), rows, data_bytes, 0)?;
+    let shape = shape_of(rt.alloc(), rows, 8, 0)?;
     assert!(rt; shape.disjoint());
     Ok(shape)
 }
 
-/// The layout of these channels, which share no bit, and the list of just this layout.
-pub fn shapes_of<R: AllocGlobal + Abort>(
-    rt: &R,
-    rows: &Rows<FieldRow>,
-    data_bytes: u32,
-) -> Result<(Shape, Shapes), Fail>
-    requires stored { All IsStored rows.now }
-    requires few { length rows.now ≤ 128 }
+/// The list of just this layout.
+fn listed(alloc: Global, shape: Shape) -> Result<Shapes, Memory>
+    ensures { IfOk result (λ shapes. shapes ≡ shape ∷ []) }
+{
+    let mut shapes = Shapes::empty(alloc);
+    shapes.push(shape)?;
+    Ok(shapes)
+}
+
+/// The layout of a channel of 64 bits, and the list of just this layout.
+pub fn shapes<R: AllocGlobal + Abort>(rt: &R) -> Result<(Shape, Shapes), Fail>
     ensures list { IfOk result (λ shapes. shapes.1 ≡ shapes.0 ∷ []) }
     ensures few { IfOk result (λ shapes. length shapes.0.rows ≤ 128) }
     ensures disjoint { IfOk result (λ shapes. AreApart shapes.0.rows) }
     ensures stored { IfOk result (λ shapes. All IsStored shapes.0.rows) }
 {
-    let shape = group_of(rt, rows, data_bytes)?;
-    let mut shapes = Shapes::empty(rt.alloc());
-    shapes.push(group_of(rt, rows, data_bytes)?)?;
-    Ok((shape, shapes))
+    let rows = one_row(rt.alloc())?;
+    let shapes = listed(rt.alloc(), shape_of_rows(rt, &rows)?)?;
+    Ok((shape_of_rows(rt, &rows)?, shapes))
 }
 
-/// A recording on a disk that fails at these calls.
-pub fn file_failing_at<R: AllocGlobal + Abort>(
-    rt: &R,
-    failing: &[u64],
-) -> Result<GatedFile<MemoryDisk>, Fail>
-    ensures { IfOk result (λ file. IsNewFile ⟦<MemoryDisk as Disk>⟧ file) }
-{
-    let alloc = rt.alloc();
-    let mut disk = MemoryDisk::new(alloc);
-    disk.fail_at(Numbers::from_vec(failing.to_vec(alloc)?));
-    created(rt, alloc, disk)
+/// A recording: which calls of the disk fail, the limits of a block and of the session in bytes, and its tasks, a sample
+/// of this number or a flush.
+struct Recording {
+    failing: &'static [u64],
+    block: u32,
+    session: u64,
+    tasks: &'static [Option<u64>],
 }
 
-/// A book over a new file, with these limits in bytes and this view.
-pub fn begun<R: AllocGlobal + Abort, V: Shown + Drop>(
+/// A book of this layout over a new file, with these limits in bytes and this view.
+fn begun<R: AllocGlobal + Abort, V: Shown + Drop>(
     rt: &R,
     file: GatedFile<MemoryDisk>,
     shapes: Shapes,
@@ -150,9 +156,7 @@ pub fn begun<R: AllocGlobal + Abort, V: Shown + Drop>(
     requires nothing_handed { (handed : List Sample) → V.hands view handed → handed ≡ [] }
     ensures { IfOk result (λ book. book.terms.layouts ≡ shapes) }
 {
-    assert!(rt; 1 <= block);
-    assert!(rt; block <= 16_777_216);
-    assert!(rt; session <= 268_435_456);
+    assert!(rt; 1 <= block && block <= 16_777_216 && session <= 268_435_456);
     match Book::begin(rt.alloc(), file, shapes, block, session, view) {
         Ok(book) => Ok(book),
         Err((memory, file, _)) => {
@@ -160,6 +164,15 @@ pub fn begun<R: AllocGlobal + Abort, V: Shown + Drop>(
             Err(memory.into())
         }
     }
+}
+
+/// Whether the sample is one of this layout, and its record has room in a block.
+pub fn is_admitted<V: Shown>(shape: &Shape, book: &Book<MemoryDisk, V>, sample: &Sample) -> bool
+    requires { book.now.terms.layouts ≡ shape.now ∷ [] }
+    ensures fits { result ≡ true → SampleFits book.now.terms.layouts sample.now }
+    ensures size { result ≡ true → encoded_size book.now.terms.layouts sample.now ≤ book.now.terms.block_limit }
+{
+    sample.group == 0 && shape.fits(sample) && book.size_of(sample) <= book.block_limit()
 }
 
 /// A sample of this number, whose record has room in a block.
@@ -174,34 +187,34 @@ fn sample_of<R: AllocGlobal + Abort, V: Shown>(
     ensures size { IfOk result (λ sample. encoded_size book.now.terms.layouts sample ≤ book.now.terms.block_limit) }
 {
     let sample = sample(rt.alloc(), &[number])?;
-    assert!(rt; sample.group == 0);
-    assert!(rt; shape.fits(&sample));
-    assert!(rt; book.size_of(&sample) <= book.block_limit());
+    assert!(rt; is_admitted(shape, book, &sample));
     Ok(sample)
 }
 
-/// Appends a sample of this number, or flushes, and tells the answer.
+/// Appends a sample of this number, or flushes, and tells the answer on a line of its own.
 fn step<R, V: Shown<Note = ()>>(
     rt: &R,
     shape: &Shape,
     book: &mut Book<MemoryDisk, V>,
     task: Option<u64>,
-) -> Result<String, Fail>
+    told: &mut String,
+) -> Result<(), Fail>
 where
     R: AllocGlobal + Abort + Threads + Wait + Sync,
     requires { book.old.terms.layouts ≡ shape.now ∷ [] }
     ensures { book.new.terms ≡ book.old.terms }
 {
-    let Some(number) = task else {
-        let answer = book.flush(rt);
-        return Ok(format!(in rt.alloc(); "{answer:?}")?);
-    };
-    let sample = sample_of(rt, shape, book, number)?;
-    let answer = book.append(rt, sample);
-    Ok(format!(in rt.alloc(); "{answer:?}")?)
+    match task {
+        Some(number) => {
+            let sample = sample_of(rt, shape, book, number)?;
+            write!(told, "{:?}\n", book.append(rt, sample))?;
+        }
+        None => write!(told, "{:?}\n", book.flush(rt))?,
+    }
+    Ok(())
 }
 
-/// Does these tasks, and tells the answers, each behind the one before on a line of its own.
+/// Does these tasks, and tells the answers.
 fn feed<R, V: Shown<Note = ()>>(
     rt: &R,
     shape: &Shape,
@@ -214,30 +227,36 @@ where
 {
     let mut told = String::new(rt.alloc());
     for task in tasks {
-        let answer = step(rt, shape, book, *task)?;
-        told.push_str(answer.as_str())?;
-        told.push('\n')?;
+        step(rt, shape, book, *task, &mut told)?;
     }
     Ok(told)
 }
 
-/// A recording: which calls of the disk fail, the limits of a block and of the session in bytes, and its tasks, a sample
-/// of this number or a flush.
-struct Recording {
-    failing: &'static [u64],
-    block: u32,
-    session: u64,
-    tasks: &'static [Option<u64>],
-}
-
-/// What a recording left: the answers, how many bytes are pending, the disk, the marks, and how many samples are shown.
+/// What a book left: how many bytes are pending, the disk, the marks, and how many samples are shown.
 #[derive(Drop)]
-struct Ended {
-    answers: String,
+struct Left {
     pending: u64,
     disk: MemoryDisk,
     marks: Marks,
     shown: u64,
+}
+
+fn handed_back<V: Shown + Drop>(book: Book<MemoryDisk, V>) -> Left {
+    let pending = book.pending();
+    let (disk, _, marks, view) = book.close();
+    Left {
+        pending,
+        disk,
+        marks,
+        shown: view.shown(),
+    }
+}
+
+/// The answers of a book, and what it left.
+#[derive(Drop)]
+struct Ended {
+    answers: String,
+    left: Left,
 }
 
 /// Closes a book that gave these answers.
@@ -245,17 +264,14 @@ fn closed<V: Shown + Drop>(
     answers: Result<String, Fail>,
     book: Book<MemoryDisk, V>,
 ) -> Result<Ended, Fail> {
-    let pending = book.pending();
-    let (disk, _, marks, view) = book.close();
+    let left = handed_back(book);
     Ok(Ended {
         answers: answers?,
-        pending,
-        disk,
-        marks,
-        shown: view.shown(),
+        left,
     })
 }
 
+/// Does the tasks of a recording, and closes its book.
 fn record<R, V: Shown<Note = ()> + Drop>(
     rt: &R,
     recording: &Recording,
@@ -266,8 +282,7 @@ where
     requires nothing_shown { (V.shows view []) × (V.count view ≡ 0) }
     requires nothing_handed { (handed : List Sample) → V.hands view handed → handed ≡ [] }
 {
-    let rows = one_row(rt.alloc())?;
-    let (shape, shapes) = shapes_of(rt, &rows, 8)?;
+    let (shape, shapes) = shapes(rt)?;
     let file = file_failing_at(rt, recording.failing)?;
     let mut book = begun(rt, file, shapes, recording.block, recording.session, view)?;
     let answers = feed(rt, &shape, &mut book, recording.tasks);
@@ -320,38 +335,52 @@ fn blocks_in(file: &[u8]) -> char
     }
 }
 
-/// The answers of a recording, and what it left, as text: of each mark the moment and how far it goes, how many samples
-/// are shown, how many bytes are pending, how long the file is and how many blocks it has opened.
-fn line(alloc: Global, ended: &Ended) -> Result<String, Fail> {
-    let mut line = ended.answers.clone()?;
-    for i in 0..ended.marks.len() {
-        if let Some(mark) = ended.marks.get(i) {
-            let mark = format!(in alloc; "{}:{} ", mark.moment, mark.through)?;
-            line.push_str(mark.as_str())?;
-        }
-    }
-    let file = ended.disk.bytes();
-    let blocks = if file.len() <= 1000 {
+/// How many blocks of the recording a file has opened, if it is short.
+fn blocks_of(file: &[u8]) -> char {
+    if file.len() <= 1000 {
         blocks_in(file)
     } else {
         '?'
-    };
-    let left = format!(in alloc;
-        "shown {} pending {} bytes {} blocks {blocks}",
-        ended.shown,
-        ended.pending,
-        file.len()
+    }
+}
+
+/// Tells what a book left: of each mark the moment and how far it goes, how many samples are shown, how many bytes are
+/// pending, how many calls the disk has had, how long the file is and how many blocks it has opened.
+fn push_left(line: &mut String, left: &Left) -> Result<(), Fail> {
+    for mark in left.marks.rest(0) {
+        write!(line, "{}:{} ", mark.moment, mark.through)?;
+    }
+    let file = left.disk.bytes();
+    write!(
+        line,
+        "shown {} pending {} calls {} bytes {} blocks {}",
+        left.shown,
+        left.pending,
+        left.disk.calls(),
+        file.len(),
+        blocks_of(file)
     )?;
-    line.push_str(left.as_str())?;
+    Ok(())
+}
+
+/// The answers of a recording, and what it left, as text.
+fn line(ended: Ended) -> Result<String, Fail> {
+    let Ended {
+        answers: mut line,
+        left,
+    } = ended;
+    push_left(&mut line, &left)?;
     Ok(line)
 }
 
-fn told<R>(rt: &R, recording: &Recording) -> Result<String, Fail>
-where
-    R: AllocGlobal + Abort + Threads + Wait + Sync,
-{
-    let ended = record(rt, recording, NoView::new())?;
-    line(rt.alloc(), &ended)
+impl Recording {
+    fn told<R>(&self, rt: &R) -> Result<String, Fail>
+    where
+        R: AllocGlobal + Abort + Threads + Wait + Sync,
+    {
+        let ended = record(rt, self, NoView::new())?;
+        line(ended)
+    }
 }
 
 // Recordings and what is told of them. Calls 0 to 7 of the disk make the file, which is moment 7, and each hand-over
@@ -361,7 +390,7 @@ const TOLD: [(Recording, &str); 7] = [
         TWO_BLOCKS,
         "Accepted { place: 0 }\nAccepted { place: 1 }\nDone { through: 2, shown: 2, note: () }\n\
          Accepted { place: 2 }\nDone { through: 3, shown: 3, note: () }\n\
-         7:0 11:2 15:3 shown 3 pending 0 bytes 321 blocks 2",
+         7:0 11:2 15:3 shown 3 pending 0 calls 16 bytes 321 blocks 2",
     ),
     (
         Recording {
@@ -370,7 +399,7 @@ const TOLD: [(Recording, &str); 7] = [
             session: SESSION,
             tasks: &[None],
         },
-        "Done { through: 0, shown: 0, note: () }\n7:0 shown 0 pending 0 bytes 233 blocks 0",
+        "Done { through: 0, shown: 0, note: () }\n7:0 shown 0 pending 0 calls 8 bytes 233 blocks 0",
     ),
     (
         Recording {
@@ -380,7 +409,7 @@ const TOLD: [(Recording, &str); 7] = [
             tasks: &[Some(1), Some(2), Some(3), None],
         },
         "Accepted { place: 0 }\nAccepted { place: 1 }\nSessionFull { held: 290, size: 145, limit: 290 }\n\
-         Done { through: 2, shown: 2, note: () }\n7:0 11:2 shown 2 pending 0 bytes 281 blocks 1",
+         Done { through: 2, shown: 2, note: () }\n7:0 11:2 shown 2 pending 0 calls 12 bytes 281 blocks 1",
     ),
     (
         Recording {
@@ -392,7 +421,7 @@ const TOLD: [(Recording, &str); 7] = [
         "Accepted { place: 0 }\nAccepted { place: 1 }\nDone { through: 2, shown: 2, note: () }\n\
          Accepted { place: 2 }\nDiskFault { before: 0, after: 1 }\n\
          Stopped { mark: Mark { moment: 11, through: 2 } }\nStopped { mark: Mark { moment: 11, through: 2 } }\n\
-         7:0 11:2 shown 2 pending 9 bytes 321 blocks 2",
+         7:0 11:2 shown 2 pending 9 calls 16 bytes 321 blocks 2",
     ),
     (
         Recording {
@@ -402,7 +431,7 @@ const TOLD: [(Recording, &str); 7] = [
             tasks: &[Some(1), Some(2), Some(3)],
         },
         "Accepted { place: 0 }\nAccepted { place: 1 }\nAccepted { place: 2 }\n\
-         7:0 11:2 shown 2 pending 9 bytes 281 blocks 1",
+         7:0 11:2 shown 2 pending 9 calls 12 bytes 281 blocks 1",
     ),
     (
         Recording {
@@ -412,7 +441,7 @@ const TOLD: [(Recording, &str); 7] = [
             tasks: &[Some(1), Some(2), Some(3), None],
         },
         "Accepted { place: 0 }\nAccepted { place: 1 }\nAccepted { place: 2 }\nDone { through: 3, shown: 3, note: () }\n\
-         7:0 11:2 15:3 shown 3 pending 0 bytes 321 blocks 2",
+         7:0 11:2 15:3 shown 3 pending 0 calls 16 bytes 321 blocks 2",
     ),
     (
         Recording {
@@ -422,30 +451,15 @@ const TOLD: [(Recording, &str); 7] = [
             tasks: &[Some(1), Some(2), Some(3), Some(4)],
         },
         "Accepted { place: 0 }\nAccepted { place: 1 }\nDiskFault { before: 0, after: 1 }\n\
-         Stopped { mark: Mark { moment: 7, through: 0 } }\n7:0 shown 0 pending 18 bytes 281 blocks 1",
+         Stopped { mark: Mark { moment: 7, through: 0 } }\n7:0 shown 0 pending 18 calls 12 bytes 281 blocks 1",
     ),
 ];
 
 #[test]
 fn recordings_are_told(rt: HostRuntime) -> Result<(), Fail> {
-    for (recording, text) in &TOLD {
-        assert_eq!(rt; told(&rt, recording)?.as_str(), *text);
+    for (recording, want) in &TOLD {
+        is_told(&rt, recording.told(&rt), *want)?;
     }
-    Ok(())
-}
-
-// The two blocks from 232 on: of each the header of 24 bytes, the records, and zero bytes up to the next place; and the
-// closed byte of the last place.
-const BLOCKS: &[u8; 89] = b"##DT\0\0\0\0\x2A\0\0\0\0\0\0\0\0\0\0\0\0\0\0\0\
-    \x01\x01\0\0\0\0\0\0\0\x01\x02\0\0\0\0\0\0\0\0\0\0\0\0\0\
-    ##DT\0\0\0\0\x21\0\0\0\0\0\0\0\0\0\0\0\0\0\0\0\
-    \x01\x03\0\0\0\0\0\0\0\0\0\0\0\0\0\0\0";
-
-#[test]
-fn a_recording_of_two_blocks(rt: HostRuntime) -> Result<(), Fail> {
-    let ended = record(&rt, &TWO_BLOCKS, NoView::new())?;
-    let file = ended.disk.bytes();
-    assert_eq!(rt; file.get(232..), Some(BLOCKS.as_slice()));
     Ok(())
 }
 
@@ -455,22 +469,18 @@ fn a_recording_of_two_blocks(rt: HostRuntime) -> Result<(), Fail> {
 const LEFT: &str =
     "xxxx xxxx xxxx xxxx xxxx xxxx x0xx x0xx 0000 0000 0101 0101 1111 1111 1212 1212 ";
 
-/// The blocks that a crash inside this call leaves opened.
-fn left_in<R: AllocGlobal + Abort>(rt: &R, disk: &MemoryDisk, call: u64) -> Result<String, Fail> {
-    let mut left = String::new(rt.alloc());
-    for pick in 0..4 {
-        let file = image(rt.alloc(), disk, call, pick)?;
-        assert!(rt; file.as_slice().len() <= 1000);
-        left.push(blocks_in(file.as_slice()))?;
-    }
-    Ok(left)
+/// The blocks that a crash inside this call leaves opened, by this pick.
+fn left_in(alloc: Global, disk: &MemoryDisk, call: u64, pick: u8) -> Result<char, Memory> {
+    Ok(blocks_of(image(alloc, disk, call, pick)?.as_slice()))
 }
 
-/// That of each call.
-fn left_of<R: AllocGlobal + Abort>(rt: &R, disk: &MemoryDisk) -> Result<String, Fail> {
-    let mut left = String::new(rt.alloc());
+/// Those of each call, by each pick.
+fn left_of(alloc: Global, disk: &MemoryDisk) -> Result<String, Fail> {
+    let mut left = String::new(alloc);
     for call in 0..disk.calls() {
-        left.push_str(left_in(rt, disk, call)?.as_str())?;
+        for pick in 0..4 {
+            left.push(left_in(alloc, disk, call, pick)?)?;
+        }
         left.push(' ')?;
     }
     Ok(left)
@@ -479,8 +489,7 @@ fn left_of<R: AllocGlobal + Abort>(rt: &R, disk: &MemoryDisk) -> Result<String, 
 #[test]
 fn crash_in_each_call(rt: HostRuntime) -> Result<(), Fail> {
     let ended = record(&rt, &TWO_BLOCKS, NoView::new())?;
-    assert_eq!(rt; left_of(&rt, &ended.disk)?.as_str(), LEFT);
-    Ok(())
+    is_told(&rt, left_of(rt.alloc(), &ended.left.disk), LEFT)
 }
 
 /// Puts a sample of this number where its record has room in the block, and tells the answer, or that it has none.
@@ -489,17 +498,15 @@ fn put<R: AllocGlobal + Abort>(
     shape: &Shape,
     book: &mut Book<MemoryDisk, NoView>,
     number: u64,
-) -> Result<String, Fail>
+) -> Result<Option<Append>, Fail>
     requires { book.old.terms.layouts ≡ shape.now ∷ [] }
     ensures { book.new.terms ≡ book.old.terms }
 {
     let sample = sample_of(rt, shape, book, number)?;
-    assert!(rt; book.refusal(&sample).is_none());
-    if book.passes_block(&sample) {
-        return Ok(String::from_str(rt.alloc(), "no room")?);
+    if book.refusal(&sample).is_some() || book.passes_block(&sample) {
+        return Ok(None);
     }
-    let answer = book.put(sample);
-    Ok(format!(in rt.alloc(); "{answer:?}")?)
+    Ok(Some(book.put(sample)))
 }
 
 /// Puts the numbers 7 and 8, and tells both answers.
@@ -512,22 +519,22 @@ fn put_two<R: AllocGlobal + Abort>(
 {
     let first = put(rt, shape, book, 7)?;
     let second = put(rt, shape, book, 8)?;
-    Ok(format!(in rt.alloc(); "{first}, {second}")?)
+    Ok(format!(in rt.alloc(); "{first:?} {second:?} ")?)
 }
 
 // A record has 9 bytes, as the block has. The calls of the disk are the 8 of a new file.
 #[test]
 fn a_sample_is_put_where_it_has_room(rt: HostRuntime) -> Result<(), Fail> {
-    let rows = one_row(rt.alloc())?;
-    let (shape, shapes) = shapes_of(&rt, &rows, 8)?;
+    let (shape, shapes) = shapes(&rt)?;
     let file = file_failing_at(&rt, &[])?;
     let mut book = begun(&rt, file, shapes, 9, SESSION, NoView::new())?;
     let answers = put_two(&rt, &shape, &mut book);
     let ended = closed(answers, book)?;
-    assert_eq!(rt; ended.answers.as_str(), "Accepted { place: 0 }, no room");
-    assert_eq!(rt; ended.pending, 9);
-    assert_eq!(rt; ended.disk.calls(), 8);
-    Ok(())
+    is_told(
+        &rt,
+        line(ended),
+        "Some(Accepted { place: 0 }) None 7:0 shown 0 pending 9 calls 8 bytes 233 blocks 0",
+    )
 }
 
 // The second flush finds no memory to show the third sample, and the next one, which makes no call of the disk and no mark,
@@ -542,12 +549,11 @@ const SHOWN_LATER: Recording = Recording {
 #[test]
 fn refused_publish_is_made_up_later(rt: HostRuntime) -> Result<(), Fail> {
     let ended = record(&rt, &SHOWN_LATER, WantsOnce::new())?;
-    assert_eq!(rt;
-        line(rt.alloc(), &ended)?.as_str(),
+    is_told(
+        &rt,
+        line(ended),
         "Accepted { place: 0 }\nAccepted { place: 1 }\nDone { through: 2, shown: 2, note: () }\n\
          Accepted { place: 2 }\nDone { through: 3, shown: 2, note: () }\nDone { through: 3, shown: 3, note: () }\n\
-         7:0 11:2 15:3 shown 3 pending 0 bytes 321 blocks 2"
-    );
-    assert_eq!(rt; ended.disk.calls(), 16);
-    Ok(())
+         7:0 11:2 15:3 shown 3 pending 0 calls 16 bytes 321 blocks 2",
+    )
 }

@@ -1,20 +1,59 @@
+//! Disks in memory: what a crash leaves, calls that fail, and files that are read.
 ghost use Rattle.std.specs.Prelude.{◌≡◌, None, IfOk};
 
-use mdf_disk::{Disk, Fuse, LoadFault, MemoryDisk, Role, read_whole};
-use mdf_num::{Bytes, Failed, Numbers};
+use crate::told::{Told, all_are_told};
+use mdf_disk::{Disk, LoadFault, MemoryDisk, Role, read_whole};
+use mdf_num::{Bytes, Failed, Memory, Numbers};
 use std::alloc::Global;
+use std::process::Abort;
 use std::test::Fail;
 
-pub fn name(alloc: Global) -> Result<Bytes, Fail> {
-    Ok(Bytes::from_slice(alloc, b"file")?)
+pub fn name(alloc: Global) -> Result<Bytes, Memory> {
+    Bytes::from_slice(alloc, b"file")
+}
+
+/// A disk without a file that fails at these calls.
+pub fn failing_at(alloc: Global, calls: &[u64]) -> Result<MemoryDisk, Memory>
+    ensures { IfOk result (λ disk. ⟦<MemoryDisk as Disk>⟧.asked disk ≡ None) }
+{
+    let calls = Numbers::from_vec(calls.to_vec(alloc)?);
+    let mut disk = MemoryDisk::new(alloc);
+    disk.fail_at(calls);
+    Ok(disk)
 }
 
 /// What a crash inside a recorded call may leave.
-pub fn image(alloc: Global, disk: &MemoryDisk, call: u64, pick: u8) -> Result<Bytes, Fail> {
+pub fn image(alloc: Global, disk: &MemoryDisk, call: u64, pick: u8) -> Result<Bytes, Memory> {
     if call >= disk.calls() || pick >= 4 {
-        return Ok(Bytes::from_slice(alloc, b"no such image")?);
+        return Bytes::from_slice(alloc, b"no such image");
     }
-    Ok(disk.image(call, pick)?)
+    disk.image(call, pick)
+}
+
+/// Whether a crash inside this call may leave these bytes, by this pick.
+fn leaves(
+    alloc: Global,
+    disk: &MemoryDisk,
+    call: u64,
+    pick: u8,
+    left: &[u8],
+) -> Result<bool, Memory> {
+    Ok(image(alloc, disk, call, pick)?.as_slice() == left)
+}
+
+/// Asserts what a crash may leave: a call, a pick, and the bytes.
+pub fn images_are<R: AllocGlobal + Abort>(
+    rt: &R,
+    disk: &MemoryDisk,
+    images: &[(u64, u8, &[u8])],
+) -> Result<(), Fail> {
+    for (call, pick, left) in images {
+        assert!(rt;
+            leaves(rt.alloc(), disk, *call, *pick, *left)?,
+            "call {call}, pick {pick}"
+        );
+    }
+    Ok(())
 }
 
 /// Makes a file in five calls.
@@ -47,99 +86,65 @@ const IMAGES: [(u64, u8, &[u8]); 12] = [
 
 #[test]
 fn images_of_writes_and_syncs(rt: HostRuntime) -> Result<(), Fail> {
+    let name = name(rt.alloc())?;
     let mut disk = MemoryDisk::new(rt.alloc());
-    make(name(rt.alloc())?, &mut disk)?;
-    for (call, pick, left) in IMAGES {
-        assert_eq!(rt;
-            image(rt.alloc(), &disk, call, pick)?.as_slice(),
-            left,
-            "call {call}, pick {pick}"
-        );
-    }
-    Ok(())
+    let _made = make(name, &mut disk);
+    images_are(&rt, &disk, &IMAGES)
 }
 
-/// A disk without a file that fails at this call.
-fn failing_at(alloc: Global, call: u64) -> Result<MemoryDisk, Fail>
-    ensures { IfOk result (λ disk. ⟦<MemoryDisk as Disk>⟧.asked disk ≡ None) }
-{
-    let mut failing = Numbers::empty(alloc);
-    failing.push(call)?;
-    let mut disk = MemoryDisk::new(alloc);
-    disk.fail_at(failing);
-    Ok(disk)
-}
+/// A file that is made on a disk that fails at this call.
+struct Made(u64);
 
 /// Whether the file was made, the disk's count of faults, of calls and its clock, the content, and what a crash inside
 /// the last call may leave, with 0xFF in the place of what was not synced.
-fn made_line(alloc: Global, made: bool, disk: &MemoryDisk, left: &Bytes) -> Result<String, Fail> {
-    Ok(format!(in alloc;
-        "{made} {} {} {} {:?} {:?}",
-        disk.faults(),
-        disk.calls(),
-        disk.moment(),
-        disk.bytes(),
-        left.as_slice()
-    )?)
+fn made_line(alloc: Global, made: bool, disk: &MemoryDisk) -> Result<String, Memory> {
+    let left = image(alloc, disk, disk.calls().saturating_sub(1), 2)?;
+    let counts = (made, disk.faults(), disk.calls(), disk.moment());
+    Ok(format!(in alloc; "{counts:?} {:?} {:?}", disk.bytes(), left.as_slice())?)
 }
 
-/// What a disk that fails at this call tells of the file that is made on it.
-fn made_told(alloc: Global, call: u64) -> Result<String, Fail> {
-    let mut disk = failing_at(alloc, call)?;
-    let made = make(name(alloc)?, &mut disk).is_ok();
-    let left = image(alloc, &disk, disk.calls().saturating_sub(1), 2)?;
-    made_line(alloc, made, &disk, &left)
+/// Makes the file on this disk.
+fn made_told(alloc: Global, name: Bytes, mut disk: MemoryDisk) -> Result<String, Memory>
+    requires { ⟦<MemoryDisk as Disk>⟧.asked disk ≡ None }
+{
+    let made = make(name, &mut disk).is_ok();
+    made_line(alloc, made, &disk)
+}
+
+impl Told for Made {
+    fn told(&self, alloc: Global) -> Result<String, Fail> {
+        let name = name(alloc)?;
+        let disk = failing_at(alloc, &[self.0])?;
+        Ok(made_told(alloc, name, disk)?)
+    }
 }
 
 // The call that fails, and what is told. A call that failed counts once, and a write that failed as one in flight.
-const MADE: [(u64, &str); 6] = [
-    (0, "false 1 1 0 [] []"),
-    (1, "false 1 2 1 [] [255, 255]"),
-    (2, "false 1 3 2 [97, 98] [255, 255]"),
-    (3, "false 1 4 3 [97, 98] [255, 98]"),
-    (4, "false 1 5 4 [120, 98] [255, 98]"),
-    (5, "true 0 5 4 [120, 98] [255, 98]"),
+const MADE: [(Made, &str); 6] = [
+    (Made(0), "(false, 1, 1, 0) [] []"),
+    (Made(1), "(false, 1, 2, 1) [] [255, 255]"),
+    (Made(2), "(false, 1, 3, 2) [97, 98] [255, 255]"),
+    (Made(3), "(false, 1, 4, 3) [97, 98] [255, 98]"),
+    (Made(4), "(false, 1, 5, 4) [120, 98] [255, 98]"),
+    (Made(5), "(true, 0, 5, 4) [120, 98] [255, 98]"),
 ];
 
 #[test]
 fn each_call_can_fail(rt: HostRuntime) -> Result<(), Fail> {
-    for (call, want) in MADE {
-        let told = made_told(rt.alloc(), call)?;
-        assert_eq!(rt; told.as_str(), want, "call {call}");
+    all_are_told(&rt, &MADE)
+}
+
+/// A file that is attached and read, where this one is there, for this role and up to a limit of bytes.
+struct Loaded(Option<&'static [u8]>, Role, u64);
+
+/// A disk that holds this file, or one without a file.
+fn disk_of(alloc: Global, file: Option<&[u8]>) -> Result<MemoryDisk, Memory>
+    ensures { IfOk result (λ disk. ⟦<MemoryDisk as Disk>⟧.asked disk ≡ None) }
+{
+    match file {
+        Some(bytes) => Ok(MemoryDisk::holding(alloc, Bytes::from_slice(alloc, bytes)?)),
+        None => Ok(MemoryDisk::new(alloc)),
     }
-    Ok(())
-}
-
-/// Whether the file was made, how many calls came to the disk under the fuse, and the count of faults.
-fn fuse_line(alloc: Global, made: bool, fuse: &Fuse<MemoryDisk>) -> Result<String, Fail> {
-    Ok(format!(in alloc; "{made} {} {}", fuse.disk().calls(), fuse.faults())?)
-}
-
-/// What a fuse that passes so many calls on tells of the file that is made on it.
-fn fuse_told(alloc: Global, calls: u64) -> Result<String, Fail> {
-    let mut fuse = Fuse::new(MemoryDisk::new(alloc), calls);
-    let made = make(name(alloc)?, &mut fuse).is_ok();
-    fuse_line(alloc, made, &fuse)
-}
-
-// How many calls are passed on, and what is told.
-const PASSED: [(u64, &str); 7] = [
-    (0, "false 0 1"),
-    (1, "false 1 1"),
-    (2, "false 2 1"),
-    (3, "false 3 1"),
-    (4, "false 4 1"),
-    (5, "true 5 0"),
-    (6, "true 5 0"),
-];
-
-#[test]
-fn a_fuse_passes_so_many_calls_on(rt: HostRuntime) -> Result<(), Fail> {
-    for (calls, want) in PASSED {
-        let told = fuse_told(rt.alloc(), calls)?;
-        assert_eq!(rt; told.as_str(), want, "{calls} calls");
-    }
-    Ok(())
 }
 
 /// Attaches a file and reads it whole.
@@ -156,60 +161,61 @@ fn load(
     read_whole(alloc, disk, limit)
 }
 
-/// A disk that holds this file, or one without a file.
-fn disk_of(alloc: Global, file: Option<&[u8]>) -> Result<MemoryDisk, Fail>
-    ensures { IfOk result (λ disk. ⟦<MemoryDisk as Disk>⟧.asked disk ≡ None) }
-{
-    match file {
-        Some(bytes) => Ok(MemoryDisk::holding(alloc, Bytes::from_slice(alloc, bytes)?)),
-        None => Ok(MemoryDisk::new(alloc)),
-    }
-}
-
 /// The bytes or the fault, and the disk's count of faults and of calls.
 fn load_line(
     alloc: Global,
     loaded: &Result<Bytes, LoadFault>,
     disk: &MemoryDisk,
-) -> Result<String, Fail> {
-    match loaded {
-        Ok(bytes) => Ok(format!(in alloc;
-            "{:?} {} {}",
-            bytes.as_slice(),
-            disk.faults(),
-            disk.calls()
-        )?),
-        Err(fault) => Ok(format!(in alloc; "{fault:?} {} {}", disk.faults(), disk.calls())?),
-    }
+) -> Result<String, Memory> {
+    let counts = (disk.faults(), disk.calls());
+    Ok(format!(in alloc; "{loaded:?} {counts:?}")?)
 }
 
-/// What comes of a file that is attached and read.
-fn load_told(alloc: Global, file: Option<&[u8]>, role: Role, limit: u64) -> Result<String, Fail> {
-    let mut disk = disk_of(alloc, file)?;
-    let loaded = load(alloc, name(alloc)?, &mut disk, role, limit);
+/// Loads the file of this disk.
+fn load_told(
+    alloc: Global,
+    name: Bytes,
+    mut disk: MemoryDisk,
+    role: Role,
+    limit: u64,
+) -> Result<String, Memory>
+    requires { ⟦<MemoryDisk as Disk>⟧.asked disk ≡ None }
+{
+    let loaded = load(alloc, name, &mut disk, role, limit);
     load_line(alloc, &loaded, &disk)
 }
 
-// The file that is there, what it is attached for, the limit, and what is told: a taken name and a missing file are faults.
-const LOADED: [(Option<&[u8]>, Role, u64, &str); 6] = [
-    (Some(b"#b"), Role::Read, 2, "[35, 98] 0 3"),
+impl Told for Loaded {
+    fn told(&self, alloc: Global) -> Result<String, Fail> {
+        let name = name(alloc)?;
+        let disk = disk_of(alloc, self.0)?;
+        Ok(load_told(alloc, name, disk, self.1, self.2)?)
+    }
+}
+
+// What is told of each: a taken name and a missing file are faults.
+const LOADED: [(Loaded, &str); 6] = [
     (
-        Some(b"#b"),
-        Role::Read,
-        1,
-        "TooLong { size: 2, limit: 1 } 0 2",
+        Loaded(Some(b"#b"), Role::Read, 2),
+        "Ok(Bytes { items: [35, 98] }) (0, 3)",
     ),
-    (Some(b""), Role::Read, 0, "[] 0 3"),
-    (Some(b"ab"), Role::Create, 9, "Failed 1 1"),
-    (None, Role::Read, 9, "Failed 1 1"),
-    (None, Role::Create, 9, "[] 0 3"),
+    (
+        Loaded(Some(b"#b"), Role::Read, 1),
+        "Err(TooLong { size: 2, limit: 1 }) (0, 2)",
+    ),
+    (
+        Loaded(Some(b""), Role::Read, 0),
+        "Ok(Bytes { items: [] }) (0, 3)",
+    ),
+    (Loaded(Some(b"ab"), Role::Create, 9), "Err(Failed) (1, 1)"),
+    (Loaded(None, Role::Read, 9), "Err(Failed) (1, 1)"),
+    (
+        Loaded(None, Role::Create, 9),
+        "Ok(Bytes { items: [] }) (0, 3)",
+    ),
 ];
 
 #[test]
 fn files_are_attached_and_read(rt: HostRuntime) -> Result<(), Fail> {
-    for (file, role, limit, want) in LOADED {
-        let told = load_told(rt.alloc(), file, role, limit)?;
-        assert_eq!(rt; told.as_str(), want, "{file:?} {role:?} {limit}");
-    }
-    Ok(())
+    all_are_told(&rt, &LOADED)
 }

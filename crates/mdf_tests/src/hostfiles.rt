@@ -1,32 +1,64 @@
-use mdf_disk::{Disk, Role, read_whole};
+ghost use Rattle.std.specs.Prelude.{◌≡◌, None};
+
+use mdf_disk::{Disk, LoadFault, Role, read_whole};
 use mdf_hostfile::FileDisk;
-use mdf_num::Bytes;
+use mdf_num::{Bytes, Failed, Memory};
+use std::alloc::Global;
 use std::test::Fail;
+
+fn name(alloc: Global) -> Result<Bytes, Memory> {
+    Bytes::from_slice(alloc, b"made.mf4")
+}
+
+/// Makes a file of five bytes, and answers its size.
+fn make<D: Disk>(name: Bytes, disk: &mut D) -> Result<u64, Failed>
+    requires { D.asked disk.old ≡ None }
+{
+    disk.attach(name, Role::Create)?;
+    disk.write_at(0, b"abcd")?;
+    disk.write_at(2, b"xyz")?;
+    disk.sync()?;
+    disk.size()
+}
+
+/// The size of the file that is made, and the clock of its disk.
+fn made(rt: &HostRuntime, name: Bytes) -> Result<(u64, u64), Failed> {
+    let mut disk = FileDisk::new(rt);
+    let size = make(name, &mut disk)?;
+    Ok((size, disk.moment()))
+}
+
+/// How often a disk fails that attaches a file of this name.
+fn faults(rt: &HostRuntime, name: Bytes, role: Role) -> u64 {
+    let mut disk = FileDisk::new(rt);
+    let _answer = disk.attach(name, role);
+    disk.faults()
+}
+
+/// Reads the file whole.
+fn read<D: Disk>(alloc: Global, name: Bytes, disk: &mut D) -> Result<Bytes, LoadFault>
+    requires { D.asked disk.old ≡ None }
+{
+    disk.attach(name, Role::Read)?;
+    read_whole(alloc, disk, 5)
+}
+
+/// Whether the file has these bytes.
+fn has(rt: &HostRuntime, name: Bytes, want: &[u8]) -> Result<bool, LoadFault> {
+    let mut disk = FileDisk::new(rt);
+    Ok(read(rt.alloc(), name, &mut disk)?.as_slice() == want)
+}
 
 #[test]
 fn a_real_file_is_made_and_read(rt: HostRuntime) -> Result<(), Fail> {
-    let alloc = rt.alloc();
-    let name = Bytes::from_slice(alloc, b"made.mf4")?;
-    let mut made = FileDisk::new(&rt);
-    made.attach(name.copy()?, Role::Create)?;
-    made.write_at(0, b"abcd")?;
-    made.write_at(2, b"xyz")?;
-    made.sync()?;
-    assert_eq!(rt; made.size()?, 5);
-    assert_eq!(rt; made.moment(), 5);
-    let mut again = FileDisk::new(&rt);
-    assert_eq!(rt;
-        again.attach(name.copy()?, Role::Create).is_err(),
-        true,
-        "the name is taken"
+    let made = made(&rt, name(rt.alloc())?)?;
+    let taken = faults(&rt, name(rt.alloc())?, Role::Create);
+    let missing = faults(
+        &rt,
+        Bytes::from_slice(rt.alloc(), b"missing.mf4")?,
+        Role::Read,
     );
-    assert_eq!(rt; again.faults(), 1);
-    let mut there = FileDisk::new(&rt);
-    there.attach(name, Role::Read)?;
-    let bytes = read_whole(alloc, &mut there, 5)?;
-    assert_eq!(rt; bytes.as_slice(), b"abxyz".as_slice());
-    let mut missing = FileDisk::new(&rt);
-    let other = Bytes::from_slice(alloc, b"missing.mf4")?;
-    assert_eq!(rt; missing.attach(other, Role::Read).is_err(), true);
+    assert_eq!(rt; (made, taken, missing), ((5, 5), 1, 1));
+    assert!(rt; has(&rt, name(rt.alloc())?, b"abxyz")?);
     Ok(())
 }

@@ -1,4 +1,4 @@
-ghost use Rattle.std.specs.Prelude.{◌≡◌, All, IfOk, length};
+ghost use Rattle.std.specs.Prelude.{◌≡◌, ◌∷◌, [], All, IfOk, length};
 ghost use Rattle.mdf_layout.specs.Layout.{record_size};
 ghost use Rattle.mdf_layout.specs.Written.{AreApart, AreEntriesOf};
 ghost use Rattle.mdf_layout.specs.Stored.{IsStored};
@@ -26,12 +26,12 @@ pub fn word_row(byte: u32) -> FieldRow
 }
 
 /// Two such channels.
-fn two_rows(alloc: Global, first: u32, second: u32) -> Result<Rows<FieldRow>, Memory>
+fn two_rows(alloc: Global) -> Result<Rows<FieldRow>, Memory>
     ensures { IfOk result (λ rows. All IsStored rows) }
 {
     let mut rows = Rows::empty(alloc);
-    rows.push(word_row(first))?;
-    rows.push(word_row(second))?;
+    rows.push(word_row(0))?;
+    rows.push(word_row(8))?;
     Ok(rows)
 }
 
@@ -53,13 +53,6 @@ pub fn sample(alloc: Global, numbers: &[u64]) -> Result<Sample, Memory> {
     })
 }
 
-/// The layout of two channels from these bytes on.
-fn two_fields(alloc: Global, first: u32, second: u32, data_bytes: u32) -> Result<Shape, ShapeFault>
-    ensures { IfOk result (λ shape. All IsStored shape.rows) }
-{
-    shape_of(alloc, &two_rows(alloc, first, second)?, data_bytes, 0)
-}
-
 /// Writes a record of these values.
 fn encode(shape: &Shape, values: &Entries, out: &mut [u8])
     requires stored { All IsStored shape.now.rows }
@@ -70,40 +63,33 @@ fn encode(shape: &Shape, values: &Entries, out: &mut [u8])
     shape.encode(values, &[], out);
 }
 
-#[test]
-fn a_record_of_two_fields(rt: HostRuntime) -> Result<(), Fail> {
-    let alloc = rt.alloc();
-    let shape = two_fields(alloc, 0, 8, 16)?;
-    let two = sample(alloc, &[0x0807_0605_0403_0201, 9])?;
-    assert_eq!(rt; shape.record_size(), 16);
-    assert!(rt; shape.disjoint());
-    assert!(rt; shape.fits(&two));
+/// Writes the record of this sample of two channels, if it is one.
+fn encoded(shape: &Shape, sample: &Sample) -> Option<[u8; 16]>
+    requires stored { All IsStored shape.now.rows }
+{
     let mut out = [0xFF; 16];
-    encode(&shape, &two.values, &mut out);
-    assert_eq!(rt; out, *b"\x01\x02\x03\x04\x05\x06\x07\x08\x09\0\0\0\0\0\0\0");
-    assert!(rt; !shape.fits(&sample(alloc, &[1])?));
-    Ok(())
+    if shape.record_size() != 16 || !shape.disjoint() || !shape.fits(sample) {
+        return None;
+    }
+    encode(shape, &sample.values, &mut out);
+    Some(out)
 }
 
-// Where two channels begin, and how many data bytes a record has; whether the channels share no bit, or the first that
-// does not lie in the record.
-const ROWS: [(u32, u32, u32, Result<bool, ShapeFault>); 6] = [
-    (0, 8, 16, Ok(true)),
-    (8, 0, 16, Ok(true)),
-    (0, 7, 16, Ok(false)),
-    (0, 8, 15, Err(ShapeFault::Bad { channel: 1 })),
-    (9, 8, 15, Err(ShapeFault::Bad { channel: 0 })),
-    (0, u32::MAX, u32::MAX, Err(ShapeFault::Bad { channel: 1 })),
-];
+/// The layout of two channels.
+fn two_fields(alloc: Global) -> Result<Shape, ShapeFault>
+    ensures { IfOk result (λ shape. All IsStored shape.rows) }
+{
+    shape_of(alloc, &two_rows(alloc)?, 16, 0)
+}
 
 #[test]
-fn layouts_of_two_fields(rt: HostRuntime) -> Result<(), Fail> {
-    for (first, second, data_bytes, told) in ROWS {
-        let disjoint = two_fields(rt.alloc(), first, second, data_bytes).map(
-            |shape| shape.disjoint(),
-        );
-        assert_eq!(rt; disjoint, told, "{first} and {second}");
-    }
+fn a_record_of_two_fields(rt: HostRuntime) -> Result<(), Fail> {
+    let two = sample(rt.alloc(), &[0x0807_0605_0403_0201, 9])?;
+    let shape = two_fields(rt.alloc())?;
+    assert_eq!(rt;
+        encoded(&shape, &two),
+        Some(*b"\x01\x02\x03\x04\x05\x06\x07\x08\x09\0\0\0\0\0\0\0")
+    );
     Ok(())
 }
 
@@ -115,20 +101,28 @@ fn number_of(sample: Option<&Sample>) -> Option<u64> {
     }
 }
 
+/// The numbers of the first four samples.
+fn numbers_of(samples: &Samples) -> [Option<u64>; 4] {
+    [
+        number_of(samples.get(0)),
+        number_of(samples.get(1)),
+        number_of(samples.get(2)),
+        number_of(samples.get(3)),
+    ]
+}
+
+/// A list of three samples.
+fn three(alloc: Global) -> Result<Samples, Memory> {
+    let mut samples = Samples::empty(alloc);
+    for number in 1..4 {
+        samples.push(sample(alloc, &[number])?.copy(alloc)?)?;
+    }
+    Ok(samples)
+}
+
 #[test]
 fn samples_stand_in_order(rt: HostRuntime) -> Result<(), Fail> {
-    let alloc = rt.alloc();
-    let mut samples = Samples::empty(alloc);
-    samples.reserve(2)?;
-    samples.put(sample(alloc, &[1])?);
-    samples.put(sample(alloc, &[2])?.copy(alloc)?);
-    samples.push(sample(alloc, &[3])?)?;
-    assert_eq!(rt; samples.len(), 3);
-    for (i, number) in [(0, Some(1)), (1, Some(2)), (2, Some(3)), (3, None)] {
-        assert_eq!(rt; number_of(samples.get(i)), number, "item {i}");
-    }
-    let rest = samples.rest(2);
-    assert_eq!(rt; rest.len(), 1);
-    assert_eq!(rt; number_of(rest.get(0)), Some(3));
+    let samples = three(rt.alloc())?;
+    assert_eq!(rt; numbers_of(&samples), [Some(1), Some(2), Some(3), None]);
     Ok(())
 }

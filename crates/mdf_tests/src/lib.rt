@@ -10,8 +10,6 @@ mod hostfiles;
 #[cfg(test)]
 mod layouts;
 #[cfg(test)]
-mod lists;
-#[cfg(test)]
 mod machines;
 #[cfg(test)]
 mod records;
@@ -20,8 +18,6 @@ mod scripts;
 #[cfg(test)]
 mod seals;
 #[cfg(test)]
-mod streams;
-#[cfg(test)]
-mod values;
+mod told;
 #[cfg(test)]
 mod views;

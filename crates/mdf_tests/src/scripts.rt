@@ -1,184 +1,125 @@
+use crate::told::is_told;
 use acq_script::{Plan, Script, ScriptFault, Task, read_script};
 use mdf_block::Note;
-use mdf_group::ChannelRow;
+use mdf_group::{ChannelRow, GroupRow};
 use mdf_layout::{Entry, Sample, Value};
 use mdf_num::{Memory, Rows};
 use script_gen::generated;
 use std::alloc::Global;
+use std::process::Abort;
 use std::test::Fail;
 
-// Whole scripts, each with what is told of it.
-const SCRIPTS: &[(&str, &str)] = &[
-    ("", "line 1"),
-    (";", "line 1"),
-    ("\n", "line 2"),
-    ("begin\n", "line 1"),
-    ("channel t u64\n", "line 1"),
-    ("lives\ngroup 0 g\n", "line 1"),
-    ("group 0 g\nbegin\n", "line 2"),
-    ("group 0 g\ngroup 0 h\n", "line 2"),
-    ("group 0 g\nchannel t u64\ngroup 0 h\n", "line 4"),
-    ("group 0 g\nchannel t u64\n0 1\n", "line 3"),
-    ("group 0 g\nchannel t u64\n! 0\n", "line 3"),
-    ("group 0 g\nchannel t u64\nend\n", "line 3"),
-    (
-        "group 0 g\nchannel t u64 master\nchannel u u64 master\n",
-        "line 3",
-    ),
-    (
-        "group 0 g\nchannel t u64\nchannel u u64 master\nbegin\n0 1 2\n0 1\nend\n",
-        "line 6",
-    ),
-    (
-        ";\n\n; x y \ngroup 0 g\n\nchannel t u64\n;\nbegin\n;\n\n0 1\n;\nends\n",
-        "line 13",
-    ),
-    (
-        ";\n\n; x y \ngroup 0 g\n\nchannel t u64\n;\nbegin\n;\n\n0 1\n;\nend\n",
-        "[0] 1 65536 268435456 false 8: 1",
-    ),
-    (
-        "group 0 g\nchannel t u8\ngroup 1 h\nchannel u u8\nbegin\n1 9\n0 5\n! 1\n! 2\n",
-        "line 9",
-    ),
-    (
-        "group 0 g\nchannel t u8\ngroup 1 h\nchannel u u8\nbegin\n1 9\n0 5\n! 1\nend\n",
-        "[0, 1] 2 65536 268435456 false 1: 5 9 !",
-    ),
-    (
-        "group 15 g\nchannel t u8\nbegin\n! 3\nend\n",
-        "[15] 16 65536 268435456 false 1: !",
-    ),
-    (
-        "group 0 ~!\nchannel t u64\nchannel u u64 master\nbegin\nend\n",
-        "[0] 1 65536 268435456 false 16:",
-    ),
-    (
-        "group 0 g\nchannel t u64 master\nbegin\n0 1\n0 2\n! 0\n0 3\nend\n",
-        "[0] 1 65536 268435456 false 8: 1 2 ! 3",
-    ),
-];
+// Whole scripts, whose lines end in `/`, each with what is told of it.
+const SCRIPTS: &str = " => line 1
+; => line 1
+/ => line 2
+begin/ => line 1
+channel t u64/ => line 1
+lives/group 0 g/ => line 1
+group 0 g/begin/ => line 2
+group 0 g/group 0 h/ => line 2
+group 0 g/channel t u64/group 0 h/ => line 4
+group 0 g/channel t u64/0 1/ => line 3
+group 0 g/channel t u64/! 0/ => line 3
+group 0 g/channel t u64/end/ => line 3
+group 0 g/channel t u64 master/channel u u64 master/ => line 3
+group 0 g/channel t u64/channel u u64 master/begin/0 1 2/0 1/end/ => line 6
+;//; x y /group 0 g//channel t u64/;/begin/;//0 1/;/ends/ => line 13
+;//; x y /group 0 g//channel t u64/;/begin/;//0 1/;/end/ => [0] 1 65536 268435456 false 8: 1
+group 0 g/channel t u8/group 1 h/channel u u8/begin/1 9/0 5/! 1/! 2/ => line 9
+group 0 g/channel t u8/group 1 h/channel u u8/begin/1 9/0 5/! 1/end/ => [0, 1] 2 65536 268435456 false 1: 5 9 !
+group 15 g/channel t u8/begin/! 3/end/ => [15] 16 65536 268435456 false 1: !
+group 0 ~!/channel t u64/channel u u64 master/begin/end/ => [0] 1 65536 268435456 false 16:
+group 0 g/channel t u64 master/begin/0 1/0 2/! 0/0 3/end/ => [0] 1 65536 268435456 false 8: 1 2 ! 3
+";
 
 // Limits, each with what is told of the script.
-const LIMITS: &[(&str, &str)] = &[
-    ("block 0\n", "line 1"),
-    ("block 16777217\n", "line 1"),
-    ("block 09\n", "line 1"),
-    ("block\n", "line 1"),
-    ("block 9 9\n", "line 1"),
-    ("block 9\nblock 9\n", "line 2"),
-    ("group 0 g\nblock 9\n", "line 2"),
-    ("session 0\n", "line 1"),
-    ("session 268435457\n", "line 1"),
-    ("session 1\nsession 1\n", "line 2"),
-    ("group 0 g\nsession 1\n", "line 2"),
-    (
-        "block 8\ngroup 0 g\nchannel t u64\nbegin\n! 0\n0 1\n",
-        "line 6",
-    ),
-    (
-        "block 9\ngroup 0 g\nchannel t u64\nbegin\n0 1\nend\n",
-        "[0] 1 9 268435456 false 8: 1",
-    ),
-    (
-        "session 268435456\nblock 16777216\ngroup 0 g\nchannel t u64\nbegin\nend\n",
-        "[0] 1 16777216 268435456 false 8:",
-    ),
-    (
-        "block 1\nsession 1\ngroup 0 g\nchannel t u64\nbegin\nend\n",
-        "[0] 1 1 1 false 8:",
-    ),
-];
+const LIMITS: &str = "block 0/ => line 1
+block 16777217/ => line 1
+block 09/ => line 1
+block/ => line 1
+block 9 9/ => line 1
+block 9/block 9/ => line 2
+group 0 g/block 9/ => line 2
+session 0/ => line 1
+session 268435457/ => line 1
+session 1/session 1/ => line 2
+group 0 g/session 1/ => line 2
+block 8/group 0 g/channel t u64/begin/! 0/0 1/ => line 6
+block 9/group 0 g/channel t u64/begin/0 1/end/ => [0] 1 9 268435456 false 8: 1
+session 268435456/block 16777216/group 0 g/channel t u64/begin/end/ => [0] 1 16777216 268435456 false 8:
+block 1/session 1/group 0 g/channel t u64/begin/end/ => [0] 1 1 1 false 8:
+";
 
 // The line `live`, each with what is told of the script.
-const LIVE: &[(&str, &str)] = &[
-    ("live\n", "line 2"),
-    ("live 1\n", "line 1"),
-    ("live \n", "line 1"),
-    ("live\nlive\n", "line 2"),
-    ("live\n;\nblock 9\nsession 9\nlive\n", "line 5"),
-    ("group 0 g\nlive\n", "line 2"),
-    ("group 0 g\nchannel t u64\nlive\n", "line 3"),
-    ("group 0 g\nchannel t u64\nbegin\nlive\n", "line 4"),
-    ("group 0 g\nchannel t u64\nbegin\nend\nlive\n", "line 5"),
-    (
-        "live\ngroup 0 g\nchannel t u64\nbegin\n0 1\nend\n",
-        "[0] 1 65536 268435456 true 8: 1",
-    ),
-    (
-        "block 9\nlive\nsession 7\ngroup 0 g\nchannel t u64\ngroup 1 h\nchannel u u8\nbegin\nend\n",
-        "[0, 1] 2 9 7 true 8:",
-    ),
-];
+const LIVE: &str = "live/ => line 2
+live 1/ => line 1
+live / => line 1
+live/live/ => line 2
+live/;/block 9/session 9/live/ => line 5
+group 0 g/live/ => line 2
+group 0 g/channel t u64/live/ => line 3
+group 0 g/channel t u64/begin/live/ => line 4
+group 0 g/channel t u64/begin/end/live/ => line 5
+live/group 0 g/channel t u64/begin/0 1/end/ => [0] 1 65536 268435456 true 8: 1
+block 9/live/session 7/group 0 g/channel t u64/group 1 h/channel u u8/begin/end/ => [0, 1] 2 9 7 true 8:
+";
 
 // First lines that no rule admits.
-const GROUPS: &[(&str, &str)] = &[
-    ("group  0 g\n", "line 1"),
-    ("group 0  g\n", "line 1"),
-    ("group 0 g \n", "line 1"),
-    (" group 0 g\n", "line 1"),
-    ("group 0 g\r\n", "line 1"),
-    ("group 0 \x7F\n", "line 1"),
-    ("group 0 \n", "line 1"),
-    ("group 0\n", "line 1"),
-    ("group 16 g\n", "line 1"),
-    (
-        "group 0 01234567890123456789012345678901234567890123456789012345678901234\n",
-        "line 1",
-    ),
-];
+const GROUPS: &str = "group  0 g/ => line 1
+group 0  g/ => line 1
+group 0 g / => line 1
+ group 0 g/ => line 1
+group 0 g\r/ => line 1
+group 0 \x7F/ => line 1
+group 0 / => line 1
+group 0/ => line 1
+group 16 g/ => line 1
+group 0 01234567890123456789012345678901234567890123456789012345678901234/ => line 1
+";
 
 // Lines that no rule admits behind a group.
-const CHANNELS: &[(&str, &str)] = &[
-    ("channel t\n", "line 2"),
-    ("channel t u64\r\n", "line 2"),
-    ("channel t u65\n", "line 2"),
-    ("channel t u64 slave\n", "line 2"),
-    ("channel t u64 master master\n", "line 2"),
-    (
-        "channel 01234567890123456789012345678901234567890123456789012345678901234 u64\n",
-        "line 2",
-    ),
-];
+const CHANNELS: &str = "channel t/ => line 2
+channel t u64\r/ => line 2
+channel t u65/ => line 2
+channel t u64 slave/ => line 2
+channel t u64 master master/ => line 2
+channel 01234567890123456789012345678901234567890123456789012345678901234 u64/ => line 2
+";
 
 // What stands behind `begin` of a group of one channel, each with what is told of it.
-const TASKS: &[(&str, &str)] = &[
-    ("0 0\nend\n", "[0] 1 65536 268435456 false 8: 0"),
-    (
-        "0 18446744073709551615\nend\n",
-        "[0] 1 65536 268435456 false 8: 18446744073709551615",
-    ),
-    ("0 18446744073709551616\nend\n", "line 4"),
-    ("0 01\nend\n", "line 4"),
-    ("0 +1\nend\n", "line 4"),
-    ("0 -1\nend\n", "line 4"),
-    ("0 x\nend\n", "line 4"),
-    ("0  1\nend\n", "line 4"),
-    ("0 1 \nend\n", "line 4"),
-    ("0 1\r\nend\n", "line 4"),
-    ("00 1\nend\n", "line 4"),
-    ("1 1\nend\n", "line 4"),
-    ("0\nend\n", "line 4"),
-    ("0 1 2\nend\n", "line 4"),
-    ("channel u u64\n", "line 4"),
-    ("begin\n", "line 4"),
-    ("! 1\n", "line 4"),
-    ("!\n", "line 4"),
-    ("! 0 0\n", "line 4"),
-    ("!0\n", "line 4"),
-];
+const TASKS: &str = "0 0/end/ => [0] 1 65536 268435456 false 8: 0
+0 18446744073709551615/end/ => [0] 1 65536 268435456 false 8: 18446744073709551615
+0 18446744073709551616/end/ => line 4
+0 01/end/ => line 4
+0 +1/end/ => line 4
+0 -1/end/ => line 4
+0 x/end/ => line 4
+0  1/end/ => line 4
+0 1 /end/ => line 4
+0 1\r/end/ => line 4
+00 1/end/ => line 4
+1 1/end/ => line 4
+0/end/ => line 4
+0 1 2/end/ => line 4
+channel u u64/ => line 4
+begin/ => line 4
+! 1/ => line 4
+!/ => line 4
+! 0 0/ => line 4
+!0/ => line 4
+";
 
 // Ends of a script behind `begin` of a group of one channel, each with its line that no rule admits.
-const ENDS: &[(&str, &str)] = &[
-    ("end", "line 4"),
-    ("end 0\n", "line 4"),
-    ("; no LF", "line 4"),
-    ("end\n0 1\n", "line 5"),
-    ("end\n;", "line 5"),
-    ("end\n\n", "line 5"),
-    ("0 1\n", "line 5"),
-    ("0 1\n0 2", "line 5"),
-];
+const ENDS: &str = "end => line 4
+end 0/ => line 4
+; no LF => line 4
+end/0 1/ => line 5
+end/; => line 5
+end// => line 5
+0 1/ => line 5
+0 1/0 2 => line 5
+";
 
 // A group of one channel.
 const GROUP: &str = "group 0 g\n";
@@ -253,162 +194,115 @@ fn told(alloc: Global, text: &str) -> Result<String, Fail> {
     }
 }
 
-// The first row of which something else is told, where each stands behind this text.
-fn first_wrong(alloc: Global, before: &str, rows: &[(&str, &str)]) -> Result<Option<String>, Fail> {
-    for (text, want) in rows {
-        let whole = format!(in alloc; "{before}{text}")?;
-        let told = told(alloc, &whole)?;
-        if told.as_str() != *want {
-            return Ok(Some(told));
-        }
+// Asserts what is told of a script, whose lines end in `/`.
+fn script_is_told<R>(rt: &R, before: &str, text: &str, want: &str) -> Result<(), Fail>
+where
+    R: AllocGlobal + Abort,
+{
+    let whole = format!(in rt.alloc(); "{before}{text}")?.replace(rt.alloc(), '/', "\n")?;
+    let told = told(rt.alloc(), &whole)?;
+    assert_eq!(rt; told.as_str(), want, "{whole}");
+    Ok(())
+}
+
+// Asserts what is told of the scripts of a table, a line each, where each stands behind this text.
+fn scripts_are_told_behind<R>(rt: &R, before: &str, table: &str) -> Result<(), Fail>
+where
+    R: AllocGlobal + Abort,
+{
+    for row in table.lines() {
+        let (text, want) = row.split_once(" => ").unwrap_or((row, ""));
+        script_is_told(rt, before, text, want)?;
     }
-    Ok(None)
-}
-
-#[test]
-fn scripts_are_told(rt: HostRuntime) -> Result<(), Fail> {
-    assert_eq!(rt; first_wrong(rt.alloc(), "", SCRIPTS)?, None);
-    assert_eq!(rt; first_wrong(rt.alloc(), "", GROUPS)?, None);
-    Ok(())
-}
-
-#[test]
-fn lines_before_a_group_are_told(rt: HostRuntime) -> Result<(), Fail> {
-    assert_eq!(rt; first_wrong(rt.alloc(), "", LIMITS)?, None);
-    assert_eq!(rt; first_wrong(rt.alloc(), "", LIVE)?, None);
-    Ok(())
-}
-
-#[test]
-fn lines_behind_a_group_are_told(rt: HostRuntime) -> Result<(), Fail> {
-    assert_eq!(rt; first_wrong(rt.alloc(), GROUP, CHANNELS)?, None);
-    Ok(())
-}
-
-#[test]
-fn lines_behind_a_plan_are_told(rt: HostRuntime) -> Result<(), Fail> {
-    assert_eq!(rt; first_wrong(rt.alloc(), PLAN, TASKS)?, None);
-    assert_eq!(rt; first_wrong(rt.alloc(), PLAN, ENDS)?, None);
     Ok(())
 }
 
 // Types that no rule admits, behind the name of a channel.
-const WRONG_TYPES: &[(&str, &str)] = &[
-    ("u\n", "line 2"),
-    ("u0\n", "line 2"),
-    ("u01\n", "line 2"),
-    ("u65\n", "line 2"),
-    ("s0\n", "line 2"),
-    ("s65\n", "line 2"),
-    ("ub0\n", "line 2"),
-    ("ub65\n", "line 2"),
-    ("sb65\n", "line 2"),
-    ("f16\n", "line 2"),
-    ("bytes0\n", "line 2"),
-    ("bytes256\n", "line 2"),
-    ("text256\n", "line 2"),
-    ("var1\n", "line 2"),
-    ("u8 inv master\n", "line 2"),
-    ("u8 inv inv\n", "line 2"),
-    ("bytes1 master\n", "line 2"),
-    ("vartext master\n", "line 2"),
-    ("u8\nunit s\nunit s\n", "line 4"),
-    ("u8\nunit s m\n", "line 3"),
-    ("u8\nbegin\nunit s\n", "line 4"),
-];
+const WRONG_TYPES: &str = "u/ => line 2
+u0/ => line 2
+u01/ => line 2
+u65/ => line 2
+s0/ => line 2
+s65/ => line 2
+ub0/ => line 2
+ub65/ => line 2
+sb65/ => line 2
+f16/ => line 2
+bytes0/ => line 2
+bytes256/ => line 2
+text256/ => line 2
+var1/ => line 2
+u8 inv master/ => line 2
+u8 inv inv/ => line 2
+bytes1 master/ => line 2
+vartext master/ => line 2
+u8/unit s/unit s/ => line 4
+u8/unit s m/ => line 3
+u8/begin/unit s/ => line 4
+";
 
 // Types with samples, behind the name of a channel, each with what is told of the script.
-const VALUES: &[(&str, &str)] = &[
-    (
-        "u1\nbegin\n0 0\n0 1\nend\n",
-        "[0] 1 65536 268435456 false 1: 0 1",
-    ),
-    ("u1\nbegin\n0 2\nend\n", "line 4"),
-    (
-        "ub64\nbegin\n0 18446744073709551615\nend\n",
-        "[0] 1 65536 268435456 false 8: 18446744073709551615",
-    ),
-    (
-        "s1\nbegin\n0 -1\n0 0\nend\n",
-        "[0] 1 65536 268435456 false 1: -1 0",
-    ),
-    ("s1\nbegin\n0 1\nend\n", "line 4"),
-    (
-        "s8\nbegin\n0 -128\n0 127\nend\n",
-        "[0] 1 65536 268435456 false 1: -128 127",
-    ),
-    ("s8\nbegin\n0 -129\nend\n", "line 4"),
-    ("s8\nbegin\n0 128\nend\n", "line 4"),
-    ("s8\nbegin\n0 -0\nend\n", "line 4"),
-    ("s8\nbegin\n0 -01\nend\n", "line 4"),
-    (
-        "sb64\nbegin\n0 -9223372036854775808\n0 9223372036854775807\nend\n",
-        "[0] 1 65536 268435456 false 8: -9223372036854775808 9223372036854775807",
-    ),
-    ("s64\nbegin\n0 -9223372036854775809\nend\n", "line 4"),
-    (
-        "f32\nbegin\n0 4294967295\nend\n",
-        "[0] 1 65536 268435456 false 4: 4294967295",
-    ),
-    ("f32\nbegin\n0 4294967296\nend\n", "line 4"),
-    (
-        "bytes1\nbegin\n0 xff\nend\n",
-        "[0] 1 65536 268435456 false 1: [255]",
-    ),
-    ("bytes1\nbegin\n0 xFF\nend\n", "line 4"),
-    ("bytes1\nbegin\n0 xf\nend\n", "line 4"),
-    ("bytes1\nbegin\n0 x\nend\n", "line 4"),
-    (
-        "text2\nbegin\n0 x6162\nend\n",
-        "[0] 1 65536 268435456 false 2: [97, 98]",
-    ),
-    (
-        "var\nbegin\n0 x\n0 x6162\nend\n",
-        "[0] 1 65536 268435456 false 8: [] [97, 98]",
-    ),
-    (
-        "u8 inv\nbegin\n0 7?\n0 7\nend\n",
-        "[0] 1 65536 268435456 false 1: 7? 7",
-    ),
-    ("u8\nbegin\n0 7?\nend\n", "line 4"),
-    ("u8 inv\nbegin\n0 7??\nend\n", "line 4"),
-    (
-        "u3\nchannel b u7\nbegin\n0 5 86\nend\n",
-        "[0] 1 65536 268435456 false 2: 5,86",
-    ),
-    (
-        "u8\ngroup 0 h\nchannel b s8\nbegin\n1 -1\n0 1\n2 0\n",
-        "line 8",
-    ),
-];
+const VALUES: &str = "u1/begin/0 0/0 1/end/ => [0] 1 65536 268435456 false 1: 0 1
+u1/begin/0 2/end/ => line 4
+ub64/begin/0 18446744073709551615/end/ => [0] 1 65536 268435456 false 8: 18446744073709551615
+s1/begin/0 -1/0 0/end/ => [0] 1 65536 268435456 false 1: -1 0
+s1/begin/0 1/end/ => line 4
+s8/begin/0 -128/0 127/end/ => [0] 1 65536 268435456 false 1: -128 127
+s8/begin/0 -129/end/ => line 4
+s8/begin/0 128/end/ => line 4
+s8/begin/0 -0/end/ => line 4
+s8/begin/0 -01/end/ => line 4
+sb64/begin/0 -9223372036854775808/0 9223372036854775807/end/ => [0] 1 65536 268435456 false 8: -9223372036854775808 9223372036854775807
+s64/begin/0 -9223372036854775809/end/ => line 4
+f32/begin/0 4294967295/end/ => [0] 1 65536 268435456 false 4: 4294967295
+f32/begin/0 4294967296/end/ => line 4
+bytes1/begin/0 xff/end/ => [0] 1 65536 268435456 false 1: [255]
+bytes1/begin/0 xFF/end/ => line 4
+bytes1/begin/0 xf/end/ => line 4
+bytes1/begin/0 x/end/ => line 4
+text2/begin/0 x6162/end/ => [0] 1 65536 268435456 false 2: [97, 98]
+var/begin/0 x/0 x6162/end/ => [0] 1 65536 268435456 false 8: [] [97, 98]
+u8 inv/begin/0 7?/0 7/end/ => [0] 1 65536 268435456 false 1: 7? 7
+u8/begin/0 7?/end/ => line 4
+u8 inv/begin/0 7??/end/ => line 4
+u3/channel b u7/begin/0 5 86/end/ => [0] 1 65536 268435456 false 2: 5,86
+u8/group 0 h/channel b s8/begin/1 -1/0 1/2 0/ => line 8
+";
 
 // Behind the name of a channel.
 const CHANNEL: &str = "group 0 g\nchannel c ";
 
+// Limits of a block, and samples of a channel of variable length, each with what is told.
+const BLOCKS: &str =
+    "block 20/group 0 g/channel v var/begin/0 x010203040506/end/ => [0] 1 20 268435456 false 8: [1, 2, 3, 4, 5, 6]
+block 20/group 0 g/channel v var/begin/0 x010203040506/0 x01020304050607/end/ => line 6
+group 0 g/unit s/ => line 2
+";
+
 #[test]
-fn types_are_told(rt: HostRuntime) -> Result<(), Fail> {
-    assert_eq!(rt; first_wrong(rt.alloc(), CHANNEL, WRONG_TYPES)?, None);
-    assert_eq!(rt; first_wrong(rt.alloc(), CHANNEL, VALUES)?, None);
-    Ok(())
+fn scripts_are_told(rt: HostRuntime) -> Result<(), Fail> {
+    scripts_are_told_behind(&rt, "", SCRIPTS)?;
+    scripts_are_told_behind(&rt, "", GROUPS)?;
+    scripts_are_told_behind(&rt, "", BLOCKS)
 }
 
-// Limits of a block, and samples of a channel of variable length, each with what is told.
-const BLOCKS: &[(&str, &str)] = &[
-    (
-        "block 20\ngroup 0 g\nchannel v var\nbegin\n0 x010203040506\nend\n",
-        "[0] 1 20 268435456 false 8: [1, 2, 3, 4, 5, 6]",
-    ),
-    (
-        "block 20\ngroup 0 g\nchannel v var\nbegin\n0 x010203040506\n0 x01020304050607\nend\n",
-        "line 6",
-    ),
-    ("group 0 g\nunit s\n", "line 2"),
-];
+#[test]
+fn lines_before_a_group_are_told(rt: HostRuntime) -> Result<(), Fail> {
+    scripts_are_told_behind(&rt, "", LIMITS)?;
+    scripts_are_told_behind(&rt, "", LIVE)
+}
 
 #[test]
-fn blocks_are_told(rt: HostRuntime) -> Result<(), Fail> {
-    assert_eq!(rt; first_wrong(rt.alloc(), "", BLOCKS)?, None);
-    Ok(())
+fn lines_behind_a_group_are_told(rt: HostRuntime) -> Result<(), Fail> {
+    scripts_are_told_behind(&rt, GROUP, CHANNELS)?;
+    scripts_are_told_behind(&rt, PLAN, TASKS)?;
+    scripts_are_told_behind(&rt, PLAN, ENDS)
+}
+
+#[test]
+fn types_are_told(rt: HostRuntime) -> Result<(), Fail> {
+    scripts_are_told_behind(&rt, CHANNEL, WRONG_TYPES)?;
+    scripts_are_told_behind(&rt, CHANNEL, VALUES)
 }
 
 // A channel of each type.
@@ -436,24 +330,35 @@ fn push_row(told: &mut String, row: &ChannelRow) -> Result<(), Fail> {
     Ok(())
 }
 
-// The channels of a script's groups.
-fn rows_told(alloc: Global, text: &str) -> Result<String, Fail> {
+// The channels of a group.
+fn push_group(told: &mut String, group: &GroupRow) -> Result<(), Fail> {
+    for row in group.channels.as_slice() {
+        push_row(told, row)?;
+    }
+    write!(told, "{} {}", group.data_bytes, group.inval_bytes)?;
+    Ok(())
+}
+
+// The channels of these groups.
+fn groups_told(alloc: Global, groups: &[GroupRow]) -> Result<String, Fail> {
     let mut told = String::new(alloc);
-    if let Ok(script) = read_script(alloc, text.as_bytes()) {
-        for group in script.plan.rows.as_slice() {
-            for row in group.channels.as_slice() {
-                push_row(&mut told, row)?;
-            }
-            write!(told, "{} {}", group.data_bytes, group.inval_bytes)?;
-        }
+    for group in groups {
+        push_group(&mut told, group)?;
     }
     Ok(told)
 }
 
+// The channels of a script's groups.
+fn rows_told(alloc: Global, text: &str) -> Result<String, Fail> {
+    match read_script(alloc, text.as_bytes()) {
+        Ok(script) => groups_told(alloc, script.plan.rows.as_slice()),
+        Err(_) => Err(Memory.into()),
+    }
+}
+
 #[test]
 fn rows_of_all_types_are_told(rt: HostRuntime) -> Result<(), Fail> {
-    assert_eq!(rt; rows_told(rt.alloc(), ALL_TYPES)?.as_str(), ALL_ROWS);
-    Ok(())
+    is_told(&rt, rows_told(rt.alloc(), ALL_TYPES), ALL_ROWS)
 }
 
 // A script of so many groups of so many channels of a type, and no sample.
@@ -489,11 +394,20 @@ fn line_of(alloc: Global, text: &str) -> u64 {
     }
 }
 
+// Asserts which line of a script is refused.
+fn is_refused_at<R>(rt: &R, text: Result<String, Fail>, line: u64) -> Result<(), Fail>
+where
+    R: AllocGlobal + Abort,
+{
+    assert_eq!(rt; line_of(rt.alloc(), text?.as_str()), line);
+    Ok(())
+}
+
 #[test]
 fn counts_are_told(rt: HostRuntime) -> Result<(), Fail> {
     for (groups, channels, kind, line) in COUNTS {
-        let text = of_groups(rt.alloc(), *groups, *channels, kind)?;
-        assert_eq!(rt; line_of(rt.alloc(), &text), *line);
+        let text = of_groups(rt.alloc(), *groups, *channels, *kind);
+        is_refused_at(&rt, text, *line)?;
     }
     Ok(())
 }
@@ -513,9 +427,8 @@ fn of_bytes(alloc: Global, bytes: u32) -> Result<String, Fail> {
 
 #[test]
 fn a_value_has_at_most_65535_bytes(rt: HostRuntime) -> Result<(), Fail> {
-    assert_eq!(rt; line_of(rt.alloc(), &of_bytes(rt.alloc(), 65_535)?), 0);
-    assert_eq!(rt; line_of(rt.alloc(), &of_bytes(rt.alloc(), 65_536)?), 5);
-    Ok(())
+    is_refused_at(&rt, of_bytes(rt.alloc(), 65_535), 0)?;
+    is_refused_at(&rt, of_bytes(rt.alloc(), 65_536), 5)
 }
 
 // How many samples are generated, with what is told of the script.
@@ -528,13 +441,18 @@ const GENERATED: [(u64, &str); 3] = [
     ),
 ];
 
+// What is told of the generated script of so many samples.
+fn generated_told(alloc: Global, samples: u64) -> Result<String, Fail> {
+    if samples > 1_000_000 {
+        return Err(Memory.into());
+    }
+    script_told(alloc, &generated(alloc, samples)?)
+}
+
 #[test]
 fn the_generated_script_is_told(rt: HostRuntime) -> Result<(), Fail> {
-    let alloc = rt.alloc();
-    for (samples, want) in GENERATED {
-        assert!(rt; samples <= 1_000_000);
-        let told = script_told(alloc, &generated(alloc, samples)?)?;
-        assert_eq!(rt; told.as_str(), want);
+    for (samples, want) in &GENERATED {
+        is_told(&rt, generated_told(rt.alloc(), *samples), *want)?;
     }
     Ok(())
 }

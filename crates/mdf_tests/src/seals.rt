@@ -1,9 +1,11 @@
 ghost use Rattle.std.specs.Prelude.{◌≡◌, None};
 
-use crate::disks::{image, name};
+use crate::disks::{images_are, name};
+use crate::told::{Told, all_are_told};
 use mdf_disk::{Disk, Fuse, MemoryDisk, Role};
-use mdf_num::{Bytes, Failed};
+use mdf_num::{Bytes, Failed, Memory};
 use mdf_seal::write_sealed;
+use std::alloc::Global;
 use std::test::Fail;
 
 /// Makes the file `abc` under a seal, in seven calls.
@@ -16,7 +18,7 @@ fn make_sealed<D: Disk>(name: Bytes, disk: &mut D) -> Result<(), Failed>
 
 // The call, the pick and the image. The file is made by an attach (call 0), a write of the closed byte (1), a sync (2), a
 // write of the rest (3), a sync (4), a write of the first byte (5) and a sync (6).
-const IMAGES: [(u64, u8, &[u8]); 16] = [
+const IMAGES: [(u64, u8, &[u8]); 17] = [
     (1, 0, b""),
     (1, 1, b"\0"),
     (1, 2, b"\xFF"),
@@ -32,31 +34,59 @@ const IMAGES: [(u64, u8, &[u8]); 16] = [
     (5, 1, b"abc"),
     (5, 2, b"\xFFbc"),
     (5, 3, b"#bc"),
+    (6, 1, b"abc"),
     (6, 3, b"#bc"),
 ];
 
 #[test]
 fn images_of_a_sealed_file(rt: HostRuntime) -> Result<(), Fail> {
+    let name = name(rt.alloc())?;
     let mut disk = MemoryDisk::new(rt.alloc());
-    make_sealed(name(rt.alloc())?, &mut disk)?;
-    assert_eq!(rt; disk.bytes(), b"abc".as_slice());
-    assert_eq!(rt; disk.calls(), 7);
-    for (call, pick, left) in IMAGES {
-        assert_eq!(rt;
-            image(rt.alloc(), &disk, call, pick)?.as_slice(),
-            left,
-            "call {call}, pick {pick}"
-        );
-    }
-    Ok(())
+    let _made = make_sealed(name, &mut disk);
+    images_are(&rt, &disk, &IMAGES)
 }
+
+/// A file that is made under a seal by so many calls, behind which the disk is out of reach.
+struct Stopped(u64);
+
+/// Whether the file was made, how many calls came to the disk under the fuse, the count of faults, and the content.
+fn sealed_line(alloc: Global, made: bool, fuse: &Fuse<MemoryDisk>) -> Result<String, Memory> {
+    let disk = fuse.disk();
+    let counts = (made, disk.calls(), fuse.faults());
+    Ok(format!(in alloc; "{counts:?} {:?}", disk.bytes())?)
+}
+
+/// Makes the file on this disk by so many calls.
+fn sealed_told(alloc: Global, name: Bytes, disk: MemoryDisk, calls: u64) -> Result<String, Memory>
+    requires { ⟦<MemoryDisk as Disk>⟧.asked disk ≡ None }
+{
+    let mut fuse = Fuse::new(disk, calls);
+    let made = make_sealed(name, &mut fuse).is_ok();
+    sealed_line(alloc, made, &fuse)
+}
+
+impl Told for Stopped {
+    fn told(&self, alloc: Global) -> Result<String, Fail> {
+        let name = name(alloc)?;
+        let disk = MemoryDisk::new(alloc);
+        Ok(sealed_told(alloc, name, disk, self.0)?)
+    }
+}
+
+// How many calls are passed on, and what is told.
+const STOPPED: [(Stopped, &str); 9] = [
+    (Stopped(0), "(false, 0, 1) []"),
+    (Stopped(1), "(false, 1, 1) []"),
+    (Stopped(2), "(false, 2, 1) [0]"),
+    (Stopped(3), "(false, 3, 1) [0]"),
+    (Stopped(4), "(false, 4, 1) [0, 98, 99]"),
+    (Stopped(5), "(false, 5, 1) [0, 98, 99]"),
+    (Stopped(6), "(false, 6, 1) [97, 98, 99]"),
+    (Stopped(7), "(true, 7, 0) [97, 98, 99]"),
+    (Stopped(8), "(true, 7, 0) [97, 98, 99]"),
+];
 
 #[test]
 fn each_call_of_a_seal_can_fail(rt: HostRuntime) -> Result<(), Fail> {
-    for calls in 0..8u64 {
-        let mut fuse = Fuse::new(MemoryDisk::new(rt.alloc()), calls);
-        let made = make_sealed(name(rt.alloc())?, &mut fuse).is_ok();
-        assert_eq!(rt; made, calls == 7, "{calls} calls");
-    }
-    Ok(())
+    all_are_told(&rt, &STOPPED)
 }

@@ -3,14 +3,12 @@ ghost use Rattle.std.specs.Prelude.{◌≡◌, ◌≤◌, [], ◌∷◌, All, If
 ghost use Rattle.mdf_layout.specs.Layout.{Layout};
 ghost use Rattle.mdf_layout.specs.Written.{AreApart};
 ghost use Rattle.mdf_layout.specs.Stored.{IsStored};
-ghost use Rattle.book_owned.specs.Begun.{IsNewFile};
 
-use crate::books::{SESSION, file_failing_at, one_row, shapes_of};
+use crate::books::{SESSION, file_failing_at, is_admitted, shapes};
 use crate::layouts::sample;
 use book_owned::{Book, Flush, Shown};
 use book_view::{LiveReader, LiveView};
-use mdf_disk::{Disk, MemoryDisk};
-use mdf_gate::GatedFile;
+use mdf_disk::MemoryDisk;
 use mdf_layout::{Sample, Shape, Shapes};
 use mdf_num::Memory;
 use std::process::Abort;
@@ -79,15 +77,11 @@ struct Watched {
 }
 
 /// A book over a new file, with a reader of its view.
-fn begin_watched<R: AllocGlobal + Wait>(
-    rt: &R,
-    file: GatedFile<MemoryDisk>,
-    shapes: Shapes,
-) -> Result<Watched, Fail>
-    requires created { IsNewFile ⟦<MemoryDisk as Disk>⟧ file }
+fn begin_watched<R: AllocGlobal + Abort + Wait>(rt: &R, shapes: Shapes) -> Result<Watched, Fail>
     requires one { (shape : Layout) × (shapes ≡ shape ∷ []) × (length shape.rows ≤ 128) × AreApart shape.rows × All IsStored shape.rows }
     ensures { IfOk result (λ watched. watched.book.terms.layouts ≡ shapes) }
 {
+    let file = file_failing_at(rt, &[])?;
     let (view, mut readers) = match LiveView::begin(rt, rt.alloc(), 2) {
         Ok(begun) => begun,
         Err(memory) => {
@@ -115,9 +109,7 @@ where
     requires { watched.old.book.terms.layouts ≡ shape.now ∷ [] }
     ensures { watched.new.book.terms ≡ watched.old.book.terms }
 {
-    assert!(rt; sample.group == 0);
-    assert!(rt; shape.fits(&sample));
-    assert!(rt; watched.book.size_of(&sample) <= watched.book.block_limit());
+    assert!(rt; is_admitted(shape, &watched.book, &sample));
     let _answer = watched.book.append(rt, sample);
 }
 
@@ -180,13 +172,11 @@ where
 
 #[test]
 fn a_view_after_the_first_note(rt: HostRuntime) -> Result<(), Fail> {
-    let rows = one_row(rt.alloc())?;
-    let (shape, shapes) = shapes_of(&rt, &rows, 8)?;
     let first = sample(rt.alloc(), &[1])?;
     let second = sample(rt.alloc(), &[2])?;
     let third = sample(rt.alloc(), &[3])?;
-    let file = file_failing_at(&rt, &[])?;
-    let watched = begin_watched(&rt, file, shapes)?;
+    let (shape, shapes) = shapes(&rt)?;
+    let watched = begin_watched(&rt, shapes)?;
     assert_eq!(rt;
         seen(&rt, &shape, watched, first, second, third),
         [0, 0, 2, 2, 3]
