@@ -1,11 +1,18 @@
--- The plan of a script is one that a book can begin with.
-use Rattle.std.proofs.Common.{All}
+-- The plan of a script is one that a book can begin with, and what is so of those who look from then on.
+use Rattle.std.proofs.Common.{◌≡◌, ℕ, suc, List, [], Bool, Option, Some, None, All, sym, subst}
+use Rattle.std.specs.Option.{ForSome}
 use Rattle.std.proofs.lemmas.List.Elements.{All-weaker}
 use Rattle.mdf_layout.specs.Written.{AreApart}
 use Rattle.mdf_layout.specs.Stored.{IsStored}
+use Rattle.mdf_layout.specs.declared.sample.Sample.{Sample}
 use Rattle.book_owned.specs.Begun.{IsAdmissible}
+use Rattle.book_view.specs.Known.{Note}
+use Rattle.acq_live.specs.Watching.{Watches}
+use Rattle.acq_live.specs.declared.watcher.Watcher.{Watcher}
 use Rattle.acq_script.specs.Plan.{IsGroup, IsPlan}
 use Rattle.acq_script.specs.declared.script.Plan.{Plan}
+use Rattle.mdf_command.specs.declared.fault.Fault.{Fault}
+use Rattle.mdf_record.specs.Finish.{NoteComes}
 
 pub admissible : (plan : Plan) → IsPlan plan → IsAdmissible plan.shapes plan.block plan.session
 admissible plan is = record {
@@ -18,3 +25,15 @@ admissible plan is = record {
   block = is.limits.block_high;
   session = is.limits.session_high;
 }
+
+-- watchers of a view that is of this number
+pub are_watched : (watchers : List Watcher) (which which' : ℕ) → which' ≡ which → All (λ watcher. Watches watcher which []) watchers
+    → All (λ watcher. Watches watcher which' []) watchers
+are_watched watchers which which' same watch = subst (λ n. All (λ watcher. Watches watcher n []) watchers) (sym same) watch
+
+-- the note of the last flush is of the view of the book that was begun
+pub note_of : (problem : Option Fault) (live : Bool) (which which' : ℕ) (history : List Sample) (last : Option Note) → which' ≡ which
+    → NoteComes problem live which' history last → ForSome last (λ note. suc note.which ≡ which)
+note_of None live which which' history None same comes n is = absurd (cc is)
+note_of None live which which' history (Some note) same comes n is = cc (is, comes.1.1, same)
+note_of (Some problem) live which which' history last same comes n is = absurd (cc (is, comes))

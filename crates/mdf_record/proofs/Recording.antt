@@ -1,6 +1,6 @@
 -- A book that was driven, flushed and closed says how the recording ended.
 use Rattle.std.proofs.Common.{◌≡◌, ◌≢◌, ◌≤◌, map, Bool, true, false, inl, inr, ⊎_elim, ℕ, List, [], ◌∷◌, ◌++◌, length, Option, Some, None, Result, Ok, Err, true≢false, get_or, take, refl, sym, ◌∙◌, ap, subst, arith, length-append}
-use Rattle.std.specs.Prelude.{slice_get, slice_index, is_some, IsOk, IfSome, IfOk, IfErr, cond, ◌==◌}
+use Rattle.std.specs.Prelude.{◌<◌, ◌⊎◌, slice_get, slice_index, is_some, IsOk, IfSome, IfOk, IfErr, MatchBool, cond, ◌==◌}
 use Rattle.std.proofs.lemmas.Bool.{cases_eq, cond-true, cond-false, eq-eqb, ne_eqb}
 use Rattle.std.proofs.lemmas.Option.{slice_get_cases}
 use Rattle.std.proofs.Math.Seq.{get_or-append_seam}
@@ -25,7 +25,9 @@ use Rattle.book_owned.specs.Begun.{HasBegun}
 use Rattle.book_owned.specs.Kept.{HoldsDurable, IsKept}
 use Rattle.mdf_gate.specs.Carried.{IsCarried, IsEncoded}
 use Rattle.book_owned.specs.Marks.{durable}
-use Rattle.book_owned.specs.declared.view.NoView.{NoView}
+use Rattle.book_view.specs.Known.{Note}
+use Rattle.acq_live.specs.Watching.{counted}
+use Rattle.acq_live.specs.declared.audience.Audience.{Audience}
 use Rattle.acq_script.specs.Tasks.{samples_of}
 use Rattle.acq_script.specs.Stage.{IsScript}
 use Rattle.acq_script.specs.declared.script.Script.{Script}
@@ -38,8 +40,8 @@ use Rattle.acq_run.specs.declared.work.Ended.{Ended}
 use Rattle.acq_run.specs.declared.work.Ended.TheVariants as work
 use Rattle.acq_run.proofs.Later.{all_later}
 use Rattle.mdf_record.specs.Sources.{RanAll, ends_of, feds_of, told_of}
-use Rattle.mdf_record.specs.Finish.{FileFaultComes, Finishes, FinishEnds, IsAllDurable, IsUnmade}
-use Rattle.mdf_record.specs.Record.{AreAccepted, AreEnds, CloseComes, IsComplete, IsFull, IsNext, IsRecorded, IsSaved, IsShort, Outcome, SourceComes, outcome}
+use Rattle.mdf_record.specs.Finish.{FileFaultComes, Finishes, FinishEnds, IsAllDurable, IsUnmade, NoteComes}
+use Rattle.mdf_record.specs.Record.{AreAccepted, AreEnds, CloseComes, IsComplete, IsFull, IsNext, IsRecorded, IsSaved, IsShort, IsUnshown, Outcome, SourceComes, live_of, outcome}
 use Rattle.mdf_record.specs.Head.{script_head}
 use Rattle.mdf_record.specs.Recorded.{Closes, HasRun, RunComes, RecordComes}
 use Rattle.mdf_record.specs.declared.sources.End.{End}
@@ -88,12 +90,23 @@ group_of_source owners [] group = refl
 group_of_source owners (sample ∷ history) group = let behind = group_of_source owners history group in
     ⊎_elim (λ same. of_this owners sample history group behind same) (λ differs. of_another owners sample history group behind differs) (cases_eq sample.group group)
 
-module _ {D N : Type 0} (tells : DiskOf D) (shows : ViewOf NoView N)
-    (script : Script) (file : Gated D) (view : NoView)
-    (begun driven flushed : Account D NoView) (accepted : Stock ℕ) (result : Result Unit End) (problem : Option Fault) (recorded : Recorded D)
+-- the number of the live line
+live_comes : (live : Bool) (problem : Option Fault) (which : ℕ) (history : List Sample) (last : Option Note) → MatchBool live (0 < which) (which ≡ 0)
+    → NoteComes problem live which history last → counted last ≡ live_of live problem (length history)
+live_comes true None which history None is noted = absurd (omega (arith, is, noted.1))
+live_comes true None which history (Some note) is noted = ap (λ (samples : List Sample). Some (length samples)) (noted.1.0 ∙ take_all noted.0 history (noted.2 refl))
+live_comes true (Some problem) which history last is noted = ap counted noted
+live_comes false None which history None is noted = refl
+live_comes false None which history (Some note) is noted = absurd (omega (arith, is, noted.1.1))
+live_comes false (Some problem) which history last is noted = ap counted noted
+
+module _ {D N : Type 0} (tells : DiskOf D) (shows : ViewOf Audience N)
+    (script : Script) (file : Gated D) (view : Audience)
+    (begun driven flushed : Account D Audience) (accepted : Stock ℕ) (result : Result Unit End) (problem : Option Fault) (note : Option Note) (live : Option ℕ) (recorded : Recorded D)
+    (which_is : MatchBool script.plan.live (0 < shows.which view) (shows.which view ≡ 0))
     (begins : HasBegun tells shows file script.plan.shapes script.plan.block script.plan.session view begun)
     (same : driven.terms ≡ begun.terms) (ran : RanAll script.plan.owners driven script.lists accepted.items result)
-    (finishes : Finishes driven flushed result problem) (closes : Closes tells flushed accepted problem recorded) where
+    (finishes : Finishes driven flushed script.plan.live result problem note) (live_is : live ≡ counted note) (closes : Closes tells flushed accepted live problem recorded) where
   abbrev head : List ℕ
   head = head_of (tells.story file.disk) file.first
 
@@ -222,11 +235,16 @@ module _ {D N : Type 0} (tells : DiskOf D) (shows : ViewOf NoView N)
       let found = worst_err (ends_of ran.all) end_.Memory (sym ran.told ∙ is) in
       record { ends = (ends_of ran.all); are = ends_are durable_all; source = found.0; wanted = found.1; room = all_room (ends_of ran.all) (sym ran.told ∙ is) }
 
-  ended : (problem' : Option Fault) → FinishEnds flushed result problem' → CloseComes script file.faults left problem'
+  -- memory was wanted for a sample, or for the view
+  short : IsAllDurable flushed → (result ≡ Err end_.Memory) ⊎ (IsOk result × (script.plan.live ≡ true)) → IsShort script left ⊎ IsUnshown script left
+  short durable_all (inl is) = inl (wants is durable_all)
+  short durable_all (inr unshown) = inr (unshown.1, completes result refl unshown.0 durable_all)
+
+  ended : (problem' : Option Fault) → FinishEnds flushed script.plan.live result problem' → CloseComes script file.faults left problem'
   ended None ends = completes result refl ends.0 ends.1
   ended (Some fault.Device) ends = subst (λ (t : Terms). Rose t.faults (tells.faults flushed.disk)) terms_are (closes.cause ends)
   ended (Some (fault.SessionFull held size limit)) ends = fills held size limit ends.0 ends.1
-  ended (Some fault.Memory) ends = wants ends.0 ends.1
+  ended (Some fault.Memory) ends = short ends.1 ends.0
   ended (Some _) ends = absurd ends
 
   pub has_run : HasRun tells script file (outcome tells recorded.out recorded.history.items recorded.marks.items) recorded.end
@@ -236,6 +254,9 @@ module _ {D N : Type 0} (tells : DiskOf D) (shows : ViewOf NoView N)
       accepted_is = rw (closes.disk, closes.history, closes.marks) accepted_are;
       samples_is = ap length (sym closes.history);
       durable_is = ap durable (sym closes.marks);
+      live_is = live_is ∙ live_comes script.plan.live problem (shows.which view) flushed.history note which_is
+          (subst (λ (t : Terms). NoteComes problem script.plan.live t.which flushed.history note) terms_are finishes.noted)
+          ∙ ap (λ (h : List Sample). live_of script.plan.live problem (length h)) (sym closes.history);
       comes = rw (closes.disk, closes.history, closes.marks) (ended problem finishes.ends);
     });
     asked_is = ap tells.asked closes.disk ∙ closes.asked_is ∙ ap (λ (t : Terms). t.asked) terms_are;
@@ -291,7 +312,7 @@ record_comes tells Says Refuses name now out script file left end says is_script
       asked_is = inr (run.asked_is ∙ asked_is);
     });
   }
-  of_end (Closed accepted samples last problem) comes = record {
+  of_end (Closed accepted samples last live problem) comes = record {
     script = script;
     says = says;
     is_script = is_script;
@@ -301,6 +322,7 @@ record_comes tells Says Refuses name now out script file left end says is_script
     accepted_is = comes.accepted_is;
     samples_is = comes.samples_is;
     durable_is = comes.durable_is;
+    live_is = comes.live_is;
     comes = close_earlier script (tells.faults out) file.faults left problem later comes.comes;
     asked_is = run.asked_is ∙ asked_is;
   }
@@ -323,7 +345,7 @@ comes_as Says Says' Refuses Refuses' says refuses name now disk left (Refused pr
       }))
       comes.comes;
 }
-comes_as Says Says' Refuses Refuses' says refuses name now disk left (Closed accepted samples last problem) comes = record {
+comes_as Says Says' Refuses Refuses' says refuses name now disk left (Closed accepted samples last live problem) comes = record {
   script = comes.script;
   says = says comes.script comes.says;
   is_script = comes.is_script;
@@ -332,6 +354,7 @@ comes_as Says Says' Refuses Refuses' says refuses name now disk left (Closed acc
   accepted_is = comes.accepted_is;
   samples_is = comes.samples_is;
   durable_is = comes.durable_is;
+  live_is = comes.live_is;
   comes = comes.comes;
   asked_is = comes.asked_is;
 }

@@ -1,5 +1,5 @@
 -- The command `record OUT`.
-use Rattle.std.specs.Prelude.{ℕ, ◌≡◌, ◌+◌, ◌≤◌, ◌<◌, List, [], ◌∷◌, ◌++◌, length, codes, slice_get, slice_index, take, All, Option, Some, None, IfSome, is_some, Result, Ok, Err}
+use Rattle.std.specs.Prelude.{ℕ, ◌≡◌, ◌⊎◌, Bool, true, false, ◌+◌, ◌≤◌, ◌<◌, List, [], ◌∷◌, ◌++◌, length, codes, slice_get, slice_index, take, All, Option, Some, None, IfSome, is_some, Result, Ok, Err}
 use Rattle.std.specs.Fmt.{decimal}
 use mathlib.Core.List.{IsPrefix}
 use Rattle.mdf_format.specs.Cause.{Rose}
@@ -39,17 +39,28 @@ abbrev pub fault_text : Option Fault → List ℕ
 fault_text None = []
 fault_text (Some fault) = fault_line fault
 
+-- the line of a recording that was looked at live: how many samples a reader finds shown
+abbrev pub live_text : Option ℕ → List ℕ
+live_text None = []
+live_text (Some n) = line (codes "live " ∷ decimal n ∷ [])
+
+-- its number: all samples, where nothing went wrong
+abbrev pub live_of : Bool → Option Fault → ℕ → Option ℕ
+live_of true None n = Some n
+live_of true (Some fault) n = None
+live_of false problem n = None
+
 abbrev pub fault_code : Option Fault → ℕ
 fault_code None = 0
 fault_code (Some fault) = fault_status fault
 
 abbrev pub record_text : RecordEnd → List ℕ
 record_text (Refused fault) = fault_line fault
-record_text (Closed accepted samples durable fault) = summary_text accepted.items samples durable ++ fault_text fault
+record_text (Closed accepted samples durable live fault) = summary_text accepted.items samples durable ++ (live_text live ++ fault_text fault)
 
 abbrev pub record_status : RecordEnd → ℕ
 record_status (Refused fault) = fault_status fault
-record_status (Closed accepted samples durable fault) = fault_code fault
+record_status (Closed accepted samples durable live fault) = fault_code fault
 
 -- what a recording leaves: its disk, as that tells it, the samples that were accepted, in order, and the marks
 pub record Outcome : Type 0 where
@@ -137,13 +148,17 @@ pub record IsShort (script : Script) (left : Outcome) : Type 0 where
   pub wanted : slice_get ends source ≡ Some (Err end_.Memory)
   pub room : All HadRoom ends
 
+-- All was recorded and saved, but memory was wanted to show all of it to those who look.
+abbrev pub IsUnshown : Script → Outcome → Type 0
+IsUnshown script left = (script.plan.live ≡ true) × IsComplete script left
+
 -- How a recording that was begun ends, where the disk's count of faults was `faults` before: all was done, the disk failed,
--- the session is full, or memory was wanted. All that was accepted is saved but where the disk failed.
+-- the session is full, or memory was wanted for a sample or a view. All that was accepted is saved but where the disk failed.
 abbrev pub CloseComes : Script → ℕ → Outcome → Option Fault → Type 0
 CloseComes script faults left None = IsComplete script left
 CloseComes script faults left (Some fault.Device) = Rose faults left.disk.faults
 CloseComes script faults left (Some (fault.SessionFull held size limit)) = IsFull script left held size limit
-CloseComes script faults left (Some fault.Memory) = IsShort script left
+CloseComes script faults left (Some fault.Memory) = IsShort script left ⊎ IsUnshown script left
 CloseComes script faults left (Some _) = ⊥
 
 -- What a recording of this script keeps, whatever happened: of its marks, of what a crash since its start may leave, of the

@@ -12,7 +12,7 @@ use Rattle.mdf_gate.specs.Gated.{Gated}
 use Rattle.mdf_gate.specs.Images.{IsBegun, head_of}
 use Rattle.book_owned.specs.Account.{Account}
 use Rattle.book_owned.specs.Kept.{HoldsDurable, IsKept}
-use Rattle.book_owned.specs.declared.view.NoView.{NoView}
+use Rattle.acq_live.specs.declared.audience.Audience.{Audience}
 use Rattle.book_owned.specs.Marks.{durable}
 use Rattle.acq_script.specs.Stage.{IsScript}
 use Rattle.acq_script.specs.declared.script.Script.{Script}
@@ -22,7 +22,7 @@ use Rattle.mdf_record.specs.Head.{script_head}
 use Rattle.mdf_record.specs.Script.{SaysScript, ScriptFaultComes}
 use Rattle.mdf_record.specs.Finish.{FileFaultComes}
 use Rattle.mdf_command.specs.Texts.{Prints}
-use Rattle.mdf_record.specs.Record.{AreAccepted, CloseComes, IsRecorded, Outcome, record_status, record_text}
+use Rattle.mdf_record.specs.Record.{AreAccepted, CloseComes, IsRecorded, Outcome, live_of, record_status, record_text}
 use Rattle.mdf_command.specs.declared.fault.Fault.{Fault}
 use Rattle.mdf_command.specs.declared.fault.Fault.TheVariants.{Memory}
 use Rattle.mdf_record.specs.declared.record.Recorded.{Recorded}
@@ -51,7 +51,7 @@ pub record IsRefused (Says : Script → Type 0) (Refuses : Fault → Type 0) (na
   pub comes : IsUnread Refuses disk left.disk fault ⊎ IsNotBegun Says name now disk left.disk fault
 
 -- A book was begun over the script.
-pub record IsClosed (Says : Script → Type 0) (name : List ℕ) (now : ℕ) (disk : DiskState) (left : Outcome) (accepted : List ℕ) (samples last : ℕ) (fault : Option Fault) : Type 0 where
+pub record IsClosed (Says : Script → Type 0) (name : List ℕ) (now : ℕ) (disk : DiskState) (left : Outcome) (accepted : List ℕ) (samples last : ℕ) (live : Option ℕ) (fault : Option Fault) : Type 0 where
   pub script : Script
   pub says : Says script
   pub is_script : IsScript script
@@ -60,13 +60,14 @@ pub record IsClosed (Says : Script → Type 0) (name : List ℕ) (now : ℕ) (di
   pub accepted_is : AreAccepted script left accepted
   pub samples_is : samples ≡ length left.history
   pub durable_is : last ≡ durable left.marks
+  pub live_is : live ≡ live_of script.plan.live fault (length left.history)
   pub comes : CloseComes script disk.faults left fault
   pub asked_is : left.disk.asked ≡ Some (name, Create)
 
 -- What a recording leaves of a script, which says what it is, where a fault may stand in its place.
 abbrev pub RecordComes : (Script → Type 0) → (Fault → Type 0) → List ℕ → ℕ → DiskState → Outcome → RecordEnd → Type 0
 RecordComes Says Refuses name now disk left (Refused fault) = IsRefused Says Refuses name now disk left fault
-RecordComes Says Refuses name now disk left (Closed accepted samples last fault) = IsClosed Says name now disk left accepted.items samples last fault
+RecordComes Says Refuses name now disk left (Closed accepted samples last live fault) = IsClosed Says name now disk left accepted.items samples last live fault
 
 -- How a recording ends, by what the disk and the sink tell before, and what it left.
 abbrev pub EndsRecording : (Script → Type 0) → (Fault → Type 0) → List ℕ → ℕ → DiskState → Outcome → SinkState → SinkState → ℕ → Type 0
@@ -83,8 +84,8 @@ abbrev pub EndsGenerated : ℕ → List ℕ → ℕ → DiskState → Outcome �
 EndsGenerated samples = EndsRecording (λ script. script ≡ generated_script samples) (λ fault. fault ≡ Memory)
 
 -- the book was closed with this fault
-pub record Closes {C : Type 0} (tells : DiskOf C) (book : Account C NoView) (accepted : Stock ℕ) (fault : Option Fault) (result : Recorded C) : Type 0 where
-  pub end_is : result.end ≡ Closed accepted (length book.history) (durable book.marks) fault
+pub record Closes {C : Type 0} (tells : DiskOf C) (book : Account C Audience) (accepted : Stock ℕ) (live : Option ℕ) (fault : Option Fault) (result : Recorded C) : Type 0 where
+  pub end_is : result.end ≡ Closed accepted (length book.history) (durable book.marks) live fault
   pub disk : result.out ≡ book.disk
   pub history : result.history.items ≡ book.history
   pub marks : result.marks.items ≡ book.marks
@@ -96,17 +97,18 @@ pub record Closes {C : Type 0} (tells : DiskOf C) (book : Account C NoView) (acc
   pub holds : book.stopped ≡ false → IfSome (tells.content book.disk) (HoldsDurable book.terms book.history book.marks)
 
 -- The tasks of a script were recorded into a file with this head, begun at this moment of its disk, with this count of faults.
-pub record HasTasks (script : Script) (head : List ℕ) (start faults : ℕ) (left : Outcome) (accepted : List ℕ) (samples last : ℕ) (fault : Option Fault) : Type 0 where
+pub record HasTasks (script : Script) (head : List ℕ) (start faults : ℕ) (left : Outcome) (accepted : List ℕ) (samples last : ℕ) (live : Option ℕ) (fault : Option Fault) : Type 0 where
   pub recorded : IsRecorded script head start left
   pub accepted_is : AreAccepted script left accepted
   pub samples_is : samples ≡ length left.history
   pub durable_is : last ≡ durable left.marks
+  pub live_is : live ≡ live_of script.plan.live fault (length left.history)
   pub comes : CloseComes script faults left fault
 
 -- or no book could be begun over it
 abbrev pub RunComes : Script → DiskState → List ℕ → ℕ → ℕ → Outcome → RecordEnd → Type 0
 RunComes script disk head start faults left (Refused fault) = (fault ≡ Memory) × (left.disk ≡ disk) × (left.history ≡ []) × (left.marks ≡ [])
-RunComes script disk head start faults left (Closed accepted samples last fault) = HasTasks script head start faults left accepted.items samples last fault
+RunComes script disk head start faults left (Closed accepted samples last live fault) = HasTasks script head start faults left accepted.items samples last live fault
 
 pub record HasRun {C : Type 0} (tells : DiskOf C) (script : Script) (file : Gated C) (left : Outcome) (end : RecordEnd) : Type 0 where
   pub comes : RunComes script (state_of tells file.disk) (head_of (tells.story file.disk) file.first) file.start file.faults left end

@@ -1,4 +1,4 @@
-ghost use Rattle.std.specs.Prelude.{◌≡◌, ◌≤◌, ◌∷◌, [], true, List, ℕ, length, All, Some, None, Ok, Err, is_some, IfSome, IfOk, IfErr};
+ghost use Rattle.std.specs.Prelude.{◌≡◌, ◌≤◌, ◌∷◌, ◌++◌, [], true, List, ℕ, length, All, Some, None, Ok, Err, is_some, IfSome, IfOk, IfErr};
 ghost use Rattle.mdf_disk.specs.Crash.{HoldsSince};
 ghost use Rattle.mdf_disk.specs.State.{state_of};
 ghost use Rattle.mdf_disk.specs.declared.role.Role.TheVariants.{Create};
@@ -12,7 +12,7 @@ ghost use Rattle.mdf_record.specs.Script.{SaysScript, ScriptFaultComes};
 ghost use Rattle.mdf_record.specs.Finish.{IsUnmade, Finishes};
 ghost use Rattle.mdf_port.specs.State.{sink_state, source_state};
 ghost use Rattle.mdf_command.specs.Texts.{Gives, Prints, numbered};
-ghost use Rattle.mdf_record.specs.Record.{fault_text, outcome, record_status, record_text, source_line, summary_text};
+ghost use Rattle.mdf_record.specs.Record.{fault_text, live_text, outcome, record_status, record_text, source_line, summary_text};
 ghost use Rattle.mdf_record.specs.Recorded.{RecordComes, Closes, HasRun};
 ghost use Rattle.mdf_record.specs.Recovers.{AreRecovered, StartRecovers};
 ghost use Rattle.mdf_carried.specs.Recovers.{IsReadHead};
@@ -20,9 +20,10 @@ ghost use Rattle.mdf_carried.specs.Recovers.{IsReadHead};
 use crate::gate::Gate;
 use crate::head::head_for;
 use crate::sources::{Accepted, End, feeds_of, told_all};
-use acq_run::record_all;
+use acq_live::{Audience, Gathered, last_look, record_live};
 use acq_script::{Plan, Script, read_script};
-use book_owned::{Book, Flush, Marks, NoView};
+use book_owned::{Book, Flush, Marks};
+use book_view::Told;
 use mdf_carried::what_is_carried_is_recovered;
 use mdf_command::Piece::{Number, Text};
 use mdf_command::{Fault, give_line, status_after};
@@ -46,11 +47,13 @@ pub enum RecordEnd {
     /// No book was begun.
     Refused(Fault),
     /// A book was begun and closed: how many samples of each source it accepted, how many in all, how many of them are
-    /// durable, and what went wrong, if anything did.
+    /// durable, how many a reader finds shown, where they are looked at live and nothing went wrong, and what went wrong, if
+    /// anything did.
     Closed {
         accepted: Accepted,
         samples: u64,
         durable: u64,
+        live: Option<u64>,
         fault: Option<Fault>,
     },
 }
@@ -139,29 +142,37 @@ fn room_for(alloc: Global, sources: u64) -> Result<Accepted, Memory>
     Ok(accepted)
 }
 
-/// Flushes the book a last time, unless it is stopped, and says what went wrong: a fault of the disk before all else.
+/// Flushes the book a last time, unless it is stopped, and says what went wrong: a fault of the disk before all else, and want
+/// of memory also where not all is shown to those who look at it live. Hands out the note of the flush where nothing did.
 fn finish<R: Threads + Wait + Sync, C: Disk>(
     rt: &R,
-    book: &mut Book<C, NoView>,
+    book: &mut Book<C, Audience>,
+    live: bool,
     driven: Result<(), End>,
-) -> Option<Fault>
+) -> (Option<Fault>, Option<Told>)
     requires stopped { IfErr driven (λ end_. end_ ≡ End.Stopped → book.old.stopped ≡ true) }
-    ensures finishes { Finishes book.old book.new driven result }
+    ensures finishes { Finishes book.old book.new live driven result.0 result.1 }
 {
     match book.flush(rt) {
-        Flush::DiskFault { .. } | Flush::Stopped { .. } => Some(Fault::Device),
-        Flush::Done { .. } => match driven {
-            Ok(()) => None,
+        Flush::DiskFault { .. } | Flush::Stopped { .. } => (Some(Fault::Device), None),
+        Flush::Done {
+            through,
+            shown,
+            note,
+        } => match driven {
+            Ok(()) if live && shown < through => (Some(Fault::Memory), None),
+            Ok(()) => (None, note),
             Err(End::SessionFull { held, size, limit }) => {
-                Some(Fault::SessionFull { held, size, limit })
+                (Some(Fault::SessionFull { held, size, limit }), None)
             }
-            Err(End::Stopped) => Some(Fault::Device),
-            Err(End::Memory) => Some(Fault::Memory),
+            Err(End::Stopped) => (Some(Fault::Device), None),
+            Err(End::Memory) => (Some(Fault::Memory), None),
         },
     }
 }
 
 /// Records the tasks of a script into a file that was just created, each source in a thread of its own, and closes the book.
+/// Where the script says so, each source has a reader, who looks at what is shown after each flush of the source.
 fn record_into<R: Threads + Wait + Sync, C: Disk + Send, G: Gate + Sync>(
     rt: &R,
     alloc: Global,
@@ -178,10 +189,10 @@ fn record_into<R: Threads + Wait + Sync, C: Disk + Send, G: Gate + Sync>(
         shapes,
         rows: _,
         owners,
-        sources: _,
+        sources,
         block,
         session,
-        live: _,
+        live,
     } = plan;
     let Ok(mut accepted) = room_for(alloc, lists.len()) else {
         return refused(alloc, Fault::Memory, file.into_disk());
@@ -189,36 +200,57 @@ fn record_into<R: Threads + Wait + Sync, C: Disk + Send, G: Gate + Sync>(
     let Ok(feeds) = feeds_of(alloc, lists.into_vec(), gate) else {
         return refused(alloc, Fault::Memory, file.into_disk());
     };
-    let book = match Book::begin(alloc, file, shapes, block, session, NoView::new()) {
-        Ok(book) => book,
-        Err((_, file, _)) => return refused(alloc, Fault::Memory, file.into_disk()),
+    let Ok((view, watchers)) = Audience::begin(rt, alloc, live, sources) else {
+        return refused(alloc, Fault::Memory, file.into_disk());
     };
-    match record_all(rt, alloc, book, owners.as_slice(), feeds) {
-        Ok((mut book, all)) => {
+    let book = match Book::begin(alloc, file, shapes, block, session, view) {
+        Ok(book) => book,
+        Err((_, file, view)) => {
+            view.end(rt);
+            return refused(alloc, Fault::Memory, file.into_disk());
+        }
+    };
+    match record_live(rt, alloc, book, owners.as_slice(), feeds, watchers) {
+        Ok(gathered) => {
+            let Gathered {
+                mut book,
+                all,
+                watchers,
+            } = gathered;
             let driven = told_all(all, &mut accepted);
-            let fault = finish(rt, &mut book, driven);
-            close(book, accepted, fault)
+            let (fault, note) = finish(rt, &mut book, live, driven);
+            let live = last_look(watchers, note);
+            close(rt, book, accepted, live, fault)
         }
         Err((_, book)) => {
-            let (out, _, _, _) = book.close();
+            let (out, _, _, view) = book.close();
+            view.end(rt);
             refused(alloc, Fault::Memory, out)
         }
     }
 }
 
-/// Closes the book.
-fn close<C: Disk>(book: Book<C, NoView>, accepted: Accepted, fault: Option<Fault>) -> Recorded<C>
-    ensures closes { Closes C.Disk book accepted fault result }
+/// Closes the book, and ends its view.
+fn close<R: Wait, C: Disk>(
+    rt: &R,
+    book: Book<C, Audience>,
+    accepted: Accepted,
+    live: Option<u64>,
+    fault: Option<Fault>,
+) -> Recorded<C>
+    ensures closes { Closes C.Disk book accepted live fault result }
 {
     let samples = book.history_len();
     let durable = book.last_mark().through;
     let _stopped = book.stopped();
-    let (out, history, marks, _) = book.close();
+    let (out, history, marks, view) = book.close();
+    view.end(rt);
     Recorded {
         end: RecordEnd::Closed {
             accepted,
             samples,
             durable,
+            live,
             fault,
         },
         out,
@@ -294,6 +326,16 @@ fn give_summary<K: Sink>(
     )
 }
 
+/// Gives the line on what a reader finds shown, if there is one.
+fn give_live<K: Sink>(sink: &mut K, live: &Option<u64>) -> Result<(), Failed>
+    ensures { Gives (live_text live.now) (sink_state K.Sink sink.old) (sink_state K.Sink sink.new) result }
+{
+    match live {
+        Some(shown) => give_line(sink, &[Text(b"live "), Number(*shown)]),
+        None => Ok(()),
+    }
+}
+
 /// Gives the line of a fault, if there is one.
 fn give_fault<K: Sink>(sink: &mut K, fault: &Option<Fault>) -> Result<(), Failed>
     ensures { Gives (fault_text fault.now) (sink_state K.Sink sink.old) (sink_state K.Sink sink.new) result }
@@ -302,6 +344,14 @@ fn give_fault<K: Sink>(sink: &mut K, fault: &Option<Fault>) -> Result<(), Failed
         Some(fault) => fault.give(sink),
         None => Ok(()),
     }
+}
+
+/// Gives the line on what a reader finds shown, if there is one, and then that of a fault.
+fn give_rest<K: Sink>(sink: &mut K, live: &Option<u64>, fault: &Option<Fault>) -> Result<(), Failed>
+    ensures { Gives (live_text live.now ++ fault_text fault.now) (sink_state K.Sink sink.old) (sink_state K.Sink sink.new) result }
+{
+    give_live(sink, live)?;
+    give_fault(sink, fault)
 }
 
 /// Gives the lines with which the command ends.
@@ -314,10 +364,11 @@ fn give_end<K: Sink>(sink: &mut K, end: &RecordEnd) -> Result<(), Failed>
             accepted,
             samples,
             durable,
+            live,
             fault,
         } => {
             give_summary(sink, accepted.rest(0), *samples, *durable)?;
-            give_fault(sink, fault)
+            give_rest(sink, live, fault)
         }
     }
 }

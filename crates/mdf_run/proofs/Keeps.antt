@@ -1,6 +1,8 @@
 -- What a recording keeps, whatever happened.
-use Rattle.std.proofs.Common.{◌≡◌, ◌≢◌, ◌⊎◌, ◌<◌, ◌≤◌, inl, inr, ⊎_elim, ℕ, List, [], ◌∷◌, length, Option, Some, None, Ok, refl, subst, arith}
-use Rattle.std.specs.Prelude.{is_some, slice_get, IfSome, IsSomeAnd}
+use Rattle.std.proofs.Common.{◌≡◌, ◌≢◌, ◌⊎◌, ◌<◌, ◌≤◌, inl, inr, ⊎_elim, ℕ, List, [], ◌∷◌, length, Option, Some, None, Ok, refl, subst, arith, ◌++◌, sym, ◌∙◌, ap, append-nil}
+use Rattle.std.specs.Prelude.{is_some, slice_get, IfSome, IsSomeAnd, ◌==◌}
+use Rattle.std.specs.Io.KnownBytes.{Appends}
+use Rattle.std.proofs.lemmas.Bool.{cases_eq, cond-false, ne_eqb}
 use mathlib.Core.List.{IsPrefix}
 use Rattle.mdf_port.specs.State.{SinkState}
 use Rattle.mdf_disk.specs.State.{DiskState}
@@ -20,8 +22,8 @@ use Rattle.mdf_command.specs.Faults.{fault_status, refused_status}
 use Rattle.mdf_disk.specs.Crash.{HoldsSince}
 use Rattle.mdf_gate.specs.Images.{IsBegun}
 use Rattle.mdf_record.specs.Head.{script_head}
-use Rattle.mdf_run.specs.Kept.{IsDone, Keeps}
-use Rattle.mdf_record.specs.Record.{CloseComes, IsComplete, OfSources, Outcome, fault_code, record_status, record_text}
+use Rattle.mdf_run.specs.Kept.{IsDone, IsReported, Keeps}
+use Rattle.mdf_record.specs.Record.{AreAccepted, CloseComes, IsComplete, OfSources, Outcome, fault_code, fault_text, live_of, live_text, record_status, record_text, summary_text}
 use Rattle.mdf_record.specs.Script.{SCRIPT_LIMIT}
 use Rattle.mdf_record.specs.Recorded.{IsClosed, IsNotBegun, IsRefused, IsUnread, RecordComes}
 use Rattle.mdf_command.specs.Texts.{Prints, unwritten_status}
@@ -68,8 +70,39 @@ saves : (script : Script) (faults : ℕ) (left : Outcome) (result : ℕ) (proble
 saves script faults left result None is other comes = comes.saved.all_durable
 saves script faults left result (Some fault.Device) is other comes = absurd (⊎_elim other other is)
 saves script faults left result (Some (fault.SessionFull held size limit)) is other comes = comes.are.saved.all_durable
-saves script faults left result (Some fault.Memory) is other comes = comes.are.saved.all_durable
+saves script faults left result (Some fault.Memory) is other comes =
+    ⊎_elim (λ short. short.are.saved.all_durable) (λ unshown. unshown.1.saved.all_durable) comes
 saves script faults left result (Some _) is other comes = absurd comes
+
+-- a status 0 was printed only with all of the text, of a command that ended so
+all_printed : (text : List ℕ) (status : ℕ) (sink sink' : SinkState) (result : ℕ) → result ≡ 0 → Prints text status sink sink' result → Appends sink.held sink'.held text
+all_printed text status sink sink' result ok (inl all) = all.0
+all_printed text status sink sink' result ok (inr front) = absurd (unwritten status (sym front.2 ∙ ok)) where
+  unwritten : (s : ℕ) → unwritten_status s ≡ 0 → ⊥
+  unwritten s is =
+      ⊎_elim (λ none. absurd (omega (arith, sym (ap unwritten_status none) ∙ is)))
+      (λ some. absurd (some (sym (cond-false (s == 0) 6 s (ne_eqb s 0 some)) ∙ is))) (cases_eq s 0)
+
+-- what is printed of a recording in which nothing went wrong
+module _ (script : Script) (left : Outcome) (sink sink' : SinkState) (result : ℕ) (ok : result ≡ 0) where
+  reports : (accepted : List ℕ) (samples last : ℕ) (live : Option ℕ) (problem : Option Fault)
+      → (result ≡ fault_code problem) ⊎ (result ≡ unwritten_status (fault_code problem)) → AreAccepted script left accepted → samples ≡ length left.history
+      → last ≡ durable left.marks → IsComplete script left → live ≡ live_of script.plan.live problem (length left.history)
+      → Appends sink.held sink'.held (summary_text accepted samples last ++ (live_text live ++ fault_text problem))
+      → IsReported script left.disk left.history left.marks sink sink'
+  reports accepted samples last live None is are samples_is last_is complete live_is printed = record {
+    accepted = accepted;
+    accepted_is = are;
+    printed = subst (λ (text : List ℕ). Appends sink.held sink'.held text) same printed;
+  } where
+    same : summary_text accepted samples last ++ (live_text live ++ fault_text None)
+        ≡ summary_text accepted (length left.history) (length left.history) ++ live_text (live_of script.plan.live None (length left.history))
+    same =
+        ap (λ (n : ℕ). summary_text accepted n last ++ (live_text live ++ [])) samples_is
+        ∙ ap (λ (n : ℕ). summary_text accepted (length left.history) n ++ (live_text live ++ [])) (last_is ∙ complete.saved.all_durable)
+        ∙ ap (λ (text : List ℕ). summary_text accepted (length left.history) (length left.history) ++ text) (append-nil (live_text live))
+        ∙ ap (λ (l : Option ℕ). summary_text accepted (length left.history) (length left.history) ++ live_text l) live_is
+  reports accepted samples last live (Some problem) is are samples_is last_is complete live_is printed = absurd (not_done problem result is (inl ok))
 
 same_script : (text : List ℕ) (script other : Script) → script_of text ≡ Ok script → script_of text ≡ Ok other → other ≡ script
 same_script text script other is also = cc
@@ -86,13 +119,13 @@ some_from : (marks : List Mark) → IsSomeAnd (slice_get marks 0) (λ mark. mark
 some_from [] first = absurd first
 some_from (mark ∷ marks) first = omega arith
 
-module _ (Says : Script → Type 0) (Refuses : Fault → Type 0) (name : List ℕ) (now : ℕ) (out disk : DiskState) (history : List Sample) (marks : List Mark) (status : ℕ)
+module _ (Says : Script → Type 0) (Refuses : Fault → Type 0) (name : List ℕ) (now : ℕ) (out disk : DiskState) (history : List Sample) (marks : List Mark) (sink sink' : SinkState) (status : ℕ)
     (script : Script) (means : (other : Script) → Says other → other ≡ script) where
   abbrev left : Outcome
   left = record { disk = disk; history = history; marks = marks }
 
   abbrev Keep : List Sample → List Mark → Type 0
-  Keep samples ms = Keeps out.moment now script disk samples ms status
+  Keep samples ms = Keeps out.moment now script disk samples ms sink sink' status
 
   of_refused : (problem : Fault) → IsRefused Says Refuses name now out left problem
       → (status ≡ fault_status problem) ⊎ (status ≡ unwritten_status (fault_status problem)) → Keep history marks
@@ -105,18 +138,22 @@ module _ (Says : Script → Type 0) (Refuses : Fault → Type 0) (name : List �
     complete = λ done. absurd (not_done problem status is done);
     some_marks = λ done. absurd (not_done problem status is done);
     saved = λ begun. absurd (omega (arith, begun.0));
+    reported = λ ok. absurd (not_done problem status is (inl ok));
   }) where
     begun : IsUnread Refuses out disk problem ⊎ IsNotBegun Says name now out disk problem → HoldsSince disk.story out.moment (IsBegun (script_head now script))
     begun (inl unread) = unread.begun (script_head now script)
     begun (inr unmade) =
         subst (λ (s : Script). HoldsSince disk.story out.moment (IsBegun (script_head now s))) (means unmade.script unmade.says) unmade.begun
 
-  of_closed : (accepted : List ℕ) (samples last : ℕ) (problem : Option Fault) → IsClosed Says name now out left accepted samples last problem
-      → (status ≡ fault_code problem) ⊎ (status ≡ unwritten_status (fault_code problem)) → Keep history marks
-  of_closed accepted samples last problem closed is =
+  of_closed : (accepted : List ℕ) (samples last : ℕ) (live : Option ℕ) (problem : Option Fault) → IsClosed Says name now out left accepted samples last live problem
+      → Prints (summary_text accepted samples last ++ (live_text live ++ fault_text problem)) (fault_code problem) sink sink' status → Keep history marks
+  of_closed accepted samples last live problem closed prints =
+      let is = was_status (summary_text accepted samples last ++ (live_text live ++ fault_text problem)) (fault_code problem) sink sink' status prints in
       let script_is : closed.script ≡ script = means closed.script closed.says in
       let recorded = rw script_is at closed.recorded in
       let comes = rw script_is at closed.comes in
+      let accepted_is = rw script_is at closed.accepted_is in
+      let live_is = rw script_is at closed.live_is in
       record {
         marks_hold = recorded.marks_hold;
         start_holds = recorded.start_holds;
@@ -126,13 +163,13 @@ module _ (Says : Script → Type 0) (Refuses : Fault → Type 0) (name : List �
         complete = λ done. completes script out.faults left status problem is done comes;
         some_marks = λ done. some_from marks recorded.marks_rise.first;
         saved = λ begun. saves script out.faults left status problem is begun.1 comes;
+        reported = λ ok. reports script left sink sink' status ok accepted samples last live problem is accepted_is closed.samples_is closed.durable_is
+            (completes script out.faults left status problem is (inl ok) comes) live_is
+            (all_printed (summary_text accepted samples last ++ (live_text live ++ fault_text problem)) (fault_code problem) sink sink' status ok prints);
       }
 
-  of_end : (end : RecordEnd) → RecordComes Says Refuses name now out left end
-      → (status ≡ record_status end) ⊎ (status ≡ unwritten_status (record_status end)) → Keep history marks
-  of_end (Refused problem) comes is = of_refused problem comes is
-  of_end (Closed accepted samples last problem) comes is = of_closed accepted.items samples last problem comes is
-
-  pub recording_keeps : (end : RecordEnd) (sink sink' : SinkState) → RecordComes Says Refuses name now out left end
+  pub recording_keeps : (end : RecordEnd) → RecordComes Says Refuses name now out left end
       → Prints (record_text end) (record_status end) sink sink' status → Keep history marks
-  recording_keeps end sink sink' comes prints = of_end end comes (was_status (record_text end) (record_status end) sink sink' status prints)
+  recording_keeps (Refused problem) comes prints =
+      of_refused problem comes (was_status (record_text (Refused problem)) (record_status (Refused problem)) sink sink' status prints)
+  recording_keeps (Closed accepted samples last live problem) comes prints = of_closed accepted.items samples last live problem comes prints

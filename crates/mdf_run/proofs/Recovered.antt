@@ -7,6 +7,7 @@ use Rattle.mdf_layout.specs.declared.sample.Sample.{Sample}
 use Rattle.mdf_recovered.specs.Samples.{IsRecovered}
 use Rattle.book_owned.specs.Marks.{last_mark, durable}
 use Rattle.book_owned.specs.declared.mark.Mark.{Mark}
+use Rattle.mdf_port.specs.State.{SinkState}
 use Rattle.mdf_disk.specs.State.{DiskState}
 use Rattle.acq_script.specs.declared.script.Script.{Script}
 use Rattle.mdf_record.specs.Recovers.{MarksRecover}
@@ -29,9 +30,9 @@ whole_prefix samples history [] is long = sym (append-nil samples) ∙ is
 whole_prefix samples history (sample ∷ rest) is long = absurd (omega (arith, ap length is, length-append samples (sample ∷ rest), long))
 
 -- a recording that was done, or in which no disk failed, has marks, and all is durable
-pub has_saved : (start now : ℕ) (script : Script) (disk : DiskState) (history : List Sample) (marks : List Mark) (status : ℕ)
-    → Keeps start now script disk history marks status → IsDone status ⊎ HasSaved status marks → (durable marks ≡ length history) × (0 < length marks)
-has_saved start now script disk history marks status keeps ended =
+pub has_saved : (start now : ℕ) (script : Script) (disk : DiskState) (history : List Sample) (marks : List Mark) (old new : SinkState) (status : ℕ)
+    → Keeps start now script disk history marks old new status → IsDone status ⊎ HasSaved status marks → (durable marks ≡ length history) × (0 < length marks)
+has_saved start now script disk history marks old new status keeps ended =
     ⊎_elim (λ done. ((keeps.complete done).saved.all_durable, keeps.some_marks done)) (λ begun. (keeps.saved begun, begun.0)) ended
 
 pub all_is_recovered : (story : Option Story) (clock : ℕ) (history : List Sample) (marks : List Mark) → MarksRecover story clock history marks

@@ -1,7 +1,9 @@
 -- What `run` keeps of a recording, whatever happens.
-use Rattle.std.specs.Prelude.{ℕ, ◌≡◌, ◌≢◌, ◌⊎◌, ◌<◌, List, [], length, Option, Some, Ok, is_some}
+use Rattle.std.specs.Prelude.{ℕ, ◌≡◌, ◌≢◌, ◌⊎◌, ◌<◌, List, [], length, Option, Some, Ok, is_some, ◌++◌, None}
+use Rattle.std.specs.Io.KnownBytes.{Appends}
 use mathlib.Core.List.{IsPrefix}
 use Rattle.mdf_disk.specs.State.{DiskState}
+use Rattle.mdf_port.specs.State.{SinkState}
 use Rattle.mdf_layout.specs.History.{source_samples}
 use Rattle.mdf_layout.specs.declared.sample.Sample.{Sample}
 use Rattle.book_owned.specs.Kept.{MarksHold, StartHolds}
@@ -16,7 +18,7 @@ use Rattle.mdf_model.specs.Measurement.{Measured, measurement}
 use Rattle.tool_concat.specs.Difference.{AreAlike}
 use Rattle.tool_concat.specs.Wide.{NoneWideTo}
 use Rattle.mdf_record.specs.Head.{script_head}
-use Rattle.mdf_record.specs.Record.{IsComplete, OfSources}
+use Rattle.mdf_record.specs.Record.{AreAccepted, IsComplete, OfSources, live_of, live_text, summary_text}
 use Rattle.mdf_record.specs.Sources.{AreOwnMarked}
 
 -- Where the words ask for a recording this holds of its script: that of the source, where it tells its bytes and they are
@@ -73,8 +75,16 @@ pub record AreJoinable (one two : List ℕ) : Type 0 where
   pub alike : AreAlike first.groups second.groups
   pub held : NoneWideTo first.groups second.groups (length first.groups)
 
+-- What is printed of a recording of this script that did what it was asked for: a line for each source, the line on the
+-- samples, all of which are durable, and just where the script says `live` that on the samples that a reader finds, all too.
+pub record IsReported (script : Script) (disk : DiskState) (history : List Sample) (marks : List Mark) (old new : SinkState) : Type 0 where
+  pub accepted : List ℕ
+  pub accepted_is : AreAccepted script (record { disk = disk; history = history; marks = marks }) accepted
+  pub printed : Appends old.held new.held
+      (summary_text accepted (length history) (length history) ++ live_text (live_of script.plan.live None (length history)))
+
 -- What is kept of a recording of this script that was begun at this moment of its disk and ended with this status.
-pub record Keeps (start now : ℕ) (script : Script) (disk : DiskState) (history : List Sample) (marks : List Mark) (status : ℕ) : Type 0 where
+pub record Keeps (start now : ℕ) (script : Script) (disk : DiskState) (history : List Sample) (marks : List Mark) (old new : SinkState) (status : ℕ) : Type 0 where
   pub marks_hold : MarksHold script.plan.shapes (script_head now script) disk.story disk.moment history marks
   pub start_holds : StartHolds script.plan.shapes (script_head now script) disk.story start history
   pub marks_rise : (marks ≡ []) ⊎ AreRising (is_some disk.story) marks
@@ -84,3 +94,4 @@ pub record Keeps (start now : ℕ) (script : Script) (disk : DiskState) (history
   pub complete : IsDone status → IsComplete script (record { disk = disk; history = history; marks = marks })
   pub some_marks : IsDone status → 0 < length marks
   pub saved : HasSaved status marks → durable marks ≡ length history
+  pub reported : status ≡ 0 → IsReported script disk history marks old new

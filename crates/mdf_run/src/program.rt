@@ -29,7 +29,7 @@ ghost use Rattle.mdf_record.specs.Recorded.{EndsGenerated, EndsRecord};
 ghost use Rattle.mdf_record.specs.Recovers.{IsFinalizable, MarksRecover, StartRecovers};
 ghost use Rattle.mdf_recovered.specs.Samples.{IsRecovered};
 ghost use Rattle.mdf_command.specs.Faults.{INPUT_LIMIT};
-ghost use Rattle.mdf_run.specs.Kept.{IfRecorded, OfRecording, RecordsNothing, AreJoinable, AsksToJoin, HasGroup, HasSaved, IsDone, IsDoneOrLacked, IsMeasured};
+ghost use Rattle.mdf_run.specs.Kept.{IfRecorded, OfRecording, RecordsNothing, AreJoinable, AsksToJoin, HasGroup, HasSaved, IsDone, IsDoneOrLacked, IsMeasured, IsReported};
 
 use crate::recording::{record_generated, record_source};
 use book_owned::Marks;
@@ -166,6 +166,12 @@ where
         (λ n. n < length (source_samples script.plan.owners result.history.items number)) [] tasks)) }
     ensures complete { OfRecording words.now (S.left source.old) (λ script. IsDone result.status
         → IsComplete script (outcome C.Disk result.out result.history.items result.marks.items)) }
+
+    // What is printed of it where the status is 0: with the line `live N` just where its script says `live`, and N the number
+    // of all samples.
+    ensures live { OfRecording words.now (S.left source.old) (λ script. result.status ≡ 0
+        → IsReported script (state_of C.Disk result.out) result.history.items result.marks.items
+        (sink_state K.Sink sink.old) (sink_state K.Sink sink.new)) }
 
     // What a reader recovers of a recording by the tree of the file itself, whatever happens: of each crash since a mark, and
     // since the start; and of each crash since the last mark where the status is 0, or 6, or where no disk failed since the

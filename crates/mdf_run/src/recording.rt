@@ -66,7 +66,8 @@ where
         (outcome C.Disk result.out result.history.items result.marks.items)
         (sink_state K.Sink sink.old) (sink_state K.Sink sink.new) result.status }
     ensures keeps { (text : List ℕ) → S.left source.old ≡ Some text → (script : Script) → script_of text ≡ Ok script
-        → Keeps (C.moment out) now_ns script (state_of C.Disk result.out) result.history.items result.marks.items result.status }
+        → Keeps (C.moment out) now_ns script (state_of C.Disk result.out) result.history.items result.marks.items
+        (sink_state K.Sink sink.old) (sink_state K.Sink sink.new) result.status }
     ensures recovered { AreRecovered (C.moment out) (outcome C.Disk result.out result.history.items result.marks.items) }
     ensures untouched { C.asked result.out ≡ None → result.out ≡ out }
     ensures first { result.first ≡ first }
@@ -101,7 +102,8 @@ where
     ensures ends { EndsGenerated samples output.now now_ns (state_of C.Disk out)
         (outcome C.Disk result.out result.history.items result.marks.items)
         (sink_state K.Sink sink.old) (sink_state K.Sink sink.new) result.status }
-    ensures keeps { Keeps (C.moment out) now_ns (generated_script samples) (state_of C.Disk result.out) result.history.items result.marks.items result.status }
+    ensures keeps { Keeps (C.moment out) now_ns (generated_script samples) (state_of C.Disk result.out) result.history.items result.marks.items
+        (sink_state K.Sink sink.old) (sink_state K.Sink sink.new) result.status }
     ensures recovered { AreRecovered (C.moment out) (outcome C.Disk result.out result.history.items result.marks.items) }
     ensures untouched { C.asked result.out ≡ None → result.out ≡ out }
     ensures first { result.first ≡ first }

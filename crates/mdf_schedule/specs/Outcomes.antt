@@ -1,5 +1,5 @@
 -- Recordings of whole scripts.
-use Rattle.std.specs.Prelude.{ℕ, ◌≡◌, ◌≤◌, ◌<◌, List, [], length, slice_index, Some, None}
+use Rattle.std.specs.Prelude.{ℕ, ◌≡◌, ◌≤◌, ◌<◌, List, [], length, slice_index, Option, Some, None}
 use Rattle.std.specs.List.{slice_index_or}
 use Rattle.mdf_disk.specs.Story.{Story, IsNow}
 use Rattle.mdf_disk.specs.State.{DiskState}
@@ -43,7 +43,8 @@ pub record IsRecordedTo (script : Script) (start : ℕ) (left : Outcome) (file :
   pub accepted : List ℕ
   pub samples : ℕ
   pub last : ℕ
-  pub closed : IsClosed (λ said. said ≡ script) name start disk left accepted samples last None
+  pub live : Option ℕ
+  pub closed : IsClosed (λ said. said ≡ script) name start disk left accepted samples last live None
   pub past : disk.moment ≤ left.disk.moment
   pub story : Story
   pub told : left.disk.story ≡ Some story

@@ -64,12 +64,18 @@ returns-in-Some-Record-clause-complete g c =
     of_record c.args.words.now (g.S.Source.left c.args.source.now) _ m.output.now (asked c.args.words.now m.field-0 (Record m.output) m.field-0-is m.ensures)
     (λ text told script means. (c.record_source.ensures.keeps text told script means).complete)
 
+pub returns-in-Some-Record-clause-live : goal.returns-in-Some-Record-clause-live
+returns-in-Some-Record-clause-live g c =
+    let m = c.in-Some-Record in
+    of_record c.args.words.now (g.S.Source.left c.args.source.now) _ m.output.now (asked c.args.words.now m.field-0 (Record m.output) m.field-0-is m.ensures)
+    (λ text told script means. (c.record_source.ensures.keeps text told script means).reported)
+
 pub returns-in-Some-Record-clause-all_recovered : goal.returns-in-Some-Record-clause-all_recovered
 returns-in-Some-Record-clause-all_recovered g c =
     let m = c.in-Some-Record in
     of_record c.args.words.now (g.S.Source.left c.args.source.now) _ m.output.now (asked c.args.words.now m.field-0 (Record m.output) m.field-0-is m.ensures)
     (λ text told script means ended. all_is_recovered _ _ _ _ c.record_source.ensures.recovered.marks_recover
-    (has_saved _ _ _ _ _ _ _ (c.record_source.ensures.keeps text told script means) ended))
+    (has_saved _ _ _ _ _ _ _ _ _ (c.record_source.ensures.keeps text told script means) ended))
 
 pub returns-in-Some-Gen-clause-marks_hold : goal.returns-in-Some-Gen-clause-marks_hold
 returns-in-Some-Gen-clause-marks_hold g c =
@@ -107,12 +113,18 @@ returns-in-Some-Gen-clause-complete g c =
     of_generated c.args.words.now (g.S.Source.left c.args.source.now) _ m.samples m.output.now (asked c.args.words.now m.field-0 (Gen m.samples m.output) m.field-0-is m.ensures)
     c.record_generated.ensures.keeps.complete
 
+pub returns-in-Some-Gen-clause-live : goal.returns-in-Some-Gen-clause-live
+returns-in-Some-Gen-clause-live g c =
+    let m = c.in-Some-Gen in
+    of_generated c.args.words.now (g.S.Source.left c.args.source.now) _ m.samples m.output.now (asked c.args.words.now m.field-0 (Gen m.samples m.output) m.field-0-is m.ensures)
+    c.record_generated.ensures.keeps.reported
+
 pub returns-in-Some-Gen-clause-all_recovered : goal.returns-in-Some-Gen-clause-all_recovered
 returns-in-Some-Gen-clause-all_recovered g c =
     let m = c.in-Some-Gen in
     let keeps = c.record_generated.ensures.keeps in
     of_generated c.args.words.now (g.S.Source.left c.args.source.now) _ m.samples m.output.now (asked c.args.words.now m.field-0 (Gen m.samples m.output) m.field-0-is m.ensures)
-    (λ ended. all_is_recovered _ _ _ _ c.record_generated.ensures.recovered.marks_recover (has_saved _ _ _ _ _ _ _ keeps ended))
+    (λ ended. all_is_recovered _ _ _ _ c.record_generated.ensures.recovered.marks_recover (has_saved _ _ _ _ _ _ _ _ _ keeps ended))
 
 pub returns-in-Some-Record-clause-marks_recover : goal.returns-in-Some-Record-clause-marks_recover
 returns-in-Some-Record-clause-marks_recover g c = (λ name asks. c.record_source.ensures.recovered.marks_recover, λ samples name asks. c.record_source.ensures.recovered.marks_recover)
@@ -172,6 +184,9 @@ returns-in-None-clause-marks_hold g c = of_none c.args.words.now (g.S.Source.lef
 
 pub returns-in-None-clause-marks_rise : goal.returns-in-None-clause-marks_rise
 returns-in-None-clause-marks_rise g c = of_none c.args.words.now (g.S.Source.left c.args.source.now) _ c.in-None.ensures
+
+pub returns-in-None-clause-live : goal.returns-in-None-clause-live
+returns-in-None-clause-live g c = of_none c.args.words.now (g.S.Source.left c.args.source.now) _ c.in-None.ensures
 
 pub returns-in-None-clause-complete : goal.returns-in-None-clause-complete
 returns-in-None-clause-complete g c = of_none c.args.words.now (g.S.Source.left c.args.source.now) _ c.in-None.ensures

@@ -18,5 +18,5 @@ returns-clause-keeps g c =
     let r = c.run_generated-status in
     let n = c.args.samples in
     rw (w.status, w.out, w.history, w.marks) (recording_keeps (λ script. script ≡ generated_script n) (λ fault. fault ≡ Memory) _ c.args.now_ns (state_of g.C.Disk c.args.out)
-    (state_of g.C.Disk r.result.1.out) _ _ r.result.0 (generated_script n) (λ other says. says)
-    r.result.1.end (sink_state g.K.Sink c.args.sink.now) (sink_state g.K.Sink r.new.sink) r.ensures.comes r.ensures.printed)
+    (state_of g.C.Disk r.result.1.out) _ _ (sink_state g.K.Sink c.args.sink.now) (sink_state g.K.Sink r.new.sink) r.result.0 (generated_script n) (λ other says. says)
+    r.result.1.end r.ensures.comes r.ensures.printed)
