@@ -22,12 +22,15 @@ show 'mdf4rec finalize drive.mf4 finished.mf4'
 show 'mdf4rec check finished.mf4'
 show 'mdf4rec info finished.mf4'
 
-# It is sorted, cut to a range of its times, and printed as a table.
+# It is sorted, cut to a range of its times, printed as a table, and joined behind that part.
 show 'mdf4rec sort finished.mf4 sorted.mf4'
 show 'mdf4rec export sorted.mf4 0'
 show 'mdf4rec cut sorted.mf4 part.mf4 1500 2500'
 show 'mdf4rec check part.mf4'
 show 'mdf4rec export part.mf4 1'
+show 'mdf4rec concat part.mf4 finished.mf4 both.mf4'
+show 'mdf4rec check both.mf4'
+show 'mdf4rec export both.mf4 0'
 
 # A generated recording.
 show 'mdf4rec gen 1000 many.mf4'
