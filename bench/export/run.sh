@@ -27,4 +27,4 @@ python3 "$here/../make.py" sorted 16000000 "$file"
 "$work/twin" "$file" > "$work/twins"
 cmp "$work/ours" "$work/twins"
 awk -v ours="$(cost /dev/null "$printer" export "$file" 0)" -v twin="$(cost /dev/null "$work/twin" "$file")" \
-    'BEGIN { printf "export %d, C %d, ratio %.2f\n", ours, twin, ours / twin }'
+    'BEGIN { printf "export %.0f, C %.0f, ratio %.2f\n", ours, twin, ours / twin }'
