@@ -1,10 +1,9 @@
-use crate::files::{Piece, file_of};
+use crate::files::{Piece, file_of, put, put_number};
 use crate::span::span_over;
-use mdf_block::Kind;
-use mdf_conv::{Budget, ConvFault, Ref, read_conv, read_conv_in, read_source, read_source_in};
-use mdf_num::{Bytes, Halt, Memory, Span, Stop};
+use crate::told::{Stopped, Told, all_are_told, is_told, stops_are_told};
+use mdf_conv::{Budget, read_conv, read_conv_in, read_source, read_source_in};
+use mdf_num::{Memory, Span, Stop};
 use std::alloc::Global;
-use std::test::Fail;
 
 // The body of a conversion without numbers, and one with two.
 const PLAIN: [u8; 24] = [
@@ -91,153 +90,118 @@ const CUT: File = (
 
 // A file, the address of a conversion, how many bytes of texts and how many conversions may come, and what is answered
 // with what may still come.
-const CONVS: &[(File, u64, u64, u64, &str)] = &[
+const CONVS: &[(Converted, &str)] = &[
     (
-        OUTER,
-        64,
-        TEXT,
-        CONVERSIONS,
+        Converted(OUTER, 64, TEXT, CONVERSIONS),
         "Ok(Conversion { kind: 7, precision: 3, flags: 33026, low: 9223372036854775809, high: 9, numbers: Rows { items: [] }, refs: Rows { items: [Words(Xml(Bytes { items: [60, 112, 47, 62] })), Nothing, Conv(Boxed { inner: Conversion { kind: 1, precision: 255, flags: 0, low: 0, high: 0, numbers: Rows { items: [5, 4607182418800017408] }, refs: Rows { items: [] }, name: Plain(Bytes { items: [107, 109, 47, 104] }), unit: Nothing, comment: Nothing } })] }, name: Nothing, unit: Plain(Bytes { items: [107, 109, 47, 104] }), comment: Nothing }) Budget { text: 67108852, conversions: 1048574, conversion_bytes: 134217528, dropped: 1 }",
     ),
     (
-        NESTED,
-        152,
-        TEXT,
-        CONVERSIONS,
+        Converted(NESTED, 152, TEXT, CONVERSIONS),
         "Ok(Conversion { kind: 5, precision: 0, flags: 0, low: 0, high: 0, numbers: Rows { items: [] }, refs: Rows { items: [Conv(Boxed { inner: Conversion { kind: 5, precision: 0, flags: 0, low: 0, high: 0, numbers: Rows { items: [] }, refs: Rows { items: [Conv(Boxed { inner: Conversion { kind: 5, precision: 0, flags: 0, low: 0, high: 0, numbers: Rows { items: [] }, refs: Rows { items: [Conv(Boxed { inner: Conversion { kind: 5, precision: 0, flags: 0, low: 0, high: 0, numbers: Rows { items: [] }, refs: Rows { items: [Nothing] }, name: Nothing, unit: Nothing, comment: Nothing } })] }, name: Nothing, unit: Nothing, comment: Nothing } })] }, name: Nothing, unit: Nothing, comment: Nothing } })] }, name: Nothing, unit: Nothing, comment: Nothing }) Budget { text: 67108864, conversions: 1048572, conversion_bytes: 134217376, dropped: 0 }",
     ),
     (
-        NESTED,
-        64,
-        TEXT,
-        CONVERSIONS,
+        Converted(NESTED, 64, TEXT, CONVERSIONS),
         "Err(Deep { at: 416 }) Budget { text: 67108864, conversions: 1048576, conversion_bytes: 134217728, dropped: 0 }",
     ),
     (
-        NESTED,
-        64,
-        TEXT,
-        4,
+        Converted(NESTED, 64, TEXT, 4),
         "Err(Deep { at: 416 }) Budget { text: 67108864, conversions: 4, conversion_bytes: 134217728, dropped: 0 }",
     ),
     (
-        NESTED,
-        64,
-        TEXT,
-        3,
+        Converted(NESTED, 64, TEXT, 3),
         "Err(TooMany { what: Cc, at: 328 }) Budget { text: 67108864, conversions: 3, conversion_bytes: 134217728, dropped: 0 }",
     ),
     (
-        ITSELF,
-        416,
-        TEXT,
-        9,
+        Converted(ITSELF, 416, TEXT, 9),
         "Err(Deep { at: 416 }) Budget { text: 67108864, conversions: 9, conversion_bytes: 134217728, dropped: 0 }",
     ),
     (
-        TEXTS,
-        64,
-        16,
-        1,
+        Converted(TEXTS, 64, 16, 1),
         "Ok(Conversion { kind: 0, precision: 0, flags: 0, low: 0, high: 0, numbers: Rows { items: [] }, refs: Rows { items: [Words(Xml(Bytes { items: [60, 112, 62, 102, 97, 115, 116, 60, 47, 112, 62] }))] }, name: Plain(Bytes { items: [115, 112, 101, 101, 100] }), unit: Nothing, comment: Nothing }) Budget { text: 0, conversions: 0, conversion_bytes: 134217640, dropped: 0 }",
     ),
     (
-        TEXTS,
-        64,
-        15,
-        1,
+        Converted(TEXTS, 64, 15, 1),
         "Err(TooMany { what: Text, at: 184 }) Budget { text: 15, conversions: 1, conversion_bytes: 134217728, dropped: 0 }",
     ),
     (
-        TEXTS,
-        64,
-        4,
-        1,
+        Converted(TEXTS, 64, 4, 1),
         "Err(TooMany { what: Text, at: 152 }) Budget { text: 4, conversions: 1, conversion_bytes: 134217728, dropped: 0 }",
     ),
     (
-        NO_UNIT,
-        64,
-        TEXT,
-        CONVERSIONS,
+        Converted(NO_UNIT, 64, TEXT, CONVERSIONS),
         "Err(Bad { at: 64, want: Tx }) Budget { text: 67108864, conversions: 1048576, conversion_bytes: 134217728, dropped: 0 }",
     ),
     (
-        NO_TEXT,
-        64,
-        TEXT,
-        CONVERSIONS,
+        Converted(NO_TEXT, 64, TEXT, CONVERSIONS),
         "Err(Bad { at: 72, want: Tx }) Budget { text: 67108864, conversions: 1048576, conversion_bytes: 134217728, dropped: 0 }",
     ),
     (
-        CUT,
-        64,
-        TEXT,
-        CONVERSIONS,
+        Converted(CUT, 64, TEXT, CONVERSIONS),
         "Err(Bad { at: 152, want: Cc }) Budget { text: 67108864, conversions: 1048576, conversion_bytes: 134217728, dropped: 0 }",
     ),
     (
-        CUT,
-        152,
-        TEXT,
-        CONVERSIONS,
+        Converted(CUT, 152, TEXT, CONVERSIONS),
         "Err(Bad { at: 152, want: Cc }) Budget { text: 67108864, conversions: 1048576, conversion_bytes: 134217728, dropped: 0 }",
     ),
     (
-        TEXTS,
-        152,
-        TEXT,
-        CONVERSIONS,
+        Converted(TEXTS, 152, TEXT, CONVERSIONS),
         "Err(Bad { at: 152, want: Cc }) Budget { text: 67108864, conversions: 1048576, conversion_bytes: 134217728, dropped: 0 }",
     ),
 ];
 
-fn conv_told(
-    alloc: Global,
-    file: File,
-    at: u64,
-    text: u64,
-    conversions: u64,
-) -> Result<String, Fail> {
-    let bytes = file_of(alloc, file.0, file.1)?;
-    let mut budget = Budget {
+/// What may be read: so many bytes of texts, and so many conversions.
+fn budget_of(text: u64, conversions: u64) -> Budget {
+    Budget {
         text,
         conversions,
         ..Budget::of_file()
-    };
-    let answer = read_conv(alloc, bytes.as_slice(), at, &mut budget);
-    Ok(format!(in alloc; "{answer:?} {budget:?}")?)
-}
-
-#[test]
-fn conversions_are_told(rt: HostRuntime) -> Result<(), Fail> {
-    for (file, at, text, conversions, want) in CONVS {
-        let told = conv_told(rt.alloc(), *file, *at, *text, *conversions)?;
-        assert_eq!(rt; told.as_str(), *want);
     }
-    Ok(())
 }
 
-// The blocks of the conversion and of the one that it refers to have 104 and 96 bytes.
+/// A file, the address of a conversion, and how many bytes of texts and how many conversions may come.
+struct Converted(File, u64, u64, u64);
+
+impl Told for Converted {
+    fn told(&self, alloc: Global) -> Result<String, Memory> {
+        let bytes = file_of(alloc, self.0.0, self.0.1)?;
+        let mut budget = budget_of(self.2, self.3);
+        let answer = read_conv(alloc, bytes.as_slice(), self.1, &mut budget);
+        Ok(format!(in alloc; "{answer:?} {budget:?}")?)
+    }
+}
+
 #[test]
-fn conversions_of_more_bytes_than_may_come_want_memory(rt: HostRuntime) -> Result<(), Fail> {
-    let bytes = file_of(rt.alloc(), OUTER.0, OUTER.1)?;
-    for (room, fault) in [
-        (0, Some(ConvFault::Memory)),
-        (103, Some(ConvFault::Memory)),
-        (199, Some(ConvFault::Memory)),
-        (200, None),
-    ] {
+fn conversions_are_told(rt: HostRuntime) -> Result<(), Memory> {
+    all_are_told(&rt, CONVS)
+}
+
+/// How many bytes of conversions may come. The blocks of the conversion and of the one that it refers to have 104 and 96
+/// bytes.
+struct Roomed(u64);
+
+impl Told for Roomed {
+    fn told(&self, alloc: Global) -> Result<String, Memory> {
+        let bytes = file_of(alloc, OUTER.0, OUTER.1)?;
         let mut budget = Budget {
-            conversion_bytes: room,
+            conversion_bytes: self.0,
             ..Budget::of_file()
         };
-        let answer = read_conv(rt.alloc(), bytes.as_slice(), 64, &mut budget);
-        let left = if fault.is_some() { room } else { 0 };
-        assert_eq!(rt; answer.err(), fault);
-        assert_eq!(rt; budget.conversion_bytes, left);
+        let fault = read_conv(alloc, bytes.as_slice(), 64, &mut budget).err();
+        let left = budget.conversion_bytes;
+        Ok(format!(in alloc; "{fault:?} {left}")?)
     }
-    Ok(())
+}
+
+const ROOMED: &[(Roomed, &str)] = &[
+    (Roomed(0), "Some(Memory) 0"),
+    (Roomed(103), "Some(Memory) 103"),
+    (Roomed(199), "Some(Memory) 199"),
+    (Roomed(200), "None 0"),
+];
+
+#[test]
+fn conversions_of_more_bytes_than_may_come_want_memory(rt: HostRuntime) -> Result<(), Memory> {
+    all_are_told(&rt, ROOMED)
 }
 
 // A source with a name and a path.
@@ -259,68 +223,44 @@ const NO_COMMENT: File = (
 );
 
 // The same of a source.
-const SOURCES: &[(File, u64, u64, u64, &str)] = &[
+const SOURCES: &[(Sourced, &str)] = &[
     (
-        SOURCE,
-        64,
-        TEXT,
-        CONVERSIONS,
+        Sourced(SOURCE, 64, TEXT, CONVERSIONS),
         "Ok(SourceInfo { kind: 2, bus: 3, flags: 1, name: Plain(Bytes { items: [101, 110, 103, 105, 110, 101] }), path: Plain(Bytes { items: [101, 110, 103, 105, 110, 101] }), comment: Nothing }) Budget { text: 67108852, conversions: 1048576, conversion_bytes: 134217728, dropped: 0 }",
     ),
     (
-        SOURCE,
-        64,
-        11,
-        0,
+        Sourced(SOURCE, 64, 11, 0),
         "Err(TooMany { what: Text, at: 120 }) Budget { text: 11, conversions: 0, conversion_bytes: 134217728, dropped: 0 }",
     ),
     (
-        SOURCE,
-        64,
-        5,
-        0,
+        Sourced(SOURCE, 64, 5, 0),
         "Err(TooMany { what: Text, at: 120 }) Budget { text: 5, conversions: 0, conversion_bytes: 134217728, dropped: 0 }",
     ),
     (
-        NO_COMMENT,
-        64,
-        12,
-        0,
+        Sourced(NO_COMMENT, 64, 12, 0),
         "Err(Bad { at: 64, want: Tx }) Budget { text: 12, conversions: 0, conversion_bytes: 134217728, dropped: 0 }",
     ),
     (
-        SOURCE,
-        120,
-        TEXT,
-        CONVERSIONS,
+        Sourced(SOURCE, 120, TEXT, CONVERSIONS),
         "Err(Bad { at: 120, want: Si }) Budget { text: 67108864, conversions: 1048576, conversion_bytes: 134217728, dropped: 0 }",
     ),
 ];
 
-fn source_told(
-    alloc: Global,
-    file: File,
-    at: u64,
-    text: u64,
-    conversions: u64,
-) -> Result<String, Fail> {
-    let bytes = file_of(alloc, file.0, file.1)?;
-    let mut budget = Budget {
-        text,
-        conversions,
-        ..Budget::of_file()
-    };
-    let answer = read_source(alloc, bytes.as_slice(), at, &mut budget);
-    Ok(format!(in alloc; "{answer:?} {budget:?}")?)
+/// A file, the address of a source, and how many bytes of texts and how many conversions may come.
+struct Sourced(File, u64, u64, u64);
+
+impl Told for Sourced {
+    fn told(&self, alloc: Global) -> Result<String, Memory> {
+        let bytes = file_of(alloc, self.0.0, self.0.1)?;
+        let mut budget = budget_of(self.2, self.3);
+        let answer = read_source(alloc, bytes.as_slice(), self.1, &mut budget);
+        Ok(format!(in alloc; "{answer:?} {budget:?}")?)
+    }
 }
 
 #[test]
-fn sources_are_told(rt: HostRuntime) -> Result<(), Fail> {
-    for (file, at, text, conversions, want) in SOURCES {
-        let told = source_told(rt.alloc(), *file, *at, *text, *conversions)?;
-        assert_eq!(rt; told.as_str(), *want);
-    }
-    Ok(())
+fn sources_are_told(rt: HostRuntime) -> Result<(), Memory> {
+    all_are_told(&rt, SOURCES)
 }
 
 // A conversion of 88 bytes, of which the header says that it has so many links.
@@ -332,88 +272,115 @@ fn claiming(links: u64) -> [u8; 152] {
     bytes
 }
 
+/// How many links the conversion claims, and the address of a source.
+struct Hostile(u64, u64);
+
+impl Told for Hostile {
+    fn told(&self, alloc: Global) -> Result<String, Memory> {
+        let bytes = claiming(self.0);
+        let conv = read_conv(alloc, &bytes, 64, &mut Budget::of_file()).err();
+        let source = read_source(alloc, &bytes, self.1, &mut Budget::of_file()).err();
+        Ok(format!(in alloc; "{conv:?} {source:?}")?)
+    }
+}
+
+// Why there is no conversion, and no source.
+const HOSTILE: &[(Hostile, &str)] = &[
+    (Hostile(5, 0), "None Some(Bad { at: 0, want: Si })"),
+    (
+        Hostile(u64::MAX, u64::MAX),
+        "Some(Bad { at: 64, want: Cc }) Some(Bad { at: 18446744073709551615, want: Si })",
+    ),
+    (
+        Hostile(1 << 61, u64::MAX - 7),
+        "Some(Bad { at: 64, want: Cc }) Some(Bad { at: 18446744073709551608, want: Si })",
+    ),
+    (
+        Hostile((1 << 61) - 1, 1 << 63),
+        "Some(Bad { at: 64, want: Cc }) Some(Bad { at: 9223372036854775808, want: Si })",
+    ),
+    (
+        Hostile(6, 152),
+        "Some(Bad { at: 64, want: Cc }) Some(Bad { at: 152, want: Si })",
+    ),
+    (
+        Hostile(3, 64),
+        "Some(Bad { at: 64, want: Cc }) Some(Bad { at: 64, want: Si })",
+    ),
+];
+
 #[test]
-fn hostile_numbers_are_refused(rt: HostRuntime) -> Result<(), Fail> {
-    let mut budget = Budget::of_file();
-    assert!(rt; read_conv(rt.alloc(), &claiming(5), 64, &mut budget).is_ok());
-    for links in [u64::MAX, 1 << 61, (1 << 61) - 1, 6, 3] {
-        let fault = read_conv(rt.alloc(), &claiming(links), 64, &mut budget).err();
-        assert_eq!(rt;
-            fault,
-            Some(ConvFault::Bad {
-                at: 64,
-                want: Kind::Cc
-            })
-        );
-    }
-    for at in [0, u64::MAX, u64::MAX - 7, 1 << 63, 152] {
-        let fault = read_source(rt.alloc(), &claiming(5), at, &mut budget).err();
-        assert_eq!(rt; fault, Some(ConvFault::Bad { at, want: Kind::Si }));
-    }
-    Ok(())
+fn hostile_numbers_are_refused(rt: HostRuntime) -> Result<(), Memory> {
+    all_are_told(&rt, HOSTILE)
 }
 
 // A conversion at 64 with so many links, all of them 0.
-fn unlinked(alloc: Global, links: u32) -> Result<Bytes, Memory> {
-    let links = u64::from(links);
-    let mut bytes = Bytes::from_slice(alloc, &[0; 64])?;
-    bytes.push_slice(b"##CC\0\0\0\0")?;
-    bytes.push_slice(&(48 + 8 * links).to_le_bytes())?;
-    bytes.push_slice(&links.to_le_bytes())?;
-    for _ in 0..links {
-        bytes.push_slice(&[0; 8])?;
-    }
-    bytes.push_slice(&[0; 24])?;
-    Ok(bytes)
+fn unlinked(alloc: Global, links: u32) -> Result<Vec<u8>, Memory> {
+    let links = links as usize;
+    let mut file = vec![in alloc; 0u8; 112 + 8 * links]?;
+    put(file.as_mut_slice(), 64, b"##CC");
+    put_number(file.as_mut_slice(), 72, 48 + 8 * links as u64);
+    put_number(file.as_mut_slice(), 80, links as u64);
+    Ok(file)
+}
+
+// How many references there are, the last one, and how many conversions may still come.
+fn unlinked_told(alloc: Global, links: u32) -> Result<String, Memory> {
+    let bytes = unlinked(alloc, links)?;
+    let mut budget = Budget::of_file();
+    let answer = read_conv(alloc, bytes.as_slice(), 64, &mut budget);
+    let refs = match &answer {
+        Ok(conv) => conv.refs.as_slice(),
+        Err(_) => &[],
+    };
+    let (count, last) = (refs.len(), refs.last());
+    Ok(format!(in alloc; "{count} {last:?} {}", budget.conversions)?)
 }
 
 #[test]
-fn a_million_empty_references_are_read(rt: HostRuntime) -> Result<(), Fail> {
-    let bytes = unlinked(rt.alloc(), 1_000_004)?;
-    let mut budget = Budget::of_file();
-    let conv = read_conv(rt.alloc(), bytes.as_slice(), 64, &mut budget)?;
-    assert_eq!(rt; conv.refs.len(), 1_000_000);
-    assert!(rt; matches!(conv.refs.get(999_999), Some(Ref::Nothing)));
-    assert_eq!(rt; budget.conversions, 1_048_575);
-    Ok(())
+fn a_million_empty_references_are_read(rt: HostRuntime) -> Result<(), Memory> {
+    is_told(
+        &rt,
+        unlinked_told(rt.alloc(), 1_000_004),
+        "1000000 Some(Nothing) 1048575",
+    )
 }
 
-#[test]
-fn a_span_that_fails_stops_the_readers(rt: HostRuntime) -> Result<(), Fail> {
-    let bytes = file_of(rt.alloc(), OUTER.0, OUTER.1)?;
-    let mut budget = Budget::of_file();
-    for calls in 0..30 {
-        let mut span = span_over(bytes.as_slice(), calls, Stop::Failed);
-        let answer = read_conv_in(rt.alloc(), &mut span, 64, &mut budget);
-        assert!(rt; matches!(answer, Err(Halt::Failed)));
-        assert_eq!(rt; span.faults(), 1);
+/// The reader of a conversion.
+struct ConvReader;
+
+// Why nothing is answered, whether all may still come, and how many faults the span counts.
+impl Stopped for ConvReader {
+    fn told(&self, alloc: Global, calls: u64, stop: Stop) -> Result<String, Memory> {
+        let bytes = file_of(alloc, OUTER.0, OUTER.1)?;
+        let mut budget = Budget::of_file();
+        let mut span = span_over(bytes.as_slice(), calls, stop);
+        let fault = read_conv_in(alloc, &mut span, 64, &mut budget).err();
+        let left = (budget == Budget::of_file(), span.faults());
+        Ok(format!(in alloc; "{fault:?} {left:?}")?)
     }
-    assert_eq!(rt; budget, Budget::of_file());
-    Ok(())
 }
 
-#[test]
-fn a_span_that_fails_stops_the_reader_of_a_source(rt: HostRuntime) -> Result<(), Fail> {
-    let bytes = file_of(rt.alloc(), SOURCE.0, SOURCE.1)?;
-    let mut budget = Budget::of_file();
-    for calls in 0..16 {
-        let mut span = span_over(bytes.as_slice(), calls, Stop::Failed);
-        let answer = read_source_in(rt.alloc(), &mut span, 64, &mut budget);
-        assert!(rt; matches!(answer, Err(Halt::Failed)));
-        assert_eq!(rt; span.faults(), 1);
+/// The reader of a source.
+struct SourceReader;
+
+impl Stopped for SourceReader {
+    fn told(&self, alloc: Global, calls: u64, stop: Stop) -> Result<String, Memory> {
+        let bytes = file_of(alloc, SOURCE.0, SOURCE.1)?;
+        let mut budget = Budget::of_file();
+        let mut span = span_over(bytes.as_slice(), calls, stop);
+        let fault = read_source_in(alloc, &mut span, 64, &mut budget).err();
+        let left = (budget == Budget::of_file(), span.faults());
+        Ok(format!(in alloc; "{fault:?} {left:?}")?)
     }
-    Ok(())
 }
 
+const FAILED: &str = "Some(Failed) (true, 1)";
+
+const MEMORY: &str = "Some(Memory) (true, 0)";
+
 #[test]
-fn a_span_that_wants_memory_stops_the_readers(rt: HostRuntime) -> Result<(), Fail> {
-    let bytes = file_of(rt.alloc(), SOURCE.0, SOURCE.1)?;
-    let mut budget = Budget::of_file();
-    for calls in 0..16 {
-        let mut span = span_over(bytes.as_slice(), calls, Stop::Memory);
-        let answer = read_source_in(rt.alloc(), &mut span, 64, &mut budget);
-        assert!(rt; matches!(answer, Err(Halt::Memory)));
-        assert_eq!(rt; span.faults(), 0);
-    }
-    Ok(())
+fn a_span_that_stops_stops_the_readers(rt: HostRuntime) -> Result<(), Memory> {
+    stops_are_told(&rt, &ConvReader, 30, FAILED, MEMORY)?;
+    stops_are_told(&rt, &SourceReader, 16, FAILED, MEMORY)
 }

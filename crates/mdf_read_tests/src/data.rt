@@ -3,13 +3,13 @@ ghost use Rattle.mdf_stream.specs.Parts.{stream_size, ArePartsInside};
 
 use crate::files::{Piece, file_of, put_number, set_link};
 use crate::span::span_over;
+use crate::told::{Stopped, Told, all_are_told, is_told, stops_are_told};
 use mdf_block::Kind;
 use mdf_data::{
     DataView, Known, Places, Size, Splitter, places_alone, places_in, view_data, view_data_in,
 };
 use mdf_num::{Memory, Rows, SliceSpan, Span, Stop};
 use std::alloc::Global;
-use std::test::Fail;
 
 const EIGHT: Known = Known {
     id: 1,
@@ -27,254 +27,243 @@ const VALUES: Known = Known {
 };
 
 // The blocks of a file, a link to data of a kind, and what is told of its view, or the fault.
-const VIEWS: &[(&[Piece], u64, Kind, &str)] = &[
-    (&[], 0, Kind::Dt, "Ok(DataView { items: [], end: 0 })"),
+const VIEWS: &[(Viewed, &str)] = &[
     (
-        &[(64, b"##DT", &[], b"abcd")],
-        64,
-        Kind::Dt,
+        Viewed(&[], 0, Kind::Dt),
+        "Ok(DataView { items: [], end: 0 })",
+    ),
+    (
+        Viewed(&[(64, b"##DT", &[], b"abcd")], 64, Kind::Dt),
         "Ok(DataView { items: [Stretch { part: Part { at: 88, len: 4 }, end: 4 }], end: 4 })",
     ),
     (
-        &[(64, b"##DT", &[], b"abcd")],
-        64,
-        Kind::Sd,
+        Viewed(&[(64, b"##DT", &[], b"abcd")], 64, Kind::Sd),
         "Err(Bad { at: 64, want: Sd })",
     ),
     (
-        &[
-            (64, b"##DL", &[0, 112, 152], b""),
-            (112, b"##DT", &[], b"\x01aaaaaaaa\x01bbb"),
-            (152, b"##DT", &[], b"bbbbb"),
-        ],
-        64,
-        Kind::Dt,
+        Viewed(
+            &[
+                (64, b"##DL", &[0, 112, 152], b""),
+                (112, b"##DT", &[], b"\x01aaaaaaaa\x01bbb"),
+                (152, b"##DT", &[], b"bbbbb"),
+            ],
+            64,
+            Kind::Dt,
+        ),
         "Ok(DataView { items: [Stretch { part: Part { at: 136, len: 13 }, end: 13 }, Stretch { part: Part { at: 176, len: 5 }, end: 18 }], end: 18 })",
     ),
     (
-        &[
-            (64, b"##DL", &[200, 112], b""),
-            (112, b"##SD", &[], b"first"),
-            (160, b"##SD", &[], b"third"),
-            (200, b"##DL", &[0, 248, 160], b""),
-            (248, b"##SD", &[], b""),
-        ],
-        64,
-        Kind::Sd,
+        Viewed(
+            &[
+                (64, b"##DL", &[200, 112], b""),
+                (112, b"##SD", &[], b"first"),
+                (160, b"##SD", &[], b"third"),
+                (200, b"##DL", &[0, 248, 160], b""),
+                (248, b"##SD", &[], b""),
+            ],
+            64,
+            Kind::Sd,
+        ),
         "Ok(DataView { items: [Stretch { part: Part { at: 136, len: 5 }, end: 5 }, Stretch { part: Part { at: 272, len: 0 }, end: 5 }, Stretch { part: Part { at: 184, len: 5 }, end: 10 }], end: 10 })",
     ),
     (
-        &[(64, b"##DL", &[0, 0], b"")],
-        64,
-        Kind::Dt,
+        Viewed(&[(64, b"##DL", &[0, 0], b"")], 64, Kind::Dt),
         "Err(Bad { at: 0, want: Dt })",
     ),
     (
-        &[(64, b"##DL", &[112, 112], b""), (112, b"##DT", &[], b"")],
-        64,
-        Kind::Dt,
+        Viewed(
+            &[(64, b"##DL", &[112, 112], b""), (112, b"##DT", &[], b"")],
+            64,
+            Kind::Dt,
+        ),
         "Err(Bad { at: 112, want: Dl })",
     ),
     (
-        &[(64, b"##DZ", &[], b"")],
-        64,
-        Kind::Dt,
+        Viewed(&[(64, b"##DZ", &[], b"")], 64, Kind::Dt),
         "Err(Compressed { at: 64 })",
     ),
     (
-        &[(64, b"##DL", &[0, 112], b""), (112, b"##HL", &[0], b"")],
-        64,
-        Kind::Dt,
+        Viewed(
+            &[(64, b"##DL", &[0, 112], b""), (112, b"##HL", &[0], b"")],
+            64,
+            Kind::Dt,
+        ),
         "Err(Compressed { at: 112 })",
     ),
 ];
 
 // DLBLOCKs that name one another without end: as many are read as may be.
-const LOOPS: &[&[Piece]] = &[
-    &[(64, b"##DL", &[64], b"")],
-    &[(64, b"##DL", &[104], b""), (104, b"##DL", &[64], b"")],
+const LOOPS: &[(Viewed, &str)] = &[
+    (
+        Viewed(&[(64, b"##DL", &[64], b"")], 64, Kind::Dt),
+        "Err(TooMany { at: 64 })",
+    ),
+    (
+        Viewed(
+            &[(64, b"##DL", &[104], b""), (104, b"##DL", &[64], b"")],
+            64,
+            Kind::Dt,
+        ),
+        "Err(TooMany { at: 64 })",
+    ),
 ];
 
-fn view_told(alloc: Global, pieces: &[Piece], at: u64, want: Kind) -> Result<String, Memory> {
-    let file = file_of(alloc, 352, pieces)?;
-    let answer = view_data(alloc, file.as_slice(), at, want);
-    Ok(format!(in alloc; "{answer:?}")?)
+/// The blocks of a file, and a link to data of a kind.
+struct Viewed(&'static [Piece], u64, Kind);
+
+impl Told for Viewed {
+    fn told(&self, alloc: Global) -> Result<String, Memory> {
+        let file = file_of(alloc, 352, self.0)?;
+        let answer = view_data(alloc, file.as_slice(), self.1, self.2);
+        Ok(format!(in alloc; "{answer:?}")?)
+    }
 }
 
 #[test]
-fn links_to_data_are_told(rt: HostRuntime) -> Result<(), Fail> {
-    for (pieces, at, want, told) in VIEWS {
-        assert_eq!(rt; view_told(rt.alloc(), pieces, *at, *want)?.as_str(), *told);
-    }
-    Ok(())
+fn links_to_data_are_told(rt: HostRuntime) -> Result<(), Memory> {
+    all_are_told(&rt, VIEWS)
 }
 
 #[test]
-fn loops_of_lists_are_too_many(rt: HostRuntime) -> Result<(), Fail> {
-    for pieces in LOOPS {
-        assert_eq!(rt;
-            view_told(rt.alloc(), pieces, 64, Kind::Dt)?.as_str(),
-            "Err(TooMany { at: 64 })"
-        );
-    }
-    Ok(())
+fn loops_of_lists_are_too_many(rt: HostRuntime) -> Result<(), Memory> {
+    all_are_told(&rt, LOOPS)
 }
 
 // How many bytes an id has, the groups, the body of a block of data, and the places of the records, or the fault.
-const RECORDS: &[(u8, &[Known], &[u8], &str)] = &[
-    (1, &[], b"", "Ok(Rows { items: [] })"),
+const RECORDS: &[(Split, &str)] = &[
+    (Split(1, &[], b""), "Ok(Rows { items: [] })"),
     (
-        1,
-        &[EIGHT, TWO],
-        b"\x01aaaaaaaa\x02bb\x01cccccccc",
+        Split(1, &[EIGHT, TWO], b"\x01aaaaaaaa\x02bb\x01cccccccc"),
         "Ok(Rows { items: [Places { even: 0, step: 0, listed: Listed { short: [1, 13], long: Rows { items: [] } } }, Places { even: 0, step: 0, listed: Listed { short: [10], long: Rows { items: [] } } }] })",
     ),
     (
-        1,
-        &[EIGHT, TWO],
-        b"\x02aa\x07",
+        Split(1, &[EIGHT, TWO], b"\x02aa\x07"),
         "Err(Fault(UnknownId { id: 7, at: 3 }))",
     ),
     (
-        1,
-        &[EIGHT],
-        b"\x01aaaaaaaa\x01bbb",
+        Split(1, &[EIGHT], b"\x01aaaaaaaa\x01bbb"),
         "Err(Fault(Cut { at: 9 }))",
     ),
-    (2, &[EIGHT], b"\x01", "Err(Fault(Cut { at: 0 }))"),
+    (Split(2, &[EIGHT], b"\x01"), "Err(Fault(Cut { at: 0 }))"),
     (
-        1,
-        &[VALUES],
-        b"\x03\x02\0\0\0xy\x03\0\0\0\0",
+        Split(1, &[VALUES], b"\x03\x02\0\0\0xy\x03\0\0\0\0"),
         "Ok(Rows { items: [Places { even: 0, step: 0, listed: Listed { short: [1, 8], long: Rows { items: [] } } }] })",
     ),
     (
-        1,
-        &[VALUES],
-        b"\x03\xff\xff\xff\xffx",
+        Split(1, &[VALUES], b"\x03\xff\xff\xff\xffx"),
         "Err(Fault(Cut { at: 0 }))",
     ),
     (
-        2,
-        &[Known {
-            id: 0x0201,
-            size: Size::Fixed(1),
-        }],
-        b"\x01\x02a\x01\x02b",
+        Split(
+            2,
+            &[Known {
+                id: 0x0201,
+                size: Size::Fixed(1),
+            }],
+            b"\x01\x02a\x01\x02b",
+        ),
         "Ok(Rows { items: [Places { even: 0, step: 0, listed: Listed { short: [2, 5], long: Rows { items: [] } } }] })",
     ),
     (
-        4,
-        &[Known {
-            id: 0x0102_0304,
-            size: Size::Fixed(u64::MAX),
-        }],
-        b"\x04\x03\x02\x01a",
+        Split(
+            4,
+            &[Known {
+                id: 0x0102_0304,
+                size: Size::Fixed(u64::MAX),
+            }],
+            b"\x04\x03\x02\x01a",
+        ),
         "Err(Fault(Cut { at: 0 }))",
     ),
     (
-        8,
-        &[Known {
-            id: u64::MAX,
-            size: Size::Fixed(0),
-        }],
-        b"\xff\xff\xff\xff\xff\xff\xff\xff",
+        Split(
+            8,
+            &[Known {
+                id: u64::MAX,
+                size: Size::Fixed(0),
+            }],
+            b"\xff\xff\xff\xff\xff\xff\xff\xff",
+        ),
         "Ok(Rows { items: [Places { even: 0, step: 0, listed: Listed { short: [8], long: Rows { items: [] } } }] })",
     ),
     (
-        1,
-        &[TWO, TWO],
-        b"\x02ab",
+        Split(1, &[TWO, TWO], b"\x02ab"),
         "Ok(Rows { items: [Places { even: 0, step: 0, listed: Listed { short: [1], long: Rows { items: [] } } }, Places { even: 0, step: 0, listed: Listed { short: [], long: Rows { items: [] } } }] })",
     ),
 ];
 
-fn places_told(alloc: Global, id_size: u8, known: &[Known], body: &[u8]) -> Result<String, Memory> {
-    let mut view = DataView::empty(alloc);
-    if body.len() > 1000 || known.len() > 1000 || !matches!(id_size, 1 | 2 | 4 | 8) {
-        return Err(Memory);
+/// How many bytes an id has, the groups, and the body of a block of data.
+struct Split(u8, &'static [Known], &'static [u8]);
+
+impl Told for Split {
+    fn told(&self, alloc: Global) -> Result<String, Memory> {
+        let Split(id_size, known, body) = *self;
+        if body.len() > 1000 || known.len() > 1000 || !matches!(id_size, 1 | 2 | 4 | 8) {
+            return Err(Memory);
+        }
+        let mut view = DataView::empty(alloc);
+        view.add(0, body.len() as u64)?;
+        let answer = places_in(alloc, &mut SliceSpan::new(body), &view, id_size, known);
+        Ok(format!(in alloc; "{answer:?}")?)
     }
-    view.add(0, body.len() as u64)?;
-    let answer = places_in(alloc, &mut SliceSpan::new(body), &view, id_size, known);
-    Ok(format!(in alloc; "{answer:?}")?)
 }
 
 #[test]
-fn records_are_told(rt: HostRuntime) -> Result<(), Fail> {
-    for (id_size, known, body, told) in RECORDS {
-        assert_eq!(rt;
-            places_told(rt.alloc(), *id_size, known, body)?.as_str(),
-            *told
-        );
-    }
-    Ok(())
+fn records_are_told(rt: HostRuntime) -> Result<(), Memory> {
+    all_are_told(&rt, RECORDS)
 }
 
-fn stopped(alloc: Global, calls: u64, stop: Stop) -> Result<String, Memory> {
-    let file = file_of(
-        alloc,
-        160,
-        &[(64, b"##DL", &[0, 104], b""), (104, b"##DT", &[], b"abcd")],
-    )?;
-    let answer = view_data_in(
-        alloc,
-        &mut span_over(file.as_slice(), calls, stop),
-        64,
-        Kind::Dt,
-    );
-    Ok(format!(in alloc; "{answer:?}")?)
+// A DLBLOCK that names one block.
+const ONE_PART: &[Piece] = &[(64, b"##DL", &[0, 104], b""), (104, b"##DT", &[], b"abcd")];
+
+/// The reader of its view.
+struct ViewReader;
+
+impl Stopped for ViewReader {
+    fn told(&self, alloc: Global, calls: u64, stop: Stop) -> Result<String, Memory> {
+        let file = file_of(alloc, 160, ONE_PART)?;
+        let mut span = span_over(file.as_slice(), calls, stop);
+        let answer = view_data_in(alloc, &mut span, 64, Kind::Dt);
+        Ok(format!(in alloc; "{answer:?}")?)
+    }
 }
 
 #[test]
-fn a_span_that_stops_stops_the_reader(rt: HostRuntime) -> Result<(), Fail> {
-    for calls in 0..8 {
-        assert_eq!(rt;
-            stopped(rt.alloc(), calls, Stop::Failed)?.as_str(),
-            "Err(Failed)"
-        );
-        assert_eq!(rt;
-            stopped(rt.alloc(), calls, Stop::Memory)?.as_str(),
-            "Err(Memory)"
-        );
-    }
-    assert_eq!(rt;
-        stopped(rt.alloc(), 100, Stop::Failed)?.as_str(),
-        "Ok(DataView { items: [Stretch { part: Part { at: 128, len: 4 }, end: 4 }], end: 4 })"
-    );
-    Ok(())
+fn a_span_that_stops_stops_the_reader(rt: HostRuntime) -> Result<(), Memory> {
+    stops_are_told(&rt, &ViewReader, 8, "Err(Failed)", "Err(Memory)")?;
+    is_told(
+        &rt,
+        ViewReader.told(rt.alloc(), 100, Stop::Failed),
+        "Ok(DataView { items: [Stretch { part: Part { at: 128, len: 4 }, end: 4 }], end: 4 })",
+    )
 }
 
 // A place in a DLBLOCK, and a number there that no file can keep: how many links it has, or how many bytes.
-const NUMBERS: &[(usize, u64)] = &[
-    (80, u64::MAX),
-    (80, 1 << 63),
-    (80, (1 << 61) + 1),
-    (80, 1 << 61),
-    (80, (1 << 61) - 1),
-    (72, u64::MAX),
-    (72, 0),
+const NUMBERS: &[(Changed, &str)] = &[
+    (Changed(80, u64::MAX), "Err(Bad { at: 64, want: Dl })"),
+    (Changed(80, 1 << 63), "Err(Bad { at: 64, want: Dl })"),
+    (Changed(80, (1 << 61) + 1), "Err(Bad { at: 64, want: Dl })"),
+    (Changed(80, 1 << 61), "Err(Bad { at: 64, want: Dl })"),
+    (Changed(80, (1 << 61) - 1), "Err(Bad { at: 64, want: Dl })"),
+    (Changed(72, u64::MAX), "Err(Bad { at: 64, want: Dl })"),
+    (Changed(72, 0), "Err(Bad { at: 64, want: Dl })"),
 ];
 
-fn changed_told(alloc: Global, place: usize, number: u64) -> Result<String, Memory> {
-    let mut file = file_of(
-        alloc,
-        160,
-        &[(64, b"##DL", &[0, 104], b""), (104, b"##DT", &[], b"abcd")],
-    )?;
-    put_number(file.as_mut_slice(), place, number);
-    let answer = view_data(alloc, file.as_slice(), 64, Kind::Dt);
-    Ok(format!(in alloc; "{answer:?}")?)
+/// The file of one part, but this number at this place.
+struct Changed(usize, u64);
+
+impl Told for Changed {
+    fn told(&self, alloc: Global) -> Result<String, Memory> {
+        let mut file = file_of(alloc, 160, ONE_PART)?;
+        put_number(file.as_mut_slice(), self.0, self.1);
+        let answer = view_data(alloc, file.as_slice(), 64, Kind::Dt);
+        Ok(format!(in alloc; "{answer:?}")?)
+    }
 }
 
 #[test]
-fn a_list_with_a_huge_number_is_bad(rt: HostRuntime) -> Result<(), Fail> {
-    for (place, number) in NUMBERS {
-        assert_eq!(rt;
-            changed_told(rt.alloc(), *place, *number)?.as_str(),
-            "Err(Bad { at: 64, want: Dl })"
-        );
-    }
-    Ok(())
+fn a_list_with_a_huge_number_is_bad(rt: HostRuntime) -> Result<(), Memory> {
+    all_are_told(&rt, NUMBERS)
 }
 
 // Three parts of 13, 0 and 5 bytes.
@@ -286,20 +275,19 @@ const PARTS: &[Piece] = &[
 ];
 
 // A place of their stream, how many bytes are read there, and these.
-const READS: &[(u64, usize, &str)] = &[
+const READS: &[(Bytewise, &str)] = &[
     (
-        0,
-        18,
+        Bytewise(0, 18),
         "[1, 97, 97, 97, 97, 97, 97, 97, 97, 1, 98, 99, 100, 101, 102, 103, 104, 105]",
     ),
-    (9, 9, "[1, 98, 99, 100, 101, 102, 103, 104, 105]"),
-    (10, 3, "[98, 99, 100]"),
-    (12, 2, "[100, 101]"),
-    (13, 1, "[101]"),
-    (17, 1, "[105]"),
-    (13, 0, "[]"),
-    (18, 0, "[]"),
-    (17, 2, "not there"),
+    (Bytewise(9, 9), "[1, 98, 99, 100, 101, 102, 103, 104, 105]"),
+    (Bytewise(10, 3), "[98, 99, 100]"),
+    (Bytewise(12, 2), "[100, 101]"),
+    (Bytewise(13, 1), "[101]"),
+    (Bytewise(17, 1), "[105]"),
+    (Bytewise(13, 0), "[]"),
+    (Bytewise(18, 0), "[]"),
+    (Bytewise(17, 2), "not there"),
 ];
 
 fn bytes_told(
@@ -319,73 +307,77 @@ fn bytes_told(
     Ok(format!(in alloc; "{buf:?}")?)
 }
 
-fn read_told(alloc: Global, at: u64, len: usize) -> Result<String, Memory> {
-    let file = file_of(alloc, 216, PARTS)?;
-    let Ok(view) = view_data(alloc, file.as_slice(), 64, Kind::Dt) else {
-        return Err(Memory);
-    };
-    bytes_told(alloc, file.as_slice(), &view, at, len)
+/// A place of their stream, and how many bytes are read there.
+struct Bytewise(u64, usize);
+
+impl Told for Bytewise {
+    fn told(&self, alloc: Global) -> Result<String, Memory> {
+        let file = file_of(alloc, 216, PARTS)?;
+        match view_data(alloc, file.as_slice(), 64, Kind::Dt) {
+            Ok(view) => bytes_told(alloc, file.as_slice(), &view, self.0, self.1),
+            Err(_) => Err(Memory),
+        }
+    }
 }
 
 #[test]
-fn bytes_are_read_across_parts(rt: HostRuntime) -> Result<(), Fail> {
-    for (at, len, told) in READS {
-        assert_eq!(rt; read_told(rt.alloc(), *at, *len)?.as_str(), *told);
-    }
-    Ok(())
+fn bytes_are_read_across_parts(rt: HostRuntime) -> Result<(), Memory> {
+    all_are_told(&rt, READS)
 }
 
-// Two parts that are added, the second before the first in the file, and the number in the 4 bytes from a place on.
-fn added_told(alloc: Global, at: u64) -> Result<String, Memory> {
-    let mut view = DataView::empty(alloc);
-    view.add(4, 3)?;
-    view.add(0, 2)?;
-    if at > 1 {
-        return Err(Memory);
+/// Two parts that are added, the second before the first in the file, and the number in the 4 bytes from a place on.
+struct Added(u64);
+
+impl Told for Added {
+    fn told(&self, alloc: Global) -> Result<String, Memory> {
+        if self.0 > 1 {
+            return Err(Memory);
+        }
+        let mut view = DataView::empty(alloc);
+        view.add(4, 3)?;
+        view.add(0, 2)?;
+        let bytes = [4, 5, 9, 9, 1, 2, 3, 9];
+        let number = view.u32_in(&mut SliceSpan::new(&bytes), self.0);
+        Ok(format!(in alloc; "{number:?} {view:?}")?)
     }
-    let bytes = [4, 5, 9, 9, 1, 2, 3, 9];
-    let number = view.u32_in(&mut SliceSpan::new(&bytes), at);
-    Ok(format!(in alloc; "{number:?} {view:?}")?)
 }
+
+const ADDED: &[(Added, &str)] = &[
+    (
+        Added(0),
+        "Ok(67305985) DataView { items: [Stretch { part: Part { at: 4, len: 3 }, end: 3 }, Stretch { part: Part { at: 0, len: 2 }, end: 5 }], end: 5 }",
+    ),
+    (
+        Added(1),
+        "Ok(84148994) DataView { items: [Stretch { part: Part { at: 4, len: 3 }, end: 3 }, Stretch { part: Part { at: 0, len: 2 }, end: 5 }], end: 5 }",
+    ),
+];
 
 #[test]
-fn parts_that_are_added_are_read(rt: HostRuntime) -> Result<(), Fail> {
-    assert_eq!(rt;
-        added_told(rt.alloc(), 0)?.as_str(),
-        "Ok(67305985) DataView { items: [Stretch { part: Part { at: 4, len: 3 }, end: 3 }, Stretch { part: Part { at: 0, len: 2 }, end: 5 }], end: 5 }"
-    );
-    assert_eq!(rt;
-        added_told(rt.alloc(), 1)?.as_str(),
-        "Ok(84148994) DataView { items: [Stretch { part: Part { at: 4, len: 3 }, end: 3 }, Stretch { part: Part { at: 0, len: 2 }, end: 5 }], end: 5 }"
-    );
-    Ok(())
+fn parts_that_are_added_are_read(rt: HostRuntime) -> Result<(), Memory> {
+    all_are_told(&rt, ADDED)
 }
 
 // A range of a stream of three parts of 13, 0 and 5 bytes, and what is told of a part of 2 bytes with that range behind it.
-const RANGES: &[(u64, u64, &str)] = &[
+const RANGES: &[(Ranged, &str)] = &[
     (
-        0,
-        18,
+        Ranged(0, 18),
         "DataView { items: [Stretch { part: Part { at: 1, len: 2 }, end: 2 }, Stretch { part: Part { at: 144, len: 13 }, end: 15 }, Stretch { part: Part { at: 208, len: 5 }, end: 20 }], end: 20 }",
     ),
     (
-        12,
-        3,
+        Ranged(12, 3),
         "DataView { items: [Stretch { part: Part { at: 1, len: 2 }, end: 2 }, Stretch { part: Part { at: 156, len: 1 }, end: 3 }, Stretch { part: Part { at: 208, len: 2 }, end: 5 }], end: 5 }",
     ),
     (
-        9,
-        4,
+        Ranged(9, 4),
         "DataView { items: [Stretch { part: Part { at: 1, len: 2 }, end: 2 }, Stretch { part: Part { at: 153, len: 4 }, end: 6 }], end: 6 }",
     ),
     (
-        13,
-        1,
+        Ranged(13, 1),
         "DataView { items: [Stretch { part: Part { at: 1, len: 2 }, end: 2 }, Stretch { part: Part { at: 208, len: 1 }, end: 3 }], end: 3 }",
     ),
     (
-        18,
-        0,
+        Ranged(18, 0),
         "DataView { items: [Stretch { part: Part { at: 1, len: 2 }, end: 2 }], end: 2 }",
     ),
 ];
@@ -400,23 +392,25 @@ fn three_parts(alloc: Global) -> Result<DataView, Memory>
     Ok(view)
 }
 
-fn range_told(alloc: Global, at: u64, len: u64) -> Result<String, Memory> {
-    if at > 18 || len > 18 - at {
-        return Err(Memory);
+/// A range of that stream.
+struct Ranged(u64, u64);
+
+impl Told for Ranged {
+    fn told(&self, alloc: Global) -> Result<String, Memory> {
+        if self.0 > 18 || self.1 > 18 - self.0 {
+            return Err(Memory);
+        }
+        let view = three_parts(alloc)?;
+        let mut range = DataView::empty(alloc);
+        range.add(1, 2)?;
+        range.add_part(&view, self.0, self.1)?;
+        Ok(format!(in alloc; "{range:?}")?)
     }
-    let view = three_parts(alloc)?;
-    let mut range = DataView::empty(alloc);
-    range.add(1, 2)?;
-    range.add_part(&view, at, len)?;
-    Ok(format!(in alloc; "{range:?}")?)
 }
 
 #[test]
-fn ranges_are_told(rt: HostRuntime) -> Result<(), Fail> {
-    for (at, len, told) in RANGES {
-        assert_eq!(rt; range_told(rt.alloc(), *at, *len)?.as_str(), *told);
-    }
-    Ok(())
+fn ranges_are_told(rt: HostRuntime) -> Result<(), Memory> {
+    all_are_told(&rt, RANGES)
 }
 
 // A block of one byte at 64, and at 96 a DLBLOCK that names it so many times.
@@ -437,147 +431,139 @@ fn crowded_file(alloc: Global, count: usize) -> Result<Vec<u8>, Memory> {
     Ok(file)
 }
 
-fn crowd_told(alloc: Global, count: usize) -> Result<String, Memory> {
-    let file = crowded_file(alloc, count)?;
-    let size = match view_data(alloc, file.as_slice(), 96, Kind::Dt) {
-        Ok(view) => Ok(view.len()),
-        Err(fault) => Err(fault),
-    };
-    Ok(format!(in alloc; "{size:?}")?)
+/// So many parts.
+struct Crowd(usize);
+
+impl Told for Crowd {
+    fn told(&self, alloc: Global) -> Result<String, Memory> {
+        let file = crowded_file(alloc, self.0)?;
+        let size = match view_data(alloc, file.as_slice(), 96, Kind::Dt) {
+            Ok(view) => Ok(view.len()),
+            Err(fault) => Err(fault),
+        };
+        Ok(format!(in alloc; "{size:?}")?)
+    }
 }
 
+const CROWDS: &[(Crowd, &str)] = &[
+    (Crowd(1_048_575), "Ok(1048575)"),
+    (Crowd(1_048_576), "Err(TooMany { at: 64 })"),
+];
+
 #[test]
-fn a_million_parts_of_one_byte_are_a_stream(rt: HostRuntime) -> Result<(), Fail> {
-    for (count, told) in &[
-        (1_048_575, "Ok(1048575)"),
-        (1_048_576, "Err(TooMany { at: 64 })"),
-    ] {
-        assert_eq!(rt; crowd_told(rt.alloc(), *count)?.as_str(), *told);
-    }
-    Ok(())
+fn a_million_parts_of_one_byte_are_a_stream(rt: HostRuntime) -> Result<(), Memory> {
+    all_are_told(&rt, CROWDS)
 }
 
 // How many bytes an id has, the groups, the bodies of two blocks of data, and what is told of the splitter's first three
 // answers.
-const SPLITS: &[(u8, &[Known], &'static [u8], &'static [u8], &str)] = &[
-    (1, &[], b"", b"", "Ok(None) Ok(None) Ok(None)"),
+const SPLITS: &[(Answered, &str)] = &[
+    (Answered(1, &[], b"", b""), "Ok(None) Ok(None) Ok(None)"),
     (
-        1,
-        &[EIGHT],
-        b"\x01aaaaaaaa\x01bcd",
-        b"efghi",
+        Answered(1, &[EIGHT], b"\x01aaaaaaaa\x01bcd", b"efghi"),
         "Ok(Some(Piece { which: 0, at: 0, len: 9 })) Ok(Some(Piece { which: 0, at: 9, len: 9 })) Ok(None)",
     ),
     (
-        2,
-        &[Known {
-            id: 0x0201,
-            size: Size::Fixed(7),
-        }],
-        b"\x01\x02aaaaaaa\x01\x02bc",
-        b"defgh",
+        Answered(
+            2,
+            &[Known {
+                id: 0x0201,
+                size: Size::Fixed(7),
+            }],
+            b"\x01\x02aaaaaaa\x01\x02bc",
+            b"defgh",
+        ),
         "Ok(Some(Piece { which: 0, at: 0, len: 9 })) Ok(Some(Piece { which: 0, at: 9, len: 9 })) Ok(None)",
     ),
     (
-        4,
-        &[Known {
-            id: 0x0102_0304,
-            size: Size::Fixed(5),
-        }],
-        b"\x04\x03\x02\x01aaaaa\x04\x03\x02\x01",
-        b"bcdef",
+        Answered(
+            4,
+            &[Known {
+                id: 0x0102_0304,
+                size: Size::Fixed(5),
+            }],
+            b"\x04\x03\x02\x01aaaaa\x04\x03\x02\x01",
+            b"bcdef",
+        ),
         "Ok(Some(Piece { which: 0, at: 0, len: 9 })) Ok(Some(Piece { which: 0, at: 9, len: 9 })) Ok(None)",
     ),
     (
-        8,
-        &[Known {
-            id: u64::MAX,
-            size: Size::Fixed(1),
-        }],
-        b"\xff\xff\xff\xff\xff\xff\xff\xffa\xff\xff\xff\xff",
-        b"\xff\xff\xff\xffb",
+        Answered(
+            8,
+            &[Known {
+                id: u64::MAX,
+                size: Size::Fixed(1),
+            }],
+            b"\xff\xff\xff\xff\xff\xff\xff\xffa\xff\xff\xff\xff",
+            b"\xff\xff\xff\xffb",
+        ),
         "Ok(Some(Piece { which: 0, at: 0, len: 9 })) Ok(Some(Piece { which: 0, at: 9, len: 9 })) Ok(None)",
     ),
     (
-        1,
-        &[
-            TWO,
-            Known {
-                id: 2,
-                size: Size::Fixed(8),
-            },
-        ],
-        b"\x02ab\x02c",
-        b"d",
+        Answered(
+            1,
+            &[
+                TWO,
+                Known {
+                    id: 2,
+                    size: Size::Fixed(8),
+                },
+            ],
+            b"\x02ab\x02c",
+            b"d",
+        ),
         "Ok(Some(Piece { which: 0, at: 0, len: 3 })) Ok(Some(Piece { which: 0, at: 3, len: 3 })) Ok(None)",
     ),
     (
-        1,
-        &[EIGHT, VALUES],
-        b"\x03\x02\0\0\0xy\x03\x01",
-        b"\0\0\0z",
+        Answered(1, &[EIGHT, VALUES], b"\x03\x02\0\0\0xy\x03\x01", b"\0\0\0z"),
         "Ok(Some(Piece { which: 1, at: 0, len: 7 })) Ok(Some(Piece { which: 1, at: 7, len: 6 })) Ok(None)",
     ),
     (
-        1,
-        &[VALUES],
-        b"\x03\0\0\0\x01x",
-        b"",
+        Answered(1, &[VALUES], b"\x03\0\0\0\x01x", b""),
         "Err(Cut { at: 0 }) Err(Cut { at: 0 }) Err(Cut { at: 0 })",
     ),
     (
-        1,
-        &[VALUES],
-        b"\x03\0\0",
-        b"\0",
+        Answered(1, &[VALUES], b"\x03\0\0", b"\0"),
         "Err(Cut { at: 0 }) Err(Cut { at: 0 }) Err(Cut { at: 0 })",
     ),
     (
-        1,
-        &[EIGHT, TWO],
-        b"\x02aa",
-        b"\x07",
+        Answered(1, &[EIGHT, TWO], b"\x02aa", b"\x07"),
         "Ok(Some(Piece { which: 1, at: 0, len: 3 })) Err(UnknownId { id: 7, at: 3 }) Err(UnknownId { id: 7, at: 3 })",
     ),
     (
-        1,
-        &[EIGHT],
-        b"\x01aaaaaaaa\x01bc",
-        b"defgh",
+        Answered(1, &[EIGHT], b"\x01aaaaaaaa\x01bc", b"defgh"),
         "Ok(Some(Piece { which: 0, at: 0, len: 9 })) Err(Cut { at: 9 }) Err(Cut { at: 9 })",
     ),
     (
-        8,
-        &[],
-        b"\x01\0\0\0",
-        b"\0\0\0",
+        Answered(8, &[], b"\x01\0\0\0", b"\0\0\0"),
         "Err(Cut { at: 0 }) Err(Cut { at: 0 }) Err(Cut { at: 0 })",
     ),
     (
-        4,
-        &[],
-        b"\x01\0",
-        b"\0\0",
+        Answered(4, &[], b"\x01\0", b"\0\0"),
         "Err(UnknownId { id: 1, at: 0 }) Err(UnknownId { id: 1, at: 0 }) Err(UnknownId { id: 1, at: 0 })",
     ),
     (
-        1,
-        &[Known {
-            id: 1,
-            size: Size::Fixed(0),
-        }],
-        b"\x01",
-        b"\x01",
+        Answered(
+            1,
+            &[Known {
+                id: 1,
+                size: Size::Fixed(0),
+            }],
+            b"\x01",
+            b"\x01",
+        ),
         "Ok(Some(Piece { which: 0, at: 0, len: 1 })) Ok(Some(Piece { which: 0, at: 1, len: 1 })) Ok(None)",
     ),
     (
-        1,
-        &[Known {
-            id: 1,
-            size: Size::Fixed(u64::MAX),
-        }],
-        b"\x01",
-        b"a",
+        Answered(
+            1,
+            &[Known {
+                id: 1,
+                size: Size::Fixed(u64::MAX),
+            }],
+            b"\x01",
+            b"a",
+        ),
         "Err(Cut { at: 0 }) Err(Cut { at: 0 }) Err(Cut { at: 0 })",
     ),
 ];
@@ -606,15 +592,16 @@ fn answers_told(
     Ok(format!(in alloc; "{first:?} {second:?} {third:?}")?)
 }
 
-fn split_told(
+/// How many bytes an id has, the groups, and the bodies of two blocks of data.
+struct Answered(u8, &'static [Known], &'static [u8], &'static [u8]);
+
+// The file of these two blocks.
+fn two_blocks(
     alloc: Global,
-    id_size: u8,
-    known: &[Known],
     first: &'static [u8],
     second: &'static [u8],
-) -> Result<String, Memory> {
-    let mut splitter = splitter_of(alloc, id_size, known)?;
-    let file = file_of(
+) -> Result<Vec<u8>, Memory> {
+    file_of(
         alloc,
         256,
         &[
@@ -622,133 +609,121 @@ fn split_told(
             (112, b"##DT", &[], first),
             (176, b"##DT", &[], second),
         ],
-    )?;
-    let Ok(view) = view_data(alloc, file.as_slice(), 64, Kind::Dt) else {
-        return Err(Memory);
-    };
-    answers_told(alloc, file.as_slice(), &view, &mut splitter)
+    )
+}
+
+impl Told for Answered {
+    fn told(&self, alloc: Global) -> Result<String, Memory> {
+        let mut splitter = splitter_of(alloc, self.0, self.1)?;
+        let file = two_blocks(alloc, self.2, self.3)?;
+        match view_data(alloc, file.as_slice(), 64, Kind::Dt) {
+            Ok(view) => answers_told(alloc, file.as_slice(), &view, &mut splitter),
+            Err(_) => Err(Memory),
+        }
+    }
 }
 
 #[test]
-fn the_splitter_is_told(rt: HostRuntime) -> Result<(), Fail> {
-    for (id_size, known, first, second, told) in SPLITS {
-        assert_eq!(rt;
-            split_told(rt.alloc(), *id_size, known, first, second)?.as_str(),
-            *told
-        );
-    }
-    Ok(())
+fn the_splitter_is_told(rt: HostRuntime) -> Result<(), Memory> {
+    all_are_told(&rt, SPLITS)
 }
 
-// The places of two records of 3 and 9 bytes, of which the ids alone are read, over a span that stops.
-fn places_stopped(alloc: Global, calls: u64, stop: Stop) -> Result<String, Memory> {
-    let mut span = span_over(b"\x02aa\x01bbbbbbbb", calls, stop);
-    let len = span.len();
-    let mut view = DataView::empty(alloc);
-    if len > 1000 {
-        return Err(Memory);
+/// The reader of the places of two records of 3 and 9 bytes, of which the ids alone are read.
+struct PlaceReader;
+
+impl Stopped for PlaceReader {
+    fn told(&self, alloc: Global, calls: u64, stop: Stop) -> Result<String, Memory> {
+        let mut span = span_over(b"\x02aa\x01bbbbbbbb", calls, stop);
+        let len = span.len();
+        if len > 1000 {
+            return Err(Memory);
+        }
+        let mut view = DataView::empty(alloc);
+        view.add(0, len)?;
+        let answer = places_in(alloc, &mut span, &view, 1, &[EIGHT, TWO]);
+        Ok(format!(in alloc; "{answer:?}")?)
     }
-    view.add(0, len)?;
-    let answer = places_in(alloc, &mut span, &view, 1, &[EIGHT, TWO]);
-    Ok(format!(in alloc; "{answer:?}")?)
 }
 
 #[test]
-fn a_span_that_stops_stops_the_places(rt: HostRuntime) -> Result<(), Fail> {
-    for (calls, stop, told) in &[
-        (0, Stop::Failed, "Err(Failed)"),
-        (1, Stop::Failed, "Err(Failed)"),
-        (0, Stop::Memory, "Err(Memory)"),
-        (1, Stop::Memory, "Err(Memory)"),
-        (
-            2,
-            Stop::Failed,
-            "Ok(Rows { items: [Places { even: 0, step: 0, listed: Listed { short: [4], long: Rows { items: [] } } }, Places { even: 0, step: 0, listed: Listed { short: [1], long: Rows { items: [] } } }] })",
-        ),
-    ] {
-        assert_eq!(rt; places_stopped(rt.alloc(), *calls, *stop)?.as_str(), *told);
-    }
-    Ok(())
+fn a_span_that_stops_stops_the_places(rt: HostRuntime) -> Result<(), Memory> {
+    stops_are_told(&rt, &PlaceReader, 2, "Err(Failed)", "Err(Memory)")?;
+    is_told(
+        &rt,
+        PlaceReader.told(rt.alloc(), 2, Stop::Failed),
+        "Ok(Rows { items: [Places { even: 0, step: 0, listed: Listed { short: [4], long: Rows { items: [] } } }, Places { even: 0, step: 0, listed: Listed { short: [1], long: Rows { items: [] } } }] })",
+    )
 }
 
 // How many bytes a stream without ids has, the size of its records, how many empty ones it has, and what is told of
 // their places with one more, 77, at the end: these, their number, the first two and the one past the end.
-const ALONE: &[(u64, Size, u64, &str)] = &[
+const ALONE: &[(Alone, &str)] = &[
     (
-        20,
-        Size::Fixed(9),
-        0,
-        "Places { even: 2, step: 9, listed: Listed { short: [77], long: Rows { items: [] } } } 3 Some(0) Some(9) None",
+        Alone(20, Size::Fixed(9), 0),
+        "Places { even: 2, step: 9, listed: Listed { short: [77], long: Rows { items: [] } } } (3, Some(0), Some(9), None)",
     ),
     (
-        8,
-        Size::Fixed(9),
-        0,
-        "Places { even: 0, step: 9, listed: Listed { short: [77], long: Rows { items: [] } } } 1 Some(77) None None",
+        Alone(8, Size::Fixed(9), 0),
+        "Places { even: 0, step: 9, listed: Listed { short: [77], long: Rows { items: [] } } } (1, Some(77), None, None)",
     ),
     (
-        9,
-        Size::Fixed(9),
-        5,
-        "Places { even: 1, step: 9, listed: Listed { short: [77], long: Rows { items: [] } } } 2 Some(0) Some(77) None",
+        Alone(9, Size::Fixed(9), 5),
+        "Places { even: 1, step: 9, listed: Listed { short: [77], long: Rows { items: [] } } } (2, Some(0), Some(77), None)",
     ),
     (
-        5,
-        Size::Fixed(0),
-        7,
-        "Places { even: 7, step: 0, listed: Listed { short: [77], long: Rows { items: [] } } } 8 Some(0) Some(0) None",
+        Alone(5, Size::Fixed(0), 7),
+        "Places { even: 7, step: 0, listed: Listed { short: [77], long: Rows { items: [] } } } (8, Some(0), Some(0), None)",
     ),
     (
-        5,
-        Size::Variable,
-        7,
-        "Places { even: 0, step: 0, listed: Listed { short: [77], long: Rows { items: [] } } } 1 Some(77) None None",
+        Alone(5, Size::Variable, 7),
+        "Places { even: 0, step: 0, listed: Listed { short: [77], long: Rows { items: [] } } } (1, Some(77), None, None)",
     ),
 ];
 
-fn alone_told(alloc: Global, total: u64, size: Size, empties: u64) -> Result<String, Memory> {
-    if total > 1000 || empties > 1000 {
-        return Err(Memory);
+/// How many bytes a stream without ids has, the size of its records, and how many empty ones it has.
+struct Alone(u64, Size, u64);
+
+impl Told for Alone {
+    fn told(&self, alloc: Global) -> Result<String, Memory> {
+        if self.0 > 1000 || self.2 > 1000 {
+            return Err(Memory);
+        }
+        let mut places = places_alone(alloc, self.0, self.1, self.2);
+        places.push(77)?;
+        let count = places.len();
+        let found = (count, places.get(0), places.get(1), places.get(count));
+        Ok(format!(in alloc; "{places:?} {found:?}")?)
     }
-    let mut places = places_alone(alloc, total, size, empties);
-    places.push(77)?;
-    let count = places.len();
-    let first = places.get(0);
-    let second = places.get(1);
-    let past = places.get(count);
-    Ok(format!(in alloc; "{places:?} {count} {first:?} {second:?} {past:?}")?)
 }
 
 #[test]
-fn places_without_ids_are_told(rt: HostRuntime) -> Result<(), Fail> {
-    for (total, size, empties, told) in ALONE {
-        assert_eq!(rt;
-            alone_told(rt.alloc(), *total, *size, *empties)?.as_str(),
-            *told
-        );
-    }
-    Ok(())
+fn places_without_ids_are_told(rt: HostRuntime) -> Result<(), Memory> {
+    all_are_told(&rt, ALONE)
 }
 
 // Places around the last one that takes 4 bytes; one that is smaller follows one that is not.
 const FAR: &[u64] = &[4_294_967_295, 4_294_967_296, 5];
 
-#[test]
-fn places_past_four_bytes_are_kept(rt: HostRuntime) -> Result<(), Fail> {
-    let mut places = Places::empty(rt.alloc());
-    assert_eq!(rt; places.step(), Some(0));
+// How many they are, each and the one past the end, and the steps of these and of places without ids.
+fn far_told(alloc: Global) -> Result<String, Memory> {
+    let mut places = Places::empty(alloc);
     for place in FAR {
         places.push(*place)?;
     }
-    assert_eq!(rt; places.len(), 3);
-    assert_eq!(rt; places.step(), None);
-    assert_eq!(rt; places.get(0), Some(4_294_967_295));
-    assert_eq!(rt; places.get(1), Some(4_294_967_296));
-    assert_eq!(rt; places.get(2), Some(5));
-    assert_eq!(rt; places.get(3), None);
-    assert_eq!(rt;
-        places_alone(rt.alloc(), 20, Size::Fixed(9), 0).step(),
-        Some(9)
+    let found = (places.get(0), places.get(1), places.get(2), places.get(3));
+    let steps = (
+        places.step(),
+        Places::empty(alloc).step(),
+        places_alone(alloc, 20, Size::Fixed(9), 0).step(),
     );
-    Ok(())
+    Ok(format!(in alloc; "{} {found:?} {steps:?}", places.len())?)
+}
+
+#[test]
+fn places_past_four_bytes_are_kept(rt: HostRuntime) -> Result<(), Memory> {
+    is_told(
+        &rt,
+        far_told(rt.alloc()),
+        "3 (Some(4294967295), Some(4294967296), Some(5), None) (None, Some(0), Some(9))",
+    )
 }

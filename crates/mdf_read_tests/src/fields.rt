@@ -1,8 +1,8 @@
-use mdf_bits::{Field, bit_by_bit, covers, get, is_invalid, mark_invalid, put, signed};
+use mdf_bits::{Field, covers, get, is_invalid, mark_invalid, put, signed};
 
 // Where the fields of the table lie: big-endian or not, the first bit in byte 3, and the number of bits. Then the
 // field's number in `OTHER`, and what `RECORD` is once that number was written into its field.
-const FIELDS: [(bool, u8, u8, u64, u128); 96] = [
+const FIELDS: &[(bool, u8, u8, u64, u128)] = &[
     (false, 0, 1, 0x0, 0x243f6a88_85a308d3_13198a2e_03707344),
     (false, 0, 7, 0x62, 0x243f6ae2_85a308d3_13198a2e_03707344),
     (false, 0, 8, 0x62, 0x243f6a62_85a308d3_13198a2e_03707344),
@@ -302,22 +302,18 @@ const OTHER: u128 = 0xb7e15162_8aed2a6a_bf715880_9cf4f3c7;
 fn fields_at_every_bit_offset_in_both_orders(rt: HostRuntime) {
     let other = OTHER.to_be_bytes();
     for (big, bit, bits, number, written) in FIELDS {
-        assert!(rt; bit <= 7 && 1 <= bits && bits <= 64);
         let field = Field {
             byte: 3,
-            bit,
-            bits,
-            big,
+            bit: *bit,
+            bits: *bits,
+            big: *big,
         };
+        assert!(rt; field.bit <= 7 && 1 <= field.bits && field.bits <= 64);
         let value = get(&other, field);
-        assert_eq!(rt; value, number, "{field:?}");
-        assert_eq!(rt; bit_by_bit::get(&other, field), number, "{field:?}");
         let mut record = RECORD.to_be_bytes();
         put(&mut record, field, value);
-        assert_eq!(rt; u128::from_be_bytes(record), written, "{field:?}");
-        let mut record = RECORD.to_be_bytes();
-        bit_by_bit::put(&mut record, field, value);
-        assert_eq!(rt; u128::from_be_bytes(record), written, "{field:?}");
+        let told = (value, u128::from_be_bytes(record));
+        assert!(rt; told == (*number, *written), "{field:?}");
     }
 }
 
@@ -336,34 +332,34 @@ fn seven_bits_at_bit_three_both_orders(rt: HostRuntime) {
         bits: 7,
         big: true,
     };
-    assert_eq!(rt; get(&bytes, little), 86);
-    assert_eq!(rt; get(&bytes, big), 11);
-    assert_eq!(rt; covers(little), 2);
     let widest = Field {
         byte: 10,
         bit: 7,
         bits: 64,
         big: true,
     };
-    assert_eq!(rt; covers(widest), 19);
+    assert_eq!(rt; [get(&bytes, little), get(&bytes, big)], [86, 11]);
+    assert_eq!(rt; [covers(little), covers(widest)], [2, 19]);
 }
 
 #[test]
 fn five_bits_signed(rt: HostRuntime) {
-    assert_eq!(rt; signed(0b10000, 5), -16);
-    assert_eq!(rt; signed(0b11111, 5), -1);
-    assert_eq!(rt; signed(0b01111, 5), 15);
-    assert_eq!(rt; signed(1, 1), -1);
-    assert_eq!(rt; signed(0x8000_0000_0000_0000, 64), i64::MIN);
-    assert_eq!(rt; signed(0x7fff_ffff_ffff_ffff, 64), i64::MAX);
+    let told = [
+        signed(0b10000, 5),
+        signed(0b11111, 5),
+        signed(0b01111, 5),
+        signed(1, 1),
+        signed(0x8000_0000_0000_0000, 64),
+        signed(0x7fff_ffff_ffff_ffff, 64),
+    ];
+    assert_eq!(rt; told, [-16, -1, 15, -1, i64::MIN, i64::MAX]);
 }
 
 #[test]
 fn invalidation_bits(rt: HostRuntime) {
     let mut bytes = [0x00, 0x02];
-    assert_eq!(rt; is_invalid(&bytes, 9), true);
-    assert_eq!(rt; is_invalid(&bytes, 8), false);
+    let told = (is_invalid(&bytes, 9), is_invalid(&bytes, 8));
     mark_invalid(&mut bytes, 7);
     mark_invalid(&mut bytes, 8);
-    assert_eq!(rt; bytes, [0x80, 0x03]);
+    assert_eq!(rt; (told, bytes), ((true, false), [0x80, 0x03]));
 }

@@ -7,7 +7,6 @@ use mdf_num::{Bytes, Memory, Rows};
 use mdf_spell::{Recovered, finalized_file};
 use mdf_vlsd::{Streams, ValueStream};
 use std::alloc::Global;
-use std::test::Fail;
 
 // The identification: finalized, version 4.10, no flags.
 pub(crate) const IDENT: &[u8; 64] =
@@ -167,19 +166,34 @@ fn written(
     Ok(Some(finalized_file(alloc, &recovered, 0x0102_0304_0506_0708)?))
 }
 
+// That of the first data group.
+fn first_written(
+    alloc: Global,
+    head: &Head,
+    history: &Rows<History>,
+    rows: &Rows<DataRow>,
+    data: Data,
+) -> Result<Option<Bytes>, Memory> {
+    match rows.get(0) {
+        Some(row) => written(alloc, head, history, row, data),
+        None => Ok(None),
+    }
+}
+
 // The finalized file of a recording with this head and these data.
 pub(crate) fn finalized(
     alloc: Global,
     blocks: &[Piece],
     data: Data,
-) -> Result<Option<Bytes>, Fail> {
+) -> Result<Option<Bytes>, Memory> {
     let file = file_of(alloc, 968, blocks)?;
     let mut budget = Budget::of_file();
-    let (head, history) = read_head(alloc, file.as_slice(), &mut budget.text)?;
-    let rows = read_groups(alloc, file.as_slice(), head.first_dg, &mut budget)?;
-    match rows.get(0) {
-        Some(row) => Ok(written(alloc, &head, &history, row, data)?),
-        None => Ok(None),
+    let Ok((head, history)) = read_head(alloc, file.as_slice(), &mut budget.text) else {
+        return Ok(None);
+    };
+    match read_groups(alloc, file.as_slice(), head.first_dg, &mut budget) {
+        Ok(rows) => first_written(alloc, &head, &history, &rows, data),
+        Err(_) => Ok(None),
     }
 }
 
@@ -193,13 +207,25 @@ fn expected(alloc: Global, size: usize, pieces: &[Piece]) -> Result<Vec<u8>, Mem
     Ok(file)
 }
 
+// Whether the finalized file of these blocks and data is the one of those blocks.
+fn is_finalized(
+    alloc: Global,
+    blocks: &[Piece],
+    data: Data,
+    size: usize,
+    pieces: &[Piece],
+) -> Result<bool, Memory> {
+    let want = expected(alloc, size, pieces)?;
+    match finalized(alloc, blocks, data)? {
+        Some(file) => Ok(file.as_slice() == want.as_slice()),
+        None => Ok(false),
+    }
+}
+
 #[test]
-fn recordings_are_finalized(rt: HostRuntime) -> Result<(), Fail> {
+fn recordings_are_finalized(rt: HostRuntime) -> Result<(), Memory> {
     for (blocks, data, size, pieces) in FILES {
-        let file = finalized(rt.alloc(), blocks, *data)?;
-        let want = expected(rt.alloc(), *size, pieces)?;
-        let is_same = file.is_some_and(|bytes| bytes.as_slice() == want.as_slice());
-        assert!(rt; is_same);
+        assert!(rt; is_finalized(rt.alloc(), *blocks, *data, *size, *pieces)?);
     }
     Ok(())
 }

@@ -1,10 +1,10 @@
 use crate::files::{Piece, file_of, put_number};
 use crate::span::span_over;
+use crate::told::{Stopped, Told, all_are_told, stops_are_told};
 use mdf_conv::Budget;
-use mdf_group::{GroupFault, read_groups, read_groups_in};
-use mdf_num::{Halt, Span, Stop};
+use mdf_group::{read_groups, read_groups_in};
+use mdf_num::{Memory, Span, Stop};
 use std::alloc::Global;
-use std::test::Fail;
 
 // A file: how many bytes it has, and its blocks.
 type File = (usize, &'static [Piece]);
@@ -100,217 +100,189 @@ const CONVERSIONS: u64 = 1_048_576;
 
 // A file, the numbers of 8 bytes that are set in it, how many bytes of texts and how many conversions may come, and what is
 // answered with what may still come.
-const TOLD: &[(File, &[(usize, u64)], u64, u64, &str)] = &[
+const TOLD: &[(Grouped, &str)] = &[
     (
-        TWO_GROUPS,
-        &[],
-        TEXT,
-        CONVERSIONS,
+        Grouped(TWO_GROUPS, &[], TEXT, CONVERSIONS),
         "Ok(Rows { items: [DataRow { at: 64, id_size: 2, comment: Nothing, content: 0, groups: Rows { items: [GroupRow { at: 128, id: 9, cycles: 72057594037927944, flags: 0, separator: 46, data_bytes: 825373492, inval_bytes: 6, name: Nothing, source: None, comment: Nothing, channels: Rows { items: [ChannelRow { at: 336, kind: 2, sync: 1, data_type: 4, bit: 3, byte: 16909060, bits: 286397204, flags: 2147483906, inval: 555885348, precision: 7, ranges: [1, 2, 3, 4, 5, 9223372036854775808], name: Nothing, source: Some(SourceInfo { kind: 2, bus: 3, flags: 1, name: Nothing, path: Nothing, comment: Nothing }), conv: Some(Conversion { kind: 0, precision: 0, flags: 0, low: 0, high: 0, numbers: Rows { items: [] }, refs: Rows { items: [Words(Plain(Bytes { items: [107, 109, 47, 104] })), Conv(Boxed { inner: Conversion { kind: 0, precision: 0, flags: 0, low: 0, high: 0, numbers: Rows { items: [] }, refs: Rows { items: [] }, name: Nothing, unit: Nothing, comment: Nothing } })] }, name: Nothing, unit: Nothing, comment: Nothing }), unit: Nothing, comment: Nothing, values: 0, extra: 1 }, ChannelRow { at: 512, kind: 1, sync: 0, data_type: 14, bit: 0, byte: 0, bits: 0, flags: 0, inval: 0, precision: 0, ranges: [0, 0, 0, 0, 0, 0], name: Nothing, source: Some(SourceInfo { kind: 2, bus: 3, flags: 1, name: Nothing, path: Nothing, comment: Nothing }), conv: None, unit: Nothing, comment: Nothing, values: 232, extra: 0 }] } }, GroupRow { at: 232, id: 10, cycles: 0, flags: 3, separator: 0, data_bytes: 0, inval_bytes: 0, name: Nothing, source: None, comment: Nothing, channels: Rows { items: [] } }] } }] }) Budget { text: 67108860, conversions: 1048574, conversion_bytes: 134217552, dropped: 3 }",
     ),
     (
-        STRAIGHT,
-        &[],
-        TEXT,
-        CONVERSIONS,
+        Grouped(STRAIGHT, &[], TEXT, CONVERSIONS),
         "Ok(Rows { items: [DataRow { at: 64, id_size: 0, comment: Nothing, content: 7, groups: Rows { items: [GroupRow { at: 128, id: 0, cycles: 0, flags: 0, separator: 0, data_bytes: 0, inval_bytes: 0, name: Nothing, source: None, comment: Nothing, channels: Rows { items: [ChannelRow { at: 232, kind: 0, sync: 0, data_type: 0, bit: 0, byte: 0, bits: 0, flags: 0, inval: 0, precision: 0, ranges: [0, 0, 0, 0, 0, 0], name: Nothing, source: None, conv: None, unit: Nothing, comment: Nothing, values: 0, extra: 0 }] } }] } }] }) Budget { text: 67108864, conversions: 1048576, conversion_bytes: 134217728, dropped: 0 }",
     ),
     (
-        STRAIGHT,
-        &[(UNIT, 392)],
-        TEXT,
-        CONVERSIONS,
+        Grouped(STRAIGHT, &[(UNIT, 392)], TEXT, CONVERSIONS),
         "Err(Bad { at: 392, want: Tx }) Budget { text: 67108864, conversions: 1048576, conversion_bytes: 134217728, dropped: 0 }",
     ),
     (
-        STRAIGHT,
-        &[(NEXT_DATA, 128)],
-        TEXT,
-        CONVERSIONS,
+        Grouped(STRAIGHT, &[(NEXT_DATA, 128)], TEXT, CONVERSIONS),
         "Err(Bad { at: 128, want: Dg }) Budget { text: 67108864, conversions: 1048576, conversion_bytes: 134217728, dropped: 0 }",
     ),
     (
-        STRAIGHT,
-        &[(NEXT_GROUP, 232)],
-        TEXT,
-        CONVERSIONS,
+        Grouped(STRAIGHT, &[(NEXT_GROUP, 232)], TEXT, CONVERSIONS),
         "Err(Bad { at: 232, want: Cg }) Budget { text: 67108864, conversions: 1048576, conversion_bytes: 134217728, dropped: 0 }",
     ),
     (
-        STRAIGHT,
-        &[(FIRST_CHANNEL, 128)],
-        TEXT,
-        CONVERSIONS,
+        Grouped(STRAIGHT, &[(FIRST_CHANNEL, 128)], TEXT, CONVERSIONS),
         "Err(Bad { at: 128, want: Cn }) Budget { text: 67108864, conversions: 1048576, conversion_bytes: 134217728, dropped: 0 }",
     ),
     (
-        STRAIGHT,
-        &[(SOURCE, 392)],
-        TEXT,
-        CONVERSIONS,
+        Grouped(STRAIGHT, &[(SOURCE, 392)], TEXT, CONVERSIONS),
         "Err(Bad { at: 392, want: Si }) Budget { text: 67108864, conversions: 1048576, conversion_bytes: 134217728, dropped: 0 }",
     ),
     (
-        STRAIGHT,
-        &[(CONVERSION, 480)],
-        TEXT,
-        CONVERSIONS,
+        Grouped(STRAIGHT, &[(CONVERSION, 480)], TEXT, CONVERSIONS),
         "Err(Bad { at: 480, want: Cc }) Budget { text: 67108864, conversions: 1048576, conversion_bytes: 134217728, dropped: 0 }",
     ),
     (
-        STRAIGHT,
-        &[(CONVERSION, 392), (REFERENCE, 392)],
-        TEXT,
-        4,
+        Grouped(STRAIGHT, &[(CONVERSION, 392), (REFERENCE, 392)], TEXT, 4),
         "Err(Deep { at: 392 }) Budget { text: 67108864, conversions: 4, conversion_bytes: 134217728, dropped: 0 }",
     ),
     (
-        STRAIGHT,
-        &[(CONVERSION, 392)],
-        TEXT,
-        0,
+        Grouped(STRAIGHT, &[(CONVERSION, 392)], TEXT, 0),
         "Err(TooMany { what: Cc, at: 392 }) Budget { text: 67108864, conversions: 0, conversion_bytes: 134217728, dropped: 0 }",
     ),
     (
-        STRAIGHT,
-        &[(UNIT, 480)],
-        7,
-        CONVERSIONS,
+        Grouped(STRAIGHT, &[(UNIT, 480)], 7, CONVERSIONS),
         "Err(TooMany { what: Text, at: 480 }) Budget { text: 7, conversions: 1048576, conversion_bytes: 134217728, dropped: 0 }",
     ),
     (
-        STRAIGHT,
-        &[(FRONT, 4 | 15 << 16)],
-        TEXT,
-        CONVERSIONS,
+        Grouped(STRAIGHT, &[(FRONT, 4 | 15 << 16)], TEXT, CONVERSIONS),
         "Err(ChannelKind { at: 232, kind: 4 }) Budget { text: 67108864, conversions: 1048576, conversion_bytes: 134217728, dropped: 0 }",
     ),
     (
-        STRAIGHT,
-        &[(FRONT, 5 | 15 << 16)],
-        TEXT,
-        CONVERSIONS,
+        Grouped(STRAIGHT, &[(FRONT, 5 | 15 << 16)], TEXT, CONVERSIONS),
         "Err(ChannelKind { at: 232, kind: 5 }) Budget { text: 67108864, conversions: 1048576, conversion_bytes: 134217728, dropped: 0 }",
     ),
     (
-        STRAIGHT,
-        &[(FRONT, 7 | 15 << 16)],
-        TEXT,
-        CONVERSIONS,
+        Grouped(STRAIGHT, &[(FRONT, 7 | 15 << 16)], TEXT, CONVERSIONS),
         "Err(ChannelKind { at: 232, kind: 7 }) Budget { text: 67108864, conversions: 1048576, conversion_bytes: 134217728, dropped: 0 }",
     ),
     (
-        STRAIGHT,
-        &[(FRONT, 6 | 15 << 16), (UNIT, 392)],
-        TEXT,
-        CONVERSIONS,
+        Grouped(
+            STRAIGHT,
+            &[(FRONT, 6 | 15 << 16), (UNIT, 392)],
+            TEXT,
+            CONVERSIONS,
+        ),
         "Err(ChannelType { at: 232, value: 15 }) Budget { text: 67108864, conversions: 1048576, conversion_bytes: 134217728, dropped: 0 }",
     ),
     (
-        STRAIGHT,
-        &[(NEXT_CHANNEL, 232), (UNIT, 480)],
-        807,
-        CONVERSIONS,
+        Grouped(
+            STRAIGHT,
+            &[(NEXT_CHANNEL, 232), (UNIT, 480)],
+            807,
+            CONVERSIONS,
+        ),
         "Err(TooMany { what: Text, at: 480 }) Budget { text: 807, conversions: 1048576, conversion_bytes: 134217728, dropped: 0 }",
     ),
     (
-        STRAIGHT,
-        &[(FRONT, 1), (VALUES_AT, 128), (GROUP_FLAGS, 1)],
-        TEXT,
-        CONVERSIONS,
+        Grouped(
+            STRAIGHT,
+            &[(FRONT, 1), (VALUES_AT, 128), (GROUP_FLAGS, 1)],
+            TEXT,
+            CONVERSIONS,
+        ),
         "Ok(Rows { items: [DataRow { at: 64, id_size: 0, comment: Nothing, content: 7, groups: Rows { items: [GroupRow { at: 128, id: 0, cycles: 0, flags: 1, separator: 0, data_bytes: 0, inval_bytes: 0, name: Nothing, source: None, comment: Nothing, channels: Rows { items: [ChannelRow { at: 232, kind: 1, sync: 0, data_type: 0, bit: 0, byte: 0, bits: 0, flags: 0, inval: 0, precision: 0, ranges: [0, 0, 0, 0, 0, 0], name: Nothing, source: None, conv: None, unit: Nothing, comment: Nothing, values: 128, extra: 0 }] } }] } }] }) Budget { text: 67108864, conversions: 1048576, conversion_bytes: 134217728, dropped: 1 }",
     ),
 ];
 
 // The same of loops: of data groups, of channel groups and of channels.
-const LOOPS: &[(File, &[(usize, u64)], u64, u64, &str)] = &[
+const LOOPS: &[(Grouped, &str)] = &[
     (
-        STRAIGHT,
-        &[(NEXT_DATA, 64)],
-        TEXT,
-        CONVERSIONS,
+        Grouped(STRAIGHT, &[(NEXT_DATA, 64)], TEXT, CONVERSIONS),
         "Err(TooMany { what: Dg, at: 64 }) Budget { text: 67108864, conversions: 1048576, conversion_bytes: 134217728, dropped: 0 }",
     ),
     (
-        STRAIGHT,
-        &[(NEXT_GROUP, 128)],
-        TEXT,
-        CONVERSIONS,
+        Grouped(STRAIGHT, &[(NEXT_GROUP, 128)], TEXT, CONVERSIONS),
         "Err(TooMany { what: Cg, at: 128 }) Budget { text: 67108864, conversions: 1048576, conversion_bytes: 134217728, dropped: 0 }",
     ),
     (
-        STRAIGHT,
-        &[(NEXT_CHANNEL, 232)],
-        TEXT,
-        CONVERSIONS,
+        Grouped(STRAIGHT, &[(NEXT_CHANNEL, 232)], TEXT, CONVERSIONS),
         "Err(TooMany { what: Cn, at: 232 }) Budget { text: 67108864, conversions: 1048576, conversion_bytes: 134217728, dropped: 0 }",
     ),
 ];
 
-fn told(
-    alloc: Global,
-    file: File,
-    numbers: &[(usize, u64)],
-    text: u64,
-    conversions: u64,
-) -> Result<String, Fail> {
-    let mut bytes = file_of(alloc, file.0, file.1)?;
-    for (at, number) in numbers {
+/// A file, the numbers of 8 bytes that are set in it, and how many bytes of texts and how many conversions may come.
+struct Grouped(File, &'static [(usize, u64)], u64, u64);
+
+// The file with its numbers set.
+fn bytes_of(alloc: Global, row: &Grouped) -> Result<Vec<u8>, Memory> {
+    let mut bytes = file_of(alloc, row.0.0, row.0.1)?;
+    for (at, number) in row.1 {
         put_number(bytes.as_mut_slice(), *at, *number);
     }
-    let mut budget = Budget {
-        text,
-        conversions,
-        ..Budget::of_file()
-    };
-    let answer = read_groups(alloc, bytes.as_slice(), 64, &mut budget);
-    Ok(format!(in alloc; "{answer:?} {budget:?}")?)
+    Ok(bytes)
 }
 
-#[test]
-fn files_are_told(rt: HostRuntime) -> Result<(), Fail> {
-    for (file, numbers, text, conversions, want) in TOLD {
-        let told = told(rt.alloc(), *file, *numbers, *text, *conversions)?;
-        assert_eq!(rt; told.as_str(), *want);
-    }
-    Ok(())
-}
-
-#[test]
-fn loops_are_too_many(rt: HostRuntime) -> Result<(), Fail> {
-    for (file, numbers, text, conversions, want) in LOOPS {
-        let told = told(rt.alloc(), *file, *numbers, *text, *conversions)?;
-        assert_eq!(rt; told.as_str(), *want);
-    }
-    Ok(())
-}
-
-// Both channels name the conversion at 728, which has 96 bytes and refers to one of 80 bytes.
-#[test]
-fn a_conversion_counts_for_each_channel(rt: HostRuntime) -> Result<(), Fail> {
-    let mut bytes = file_of(rt.alloc(), TWO_GROUPS.0, TWO_GROUPS.1)?;
-    put_number(bytes.as_mut_slice(), SECOND_CONVERSION, 728);
-    for (room, fault) in [(351, Some(GroupFault::Memory)), (352, None)] {
+impl Told for Grouped {
+    fn told(&self, alloc: Global) -> Result<String, Memory> {
+        let bytes = bytes_of(alloc, self)?;
         let mut budget = Budget {
-            conversion_bytes: room,
+            text: self.2,
+            conversions: self.3,
             ..Budget::of_file()
         };
-        let answer = read_groups(rt.alloc(), bytes.as_slice(), 64, &mut budget);
-        assert_eq!(rt; answer.err(), fault);
+        let answer = read_groups(alloc, bytes.as_slice(), 64, &mut budget);
+        Ok(format!(in alloc; "{answer:?} {budget:?}")?)
     }
-    Ok(())
 }
 
 #[test]
-fn a_span_that_fails_stops_the_reader(rt: HostRuntime) -> Result<(), Fail> {
-    let bytes = file_of(rt.alloc(), TWO_GROUPS.0, TWO_GROUPS.1)?;
-    let mut budget = Budget::of_file();
-    for calls in 0..60 {
-        let mut span = span_over(bytes.as_slice(), calls, Stop::Failed);
-        let answer = read_groups_in(rt.alloc(), &mut span, 64, &mut budget);
-        assert!(rt; matches!(answer, Err(Halt::Failed)));
-        assert_eq!(rt; span.faults(), 1);
+fn files_are_told(rt: HostRuntime) -> Result<(), Memory> {
+    all_are_told(&rt, TOLD)
+}
+
+#[test]
+fn loops_are_too_many(rt: HostRuntime) -> Result<(), Memory> {
+    all_are_told(&rt, LOOPS)
+}
+
+/// The file of two groups where both channels name the conversion at 728, which has 96 bytes and refers to one of 80 bytes;
+/// and how many bytes of conversions may come.
+struct Counted(u64);
+
+impl Told for Counted {
+    fn told(&self, alloc: Global) -> Result<String, Memory> {
+        let mut bytes = file_of(alloc, TWO_GROUPS.0, TWO_GROUPS.1)?;
+        put_number(bytes.as_mut_slice(), SECOND_CONVERSION, 728);
+        let mut budget = Budget {
+            conversion_bytes: self.0,
+            ..Budget::of_file()
+        };
+        let fault = read_groups(alloc, bytes.as_slice(), 64, &mut budget).err();
+        Ok(format!(in alloc; "{fault:?}")?)
     }
-    assert_eq!(rt; budget, Budget::of_file());
-    Ok(())
+}
+
+const COUNTED: &[(Counted, &str)] = &[(Counted(351), "Some(Memory)"), (Counted(352), "None")];
+
+#[test]
+fn a_conversion_counts_for_each_channel(rt: HostRuntime) -> Result<(), Memory> {
+    all_are_told(&rt, COUNTED)
+}
+
+/// The reader of the groups.
+struct GroupReader;
+
+// Why nothing is answered, whether all may still come, and how many faults the span counts.
+impl Stopped for GroupReader {
+    fn told(&self, alloc: Global, calls: u64, stop: Stop) -> Result<String, Memory> {
+        let bytes = file_of(alloc, TWO_GROUPS.0, TWO_GROUPS.1)?;
+        let mut budget = Budget::of_file();
+        let mut span = span_over(bytes.as_slice(), calls, stop);
+        let fault = read_groups_in(alloc, &mut span, 64, &mut budget).err();
+        let left = (budget == Budget::of_file(), span.faults());
+        Ok(format!(in alloc; "{fault:?} {left:?}")?)
+    }
+}
+
+#[test]
+fn a_span_that_stops_stops_the_reader(rt: HostRuntime) -> Result<(), Memory> {
+    stops_are_told(
+        &rt,
+        &GroupReader,
+        60,
+        "Some(Failed) (true, 1)",
+        "Some(Memory) (true, 0)",
+    )
 }

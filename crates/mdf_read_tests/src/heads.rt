@@ -1,9 +1,9 @@
 use crate::files::{Piece, file_of};
 use crate::span::span_over;
+use crate::told::{Stopped, Told, all_are_told, stops_are_told};
 use mdf_head::{Head, HeadFault, History, ident, read_head, read_head_in};
 use mdf_num::{Halt, Memory, Rows, Span, Stop};
 use std::alloc::Global;
-use std::test::Fail;
 
 // The body of a header, and that of an entry of the history.
 const HEADER: [u8; 32] = [
@@ -27,43 +27,40 @@ const TX: Piece = (320, b"##TX", &[], b"changed\0");
 const WHOLE: &[Piece] = &[HD, FIRST, LAST, MD, TX];
 
 // The blocks of a file, the bytes that texts may have, and what is told: the answer, and the bytes that are left.
-const TOLD: &[(&[Piece], u64, &str)] = &[
+const TOLD: &[(Headed, &str)] = &[
     (
-        WHOLE,
-        100,
+        Headed(WHOLE, 100),
         "Ok((Head { start: 578437695752307201, zone: 60, daylight: -60, time_flags: 1, time_class: 16, flags: 3, angle: 9, distance: 9223372036854775808, comment: Xml(Bytes { items: [60, 72, 68, 99, 111, 109, 109, 101, 110, 116, 47, 62] }), first_dg: 352 }, Rows { items: [History { at: 168, time: 42, zone: 32767, daylight: -32768, flags: 2, comment: Plain(Bytes { items: [99, 104, 97, 110, 103, 101, 100] }) }, History { at: 224, time: 42, zone: 32767, daylight: -32768, flags: 2, comment: Nothing }] })) 81",
     ),
     (
-        &[(64, b"##HD", &[352, 0, 0, 0, 0, 0], &HEADER)],
-        0,
+        Headed(&[(64, b"##HD", &[352, 0, 0, 0, 0, 0], &HEADER)], 0),
         "Ok((Head { start: 578437695752307201, zone: 60, daylight: -60, time_flags: 1, time_class: 16, flags: 3, angle: 9, distance: 9223372036854775808, comment: Nothing, first_dg: 352 }, Rows { items: [] })) 0",
     ),
-    (&[], 100, "Err(Bad { at: 64, want: Hd }) 100"),
+    (Headed(&[], 100), "Err(Bad { at: 64, want: Hd }) 100"),
     (
-        &[
-            (64, b"##HD", &[352, 168, 0, 0, 0, 224], &HEADER),
-            FIRST,
-            LAST,
-            TX,
-        ],
-        100,
+        Headed(
+            &[
+                (64, b"##HD", &[352, 168, 0, 0, 0, 224], &HEADER),
+                FIRST,
+                LAST,
+                TX,
+            ],
+            100,
+        ),
         "Err(Bad { at: 224, want: Tx }) 100",
     ),
-    (WHOLE, 11, "Err(TooMany { what: Text, at: 280 }) 11"),
+    (Headed(WHOLE, 11), "Err(TooMany { what: Text, at: 280 }) 11"),
     (
-        &[HD, (168, b"##FH", &[224, 64], &ENTRY), LAST, MD],
-        100,
+        Headed(&[HD, (168, b"##FH", &[224, 64], &ENTRY), LAST, MD], 100),
         "Err(Bad { at: 64, want: Tx }) 100",
     ),
-    (WHOLE, 18, "Err(TooMany { what: Text, at: 320 }) 18"),
+    (Headed(WHOLE, 18), "Err(TooMany { what: Text, at: 320 }) 18"),
     (
-        &[HD, FIRST, (224, b"##FH", &[280, 0], &ENTRY), MD, TX],
-        100,
+        Headed(&[HD, FIRST, (224, b"##FH", &[280, 0], &ENTRY), MD, TX], 100),
         "Err(Bad { at: 280, want: Fh }) 100",
     ),
     (
-        &[HD, FIRST, (224, b"##FH", &[224, 0], &ENTRY), MD, TX],
-        100,
+        Headed(&[HD, FIRST, (224, b"##FH", &[224, 0], &ENTRY), MD, TX], 100),
         "Err(TooMany { what: Fh, at: 224 }) 100",
     ),
 ];
@@ -76,19 +73,21 @@ fn line(
     Ok(format!(in alloc; "{answer:?} {left}")?)
 }
 
-fn told(alloc: Global, pieces: &[Piece], budget: u64) -> Result<String, Memory> {
-    let file = file_of(alloc, 352, pieces)?;
-    let mut left = budget;
-    let answer = read_head(alloc, file.as_slice(), &mut left);
-    line(alloc, &answer, left)
+/// The blocks of a file, and the bytes that texts may have.
+struct Headed(&'static [Piece], u64);
+
+impl Told for Headed {
+    fn told(&self, alloc: Global) -> Result<String, Memory> {
+        let file = file_of(alloc, 352, self.0)?;
+        let mut left = self.1;
+        let answer = read_head(alloc, file.as_slice(), &mut left);
+        line(alloc, &answer, left)
+    }
 }
 
 #[test]
-fn headers_are_told(rt: HostRuntime) -> Result<(), Fail> {
-    for (pieces, budget, want) in TOLD {
-        assert_eq!(rt; told(rt.alloc(), pieces, *budget)?.as_str(), *want);
-    }
-    Ok(())
+fn headers_are_told(rt: HostRuntime) -> Result<(), Memory> {
+    all_are_told(&rt, TOLD)
 }
 
 fn line_over(
@@ -100,29 +99,29 @@ fn line_over(
     Ok(format!(in alloc; "{answer:?} {left} {faults}")?)
 }
 
-// What a reader answers over a span that stops after so many calls, and how many faults that span then counts.
-fn told_over(alloc: Global, file: &[u8], calls: u64, stop: Stop) -> Result<String, Memory> {
-    let mut span = span_over(file, calls, stop);
-    let mut left = 100;
-    let answer = read_head_in(alloc, &mut span, &mut left);
-    line_over(alloc, &answer, left, span.faults())
+/// The reader of the head and its history.
+struct HeadReader;
+
+// What is answered, what may still come, and how many faults the span then counts.
+impl Stopped for HeadReader {
+    fn told(&self, alloc: Global, calls: u64, stop: Stop) -> Result<String, Memory> {
+        let file = file_of(alloc, 352, WHOLE)?;
+        let mut span = span_over(file.as_slice(), calls, stop);
+        let mut left = 100;
+        let answer = read_head_in(alloc, &mut span, &mut left);
+        line_over(alloc, &answer, left, span.faults())
+    }
 }
 
 #[test]
-fn a_span_that_stops_stops_the_reader(rt: HostRuntime) -> Result<(), Fail> {
-    let file = file_of(rt.alloc(), 352, WHOLE)?;
-    for (stop, want) in [
-        (Stop::Failed, "Err(Failed) 100 1"),
-        (Stop::Memory, "Err(Memory) 100 0"),
-    ] {
-        for calls in 0..20 {
-            assert_eq!(rt;
-                told_over(rt.alloc(), file.as_slice(), calls, stop)?.as_str(),
-                want
-            );
-        }
-    }
-    Ok(())
+fn a_span_that_stops_stops_the_reader(rt: HostRuntime) -> Result<(), Memory> {
+    stops_are_told(
+        &rt,
+        &HeadReader,
+        20,
+        "Err(Failed) 100 1",
+        "Err(Memory) 100 0",
+    )
 }
 
 // The first 64 bytes of a file.
@@ -136,46 +135,41 @@ fn first(name: &[u8; 8], ver: u16) -> [u8; 64] {
 }
 
 // The name and the version of an identification, how many of its bytes there are, and what is told.
-const IDENTIFIED: &[(&[u8; 8], u16, usize, &str)] = &[
+const IDENTIFIED: &[(Named, &str)] = &[
     (
-        b"MDF     ",
-        410,
-        64,
+        Named(b"MDF     ", 410, 64),
         "Ok(Ident { finalized: true, ver: 410, std_flags: 33, custom_flags: 1 })",
     ),
     (
-        b"UnFinMF ",
-        419,
-        64,
+        Named(b"UnFinMF ", 419, 64),
         "Ok(Ident { finalized: false, ver: 419, std_flags: 33, custom_flags: 1 })",
     ),
     (
-        b"MDF     ",
-        400,
-        64,
+        Named(b"MDF     ", 400, 64),
         "Ok(Ident { finalized: true, ver: 400, std_flags: 33, custom_flags: 1 })",
     ),
-    (b"MDF     ", 399, 64, "Err(Version { ver: 399 })"),
-    (b"UnFinMF ", 420, 64, "Err(Version { ver: 420 })"),
-    (b"MDF     ", 0, 64, "Err(Version { ver: 0 })"),
-    (b"MDF     ", 65535, 64, "Err(Version { ver: 65535 })"),
-    (b"MDF4    ", 410, 64, "Err(NotMdf)"),
-    (b"UnFinMF\0", 410, 64, "Err(NotMdf)"),
-    (b"MDF     ", 410, 63, "Err(NotMdf)"),
-    (b"MDF     ", 410, 0, "Err(NotMdf)"),
+    (Named(b"MDF     ", 399, 64), "Err(Version { ver: 399 })"),
+    (Named(b"UnFinMF ", 420, 64), "Err(Version { ver: 420 })"),
+    (Named(b"MDF     ", 0, 64), "Err(Version { ver: 0 })"),
+    (Named(b"MDF     ", 65535, 64), "Err(Version { ver: 65535 })"),
+    (Named(b"MDF4    ", 410, 64), "Err(NotMdf)"),
+    (Named(b"UnFinMF\0", 410, 64), "Err(NotMdf)"),
+    (Named(b"MDF     ", 410, 63), "Err(NotMdf)"),
+    (Named(b"MDF     ", 410, 0), "Err(NotMdf)"),
 ];
 
-fn identified(alloc: Global, bytes: &[u8]) -> Result<String, Memory> {
-    let answer = ident(bytes);
-    Ok(format!(in alloc; "{answer:?}")?)
+/// The name and the version in a file, and how many of its first 64 bytes there are.
+struct Named(&'static [u8; 8], u16, usize);
+
+impl Told for Named {
+    fn told(&self, alloc: Global) -> Result<String, Memory> {
+        let bytes = first(self.0, self.1);
+        let answer = ident(&bytes[..bytes.len().min(self.2)]);
+        Ok(format!(in alloc; "{answer:?}")?)
+    }
 }
 
 #[test]
-fn identifications_are_told(rt: HostRuntime) -> Result<(), Fail> {
-    for (name, ver, len, want) in IDENTIFIED {
-        let bytes = first(name, *ver);
-        let end = bytes.len().min(*len);
-        assert_eq!(rt; identified(rt.alloc(), &bytes[..end])?.as_str(), *want);
-    }
-    Ok(())
+fn identifications_are_told(rt: HostRuntime) -> Result<(), Memory> {
+    all_are_told(&rt, IDENTIFIED)
 }

@@ -37,4 +37,6 @@ mod span;
 #[cfg(test)]
 mod spelled;
 #[cfg(test)]
+mod told;
+#[cfg(test)]
 mod values;

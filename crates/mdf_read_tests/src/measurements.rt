@@ -1,9 +1,9 @@
 use crate::files::{Piece, file_of, put, put_number};
+use crate::told::{Told, all_are_told};
 use mdf_model::Measurement;
 use mdf_num::{Bytes, Memory, Rows};
 use mdf_valid::read_file;
 use std::alloc::Global;
-use std::test::Fail;
 
 // A finalized file of two data groups. The first has one channel group with a master of 32 bits, and no ids. The second has
 // ids of one byte, a channel group with one channel of variable length, and the group that holds its values.
@@ -56,46 +56,53 @@ pub(crate) const FILE: [Piece; 10] = [
 ];
 
 // The numbers of 8 bytes that are changed in the file, and what is told then.
-type Row = (&'static [(usize, u64)], &'static str);
-
-const TOLD: [Row; 16] = [
+const TOLD: &[(FileWith, &str)] = &[
     (
-        &[],
+        FileWith(&[]),
         "2 0 true 2 [7, 0, 0, 0, 8, 0, 0, 0] 0 [] 2 [0, 0, 0, 0, 0, 0, 0, 0, 7, 0, 0, 0, 0, 0, 0, 0] 1 [3, 0, 0, 0, 97, 98, 99, 0, 0, 0, 0]",
     ),
-    (&[(0, 0)], "NotMdf"),
+    (FileWith(&[(0, 0)]), "NotMdf"),
     (
-        &[(0, 0x20464d6e69466e55)],
+        FileWith(&[(0, 0x20464d6e69466e55)]),
         "Unfinalized { std: 0, custom: 0 }",
     ),
-    (&[(24, 0x1a4_0000_0000)], "Version { ver: 420 }"),
+    (FileWith(&[(24, 0x1a4_0000_0000)]), "Version { ver: 420 }"),
     (
-        &[(24, 0x1a4_0000_0000), (0, 0x20464d6e69466e55)],
+        FileWith(&[(24, 0x1a4_0000_0000), (0, 0x20464d6e69466e55)]),
         "Version { ver: 420 }",
     ),
-    (&[(88, 160)], "Block { at: 160, want: Dg }"),
+    (FileWith(&[(88, 160)]), "Block { at: 160, want: Dg }"),
     // the cycle count of the first group
-    (&[(376, 3)], "Cycles { group: 0, said: 3, found: 2 }"),
     (
-        &[(376, 1)],
+        FileWith(&[(376, 3)]),
+        "Cycles { group: 0, said: 3, found: 2 }",
+    ),
+    (
+        FileWith(&[(376, 1)]),
         "2 0 false 1 [7, 0, 0, 0] 0 [] 2 [0, 0, 0, 0, 0, 0, 0, 0, 7, 0, 0, 0, 0, 0, 0, 0] 1 [3, 0, 0, 0, 97, 98, 99, 0, 0, 0, 0]",
     ),
     // and of the second, with an offset that meets no value
-    (&[(480, 3)], "Cycles { group: 1, said: 3, found: 2 }"),
-    (&[(1007, 8)], "Offset { channel: 0, row: 1, offset: 8 }"),
     (
-        &[(480, 3), (1007, 8)],
+        FileWith(&[(480, 3)]),
         "Cycles { group: 1, said: 3, found: 2 }",
     ),
     (
-        &[(376, 3), (288, 3)],
+        FileWith(&[(1007, 8)]),
+        "Offset { channel: 0, row: 1, offset: 8 }",
+    ),
+    (
+        FileWith(&[(480, 3), (1007, 8)]),
+        "Cycles { group: 1, said: 3, found: 2 }",
+    ),
+    (
+        FileWith(&[(376, 3), (288, 3)]),
         "Cycles { group: 0, said: 3, found: 2 }",
     ),
     // the id size of the second data group, and how many bits its channel has
-    (&[(288, 3)], "Layout { at: 232 }"),
-    (&[(864, 65), (968, 54)], "Layout { at: 768 }"),
-    (&[(968, 54)], "Cut { at: 22 }"),
-    (&[(984, 9)], "UnknownId { id: 9, at: 0 }"),
+    (FileWith(&[(288, 3)]), "Layout { at: 232 }"),
+    (FileWith(&[(864, 65), (968, 54)]), "Layout { at: 768 }"),
+    (FileWith(&[(968, 54)]), "Cut { at: 22 }"),
+    (FileWith(&[(984, 9)]), "UnknownId { id: 9, at: 0 }"),
 ];
 
 // The parts of a measurement: how many groups, links that were passed over, and whether the file is as the standard has it;
@@ -134,37 +141,43 @@ pub(crate) fn changed(alloc: Global, changes: &[(usize, u64)]) -> Result<Vec<u8>
     Ok(file)
 }
 
-fn told(alloc: Global, changes: &[(usize, u64)]) -> Result<String, Memory> {
-    let file = changed(alloc, changes)?;
-    match read_file(alloc, file.as_slice()) {
-        Ok(m) => parts_told(alloc, &m),
-        Err(fault) => Ok(format!(in alloc; "{fault:?}")?),
+/// The file with these numbers.
+struct FileWith(&'static [(usize, u64)]);
+
+impl Told for FileWith {
+    fn told(&self, alloc: Global) -> Result<String, Memory> {
+        let file = changed(alloc, self.0)?;
+        match read_file(alloc, file.as_slice()) {
+            Ok(m) => parts_told(alloc, &m),
+            Err(fault) => Ok(format!(in alloc; "{fault:?}")?),
+        }
     }
 }
 
 #[test]
-fn measurements_are_told(rt: HostRuntime) -> Result<(), Fail> {
-    for (changes, want) in TOLD {
-        assert_eq!(rt; told(rt.alloc(), changes)?.as_str(), want);
-    }
-    Ok(())
+fn measurements_are_told(rt: HostRuntime) -> Result<(), Memory> {
+    all_are_told(&rt, TOLD)
 }
 
 // The group, the sample, and its entries. The values of variable length are abc and nothing.
-const SAMPLES: [(u32, u64, &str); 5] = [
-    (0, 0, "[Entry { value: Unsigned(7), valid: true }]"),
-    (0, 1, "[Entry { value: Unsigned(8), valid: true }]"),
+const SAMPLES: &[(SampleOf, &str)] = &[
     (
-        1,
-        0,
+        SampleOf(0, 0),
+        "[Entry { value: Unsigned(7), valid: true }]",
+    ),
+    (
+        SampleOf(0, 1),
+        "[Entry { value: Unsigned(8), valid: true }]",
+    ),
+    (
+        SampleOf(1, 0),
         "[Entry { value: Bytes(Bytes { items: [97, 98, 99] }), valid: true }]",
     ),
     (
-        1,
-        1,
+        SampleOf(1, 1),
         "[Entry { value: Bytes(Bytes { items: [] }), valid: true }]",
     ),
-    (1, 2, "no sample"),
+    (SampleOf(1, 2), "no sample"),
 ];
 
 fn sample_told(alloc: Global, m: &Measurement, group: u32, i: u64) -> Result<String, Memory> {
@@ -176,29 +189,31 @@ fn sample_told(alloc: Global, m: &Measurement, group: u32, i: u64) -> Result<Str
     Ok(format!(in alloc; "{entries:?}")?)
 }
 
-fn sample_of(alloc: Global, group: u32, i: u64) -> Result<String, Memory> {
-    let file = changed(alloc, &[])?;
-    match read_file(alloc, file.as_slice()) {
-        Ok(m) => sample_told(alloc, &m, group, i),
-        Err(fault) => Ok(format!(in alloc; "{fault:?}")?),
+/// A group, and a sample of it.
+struct SampleOf(u32, u64);
+
+impl Told for SampleOf {
+    fn told(&self, alloc: Global) -> Result<String, Memory> {
+        let file = changed(alloc, &[])?;
+        match read_file(alloc, file.as_slice()) {
+            Ok(m) => sample_told(alloc, &m, self.0, self.1),
+            Err(fault) => Ok(format!(in alloc; "{fault:?}")?),
+        }
     }
 }
 
 #[test]
-fn samples_are_told(rt: HostRuntime) -> Result<(), Fail> {
-    for (group, i, want) in SAMPLES {
-        assert_eq!(rt; sample_of(rt.alloc(), group, i)?.as_str(), want);
-    }
-    Ok(())
+fn samples_are_told(rt: HostRuntime) -> Result<(), Memory> {
+    all_are_told(&rt, SAMPLES)
 }
 
 // The group whose records are taken away, and what is told then; a group with values of variable length needs streams.
-const EMPTIED: [(u32, &str); 2] = [
+const EMPTIED: &[(WithoutRecords, &str)] = &[
     (
-        0,
+        WithoutRecords(0),
         "2 0 true 0 [] 0 [] 2 [0, 0, 0, 0, 0, 0, 0, 0, 7, 0, 0, 0, 0, 0, 0, 0] 1 [3, 0, 0, 0, 97, 98, 99, 0, 0, 0, 0]",
     ),
-    (1, "streams are wanted"),
+    (WithoutRecords(1), "streams are wanted"),
 ];
 
 fn emptied(alloc: Global, measurement: Measurement, group: u32) -> Result<String, Memory> {
@@ -210,18 +225,20 @@ fn emptied(alloc: Global, measurement: Measurement, group: u32) -> Result<String
     parts_told(alloc, &m)
 }
 
-fn emptied_of(alloc: Global, group: u32) -> Result<String, Memory> {
-    let file = changed(alloc, &[])?;
-    match read_file(alloc, file.as_slice()) {
-        Ok(m) => emptied(alloc, m, group),
-        Err(fault) => Ok(format!(in alloc; "{fault:?}")?),
+/// A group whose records are taken away.
+struct WithoutRecords(u32);
+
+impl Told for WithoutRecords {
+    fn told(&self, alloc: Global) -> Result<String, Memory> {
+        let file = changed(alloc, &[])?;
+        match read_file(alloc, file.as_slice()) {
+            Ok(m) => emptied(alloc, m, self.0),
+            Err(fault) => Ok(format!(in alloc; "{fault:?}")?),
+        }
     }
 }
 
 #[test]
-fn a_group_is_replaced(rt: HostRuntime) -> Result<(), Fail> {
-    for (group, want) in EMPTIED {
-        assert_eq!(rt; emptied_of(rt.alloc(), group)?.as_str(), want);
-    }
-    Ok(())
+fn a_group_is_replaced(rt: HostRuntime) -> Result<(), Memory> {
+    all_are_told(&rt, EMPTIED)
 }

@@ -8,7 +8,6 @@ use mdf_group::{ChannelRow, GroupRow};
 use mdf_num::{Bytes, Memory, Rows};
 use mdf_spell::recording_head;
 use std::alloc::Global;
-use std::test::Fail;
 
 // The identification: unfinalized, version 4.10, the standard flags 33 and the custom flag 1.
 pub(crate) const IDENT: [u8; 64] = [
@@ -141,7 +140,7 @@ fn is_expected(alloc: Global) -> Result<bool, Memory> {
 }
 
 #[test]
-fn a_recording_begins_with_these_bytes(rt: HostRuntime) -> Result<(), Fail> {
+fn a_recording_begins_with_these_bytes(rt: HostRuntime) -> Result<(), Memory> {
     assert!(rt; is_expected(rt.alloc())?);
     Ok(())
 }

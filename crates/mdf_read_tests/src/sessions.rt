@@ -1,10 +1,10 @@
 use crate::files::{Piece, file_of, put, put_block};
 use crate::finalized::{IDENT as FINALIZED, VARIABLE};
 use crate::recorded::{BLOCKS, FH, IDENT, MD};
+use crate::told::{Told, all_are_told};
 use mdf_num::Memory;
 use mdf_session::{Session, read_session};
 use std::alloc::Global;
-use std::test::Fail;
 
 // The numbers 1 and 2, the number 3, a record that ends too early, and one of a group that is not there.
 const TWO: &[u8; 18] = b"\x01\x01\0\0\0\0\0\0\0\x01\x02\0\0\0\0\0\0\0";
@@ -23,74 +23,79 @@ const ALONE: Piece = (64, b"##HD", &[0, 168, 0, 0, 0, 0], &[0; 32]);
 
 // The first 64 bytes of a file, its head, its blocks of data, its size, and what it is told as: how many records its groups
 // have, how many bytes their values, the records, and the dropped links; or why it is no recording.
-const TOLD: &[(&[u8; 64], &[Piece], &[Piece], usize, &str)] = &[
-    (&IDENT, BLOCKS, &[], 769, "[0] [0] [] 0"),
+const TOLD: &[(Recorded, &str)] = &[
+    (Recorded(&IDENT, BLOCKS, &[], 769), "[0] [0] [] 0"),
     (
-        &IDENT,
-        BLOCKS,
-        &[(768, b"##DT", &[], TWO), (816, b"##DT", &[], THIRD)],
-        857,
+        Recorded(
+            &IDENT,
+            BLOCKS,
+            &[(768, b"##DT", &[], TWO), (816, b"##DT", &[], THIRD)],
+            857,
+        ),
         "[3] [0] [1, 1, 0, 0, 0, 0, 0, 0, 0, 1, 2, 0, 0, 0, 0, 0, 0, 0, 1, 3, 0, 0, 0, 0, 0, 0, 0] 0",
     ),
     (
-        FINALIZED,
-        BLOCKS,
-        &[],
-        769,
+        Recorded(FINALIZED, BLOCKS, &[], 769),
         "NotRecording { std: 0, custom: 0 }",
     ),
     (
-        &IDENT,
-        &[ALONE, FH, MD],
-        &[],
-        769,
+        Recorded(&IDENT, &[ALONE, FH, MD], &[], 769),
         "Block { at: 0, want: Dg }",
     ),
     (
-        &IDENT,
-        BLOCKS,
-        &[(768, b"##DT", &[], TWO), (816, b"#\0\0\0", &[], &[])],
-        857,
+        Recorded(
+            &IDENT,
+            BLOCKS,
+            &[(768, b"##DT", &[], TWO), (816, b"#\0\0\0", &[], &[])],
+            857,
+        ),
         "Block { at: 816, want: Dt }",
     ),
     (
-        &IDENT,
-        BLOCKS,
-        &[(768, b"##DT", &[], TWO), (816, b"##DT", &[], SHORT)],
-        857,
+        Recorded(
+            &IDENT,
+            BLOCKS,
+            &[(768, b"##DT", &[], TWO), (816, b"##DT", &[], SHORT)],
+            857,
+        ),
         "Cut { at: 18 }",
     ),
     (
-        &IDENT,
-        BLOCKS,
-        &[(768, b"##DT", &[], TWO), (816, b"##DT", &[], OTHER)],
-        857,
+        Recorded(
+            &IDENT,
+            BLOCKS,
+            &[(768, b"##DT", &[], TWO), (816, b"##DT", &[], OTHER)],
+            857,
+        ),
         "UnknownId { id: 2, at: 18 }",
     ),
     (
-        &IDENT,
-        VARIABLE,
-        &[(968, b"##DT", &[], MIXED)],
-        1025,
+        Recorded(&IDENT, VARIABLE, &[(968, b"##DT", &[], MIXED)], 1025),
         "Offset { channel: 1, row: 0, offset: 0 }",
     ),
 ];
 
-fn told(
-    alloc: Global,
-    ident: &[u8; 64],
-    head: &[Piece],
-    blocks: &[Piece],
-    size: usize,
-) -> Result<String, Memory> {
+/// The first 64 bytes of a file, its head, its blocks of data, and its size.
+struct Recorded(&'static [u8; 64], &'static [Piece], &'static [Piece], usize);
+
+// The bytes of the file.
+fn bytes_of(alloc: Global, row: &Recorded) -> Result<Vec<u8>, Memory> {
+    let Recorded(ident, head, blocks, size) = *row;
     let mut file = file_of(alloc, size, head)?;
     put(file.as_mut_slice(), 0, ident);
     for block in blocks {
         put_block(file.as_mut_slice(), block);
     }
-    match read_session(alloc, file.as_slice()) {
-        Ok(session) => parts_told(alloc, &session),
-        Err(fault) => Ok(format!(in alloc; "{fault:?}")?),
+    Ok(file)
+}
+
+impl Told for Recorded {
+    fn told(&self, alloc: Global) -> Result<String, Memory> {
+        let file = bytes_of(alloc, self)?;
+        match read_session(alloc, file.as_slice()) {
+            Ok(session) => parts_told(alloc, &session),
+            Err(fault) => Ok(format!(in alloc; "{fault:?}")?),
+        }
     }
 }
 
@@ -105,12 +110,6 @@ fn parts_told(alloc: Global, session: &Session) -> Result<String, Memory> {
 }
 
 #[test]
-fn recordings_are_read(rt: HostRuntime) -> Result<(), Fail> {
-    for (ident, head, blocks, size, want) in TOLD {
-        assert_eq!(rt;
-            told(rt.alloc(), ident, head, blocks, *size)?.as_str(),
-            *want
-        );
-    }
-    Ok(())
+fn recordings_are_read(rt: HostRuntime) -> Result<(), Memory> {
+    all_are_told(&rt, TOLD)
 }

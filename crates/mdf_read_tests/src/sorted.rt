@@ -4,11 +4,10 @@ use crate::finalized::{
 };
 use crate::measurements::{FILE, MASTER as SHORT_MASTER, TEXT};
 use crate::recorded::{FH, HD, MD};
-use mdf_model::read_measurement;
+use mdf_model::{Measurement, read_measurement};
 use mdf_num::{Bytes, Memory};
 use mdf_sorted::spell_sorted;
 use std::alloc::Global;
-use std::test::Fail;
 
 // The body of the new entry of the history, whose time is 0x1112131415161718 ns, and its comments.
 const NOW: &[u8; 16] = b"\x18\x17\x16\x15\x14\x13\x12\x11\0\0\0\0\0\0\0\0";
@@ -105,22 +104,34 @@ fn made(alloc: Global, size: usize, tables: &[&[Piece]]) -> Result<Vec<u8>, Memo
 }
 
 // The sorted file of it.
-fn sorted(alloc: Global, file: &[u8], done: Done) -> Result<Bytes, Fail> {
-    let measurement = read_measurement(alloc, file)?;
+fn spelled(alloc: Global, measurement: &Measurement, done: Done) -> Result<Bytes, Memory> {
     let now = 0x1112_1314_1516_1718;
-    Ok(match done {
-        Done::Sort => spell_sorted(alloc, &measurement, "sort", now)?,
-        Done::Concat => spell_sorted(alloc, &measurement, "concat", now)?,
-    })
+    match done {
+        Done::Sort => spell_sorted(alloc, measurement, "sort", now),
+        Done::Concat => spell_sorted(alloc, measurement, "concat", now),
+    }
+}
+
+// Whether the sorted file of it is the one of these blocks.
+fn is_sorted(
+    alloc: Global,
+    file: &[u8],
+    done: Done,
+    size: usize,
+    pieces: &[Piece],
+) -> Result<bool, Memory> {
+    let want = made(alloc, size, &[pieces])?;
+    let Ok(measurement) = read_measurement(alloc, file) else {
+        return Ok(false);
+    };
+    Ok(spelled(alloc, &measurement, done)?.as_slice() == want.as_slice())
 }
 
 #[test]
-fn measurements_are_sorted(rt: HostRuntime) -> Result<(), Fail> {
-    for (size, tables, done, long, pieces) in FILES {
-        let file = made(rt.alloc(), size, tables)?;
-        let bytes = sorted(rt.alloc(), file.as_slice(), done)?;
-        let want = made(rt.alloc(), long, &[pieces])?;
-        assert!(rt; bytes.as_slice() == want.as_slice());
+fn measurements_are_sorted(rt: HostRuntime) -> Result<(), Memory> {
+    for (size, tables, done, long, pieces) in &FILES {
+        let file = made(rt.alloc(), *size, *tables)?;
+        assert!(rt; is_sorted(rt.alloc(), file.as_slice(), *done, *long, *pieces)?);
     }
     Ok(())
 }
@@ -176,16 +187,18 @@ const APART: &[Piece] = &[
     (1480, b"##DT", &[], b"\x07\x08"),
 ];
 
+// Whether the sorted file of a recording of these records is the one.
+fn is_apart(alloc: Global, content: &'static [u8]) -> Result<bool, Memory> {
+    match finalized(alloc, TWO_GROUPS, (&[2, 2], &[0, 0], content, &[]))? {
+        Some(file) => is_sorted(alloc, file.as_slice(), Done::Sort, 1512, APART),
+        None => Ok(false),
+    }
+}
+
 #[test]
-fn recordings_in_six_orders_have_one_sorted_file(rt: HostRuntime) -> Result<(), Fail> {
-    let want = made(rt.alloc(), 1512, &[APART])?;
-    for content in ORDERS {
-        let file = finalized(rt.alloc(), TWO_GROUPS, (&[2, 2], &[0, 0], content, &[]))?;
-        let Some(file) = file else {
-            return Err("not finalized".into());
-        };
-        let bytes = sorted(rt.alloc(), file.as_slice(), Done::Sort)?;
-        assert!(rt; bytes.as_slice() == want.as_slice());
+fn recordings_in_six_orders_have_one_sorted_file(rt: HostRuntime) -> Result<(), Memory> {
+    for content in &ORDERS {
+        assert!(rt; is_apart(rt.alloc(), *content)?, "{content:?}");
     }
     Ok(())
 }

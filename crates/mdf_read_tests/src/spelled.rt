@@ -5,7 +5,6 @@ use mdf_group::{DataRow, GroupRow, read_groups};
 use mdf_num::{Bytes, Memory};
 use mdf_tree::{Counted, place_group};
 use std::alloc::Global;
-use std::test::Fail;
 
 // The bodies of a channel group, of a group of values, and of two channels, the second of variable length.
 const GROUP: &[u8; 32] =
@@ -87,10 +86,12 @@ fn written(alloc: Global, row: &DataRow) -> Result<Bytes, Memory> {
 }
 
 // Whether the rows that are read of the tree are written as it stands, so that they are read back equal.
-fn is_kept(alloc: Global) -> Result<bool, Fail> {
+fn is_kept(alloc: Global) -> Result<bool, Memory> {
     let file = file_of(alloc, 1464, TREE)?;
     let mut budget = Budget::of_file();
-    let rows = read_groups(alloc, file.as_slice(), 64, &mut budget)?;
+    let Ok(rows) = read_groups(alloc, file.as_slice(), 64, &mut budget) else {
+        return Ok(false);
+    };
     match rows.get(0) {
         Some(row) => Ok(written(alloc, row)?.as_slice() == file.as_slice()),
         None => Ok(false),
@@ -100,7 +101,7 @@ fn is_kept(alloc: Global) -> Result<bool, Fail> {
 #[test]
 fn a_tree_with_sources_and_nested_conversions_is_written_as_it_was_read(
     rt: HostRuntime,
-) -> Result<(), Fail> {
+) -> Result<(), Memory> {
     assert!(rt; is_kept(rt.alloc())?);
     Ok(())
 }

@@ -1,44 +1,75 @@
-use mdf_num::Bytes;
+use crate::told::{Told, all_are_told, is_told};
+use mdf_num::{Bytes, Memory};
 use mdf_vlsd::{Streams, ValueStream};
-use std::test::Fail;
+use std::alloc::Global;
 
-#[test]
-fn offsets_and_stream_of_variable_values(rt: HostRuntime) -> Result<(), Fail> {
-    let mut stream = ValueStream::empty(rt.alloc());
-    assert_eq!(rt; stream.push(b"")?, 0);
-    assert_eq!(rt; stream.push(b"ab")?, 4);
-    assert_eq!(rt; stream.len(), 10);
-    assert_eq!(rt; stream.push(b"c")?, 10);
-    assert_eq!(rt;
-        stream.bytes(),
-        b"\0\0\0\0\x02\0\0\0ab\x01\0\0\0c".as_slice()
-    );
-    assert_eq!(rt; stream.value_at(0), Some(b"".as_slice()));
-    assert_eq!(rt; stream.value_at(4), Some(b"ab".as_slice()));
-    assert_eq!(rt; stream.value_at(10), Some(b"c".as_slice()));
-    let mut streams = Streams::empty(rt.alloc());
+// The offsets of three values, and the stream of them.
+fn three_values(alloc: Global) -> Result<([u64; 3], ValueStream), Memory> {
+    let mut stream = ValueStream::empty(alloc);
+    let first = stream.push(b"")?;
+    let second = stream.push(b"ab")?;
+    let third = stream.push(b"c")?;
+    Ok(([first, second, third], stream))
+}
+
+// Those, what stands at the offsets, and how long the stream is in a list.
+fn three_told(alloc: Global) -> Result<String, Memory> {
+    let (offsets, stream) = three_values(alloc)?;
+    let values = offsets_told(alloc, &stream, offsets)?;
+    let mut streams = Streams::empty(alloc);
     streams.push(stream)?;
-    assert_eq!(rt; streams.get(0).map(|stream| stream.len()), Some(15));
-    Ok(())
+    let len = streams.get(0).map(|stream| stream.len());
+    Ok(format!(in alloc; "{values} {len:?}")?)
+}
+
+fn offsets_told(alloc: Global, stream: &ValueStream, offsets: [u64; 3]) -> Result<String, Memory> {
+    let values = [
+        stream.value_at(offsets[0]),
+        stream.value_at(offsets[1]),
+        stream.value_at(offsets[2]),
+    ];
+    Ok(format!(in alloc; "{offsets:?} {:?} {values:?}", stream.bytes())?)
 }
 
 #[test]
-fn offsets_where_no_value_stands(rt: HostRuntime) -> Result<(), Fail> {
-    // The second value is said to have one byte more than the stream has behind its length.
-    let bytes = Bytes::from_slice(rt.alloc(), b"\x01\0\0\0a\x02\0\0\0b")?;
-    let stream = ValueStream::from_bytes(bytes);
-    assert!(rt; stream.value_at(0).is_some());
-    for offset in [5, 7, 10, 11, 1 << 32, u64::MAX - 3, u64::MAX] {
-        assert!(rt; stream.value_at(offset).is_none(), "at {offset}");
+fn offsets_and_stream_of_variable_values(rt: HostRuntime) -> Result<(), Memory> {
+    is_told(
+        &rt,
+        three_told(rt.alloc()),
+        "[0, 4, 10] [0, 0, 0, 0, 2, 0, 0, 0, 97, 98, 1, 0, 0, 0, 99] [Some([]), Some([97, 98]), Some([99])] Some(15)",
+    )
+}
+
+/// A stream, and an offset in it.
+struct Offset(&'static [u8], u64);
+
+impl Told for Offset {
+    fn told(&self, alloc: Global) -> Result<String, Memory> {
+        let stream = ValueStream::from_bytes(Bytes::from_slice(alloc, self.0)?);
+        Ok(format!(in alloc; "{:?}", stream.value_at(self.1))?)
     }
-    Ok(())
 }
 
+// The second value is said to have one byte more than the stream has behind its length.
+const SHORT: &[u8] = b"\x01\0\0\0a\x02\0\0\0b";
+
+// A length near the largest, and an empty value one byte behind it.
+const LONG: &[u8] = b"\xff\xff\xff\xffa\0\0\0\0";
+
+const OFFSETS: &[(Offset, &str)] = &[
+    (Offset(SHORT, 0), "Some([97])"),
+    (Offset(SHORT, 5), "None"),
+    (Offset(SHORT, 7), "None"),
+    (Offset(SHORT, 10), "None"),
+    (Offset(SHORT, 11), "None"),
+    (Offset(SHORT, 1 << 32), "None"),
+    (Offset(SHORT, u64::MAX - 3), "None"),
+    (Offset(SHORT, u64::MAX), "None"),
+    (Offset(LONG, 0), "None"),
+    (Offset(LONG, 5), "Some([])"),
+];
+
 #[test]
-fn a_length_near_the_largest(rt: HostRuntime) -> Result<(), Fail> {
-    let bytes = Bytes::from_slice(rt.alloc(), b"\xff\xff\xff\xffa\0\0\0\0")?;
-    let stream = ValueStream::from_bytes(bytes);
-    assert!(rt; stream.value_at(0).is_none());
-    assert!(rt; stream.value_at(5).is_some());
-    Ok(())
+fn offsets_where_no_value_stands(rt: HostRuntime) -> Result<(), Memory> {
+    all_are_told(&rt, OFFSETS)
 }

@@ -1,0 +1,56 @@
+//! Tables of tests: of each row what is told is compared with the text beside it.
+
+use mdf_num::{Memory, Stop};
+use std::alloc::Global;
+use std::process::Abort;
+
+/// A row of a table, which tells as text what comes of it.
+pub(crate) trait Told {
+    fn told(&self, alloc: Global) -> Result<String, Memory>;
+}
+
+/// What is read over a span that stops.
+pub(crate) trait Stopped {
+    /// What is told where the span stops after so many calls.
+    fn told(&self, alloc: Global, calls: u64, stop: Stop) -> Result<String, Memory>;
+}
+
+/// Asserts that this is told.
+pub(crate) fn is_told<R: Abort>(
+    rt: &R,
+    told: Result<String, Memory>,
+    want: &str,
+) -> Result<(), Memory> {
+    assert_eq!(rt; told?.as_str(), want);
+    Ok(())
+}
+
+/// Asserts of each row that it tells the text beside it.
+pub(crate) fn all_are_told<R, T: Told>(rt: &R, rows: &[(T, &str)]) -> Result<(), Memory>
+where
+    R: AllocGlobal + Abort,
+{
+    for (i, (row, want)) in rows.iter().enumerate() {
+        let told = row.told(rt.alloc())?;
+        assert_eq!(rt; told.as_str(), *want, "row {i}");
+    }
+    Ok(())
+}
+
+/// Asserts what is told where a span fails, and where it wants memory, after each number of calls below this.
+pub(crate) fn stops_are_told<R, T: Stopped>(
+    rt: &R,
+    row: &T,
+    calls: u64,
+    failed: &str,
+    memory: &str,
+) -> Result<(), Memory>
+where
+    R: AllocGlobal + Abort,
+{
+    for call in 0..calls {
+        is_told(rt, row.told(rt.alloc(), call, Stop::Failed), failed)?;
+        is_told(rt, row.told(rt.alloc(), call, Stop::Memory), memory)?;
+    }
+    Ok(())
+}
