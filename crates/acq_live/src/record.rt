@@ -1,7 +1,7 @@
 //! A recording that readers may look at, with all sources at work.
 ghost use Rattle.std.specs.Prelude.{ℕ, ◌≡◌, ◌≤◌, ◌<◌, [], length, map, vec_len, All, IfOk, IfErr};
 ghost use Rattle.std.specs.List.{slice_index_or};
-ghost use Rattle.acq_run.specs.Ran.{AllRan, AllMayFeed};
+ghost use Rattle.acq_run.specs.Ran.{AllRan, AllMayFeed, AreOwned};
 ghost use Rattle.acq_run.specs.Works.{HasDriven};
 ghost use Rattle.acq_run.specs.Workers.{IsReady};
 ghost use Rattle.acq_live.specs.Watching.{Watches};
@@ -76,6 +76,7 @@ pub fn record_live<R: Threads + Wait + Sync, D: Disk + Send, F: Feed + Send + Dr
     requires followers { length watchers.items ≡ length feeds.items }
     requires follow { All (λ watcher. Watches watcher book.terms.which []) watchers.items }
     ensures ran { IfOk result (λ done. AllRan owners.now done.book 0 (map F.left feeds.items) done.all.items) }
+    ensures owned { IfOk result (λ done. AreOwned owners.now (vec_len feeds) done.book.history) }
     ensures terms { IfOk result (λ done. done.book.terms ≡ book.terms) }
     ensures followers { IfOk result (λ done. length done.watchers.items ≡ length feeds.items) }
     ensures follow { IfOk result (λ done. All (λ watcher. Watches watcher book.terms.which done.book.history) done.watchers.items) }

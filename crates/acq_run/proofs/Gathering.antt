@@ -65,11 +65,12 @@ ran_of basis book terms table number seat closed feds accepted (SessionFull held
     ∙ of_book basis book terms table number seat closed feds accepted (SessionFull held size limit) driven)
     (subst (λ (t : Terms). IsOver t seat.know.seen driven.drives.rest held size limit) (ap (λ (b : Basis). b.terms) same ∙ sym terms) ends.0)
 ran_of basis book terms table number seat closed feds accepted (Stopped mark) driven =
-    ran_all basis book terms table number seat closed feds accepted (Stopped mark) driven (closed.knows driven.drives.ends.1)
+    ran_all basis book terms table number seat closed feds accepted (Stopped mark) driven
+    (closed.knows driven.drives.ends.1, (seat.know.kept, closed.kept, driven.drives.ends.0))
 ran_of basis book terms table number seat closed feds accepted (DiskFault before after) driven =
-    ran_all basis book terms table number seat closed feds accepted (DiskFault before after) driven (closed.knows driven.drives.ends.1)
+    ran_all basis book terms table number seat closed feds accepted (DiskFault before after) driven (closed.knows driven.drives.ends.1, driven.drives.ends.0)
 ran_of basis book terms table number seat closed feds accepted Memory driven =
-    ran_all basis book terms table number seat closed feds accepted Memory driven driven.drives.ends
+    ran_all basis book terms table number seat closed feds accepted Memory driven driven.drives.ends.1
 
 -- as many seats as sources
 new_seats-length : (table : TableId) (basis : Basis) (first count : ℕ) → length (new_seats table basis first count) ≡ count

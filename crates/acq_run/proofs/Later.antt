@@ -1,6 +1,7 @@
 -- Sources that have worked, in a book that was flushed since.
 use Rattle.std.proofs.Common.{◌≡◌, ℕ, suc, List, [], ◌∷◌, sym, ◌∙◌, ap, subst, append-nil}
 use mathlib.Core.List.{IsPrefix}
+use Rattle.mdf_gate.proofs.Carrying.{prefix_trans}
 use Rattle.mdf_layout.specs.History.{source_samples}
 use Rattle.mdf_layout.specs.declared.sample.Sample.{Sample}
 use Rattle.book_owned.specs.Account.{Account, Steps, Terms}
@@ -20,8 +21,9 @@ module _ {D V : Type 0} (old new : Account D V) (steps : Steps old new []) where
   ends_later before rest Running ends = absurd ends
   ends_later before rest Done ends = ends
   ends_later before rest (SessionFull held size limit) ends = subst (λ (t : Terms). IsOver t before rest held size limit) (sym steps.terms) ends
-  ends_later before rest (Stopped mark) ends = steps.stopped ends
-  ends_later before rest (DiskFault less more) ends = steps.stopped ends
+  ends_later before rest (Stopped mark) ends =
+      (steps.stopped ends.0, (ends.1.0, prefix_trans ends.1.0 old.marks new.marks ends.1.1 steps.marks, ends.1.2))
+  ends_later before rest (DiskFault less more) ends = (steps.stopped ends.0, ends.1)
   ends_later before rest Memory ends = ends
 
   ran_later : (owners : List ℕ) (source : ℕ) (feds : List Fed) (driven : Driven) → Ran owners old source feds driven → Ran owners new source feds driven

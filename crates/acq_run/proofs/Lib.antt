@@ -1,4 +1,4 @@
 mod Doing
-mod Owning
+pub mod Owning
 pub mod Gathering
 pub mod Later

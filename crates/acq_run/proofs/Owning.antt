@@ -1,5 +1,6 @@
 -- Two lists of owners that are looked up alike.
-use Rattle.std.proofs.Common.{◌≡◌, ℕ, List, [], ◌∷◌, ◌++◌, take, refl, sym, ◌∙◌, ap}
+use Rattle.std.proofs.Common.{◌≡◌, ◌<◌, ℕ, List, [], ◌∷◌, ◌++◌, take, refl, sym, ◌∙◌, ap, arith, All}
+use Rattle.std.proofs.lemmas.List.Elements.{All-weaker}
 use Rattle.std.specs.Prelude.{◌==◌, cond, slice_index}
 use Rattle.mdf_layout.specs.History.{source_samples}
 use Rattle.mdf_layout.specs.declared.sample.Sample.{Sample}
@@ -51,3 +52,9 @@ module _ (table owners : List ℕ) (alike : (group : ℕ) → slice_index table 
     all_own = sym (source_same ran.before) ∙ ran.all_own ∙ source_same book.history;
     ends = ran.ends;
   }
+
+  pub owned_same : (sources count : ℕ) → sources ≡ count → (history : List Sample) → All (λ (s : Sample). slice_index table s.group < sources) history
+      → All (λ (s : Sample). slice_index owners s.group < count) history
+  owned_same sources count same history owned =
+      All-weaker (λ (s : Sample). slice_index table s.group < sources) (λ (s : Sample). slice_index owners s.group < count)
+      (λ sample less. omega (arith, alike sample.group, same, less)) history owned

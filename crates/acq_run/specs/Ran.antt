@@ -1,9 +1,12 @@
 -- What the sources of a recording have done, when all have worked and the book is one again.
-use Rattle.std.specs.Prelude.{ℕ, suc, ◌≡◌, ◌<◌, ◌^◌, true, List, [], ◌∷◌, ◌++◌, length, All}
+use Rattle.std.specs.Prelude.{ℕ, suc, ◌≡◌, ◌<◌, ◌^◌, true, List, [], ◌∷◌, ◌++◌, length, slice_index, All}
 use mathlib.Core.List.{IsPrefix}
+use Rattle.mdf_format.specs.Cause.{Rose}
 use Rattle.mdf_layout.specs.History.{source_samples}
 use Rattle.mdf_layout.specs.declared.sample.Sample.{Sample}
 use Rattle.book_owned.specs.Account.{Account, Terms}
+use Rattle.book_owned.specs.Marks.{last_mark}
+use Rattle.book_owned.specs.declared.mark.Mark.{Mark}
 use Rattle.acq_run.specs.Tasks.{samples_of, MayFeed}
 use Rattle.acq_run.specs.Works.{AreMarked, IsNext, IsOver}
 use Rattle.acq_run.specs.declared.tasks.Fed.{Fed}
@@ -11,13 +14,17 @@ use Rattle.acq_run.specs.declared.work.Driven.{Driven}
 use Rattle.acq_run.specs.declared.work.Ended.{Ended}
 use Rattle.acq_run.specs.declared.work.Ended.TheVariants.{Running, Done, SessionFull, Stopped, DiskFault, Memory}
 
+-- these marks begin with some of which this is the last
+abbrev pub WasLast : List Mark → Mark → Type 0
+WasLast marks mark = (kept : List Mark) × IsPrefix kept marks × (mark ≡ last_mark kept)
+
 -- why a source's work ended behind this history, by the book and what is left of the feed
 abbrev pub EndsIn : {D V : Type 0} → Account D V → List Sample → List Fed → Ended → Type 0
 EndsIn book before rest Running = ⊥
 EndsIn book before rest Done = rest ≡ []
 EndsIn book before rest (SessionFull held size limit) = IsOver book.terms before rest held size limit
-EndsIn book before rest (Stopped mark) = book.stopped ≡ true
-EndsIn book before rest (DiskFault less more) = book.stopped ≡ true
+EndsIn book before rest (Stopped mark) = (book.stopped ≡ true) × WasLast book.marks mark
+EndsIn book before rest (DiskFault less more) = (book.stopped ≡ true) × Rose less more
 EndsIn book before rest Memory = (sample : Sample) × IsNext rest sample
 
 -- A source has worked: some of what its feed had was done, and just those samples are its own in the history. It ended behind
@@ -45,3 +52,7 @@ abbrev pub AllMayFeed : List ℕ → Terms → ℕ → List (List Fed) → Type 
 AllMayFeed owners terms source [] = Unit {0}
 AllMayFeed owners terms source (feds ∷ feeds) =
     (All (MayFeed owners terms source) feds × (length feds < 2 ^ 64)) × AllMayFeed owners terms (suc source) feeds
+
+-- one of so many sources owns the group of each sample
+abbrev pub AreOwned : List ℕ → ℕ → List Sample → Type 0
+AreOwned owners sources history = All (λ sample. slice_index owners sample.group < sources) history

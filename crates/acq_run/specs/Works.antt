@@ -1,5 +1,5 @@
 -- What the work of a source does to its seat.
-use Rattle.std.specs.Prelude.{ℕ, ◌≡◌, ◌+◌, ◌≤◌, ◌<◌, true, List, [], ◌∷◌, ◌++◌, length, take}
+use Rattle.std.specs.Prelude.{ℕ, ◌≡◌, ◌+◌, ◌≤◌, ◌<◌, Bool, true, false, List, [], ◌∷◌, ◌++◌, length, take}
 use mathlib.Core.List.{IsPrefix}
 use Rattle.mdf_format.specs.Cause.{Rose}
 use Rattle.mdf_layout.specs.History.{source_samples}
@@ -8,6 +8,7 @@ use Rattle.mdf_layout.specs.declared.sample.Sample.{Sample}
 use Rattle.book_owned.specs.Account.{Terms}
 use Rattle.book_owned.specs.Marks.{last_mark}
 use Rattle.book_owned.specs.declared.mark.Mark.{Mark}
+use Rattle.book_shared.specs.Basis.{holding}
 use Rattle.book_shared.specs.Told.{HasMark}
 use Rattle.book_shared.specs.Place.{Place, own_part}
 use Rattle.book_shared.specs.declared.view.View.{View}
@@ -47,6 +48,10 @@ pub record IsOver (terms : Terms) (history : List Sample) (rest : List Fed) (hel
   pub limit_is : limit ≡ terms.session_limit
   pub over : limit < held + size
 
+-- the seat's last turn found the book stopped, or not
+abbrev pub Found : View → Bool → Type 0
+Found u stopped = (history : List Sample) × (marks : List Mark) × (u.last ≡ holding history marks stopped)
+
 -- why a source's work ended, by what its seat knows and what is left of its feed. All that was accepted of the source had
 -- been seen then.
 abbrev pub Ends : View → ℕ → List Fed → Ended → Type 0
@@ -54,9 +59,9 @@ Ends u source rest Running = ⊥
 Ends u source rest Done = rest ≡ []
 Ends u source rest (SessionFull held size limit) =
     IsOver u.basis.terms u.seen rest held size limit × (source_samples u.basis.owners u.seen source ≡ own_part u.mine)
-Ends u source rest (Stopped mark) = (mark ≡ last_mark u.kept) × (u.knows ≡ true)
-Ends u source rest (DiskFault before after) = Rose before after × (u.knows ≡ true)
-Ends u source rest Memory = (sample : Sample) × IsNext rest sample
+Ends u source rest (Stopped mark) = (mark ≡ last_mark u.kept) × (u.knows ≡ true) × Found u true
+Ends u source rest (DiskFault before after) = Rose before after × (u.knows ≡ true) × Found u false
+Ends u source rest Memory = (u.knows ≡ false) × ((sample : Sample) × IsNext rest sample)
 
 -- the seat has seen and kept what it had, and more, knows of a stop where it knew, and is at the same book
 pub record IsLater (v u : View) : Type 0 where

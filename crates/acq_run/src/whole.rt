@@ -1,7 +1,7 @@
 //! A recording from the book that begins it to the book that has it, with all sources at work in between.
 ghost use Rattle.std.specs.Prelude.{◌≡◌, ◌≤◌, ◌<◌, [], length, map, vec_len, IfOk, IfErr};
 ghost use Rattle.std.specs.Vec.{vec_capacity};
-ghost use Rattle.acq_run.specs.Ran.{AllRan, AllMayFeed};
+ghost use Rattle.acq_run.specs.Ran.{AllRan, AllMayFeed, AreOwned};
 ghost use Rattle.acq_run.specs.Workers.{driven_of};
 
 use crate::nobody::{Nobody, drive_all};
@@ -103,6 +103,7 @@ pub fn record_all<R: Threads + Wait + Sync, D: Disk + Send, F: Feed + Send + Dro
     requires owners { length owners.now ≤ 64 }
     requires may { AllMayFeed owners.now book.terms 0 (map F.left feeds.items) }
     ensures ran { IfOk result (λ done. AllRan owners.now done.0 0 (map F.left feeds.items) done.1.items) }
+    ensures owned { IfOk result (λ done. AreOwned owners.now (vec_len feeds) done.0.history) }
     ensures terms { IfOk result (λ done. done.0.terms ≡ book.terms) }
     ensures back { IfErr result (λ refused. refused.1 ≡ book) }
 {

@@ -211,8 +211,8 @@ module _ {D N : Type 0} (tells : DiskOf D) (shows : ViewOf Audience N)
     limit_is = r.ends.limit_is ∙ ap (λ (t : Terms). t.session_limit) terms_are;
     over = r.ends.over;
   }
-  source_comes durable_all s tasks n (work.Stopped mark) r = absurd (true≢false (sym r.ends ∙ durable_all.0))
-  source_comes durable_all s tasks n (work.DiskFault before after) r = absurd (true≢false (sym r.ends ∙ durable_all.0))
+  source_comes durable_all s tasks n (work.Stopped mark) r = absurd (true≢false (sym r.ends.0 ∙ durable_all.0))
+  source_comes durable_all s tasks n (work.DiskFault before after) r = absurd (true≢false (sym r.ends.0 ∙ durable_all.0))
   source_comes durable_all s tasks n work.Memory r = (r.ends.0, next_there s tasks (record { accepted = n; ended = work.Memory }) r r.ends.0 r.ends.1)
 
   ends_are : IsAllDurable flushed → AreEnds script left (ends_of ran.all)

@@ -316,8 +316,8 @@ was_stopped : {D V : Type 0} (book : Account D V) (before : List Sample) (rest :
 was_stopped book before rest ended.Running stop ends = absurd stop
 was_stopped book before rest ended.Done stop ends = absurd stop
 was_stopped book before rest (ended.SessionFull held size limit) stop ends = absurd stop
-was_stopped book before rest (ended.Stopped mark) stop ends = ends
-was_stopped book before rest (ended.DiskFault less more) stop ends = ends
+was_stopped book before rest (ended.Stopped mark) stop ends = ends.0
+was_stopped book before rest (ended.DiskFault less more) stop ends = ends.0
 was_stopped book before rest ended.Memory stop ends = absurd stop
 
 pub stopped_told : {D V : Type 0} (owners : List ℕ) (book : Account D V) (lists : List (List Task)) (accepted : List ℕ) (result : Result Unit End) → RanAll owners book lists accepted result

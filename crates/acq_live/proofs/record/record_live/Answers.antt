@@ -3,6 +3,7 @@ use Rattle.std.proofs.lemmas.List.{length-map}
 use Rattle.std.specs.Prelude.{All}
 use Rattle.acq_run.specs.Ran.{AllMayFeed}
 use Rattle.acq_run.specs.Workers.{IsReady}
+use Rattle.acq_run.proofs.Owning.{owned_same}
 use Rattle.acq_run.proofs.Gathering.{all_follow, all_ready, have_worked, seated, seats_count, worked_count, worked_follow, worked_numbers, worked_of_table, worked_ran}
 use Rattle.acq_live.specs.Watching.{Watches}
 use Rattle.acq_live.specs.Stays.{watches_on}
@@ -109,3 +110,10 @@ part_all-requires-clause-room g c =
       omega (arith, count, long, c.in-Ok-with_capacity-2.ensures.capacity, c.len-count.ensures, c.args.feeds.ok.0),
       omega (arith, count, long, c.in-Ok-with_capacity-3.ensures.capacity, c.len-count.ensures, c.args.feeds.ok.0),
     )
+
+pub returns-clause-owned : goal.returns-clause-owned
+returns-clause-owned g c =
+    let basis = c.in_ok-shared.shared.basis in
+    let shared = c.in_ok-shared.ensures.shared in
+    owned_same basis.owners c.args.owners.now shared.owners_are 0 basis.sources _
+    (omega (arith, shared.sources_is, c.len-count.ensures, c.args.feeds.ok.0, c.requires.sources.1)) c.close.result.history c.close.ensures.sources

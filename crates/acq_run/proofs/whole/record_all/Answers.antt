@@ -2,6 +2,7 @@ use Rattle.std.proofs.Common.{map, sym, subst, arith}
 use Rattle.std.specs.Prelude.{All}
 use Rattle.acq_run.specs.Ran.{AllMayFeed}
 use Rattle.acq_run.specs.Workers.{IsReady}
+use Rattle.acq_run.proofs.Owning.{owned_same}
 use Rattle.acq_run.proofs.Gathering.{all_ready, have_worked, seated, seats_count, worked_numbers, worked_of_table, worked_ran}
 use Rattle.acq_run.proofs.whole.record_all.Goals as goal
 
@@ -54,3 +55,10 @@ returns-clause-ran g c =
     c.seat_all.ensures.seats c.in_ok-shared.ensures.seats c.seat_all.ensures.feeds c.as_mut_slice.ensures.value c.drive_all.auto.workers c.as_mut_slice.ensures.len c.drive_all.ensures.driven in
     worked_ran left book.table book.basis lent news _ c.args.feeds.items worked c.args.owners.now shared.owners_are c.close.result c.close.ensures.terms
     c.part_all.new.seats.items c.part_all.new.all.items c.part_all.ensures.seats c.part_all.ensures.driven c.close.ensures.seats
+
+pub returns-clause-owned : goal.returns-clause-owned
+returns-clause-owned g c =
+    let basis = c.in_ok-shared.shared.basis in
+    let shared = c.in_ok-shared.ensures.shared in
+    owned_same basis.owners c.args.owners.now shared.owners_are 0 basis.sources _
+    (omega (arith, shared.sources_is, c.len-count.ensures, c.args.feeds.ok.0, c.requires.sources.1)) c.close.result.history c.close.ensures.sources
