@@ -20,7 +20,7 @@ not_more seen samples shown is =
     let begins : IsPrefix samples seen = subst (λ list. IsPrefix list seen) (sym is) (prefix_take shown seen) in
     omega (arith, ap length begins.1, length-append samples begins.0)
 
-module _ (watcher : Watcher) (which shown : ℕ) (seen : List Sample) (note : Note) (is : Watches watcher which seen) (note_is : note.samples ≡ take shown seen) (told : ℕ) (told_is : told ≡ max watcher.told (length note.samples)) where
+module _ (watcher : Watcher) (which shown : ℕ) (seen : List Sample) (note : Note) (is : Watches watcher which seen) (note_is : note.samples ≡ take shown seen) (told flushes : ℕ) (told_is : told ≡ max watcher.told (length note.samples)) where
   within : told ≤ length seen
   within = omega (arith, told_is, is.within, not_more seen note.samples shown note_is)
 
@@ -36,7 +36,7 @@ module _ (watcher : Watcher) (which shown : ℕ) (seen : List Sample) (note : No
         subst (λ list. IsPrefix list now.samples) (sym same) (prefix_trans (take watcher.told seen) before.samples now.samples (is.knows before there) looks.seen))
         (cases_lt watcher.told (length note.samples))
 
-    watches_reader : Watches (record { reader = Some now; told = told }) which seen
+    watches_reader : Watches (record { reader = Some now; told = told; flushes = flushes }) which seen
     watches_reader = record {
       within = within;
       of_view = ap suc looks.which ∙ subst (λ (r : Option Known). IsOf r which) there is.of_view;
@@ -44,7 +44,7 @@ module _ (watcher : Watcher) (which shown : ℕ) (seen : List Sample) (note : No
     }
 
   -- it has learnt a note of what is shown
-  pub watches_noted : (before now : Option Known) → watcher.reader ≡ before → AnyLooks before note now → Watches (record { reader = now; told = told }) which seen
+  pub watches_noted : (before now : Option Known) → watcher.reader ≡ before → AnyLooks before note now → Watches (record { reader = now; told = told; flushes = flushes }) which seen
   watches_noted None now there looks = record {
     within = within;
     of_view = subst (λ (r : Option Known). IsOf r which) (there ∙ sym looks) is.of_view;
@@ -53,9 +53,14 @@ module _ (watcher : Watcher) (which shown : ℕ) (seen : List Sample) (note : No
   watches_noted (Some before) None there looks = absurd looks
   watches_noted (Some before) (Some now) there looks = watches_reader before now there looks
 
+-- the count of flushes says nothing of what was shown
+pub watches_counted : (watcher : Watcher) (which : ℕ) (seen : List Sample) (flushes : ℕ) → Watches watcher which seen
+    → Watches (record { reader = watcher.reader; told = watcher.told; flushes = flushes }) which seen
+watches_counted watcher which seen flushes is = record { within = is.within; of_view = is.of_view; knows = is.knows }
+
 -- readers that know nothing, when nothing was seen
 pub watch_first : (which : ℕ) (readers : List Known) → All (λ reader. reader ≡ record { samples = []; which = which; refusals = 0 }) readers
-    → All (λ (watcher : Watcher). Watches watcher (suc which) []) (map (λ (reader : Known). record { reader = Some reader; told = 0 }) readers)
+    → All (λ (watcher : Watcher). Watches watcher (suc which) []) (map (λ (reader : Known). record { reader = Some reader; told = 0; flushes = 0 }) readers)
 watch_first which [] each k d within = absurd (omega (arith, within))
 watch_first which (reader ∷ readers) each zero d within = record {
   within = omega arith;

@@ -1,9 +1,9 @@
--- A reader knows what was shown when its source has seen more.
-use Rattle.std.proofs.Common.{◌≡◌, ℕ, List, ◌++◌, length, take, sym, ◌∙◌, ap, subst, arith, length-append}
+-- A reader knows what was shown when its source has seen more, and what it was told adds up.
+use Rattle.std.proofs.Common.{◌≡◌, ◌+◌, ℕ, List, ◌++◌, length, take, sym, ◌∙◌, ap, subst, arith, length-append}
 use Rattle.std.proofs.lemmas.List.{take-append-le}
 use mathlib.Core.List.{IsPrefix}
 use Rattle.mdf_layout.specs.declared.sample.Sample.{Sample}
-use Rattle.acq_live.specs.Watching.{Watches}
+use Rattle.acq_live.specs.Watching.{Hears, Watches}
 use Rattle.acq_live.specs.declared.watcher.Watcher.{Watcher}
 
 pub watches_on : (watcher : Watcher) (which : ℕ) (seen more : List Sample) → Watches watcher which seen → IsPrefix seen more → Watches watcher which more
@@ -14,3 +14,9 @@ watches_on watcher which seen more is (rest, begins) =
       of_view = is.of_view;
       knows = λ reader there. subst (λ told. IsPrefix told reader.samples) same (is.knows reader there);
     }
+
+pub hears_none : (watcher : Watcher) → Hears watcher 0 watcher
+hears_none watcher = (omega arith, λ less. omega arith)
+
+pub hears_more : (first second third : Watcher) (n m : ℕ) → Hears first n second → Hears second m third → Hears first (n + m) third
+hears_more first second third n m one two = (omega (arith, one.0, two.0), λ less. omega (arith, two.1 less, one.1 (omega (arith, less, two.1 less))))

@@ -1,5 +1,5 @@
 -- What the reader of a source has seen.
-use Rattle.std.specs.Prelude.{ℕ, suc, ◌≡◌, ◌≤◌, List, length, take, Option, Some, None, IsSomeAnd}
+use Rattle.std.specs.Prelude.{ℕ, suc, ◌≡◌, ◌≤◌, ◌+◌, ◌^◌, ◌<◌, List, length, take, Option, Some, None, IsSomeAnd}
 use Rattle.std.specs.Option.{ForSome}
 use mathlib.Core.List.{IsPrefix}
 use Rattle.mdf_layout.specs.declared.sample.Sample.{Sample}
@@ -17,6 +17,11 @@ pub record Watches (watcher : Watcher) (which : ℕ) (seen : List Sample) : Type
   pub within : watcher.told ≤ length seen
   pub of_view : IsOf watcher.reader which
   pub knows : ForSome watcher.reader (λ reader. IsPrefix (take watcher.told seen) reader.samples)
+
+-- From the one to the other just so many flushes were told, unless the count stands at the last value.
+abbrev pub Hears : Watcher → ℕ → Watcher → Type 0
+Hears before flushes now =
+    (now.flushes ≤ before.flushes + flushes) × (now.flushes + 1 < 2 ^ 64 → now.flushes ≡ before.flushes + flushes)
 
 -- a reader has learnt a note, and knows all that it knew
 pub record Looks (before : Known) (note : Note) (now : Known) : Type 0 where

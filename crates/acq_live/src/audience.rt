@@ -23,7 +23,7 @@ pub enum Audience {
 /// So many watchers with no reader.
 fn without_readers(alloc: Global, count: u8) -> Result<Vec<Watcher>, Memory>
     ensures count { IfOk result (λ made. length made.items ≡ count) }
-    ensures made { IfOk result (λ made. All (λ watcher. watcher ≡ record { reader = None; told = 0 }) made.items) }
+    ensures made { IfOk result (λ made. All (λ watcher. watcher ≡ record { reader = None; told = 0; flushes = 0 }) made.items) }
 {
     let mut made = Vec::new(alloc);
     for _ in 0..count {
@@ -34,7 +34,7 @@ fn without_readers(alloc: Global, count: u8) -> Result<Vec<Watcher>, Memory>
 
 /// A watcher for each reader, in order.
 fn with_readers(alloc: Global, readers: Vec<LiveReader>) -> Result<Vec<Watcher>, Memory>
-    ensures { IfOk result (λ made. made.items ≡ map (λ reader. record { reader = Some reader; told = 0 }) readers.items) }
+    ensures { IfOk result (λ made. made.items ≡ map (λ reader. record { reader = Some reader; told = 0; flushes = 0 }) readers.items) }
 {
     let mut made = Vec::new(alloc);
     for reader in readers {

@@ -1,10 +1,10 @@
 //! A recording that readers may look at, with all sources at work.
 ghost use Rattle.std.specs.Prelude.{ℕ, ◌≡◌, ◌≤◌, ◌<◌, [], length, map, vec_len, All, IfOk, IfErr};
 ghost use Rattle.std.specs.List.{slice_index_or};
-ghost use Rattle.acq_run.specs.Ran.{AllRan, AllMayFeed, AreOwned};
-ghost use Rattle.acq_run.specs.Works.{HasDriven};
+ghost use Rattle.acq_run.specs.Ran.{AllHeard, AllRan, AllMayFeed, AreOwned};
+ghost use Rattle.acq_run.specs.Works.{HasDriven, HasHeard};
 ghost use Rattle.acq_run.specs.Workers.{IsReady};
-ghost use Rattle.acq_live.specs.Watching.{Watches};
+ghost use Rattle.acq_live.specs.Watching.{Hears, Watches};
 
 use crate::{Audience, Watcher};
 use acq_run::{Driven, Feed, Worker, drive, part_all, seat_all};
@@ -32,6 +32,9 @@ pub fn drive_all_live<R: Threads + Wait + Sync, D: Disk + Send, F: Feed + Send>(
     ensures follow { (k : ℕ) (d : _) → k < length workers.old
         → Watches (slice_index_or workers.new k d).follower (slice_index_or workers.new k d).seat.know.basis.terms.which
         (slice_index_or workers.new k d).seat.know.seen }
+    ensures heard { (k : ℕ) (d : _) → k < length workers.old
+        → HasHeard Hears (slice_index_or workers.old k d).seat (slice_index_or workers.new k d).seat (F.left (slice_index_or workers.old k d).feed)
+        (slice_index_or workers.new k d).accepted (slice_index_or workers.new k d).ended (slice_index_or workers.old k d).follower (slice_index_or workers.new k d).follower }
 {
     let threads = workers.len().max(1);
     thread::for_each_mut(
@@ -43,6 +46,8 @@ pub fn drive_all_live<R: Threads + Wait + Sync, D: Disk + Send, F: Feed + Send>(
             requires follows { Watches worker.old.follower worker.old.seat.know.basis.terms.which worker.old.seat.know.seen }
             ensures driven { HasDriven worker.old.seat worker.new.seat (F.left worker.old.feed) worker.new.accepted worker.new.ended }
             ensures follows { Watches worker.new.follower worker.new.seat.know.basis.terms.which worker.new.seat.know.seen }
+            ensures heard { HasHeard Hears worker.old.seat worker.new.seat (F.left worker.old.feed) worker.new.accepted worker.new.ended
+                worker.old.follower worker.new.follower }
         { drive(rt, book, worker) },
     );
 }
@@ -79,6 +84,7 @@ pub fn record_live<R: Threads + Wait + Sync, D: Disk + Send, F: Feed + Send + Dr
     ensures owned { IfOk result (λ done. AreOwned owners.now (vec_len feeds) done.book.history) }
     ensures terms { IfOk result (λ done. done.book.terms ≡ book.terms) }
     ensures followers { IfOk result (λ done. length done.watchers.items ≡ length feeds.items) }
+    ensures heard { IfOk result (λ done. AllHeard Hears owners.now done.book 0 (map F.left feeds.items) done.all.items watchers.items done.watchers.items) }
     ensures follow { IfOk result (λ done. All (λ watcher. Watches watcher book.terms.which done.book.history) done.watchers.items) }
     ensures back { IfErr result (λ refused. refused.1 ≡ book) }
 {

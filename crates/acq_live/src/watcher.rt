@@ -1,18 +1,20 @@
-ghost use Rattle.std.specs.Prelude.{ℕ, suc, ◌≡◌, List, length, All};
+ghost use Rattle.std.specs.Prelude.{ℕ, suc, ◌≡◌, ◌≤◌, List, length, take, All, IfSome};
 ghost use Rattle.std.specs.Option.{ForSome};
 ghost use Rattle.mdf_layout.specs.declared.sample.Sample.{Sample};
-ghost use Rattle.acq_live.specs.Watching.{AnyLooks, Looks, Watches, counted};
+ghost use Rattle.acq_live.specs.Audience.{tells_of};
+ghost use Rattle.acq_live.specs.Watching.{AnyLooks, Hears, Looks, Watches, counted};
 
 use crate::Audience;
 use acq_run::Follower;
 use book_view::{LiveReader, Told};
 
-/// The reader of a source, where the recording is looked at live, and how many samples were shown at the source's flushes so
-/// far, at most.
+/// The reader of a source, where the recording is looked at live, how many samples were shown at the source's flushes so far,
+/// at most, and how many flushes those were, up to the last value of the type.
 #[derive(Drop)]
 pub struct Watcher {
     pub(crate) reader: Option<LiveReader>,
     pub(crate) told: u64,
+    pub(crate) flushes: u64,
 }
 
 /// The reader when it has learnt the note, taken a view and left it. Where the view was refused it knows what the note tells
@@ -62,7 +64,7 @@ fn first_reader(watchers: Vec<Watcher>) -> Option<LiveReader>
     ensures { (which : ℕ) (seen : List Sample) → All (λ watcher. Watches watcher which seen) watchers.items → ForSome result (λ reader. suc reader.which ≡ which) }
 {
     match watchers.into_iter().next() {
-        Some(Watcher { reader, told: _ }) => reader,
+        Some(Watcher { reader, .. }) => reader,
         None => None,
     }
 }
@@ -83,21 +85,37 @@ pub fn last_look(watchers: Vec<Watcher>, note: Option<Told>) -> Option<u64>
 impl Watcher {
     /// A watcher that no flush has told anything.
     pub(crate) fn new(reader: Option<LiveReader>) -> Watcher
-        ensures { result ≡ record { reader = reader; told = 0 } }
+        ensures { result ≡ record { reader = reader; told = 0; flushes = 0 } }
     {
-        Watcher { reader, told: 0 }
+        Watcher {
+            reader,
+            told: 0,
+            flushes: 0,
+        }
     }
 }
 
 impl Follower<Audience> for Watcher {
-    ghost use Rattle.acq_live.specs.Watching.{Watches};
-    ghost use Rattle.acq_live.specs.Stays.{watches_on};
+    ghost use Rattle.acq_live.specs.Watching.{Hears, Watches};
+    ghost use Rattle.acq_live.specs.Stays.{hears_none, hears_more, watches_on};
 
     ghost follows = { Watches };
 
+    ghost hears = { Hears };
+
     ghost stays = { watches_on };
 
-    fn follow(&mut self, _shown: u64, note: Option<Told>) {
+    ghost hears_none = { hears_none };
+
+    ghost hears_more = { hears_more };
+
+    fn follow(&mut self, _shown: u64, note: Option<Told>)
+        requires { (which : ℕ) × (seen : List Sample) × Watches self.old which seen × tells_of note which (take _shown seen) }
+        ensures follows { (which : ℕ) (seen : List Sample) → Watches self.old which seen → tells_of note which (take _shown seen) → Watches self.new which seen }
+        ensures heard { Hears self.old 1 self.new }
+        ensures told { IfSome note (λ note. length note.samples ≤ self.new.told) }
+    {
+        self.flushes = self.flushes.saturating_add(1);
         if let Some(note) = note {
             self.told = self.told.max(note.count());
             self.reader = any_looks(self.reader.take(), note);

@@ -10,8 +10,8 @@ use Rattle.book_shared.specs.Basis.{Basis}
 use Rattle.book_shared.specs.Place.{Place, own_part}
 use Rattle.book_shared.specs.Told.{HasMark}
 use Rattle.book_shared.specs.declared.view.View.{View}
-use Rattle.acq_run.specs.Tasks.{samples_of, Feeds, IsTask, MayFeed}
-use Rattle.acq_run.specs.Works.{AreMarked, IsMarkedAt, IsLater, Does, Ends, HasDriven, IsSameSeat}
+use Rattle.acq_run.specs.Tasks.{flushes_of, samples_of, Feeds, IsTask, MayFeed}
+use Rattle.acq_run.specs.Works.{AreMarked, IsMarkedAt, IsLater, Does, Ends, HasDriven, HasHeard, IsSameSeat}
 use Rattle.acq_run.specs.declared.tasks.Fed.{Fed}
 use Rattle.acq_run.specs.declared.tasks.Fed.TheVariants as fed
 use Rattle.acq_run.specs.declared.work.Ended.{Ended}
@@ -22,6 +22,12 @@ samples_of-append [] ys = refl
 samples_of-append (fed.Sample sample ∷ xs) ys = ap (λ s. sample ∷ s) (samples_of-append xs ys)
 samples_of-append (fed.Flush ∷ xs) ys = samples_of-append xs ys
 samples_of-append (fed.End ∷ xs) ys = samples_of-append xs ys
+
+flushes_of-append : (xs ys : List Fed) → flushes_of (xs ++ ys) ≡ flushes_of xs + flushes_of ys
+flushes_of-append [] ys = omega arith
+flushes_of-append (fed.Sample sample ∷ xs) ys = flushes_of-append xs ys
+flushes_of-append (fed.Flush ∷ xs) ys = omega (arith, flushes_of-append xs ys)
+flushes_of-append (fed.End ∷ xs) ys = flushes_of-append xs ys
 
 -- marks stay where samples and marks come behind
 mark_stays : (marks more : List Mark) (through : ℕ) → IsPrefix marks more → HasMark marks through → HasMark more through
@@ -191,3 +197,38 @@ module _ (old mid : Place) (feds left : List Fed) (n : ℕ) (has : HasDone old m
       ends = refl;
     };
   }
+
+-- what a source was driven to so far, and its follower was told of each flush
+pub record HasTold {L : Type 0} (hears : L → ℕ → L → Type 0) (old new : Place) (feds left : List Fed) (accepted : ℕ) (follower follower' : L) : Type 0 where
+  pub done : HasDone old new feds left accepted
+  pub heard : hears follower (flushes_of done.done) follower'
+
+pub told_first : {L : Type 0} (hears : L → ℕ → L → Type 0) (none : (l : L) → hears l 0 l) (follower : L) (seat : Place) (feds : List Fed)
+    → All (MayFeed seat.know.basis.owners seat.know.basis.terms seat.number) feds → HasTold hears seat seat feds feds 0 follower follower
+unfolding done_first
+told_first hears none follower seat feds may = record { done = done_first seat feds may; heard = none follower }
+
+module _ {L : Type 0} (hears : L → ℕ → L → Type 0) (more : (first second third : L) (n m : ℕ) → hears first n second → hears second m third → hears first (n + m) third)
+    (old mid : Place) (feds left : List Fed) (n : ℕ) (first second : L) (has : HasTold hears old mid feds left n first second) where
+  module _ (new : Place) (seat : IsSameSeat mid new) (third : L) where
+    pub told_on : (task : Fed) (later : List Fed) (m : ℕ) → Feeds left task later → IsTask task → Does mid.know new.know mid.number (task ∷ []) m
+        → hears second (flushes_of (task ∷ [])) third → HasTold hears old new feds later (n + m) first third
+    unfolding done_on
+    told_on task later m feeds is does told = record {
+      done = done_on old mid feds left n has.done new seat task later m feeds is does;
+      heard = subst (λ k. hears first k third) (sym (flushes_of-append has.done.done (task ∷ [])))
+          (more first second third (flushes_of has.done.done) (flushes_of (task ∷ [])) has.heard told);
+    }
+
+    pub heard_stopped : (task : Fed) (later : List Fed) (how : Ended) → Feeds left task later → IsTask task → Does mid.know new.know mid.number [] 0
+        → ((rest : List Fed) → Ends new.know new.number (task ∷ rest) how) → third ≡ second → HasHeard hears old new feds n how first third
+    unfolding stopped_at
+    heard_stopped task later how feeds is does ends same = record {
+      driven = stopped_at old mid feds left n has.done new seat task later how feeds is does ends;
+      heard = subst (hears first (flushes_of (has.done.done ++ []))) (sym same)
+          (subst (λ feds. hears first (flushes_of feds) second) (sym (append-nil has.done.done)) has.heard);
+    }
+
+  pub heard_all : (later : List Fed) → Feeds left fed.End later → HasHeard hears old mid feds n Done first second
+  unfolding all_done
+  heard_all later feeds = record { driven = all_done old mid feds left n has.done later feeds; heard = has.heard }

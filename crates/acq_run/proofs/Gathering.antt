@@ -52,7 +52,7 @@ module _ {D V : Type 0} (basis : Basis) (book : Account D V) (terms : book.terms
   ran_all : EndsIn book book.history driven.drives.rest how → Ran basis.owners book number feds (record { accepted = accepted; ended = how })
   ran_all ends = ran_with book.history (prefix_self book.history) refl ends
 
-ran_of : {D V : Type 0} (basis : Basis) (book : Account D V) → book.terms ≡ basis.terms → (table : TableId) (number : ℕ) (seat : Place) → Closed basis book seat
+pub ran_of : {D V : Type 0} (basis : Basis) (book : Account D V) → book.terms ≡ basis.terms → (table : TableId) (number : ℕ) (seat : Place) → Closed basis book seat
     → (feds : List Fed) (accepted : ℕ) (how : Ended) → HasDriven (new_seat table basis number) seat feds accepted how
     → Ran basis.owners book number feds (record { accepted = accepted; ended = how })
 ran_of basis book terms table number seat closed feds accepted Running driven = absurd driven.drives.ends
@@ -71,6 +71,18 @@ ran_of basis book terms table number seat closed feds accepted (DiskFault before
     ran_all basis book terms table number seat closed feds accepted (DiskFault before after) driven (closed.knows driven.drives.ends.1, driven.drives.ends.0)
 ran_of basis book terms table number seat closed feds accepted Memory driven =
     ran_all basis book terms table number seat closed feds accepted Memory driven driven.drives.ends.1
+
+-- what is said to be done of a source is what its work did
+pub done_of : {D V : Type 0} (basis : Basis) (book : Account D V) (terms : book.terms ≡ basis.terms) (table : TableId) (number : ℕ) (seat : Place) (closed : Closed basis book seat)
+    (feds : List Fed) (accepted : ℕ) (how : Ended) (driven : HasDriven (new_seat table basis number) seat feds accepted how)
+    → (ran_of basis book terms table number seat closed feds accepted how driven).done ≡ driven.drives.done
+unfolding ran_of ran_all ran_with
+done_of basis book terms table number seat closed feds accepted Running driven = absurd driven.drives.ends
+done_of basis book terms table number seat closed feds accepted Done driven = refl
+done_of basis book terms table number seat closed feds accepted (SessionFull held size limit) driven = refl
+done_of basis book terms table number seat closed feds accepted (Stopped mark) driven = refl
+done_of basis book terms table number seat closed feds accepted (DiskFault before after) driven = refl
+done_of basis book terms table number seat closed feds accepted Memory driven = refl
 
 -- as many seats as sources
 new_seats-length : (table : TableId) (basis : Basis) (first count : ℕ) → length (new_seats table basis first count) ≡ count
@@ -92,11 +104,11 @@ module _ {F L : Type 0} (left : F → List Fed) (table : TableId) (basis : Basis
   followers_of workers = map (λ (w : Worker F L). w.follower) workers
 
   -- the seats at the beginning, one by one
-  first_seat : (first : ℕ) (worker : Worker F L) (workers : List (Worker F L)) → seats_of (worker ∷ workers) ≡ new_seats table basis first (length (worker ∷ workers))
+  pub first_seat : (first : ℕ) (worker : Worker F L) (workers : List (Worker F L)) → seats_of (worker ∷ workers) ≡ new_seats table basis first (length (worker ∷ workers))
       → worker.seat ≡ new_seat table basis first
   first_seat first worker workers is = ap (λ (seats : List Place). get_or seats 0 worker.seat) is
 
-  later_seats : (first : ℕ) (worker : Worker F L) (workers : List (Worker F L)) → seats_of (worker ∷ workers) ≡ new_seats table basis first (length (worker ∷ workers))
+  pub later_seats : (first : ℕ) (worker : Worker F L) (workers : List (Worker F L)) → seats_of (worker ∷ workers) ≡ new_seats table basis first (length (worker ∷ workers))
       → seats_of workers ≡ new_seats table basis (suc first) (length workers)
   later_seats first worker workers is = ap (λ (seats : List Place). drop 1 seats) is
 

@@ -1,4 +1,5 @@
 mod Doing
 pub mod Owning
 pub mod Gathering
+pub mod Telling
 pub mod Later

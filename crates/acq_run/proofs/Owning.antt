@@ -53,6 +53,11 @@ module _ (table owners : List ℕ) (alike : (group : ℕ) → slice_index table 
     ends = ran.ends;
   }
 
+  pub done_same : {D V : Type 0} (book : Account D V) (feds : List Fed) (driven : Driven) (ran : Ran table book source feds driven)
+      → (ran_same book feds driven ran).done ≡ ran.done
+  unfolding ran_same
+  done_same book feds driven ran = refl
+
   pub owned_same : (sources count : ℕ) → sources ≡ count → (history : List Sample) → All (λ (s : Sample). slice_index table s.group < sources) history
       → All (λ (s : Sample). slice_index owners s.group < count) history
   owned_same sources count same history owned =

@@ -7,7 +7,7 @@ use Rattle.mdf_layout.specs.declared.sample.Sample.{Sample}
 use Rattle.book_owned.specs.Account.{Account, Terms}
 use Rattle.book_owned.specs.Marks.{last_mark}
 use Rattle.book_owned.specs.declared.mark.Mark.{Mark}
-use Rattle.acq_run.specs.Tasks.{samples_of, MayFeed}
+use Rattle.acq_run.specs.Tasks.{flushes_of, samples_of, MayFeed}
 use Rattle.acq_run.specs.Works.{AreMarked, IsNext, IsOver}
 use Rattle.acq_run.specs.declared.tasks.Fed.{Fed}
 use Rattle.acq_run.specs.declared.work.Driven.{Driven}
@@ -46,6 +46,14 @@ abbrev pub AllRan : {D V : Type 0} → List ℕ → Account D V → ℕ → List
 AllRan owners book source [] [] = Unit {0}
 AllRan owners book source (feds ∷ feeds) (driven ∷ all) = Ran owners book source feds driven × AllRan owners book (suc source) feeds all
 AllRan owners book source _ _ = ⊥
+
+-- So have they, and from each follower to what came of it just so many flushes were told as were done of its source.
+abbrev pub AllHeard : {D V L : Type 0} → (L → ℕ → L → Type 0) → List ℕ → Account D V → ℕ → List (List Fed) → List Driven → List L → List L → Type 0
+AllHeard hears owners book source [] [] [] [] = Unit {0}
+AllHeard hears owners book source (feds ∷ feeds) (driven ∷ all) (first ∷ followers) (last ∷ followers') =
+    ((ran : Ran owners book source feds driven) × hears first (flushes_of ran.done) last)
+    × AllHeard hears owners book (suc source) feeds all followers followers'
+AllHeard hears owners book source _ _ _ _ = ⊥
 
 -- the sources from this one on may hand in all that these feeds have
 abbrev pub AllMayFeed : List ℕ → Terms → ℕ → List (List Fed) → Type 0

@@ -1,5 +1,5 @@
 -- What a feed hands in.
-use Rattle.std.specs.Prelude.{ℕ, ◌≡◌, ◌≤◌, List, [], ◌∷◌, slice_index}
+use Rattle.std.specs.Prelude.{ℕ, suc, ◌≡◌, ◌≤◌, List, [], ◌∷◌, slice_index}
 use Rattle.mdf_layout.specs.Record.{SampleFits, encoded_size}
 use Rattle.mdf_layout.specs.declared.sample.Sample.{Sample}
 use Rattle.book_owned.specs.Account.{Terms}
@@ -30,6 +30,13 @@ samples_of [] = []
 samples_of (fed.Sample sample ∷ items) = sample ∷ samples_of items
 samples_of (fed.Flush ∷ items) = samples_of items
 samples_of (fed.End ∷ items) = samples_of items
+
+-- how many flushes are among these
+abbrev pub flushes_of : List Fed → ℕ
+flushes_of [] = 0
+flushes_of (fed.Sample sample ∷ items) = flushes_of items
+flushes_of (fed.Flush ∷ items) = suc (flushes_of items)
+flushes_of (fed.End ∷ items) = flushes_of items
 
 -- the source may append the sample to a book of these terms: it owns the sample's group, the sample is one of that group's
 -- layout, and its record has room in an empty block

@@ -12,7 +12,7 @@ use Rattle.book_shared.specs.Basis.{holding}
 use Rattle.book_shared.specs.Told.{HasMark}
 use Rattle.book_shared.specs.Place.{Place, own_part}
 use Rattle.book_shared.specs.declared.view.View.{View}
-use Rattle.acq_run.specs.Tasks.{samples_of}
+use Rattle.acq_run.specs.Tasks.{flushes_of, samples_of}
 use Rattle.acq_run.specs.declared.tasks.Fed.{Fed}
 use Rattle.acq_run.specs.declared.tasks.Fed.TheVariants as fed
 use Rattle.acq_run.specs.declared.work.Ended.{Ended}
@@ -94,3 +94,8 @@ pub record IsSameSeat (old new : Place) : Type 0 where
 pub record HasDriven (old new : Place) (feds : List Fed) (accepted : ℕ) (how : Ended) : Type 0 where
   pub seat : IsSameSeat old new
   pub drives : Drives old.know new.know old.number feds accepted how
+
+-- So did a source's work, and from the one follower to the other just so many flushes were told as were done.
+pub record HasHeard {L : Type 0} (hears : L → ℕ → L → Type 0) (old new : Place) (feds : List Fed) (accepted : ℕ) (how : Ended) (follower follower' : L) : Type 0 where
+  pub driven : HasDriven old new feds accepted how
+  pub heard : hears follower (flushes_of driven.drives.done) follower'

@@ -1,7 +1,7 @@
 //! How a source works.
 ghost use Rattle.std.specs.Prelude.{◌≡◌, List, [], ◌∷◌, IfOk, IfErr};
-ghost use Rattle.acq_run.specs.Tasks.{IsTask, MayFeed};
-ghost use Rattle.acq_run.specs.Works.{Does, Drives, Ends, HasDriven, IsSameSeat};
+ghost use Rattle.acq_run.specs.Tasks.{IsTask, MayFeed, flushes_of};
+ghost use Rattle.acq_run.specs.Works.{Does, Drives, Ends, HasDriven, HasHeard, IsSameSeat};
 ghost use Rattle.acq_run.specs.Workers.{IsReady};
 ghost use Rattle.acq_run.specs.declared.tasks.Fed.{Fed};
 
@@ -31,6 +31,8 @@ fn perform<R: Threads + Wait + Sync, D: Disk, V: Shown, L: Follower<V>>(
     ensures ended { IfErr result (λ ended. Does seat.old.know seat.new.know seat.old.number [] 0
         × ((later : List Fed) → Ends seat.new.know seat.new.number (task ∷ later) ended)) }
     ensures follows { L.follows follower.new seat.new.know.basis.terms.which seat.new.know.seen }
+    ensures heard { IfOk result (λ _. L.hears follower.old (flushes_of (task ∷ [])) follower.new) }
+    ensures unheard { IfErr result (λ _. follower.new ≡ follower.old) }
 {
     match task {
         Fed::Sample(sample) => match book.append(rt, seat, sample) {
@@ -71,6 +73,7 @@ pub fn drive_with<R: Threads + Wait + Sync, D: Disk, V: Shown, F: Feed, L: Follo
     requires follows { L.follows follower.old seat.old.know.basis.terms.which seat.old.know.seen }
     ensures driven { HasDriven seat.old seat.new (F.left feed.old) result.accepted result.ended }
     ensures follows { L.follows follower.new seat.new.know.basis.terms.which seat.new.know.seen }
+    ensures heard { HasHeard L.hears seat.old seat.new (F.left feed.old) result.accepted result.ended follower.old follower.new }
 {
     let mut accepted = 0;
     for _ in rt.forever() {
@@ -101,6 +104,8 @@ pub fn drive<R: Threads + Wait + Sync, D: Disk, V: Shown, F: Feed, L: Follower<V
     requires follows { L.follows worker.old.follower worker.old.seat.know.basis.terms.which worker.old.seat.know.seen }
     ensures driven { HasDriven worker.old.seat worker.new.seat (F.left worker.old.feed) worker.new.accepted worker.new.ended }
     ensures follows { L.follows worker.new.follower worker.new.seat.know.basis.terms.which worker.new.seat.know.seen }
+    ensures heard { HasHeard L.hears worker.old.seat worker.new.seat (F.left worker.old.feed) worker.new.accepted worker.new.ended
+        worker.old.follower worker.new.follower }
 {
     let Driven { accepted, ended } = drive_with(
         rt,

@@ -21,7 +21,13 @@ pub struct Nobody;
 impl Follower<NoView> for Nobody {
     ghost follows = { λ follower which seen. Unit {0} };
 
+    ghost hears = { λ first flushes second. Unit {0} };
+
     ghost stays = { λ follower which seen more is begins. tt };
+
+    ghost hears_none = { λ follower. tt };
+
+    ghost hears_more = { λ first second third n m one two. tt };
 
     fn follow(&mut self, _shown: u64, _note: ()) {}
 }

@@ -5,5 +5,5 @@ use Rattle.acq_live.proofs.audience.with_readers.Given as goal
 abbrev pub invariant-loop-reader : goal.invariant-loop-reader
 invariant-loop-reader l = record {
   parts : l.yielded ++ l.reader-iterator.rest.items ≡ l.fn.readers.items;
-  made : l.made.items ≡ map (λ reader. record { reader = Some reader; told = 0 }) l.yielded;
+  made : l.made.items ≡ map (λ reader. record { reader = Some reader; told = 0; flushes = 0 }) l.yielded;
 }

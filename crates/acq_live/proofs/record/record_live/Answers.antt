@@ -5,7 +5,8 @@ use Rattle.acq_run.specs.Ran.{AllMayFeed}
 use Rattle.acq_run.specs.Workers.{IsReady}
 use Rattle.acq_run.proofs.Owning.{owned_same}
 use Rattle.acq_run.proofs.Gathering.{all_follow, all_ready, have_worked, seated, seats_count, worked_count, worked_follow, worked_numbers, worked_of_table, worked_ran}
-use Rattle.acq_live.specs.Watching.{Watches}
+use Rattle.acq_run.proofs.Telling.{worked_heard}
+use Rattle.acq_live.specs.Watching.{Hears, Watches}
 use Rattle.acq_live.specs.Stays.{watches_on}
 use Rattle.acq_live.proofs.record.record_live.Goals as goal
 
@@ -92,6 +93,22 @@ returns-clause-follow g c =
     c.seat_all.ensures.seats c.in_ok-shared.ensures.seats c.seat_all.ensures.feeds c.as_mut_slice.ensures.value c.drive_all_live.auto.workers c.as_mut_slice.ensures.len c.drive_all_live.ensures.driven in
     worked_follow left book.table book.basis lent news _ c.args.feeds.items worked Watches watches_on c.close.result c.args.book.terms shared.terms_are
     c.part_all.new.seats.items c.part_all.new.followers.items c.part_all.ensures.seats c.part_all.ensures.followers c.close.ensures.seats c.drive_all_live.ensures.follow
+
+pub returns-clause-heard : goal.returns-clause-heard
+returns-clause-heard g c =
+    let left = g.F.Feed.left in
+    let book = c.in_ok-shared.shared in
+    let shared = c.in_ok-shared.ensures.shared in
+    let lent = c.as_mut_slice.result.now in
+    let news = c.drive_all_live.new.workers in
+    let worked = have_worked left book.table book.basis c.seat_all.new.workers.items lent news c.seat_all.new.workers.len _ c.in_ok-shared.seats.items c.args.feeds.items
+    c.seat_all.ensures.seats c.in_ok-shared.ensures.seats c.seat_all.ensures.feeds c.as_mut_slice.ensures.value c.drive_all_live.auto.workers c.as_mut_slice.ensures.len c.drive_all_live.ensures.driven in
+    worked_heard left Hears book.table book.basis c.args.owners.now shared.owners_are c.close.result c.close.ensures.terms
+    c.seat_all.new.workers.items lent news _ _ c.in_ok-shared.seats.items c.args.feeds.items c.args.watchers.items
+    c.seat_all.ensures.seats c.in_ok-shared.ensures.seats c.seat_all.ensures.feeds c.seat_all.ensures.followers c.as_mut_slice.ensures.value worked.after_is
+    c.drive_all_live.auto.workers c.drive_all_live.ensures.heard
+    c.part_all.new.seats.items c.part_all.new.all.items c.part_all.new.followers.items c.part_all.ensures.seats c.part_all.ensures.driven c.part_all.ensures.followers
+    c.close.ensures.seats
 
 pub part_all-requires-clause-room : goal.part_all-requires-clause-room
 part_all-requires-clause-room g c =

@@ -1,27 +1,28 @@
 use Rattle.std.proofs.Common.{◌∙◌, arith}
-use Rattle.acq_run.proofs.Doing.{all_done, done_first, done_on, few_more, next_may, stopped_at, task_of}
+use Rattle.acq_run.proofs.Doing.{few_more, heard_all, heard_stopped, next_may, task_of, told_first, told_on}
 use Rattle.acq_run.proofs.driving.drive_with.Goals as goal
 
 pub loop-init : goal.loop-init
-loop-init g c = record { done = done_first c.args.seat.now (g.F.Feed.left c.args.feed.now) c.requires.ready.fits; follows = c.requires.follows }
+loop-init g c = record {
+  told = told_first g.L.Follower.hears g.met.L.Follower.hears_none c.args.follower.now c.args.seat.now (g.F.Feed.left c.args.feed.now) c.requires.ready.fits;
+  follows = c.requires.follows;
+}
 
-pub returns-in-End-clause-driven : goal.returns-in-End-clause-driven
-returns-in-End-clause-driven g c =
-    all_done c.args.seat.now c.loop.seat (g.F.Feed.left c.args.feed.now) (g.F.Feed.left c.loop.feed) c.loop.accepted c.loop.invariant.done
-    (g.F.Feed.left c.next-in-loop.new.self) c.in-End.ensures
-
-pub returns-in-End-clause-follows : goal.returns-in-End-clause-follows
-returns-in-End-clause-follows g c = c.loop.invariant.follows
+pub returns-in-End : goal.returns-in-End
+returns-in-End g c =
+    let all = heard_all g.L.Follower.hears g.met.L.Follower.hears_more c.args.seat.now c.loop.seat (g.F.Feed.left c.args.feed.now) (g.F.Feed.left c.loop.feed) c.loop.accepted
+    c.args.follower.now c.loop.follower c.loop.invariant.told (g.F.Feed.left c.next-in-loop.new.self) c.in-End.ensures in
+    record { driven = all.driven; follows = c.loop.invariant.follows; heard = all }
 
 pub perform-requires-clause-table : goal.perform-requires-clause-table
-perform-requires-clause-table g c κs within = c.loop.invariant.done.seat.table_is ∙ c.requires.ready.table_is
+perform-requires-clause-table g c κs within = c.loop.invariant.told.done.seat.table_is ∙ c.requires.ready.table_is
 
 pub perform-requires-clause-fits : goal.perform-requires-clause-fits
 perform-requires-clause-fits g c κs within =
     let left = g.F.Feed.left c.loop.feed in
     let later = g.F.Feed.left c.next-in-loop.new.self in
     let task = c.next-in-loop.result in
-    next_may c.args.seat.now c.loop.seat (g.F.Feed.left c.args.feed.now) left c.loop.accepted c.loop.invariant.done task later c.next-in-loop.ensures
+    next_may c.args.seat.now c.loop.seat (g.F.Feed.left c.args.feed.now) left c.loop.accepted c.loop.invariant.told.done task later c.next-in-loop.ensures
     (task_of left task later c.next-in-loop.ensures c.in_default.not-End)
 
 pub perform-requires-clause-follows : goal.perform-requires-clause-follows
@@ -34,7 +35,7 @@ overflow_add-accepted g c =
     let task = c.next-in-loop.result in
     omega (
       arith,
-      few_more c.args.seat.now c.loop.seat (g.F.Feed.left c.args.feed.now) left c.loop.accepted c.loop.invariant.done c.perform.new.seat c.in-Ok.ensures.seat
+      few_more c.args.seat.now c.loop.seat (g.F.Feed.left c.args.feed.now) left c.loop.accepted c.loop.invariant.told.done c.perform.new.seat c.in-Ok.ensures.seat
           task later c.in-Ok.more c.next-in-loop.ensures (task_of left task later c.next-in-loop.ensures c.in_default.not-End) c.in-Ok.ensures.done,
       c.requires.ready.few,
     )
@@ -45,8 +46,9 @@ loop-preserved g c =
     let later = g.F.Feed.left c.next-in-loop.new.self in
     let task = c.next-in-loop.result in
     record {
-      done = done_on c.args.seat.now c.loop.seat (g.F.Feed.left c.args.feed.now) left c.loop.accepted c.loop.invariant.done c.perform.new.seat c.in-Ok.ensures.seat
-          task later c.in-Ok.more c.next-in-loop.ensures (task_of left task later c.next-in-loop.ensures c.in_default.not-End) c.in-Ok.ensures.done;
+      told = told_on g.L.Follower.hears g.met.L.Follower.hears_more c.args.seat.now c.loop.seat (g.F.Feed.left c.args.feed.now) left c.loop.accepted
+          c.args.follower.now c.loop.follower c.loop.invariant.told c.perform.new.seat c.in-Ok.ensures.seat c.perform.new.follower
+          task later c.in-Ok.more c.next-in-loop.ensures (task_of left task later c.next-in-loop.ensures c.in_default.not-End) c.in-Ok.ensures.done c.in-Ok.ensures.heard;
       follows = c.in-Ok.ensures.follows;
     }
 
@@ -55,8 +57,8 @@ returns-in-Err g c =
     let left = g.F.Feed.left c.loop.feed in
     let later = g.F.Feed.left c.next-in-loop.new.self in
     let task = c.next-in-loop.result in
-    record {
-      driven = stopped_at c.args.seat.now c.loop.seat (g.F.Feed.left c.args.feed.now) left c.loop.accepted c.loop.invariant.done c.perform.new.seat c.in-Err.ensures.seat
-          task later c.in-Err.ended c.next-in-loop.ensures (task_of left task later c.next-in-loop.ensures c.in_default.not-End) c.in-Err.ensures.ended.0 c.in-Err.ensures.ended.1;
-      follows = c.in-Err.ensures.follows;
-    }
+    let stopped = heard_stopped g.L.Follower.hears g.met.L.Follower.hears_more c.args.seat.now c.loop.seat (g.F.Feed.left c.args.feed.now) left c.loop.accepted
+    c.args.follower.now c.loop.follower c.loop.invariant.told c.perform.new.seat c.in-Err.ensures.seat c.perform.new.follower
+    task later c.in-Err.ended c.next-in-loop.ensures (task_of left task later c.next-in-loop.ensures c.in_default.not-End) c.in-Err.ensures.ended.0 c.in-Err.ensures.ended.1
+    c.in-Err.ensures.unheard in
+    record { driven = stopped.driven; follows = c.in-Err.ensures.follows; heard = stopped }
