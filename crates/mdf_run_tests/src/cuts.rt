@@ -4,6 +4,7 @@ use crate::finalizing::{FINALIZE, SORT, finalized};
 use crate::foreign::engine_and_gearbox;
 use crate::recordings::{Part, put, recording};
 use crate::runs::{COUNTING, Given, failing_disk, made, recorded, told};
+use crate::told::is_told;
 use mdf_disk::MemoryDisk;
 use mdf_num::Bytes;
 use std::alloc::Global;
@@ -122,8 +123,7 @@ where
 {
     let (from, to, want) = cuts;
     for length in from..to {
-        let text = said_of_cut(rt, given, file, length)?;
-        assert_eq!(rt; text.as_str(), want, "length {length}");
+        is_told(rt, said_of_cut(rt, given, file, length), want)?;
     }
     Ok(())
 }
@@ -186,13 +186,13 @@ fn a_recording_is_cut_to_each_length(rt: HostRuntime) -> Result<(), Fail> {
 }
 
 // A block of the sorted file whose next link names the block itself: a history and a channel group without an end.
-const LOOPS: [(Part, &str); 2] = [
-    ((192, b"\xA8\0"), "3 too many FH at 168\n"),
-    ((880, b"\x58\x03"), "3 too many CG at 856\n"),
+const LOOPS: &[(Looped, &str)] = &[
+    (Looped((192, b"\xA8\0")), "3 too many FH at 168\n"),
+    (Looped((880, b"\x58\x03")), "3 too many CG at 856\n"),
 ];
 
 // And channels without an end, whose rows take 500 MB before there are too many.
-const CHANNELS: (Part, &str) = ((1016, b"\xE0\x03"), "3 too many CN at 992\n");
+const CHANNELS: &[(Looped, &str)] = &[(Looped((1016, b"\xE0\x03")), "3 too many CN at 992\n")];
 
 /// What a command says of a file with these parts put in.
 fn said_of_changed<R>(
@@ -214,29 +214,36 @@ where
     )
 }
 
-fn loop_as_told<R>(rt: &R, (part, want): (Part, &str)) -> Result<(), Fail>
-where
-    R: AllocGlobal + Threads + Wait + Sync + Abort,
-{
-    let (_, file) = finalized(rt, recorded(rt, COUNTING)?, &[])?;
-    let sorted = sorted(rt, &file)?;
-    let file = Vec::from_slice(rt.alloc(), sorted.as_slice())?;
-    let text = said_of_changed(rt, CHECK, file, &[part])?;
-    assert_eq!(rt; text.as_str(), want);
-    Ok(())
+/// What is changed in the sorted file of the recording of three samples.
+struct Looped(Part);
+
+// What `check` says of it.
+impl Looped {
+    fn told<R>(&self, rt: &R) -> Result<String, Fail>
+    where
+        R: AllocGlobal + Threads + Wait + Sync,
+    {
+        let (_, file) = finalized(rt, recorded(rt, COUNTING)?, &[])?;
+        let sorted = sorted(rt, &file)?;
+        let file = Vec::from_slice(rt.alloc(), sorted.as_slice())?;
+        said_of_changed(rt, CHECK, file, &[self.0])
+    }
 }
 
 #[test]
 fn blocks_that_name_themselves_are_too_many(rt: HostRuntime) -> Result<(), Fail> {
-    for row in LOOPS {
-        loop_as_told(&rt, row)?;
+    for (row, want) in LOOPS {
+        is_told(&rt, row.told(&rt), *want)?;
     }
     Ok(())
 }
 
 #[test]
 fn a_channel_that_names_itself_is_too_many(rt: HostRuntime) -> Result<(), Fail> {
-    loop_as_told(&rt, CHANNELS)
+    for (row, want) in CHANNELS {
+        is_told(&rt, row.told(&rt), *want)?;
+    }
+    Ok(())
 }
 
 // A finished file without history, whose data link names a DL at 232 of 32 bytes, which is its own next one.
@@ -252,18 +259,29 @@ const LOOP_OF_DATA: [Part; 5] = [
 const LONGER: [Part; 1] = [(280, b"\x10\x04")];
 
 // What is changed in the recording of two blocks, and what a command says of it.
-const CHANGED: [(Given<'static>, &[Part], &str); 3] = [
-    (CHECK, &LOOP_OF_DATA, "3 too many block at 232\n"),
-    (OPENED, &LONGER, "3 block at 272 is not ##DT\n"),
-    (FINALIZE, &LONGER, "3 block at 272 is not ##DT\n"),
+const CHANGED: &[(Changed, &str)] = &[
+    (Changed(CHECK, &LOOP_OF_DATA), "3 too many block at 232\n"),
+    (Changed(OPENED, &LONGER), "3 block at 272 is not ##DT\n"),
+    (Changed(FINALIZE, &LONGER), "3 block at 272 is not ##DT\n"),
 ];
+
+/// A command, and what is changed in the recording of two blocks.
+struct Changed(Given<'static>, &'static [Part]);
+
+impl Changed {
+    fn told<R>(&self, rt: &R) -> Result<String, Fail>
+    where
+        R: AllocGlobal + Threads + Wait + Sync,
+    {
+        let file = recording(rt.alloc(), 313, (0, b""))?;
+        said_of_changed(rt, self.0, file, self.1)
+    }
+}
 
 #[test]
 fn data_without_an_end_and_a_block_behind_the_end_are_refused(rt: HostRuntime) -> Result<(), Fail> {
-    for (given, parts, want) in CHANGED {
-        let file = recording(rt.alloc(), 313, (0, b""))?;
-        let text = said_of_changed(&rt, given, file, parts)?;
-        assert_eq!(rt; text.as_str(), want);
+    for (row, want) in CHANGED {
+        is_told(&rt, row.told(&rt), *want)?;
     }
     Ok(())
 }
@@ -277,8 +295,10 @@ const NESTED: [Part; 3] = [
 
 #[test]
 fn a_conversion_inside_itself_is_too_deep(rt: HostRuntime) -> Result<(), Fail> {
-    let file = engine_and_gearbox(rt.alloc(), &[])?;
-    let text = said_of_changed(&rt, CHECK, file, &NESTED)?;
-    assert_eq!(rt; text.as_str(), "3 deep at 904\n");
-    Ok(())
+    let file = engine_and_gearbox(rt.alloc(), &NESTED)?;
+    is_told(
+        &rt,
+        said_of_changed(&rt, CHECK, file, &[]),
+        "3 deep at 904\n",
+    )
 }

@@ -3,12 +3,14 @@ ghost use Rattle.std.specs.Prelude.{◌≡◌, None};
 
 use crate::cuts::CUT;
 use crate::finalizing::{FINALIZE, SORT, finalized};
+use crate::joined::CONCAT;
 use crate::runs::{
     COUNTING, Ended, Given, failing_disk, line, made, numbers, ran, record, recorded, told,
 };
+use crate::told::is_status;
 use book_owned::Marks;
 use mdf_disk::{Disk, Fuse, MemoryDisk};
-use mdf_num::{Bytes, Numbers};
+use mdf_num::Bytes;
 use std::process::Abort;
 use std::sync::Wait;
 use std::test::Fail;
@@ -53,16 +55,25 @@ fn marked(marks: &Marks, call: u64) -> u64 {
     most
 }
 
-/// Each file that a crash inside a call of the disk may leave has what was marked before, and nothing that was not accepted.
+/// Whether a file that a crash inside this call left has what was marked before, and nothing that was not accepted.
+fn holds<R>(rt: &R, left: Bytes, marked: u64, accepted: u64) -> Result<bool, Fail>
+where
+    R: AllocGlobal + Threads + Wait + Sync,
+{
+    let samples = found(rt, left)?;
+    Ok(samples.is_some_and(|count| marked <= count && count <= accepted))
+}
+
+/// So does each that a crash inside a call of the disk may leave.
 fn images_hold<R>(rt: &R, disk: &MemoryDisk, marks: &Marks, accepted: u64) -> Result<(), Fail>
 where
     R: AllocGlobal + Threads + Wait + Sync + Abort,
 {
     for call in 0..disk.calls() {
         for pick in 0u8..4 {
-            let samples = found(rt, disk.image(call, pick)?)?;
+            let left = disk.image(call, pick)?;
             assert!(rt;
-                samples.is_some_and(|count| marked(marks, call) <= count && count <= accepted),
+                holds(rt, left, marked(marks, call), accepted)?,
                 "call {call} pick {pick}"
             );
         }
@@ -90,12 +101,9 @@ where
 #[test]
 fn a_recording_stands_a_fault_of_each_call_of_its_disk(rt: HostRuntime) -> Result<(), Fail> {
     for call in 0..CALLS {
-        let status = status_failing_at(&rt, call)?;
-        assert_eq!(rt; status, 4);
+        is_status(&rt, status_failing_at(&rt, call), 4)?;
     }
-    let status = status_failing_at(&rt, CALLS)?;
-    assert_eq!(rt; status, 0);
-    Ok(())
+    is_status(&rt, status_failing_at(&rt, CALLS), 0)
 }
 
 /// The status of a recording that is stopped after so many calls of its disk, which are all that reach it. Its images hold.
@@ -116,15 +124,17 @@ where
 #[test]
 fn a_recording_stands_a_stop_at_each_call_of_its_disk(rt: HostRuntime) -> Result<(), Fail> {
     for calls in 0..CALLS {
-        let status = status_stopped_after(&rt, calls)?;
-        assert_eq!(rt; status, 4);
+        is_status(&rt, status_stopped_after(&rt, calls), 4)?;
     }
-    let status = status_stopped_after(&rt, CALLS)?;
-    assert_eq!(rt; status, 0);
-    Ok(())
+    is_status(&rt, status_stopped_after(&rt, CALLS), 0)
 }
 
-/// Each file that a crash inside a call of the disk may leave is the whole, or no MDF file.
+/// Whether a file is the whole, or no MDF file.
+fn is_sealed(left: &[u8], whole: &[u8]) -> bool {
+    left.len() <= 1 || left[0] != b'M' || left == whole
+}
+
+/// So is each file that a crash inside a call of the disk may leave.
 fn images_are_sealed<R>(rt: &R, disk: &MemoryDisk, whole: &[u8]) -> Result<(), Fail>
 where
     R: Abort,
@@ -132,9 +142,8 @@ where
     for call in 0..disk.calls() {
         for pick in 0u8..4 {
             let image = disk.image(call, pick)?;
-            let left = image.as_slice();
             assert!(rt;
-                left.len() <= 1 || left[0] != b'M' || left == whole,
+                is_sealed(image.as_slice(), whole),
                 "call {call} pick {pick}"
             );
         }
@@ -160,23 +169,29 @@ where
     Ok(ended.finished.status)
 }
 
-// The commands that make a file of a file, and whether that is a finished one.
-const MAKING: [(Given<'static>, bool); 3] = [(FINALIZE, false), (SORT, true), (CUT, true)];
+// The commands that make a file of a file, and whether that is a finished one; `concat` has it for both of its inputs.
+const MAKING: [(Given<'static>, bool); 4] = [
+    (FINALIZE, false),
+    (SORT, true),
+    (CUT, true),
+    (CONCAT, true),
+];
 
 // The calls of the output's disk are an attach, the closed first byte, a sync, the rest, a sync, the first byte, and a sync.
 fn stands_faults_of_its_output<R>(rt: &R, given: Given<'_>, input: &Bytes) -> Result<(), Fail>
 where
     R: AllocGlobal + Threads + Wait + Sync + Abort,
 {
+    let given = Given {
+        second: input.as_slice(),
+        ..given
+    };
     let first = MemoryDisk::holding(rt.alloc(), input.copy()?);
     let (_, whole) = made(rt, given, first, failing_disk(rt.alloc(), &[])?)?;
     for call in 0u64..7 {
-        let status = made_status(rt, given, input, whole.as_slice(), call)?;
-        assert_eq!(rt; status, 4);
+        is_status(rt, made_status(rt, given, input, whole.as_slice(), call), 4)?;
     }
-    let status = made_status(rt, given, input, whole.as_slice(), 7)?;
-    assert_eq!(rt; status, 0);
-    Ok(())
+    is_status(rt, made_status(rt, given, input, whole.as_slice(), 7), 0)
 }
 
 #[test]
@@ -188,23 +203,24 @@ fn a_made_file_stands_a_fault_of_each_call_of_its_disk(rt: HostRuntime) -> Resul
 }
 
 // The commands that read a file, and whether that is a finished one.
-const READING: [(&[&str], bool); 7] = [
+const READING: [(&[&str], bool); 8] = [
     (&["opened", "in.mf4"], false),
     (&["finalize", "in.mf4", "out.mf4"], false),
     (&["check", "in.mf4"], true),
     (&["info", "in.mf4"], true),
     (&["sort", "in.mf4", "out.mf4"], true),
     (&["cut", "in.mf4", "out.mf4", "1", "3"], true),
+    (&["concat", "in.mf4", "in.mf4", "out.mf4"], true),
     (&["export", "in.mf4", "0"], true),
 ];
 
-/// A command without a script whose sink fails at these calls.
-fn command<'a>(words: &'a [&'a str], failing: &'a [u64]) -> Given<'a> {
+/// A command without a script over this second input, whose sink fails at these calls.
+fn command<'a>(words: &'a [&'a str], second: &'a Bytes, failing: &'a [u64]) -> Given<'a> {
     Given {
         words,
-        script: "",
-        broken: &[],
+        second: second.as_slice(),
         failing,
+        ..FINALIZE
     }
 }
 
@@ -221,71 +237,68 @@ where
     Ok(file)
 }
 
-/// The status of a command over a disk with this file that fails at this call.
-fn read_status<R>(rt: &R, words: &[&str], file: &Bytes, call: u64) -> Result<u8, Fail>
+/// The status of a command over a disk with this file that fails at these calls.
+fn status_of<R>(rt: &R, given: Given<'_>, file: &Bytes, faults: &[u64]) -> Result<u8, Fail>
 where
     R: AllocGlobal + Threads + Wait + Sync,
 {
     let alloc = rt.alloc();
+    let calls = numbers(alloc, faults)?;
     let mut first = MemoryDisk::holding(alloc, file.copy()?);
-    first.fail_at(numbers(alloc, &[call])?);
-    let ended = ran(rt, command(words, &[]), first, MemoryDisk::new(alloc))?;
+    first.fail_at(calls);
+    let ended = ran(rt, given, first, MemoryDisk::new(alloc))?;
     Ok(ended.finished.status)
 }
 
 // An input is attached, its size is asked for, and it is read.
 #[test]
 fn a_fault_of_each_call_of_an_input_is_told(rt: HostRuntime) -> Result<(), Fail> {
-    for (words, is_finished) in READING {
-        let file = input(&rt, is_finished)?;
-        for call in 0u64..3 {
-            let status = read_status(&rt, words, &file, call)?;
-            assert_eq!(rt; status, 4);
+    for (words, is_finished) in &READING {
+        let file = input(&rt, *is_finished)?;
+        for call in 0u64..4 {
+            let want = if call < 3 { 4 } else { 0 };
+            let status = status_of(&rt, command(*words, &file, &[]), &file, &[call]);
+            is_status(&rt, status, want)?;
         }
-        let status = read_status(&rt, words, &file, 3)?;
-        assert_eq!(rt; status, 0);
     }
     Ok(())
 }
 
-/// The status of a recording whose source fails at this call.
-fn source_status<R>(rt: &R, call: u64) -> Result<u8, Fail>
-where
-    R: AllocGlobal + Threads + Wait + Sync,
-{
-    let alloc = rt.alloc();
-    let ended = ran(
-        rt,
-        record(COUNTING, &[call], &[]),
-        MemoryDisk::new(alloc),
-        MemoryDisk::new(alloc),
-    )?;
-    Ok(ended.finished.status)
+#[test]
+fn a_fault_of_each_call_of_the_second_input_is_told(rt: HostRuntime) -> Result<(), Fail> {
+    let file = input(&rt, true)?;
+    for call in 0u64..4 {
+        let given = Given {
+            second: file.as_slice(),
+            lost: &[call],
+            ..CONCAT
+        };
+        let want = if call < 3 { 4 } else { 0 };
+        is_status(&rt, status_of(&rt, given, &file, &[]), want)?;
+    }
+    Ok(())
 }
 
 // The script is taken at once, and then its end.
 #[test]
 fn a_fault_of_each_call_of_the_source_is_told(rt: HostRuntime) -> Result<(), Fail> {
-    for call in 0u64..2 {
-        let status = source_status(&rt, call)?;
-        assert_eq!(rt; status, 2);
+    let file = Bytes::empty(rt.alloc());
+    for call in 0u64..3 {
+        let want = if call < 2 { 2 } else { 0 };
+        let status = status_of(&rt, record(COUNTING, &[call], &[]), &file, &[]);
+        is_status(&rt, status, want)?;
     }
-    let status = source_status(&rt, 2)?;
-    assert_eq!(rt; status, 0);
     Ok(())
 }
 
-/// The status of a command over this file whose sink fails at this call.
+/// The status of a command, whose second input is the same file, where this call of the sink fails.
 fn sink_status<R>(rt: &R, words: &[&str], file: &Bytes, call: u64) -> Result<u8, Fail>
 where
     R: AllocGlobal + Threads + Wait + Sync,
 {
-    let alloc = rt.alloc();
+    let second = file.copy()?;
     let failing = [call];
-    let given = command(words, &failing);
-    let first = MemoryDisk::holding(alloc, file.copy()?);
-    let ended = ran(rt, given, first, MemoryDisk::new(alloc))?;
-    Ok(ended.finished.status)
+    status_of(rt, command(words, &second, &failing), file, &[])
 }
 
 /// How many calls of the sink a command makes: each of these that fails is told by the status 6.
@@ -298,15 +311,15 @@ where
         if status == 0 {
             return Ok(call);
         }
-        assert_eq!(rt; status, 6);
+        assert!(rt; status == 6);
     }
     Ok(64)
 }
 
 #[test]
 fn a_fault_of_each_call_of_the_sink_is_told(rt: HostRuntime) -> Result<(), Fail> {
-    for (words, is_finished) in READING {
-        let calls = gives(&rt, words, &input(&rt, is_finished)?)?;
+    for (words, is_finished) in &READING {
+        let calls = gives(&rt, *words, &input(&rt, *is_finished)?)?;
         assert!(rt; 0 < calls && calls < 64);
     }
     Ok(())

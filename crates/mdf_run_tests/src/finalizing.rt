@@ -2,9 +2,10 @@
 
 use crate::kinds::EMPTY;
 use crate::recordings::Part;
-use crate::runs::{COUNTING, Given, failing_disk, made, recorded, stands};
+use crate::runs::{COUNTING, Given, all_stand, failing_disk, made, recorded};
 use mdf_disk::MemoryDisk;
 use mdf_num::Bytes;
+use std::process::Abort;
 use std::sync::Wait;
 use std::test::Fail;
 use std::thread::Threads;
@@ -12,7 +13,9 @@ use std::thread::Threads;
 pub const FINALIZE: Given<'static> = Given {
     words: &["finalize", "in.mf4", "out.mf4"],
     script: "",
+    second: &[],
     broken: &[],
+    lost: &[],
     failing: &[],
 };
 
@@ -90,15 +93,19 @@ where
     made_of(rt, FINALIZE, file, failing)
 }
 
+/// Asserts what is printed, how long the file is that was made, and parts of it.
+fn is_made<R: Abort>(rt: &R, made: &(String, Bytes), want: &str, length: usize, parts: &[Part]) {
+    let (text, file) = made;
+    assert_eq!(rt; text.as_str(), want);
+    assert_eq!(rt; file.as_slice().len(), length);
+    all_stand(rt, file.as_slice(), parts);
+}
+
 #[test]
 fn a_recording_is_finalized(rt: HostRuntime) -> Result<(), Fail> {
-    for (script, want, length, parts) in FINISHED {
-        let (text, file) = finalized(&rt, recorded(&rt, script)?, &[])?;
-        assert_eq!(rt; text.as_str(), want);
-        assert_eq!(rt; file.as_slice().len(), length);
-        for part in parts {
-            assert!(rt; stands(file.as_slice(), *part));
-        }
+    for (script, want, length, parts) in &FINISHED {
+        let made = finalized(&rt, recorded(&rt, *script)?, &[])?;
+        is_made(&rt, &made, *want, *length, *parts);
     }
     Ok(())
 }
@@ -106,40 +113,83 @@ fn a_recording_is_finalized(rt: HostRuntime) -> Result<(), Fail> {
 #[test]
 fn what_is_no_recording_is_not_finalized(rt: HostRuntime) -> Result<(), Fail> {
     let (_, file) = finalized(&rt, recorded(&rt, COUNTING)?, &[])?;
-    let (text, out) = finalized(&rt, file, &[])?;
-    assert_eq!(rt; text.as_str(), "3 not a recording 0 0\n");
-    assert_eq!(rt; out.as_slice().len(), 0);
-    Ok(())
-}
-
-// Which call of the output's disk fails: the calls are its attach, the closed first byte, a sync, the rest, a sync, the first
-// byte, and a sync.
-#[test]
-fn a_fault_of_the_output_leaves_no_mdf(rt: HostRuntime) -> Result<(), Fail> {
-    for call in 0u64..5 {
-        let (text, out) = finalized(&rt, recorded(&rt, COUNTING)?, &[call])?;
-        assert_eq!(rt; text.as_str(), "4 device fault\n");
-        assert!(rt; !stands(out.as_slice(), (0, b"M")));
-    }
+    let made = finalized(&rt, file, &[])?;
+    is_made(&rt, &made, "3 not a recording 0 0\n", 0, &[]);
     Ok(())
 }
 
 #[test]
 fn a_finished_file_is_sorted(rt: HostRuntime) -> Result<(), Fail> {
     let (_, file) = finalized(&rt, recorded(&rt, COUNTING)?, &[])?;
-    let (text, sorted) = made_of(&rt, SORT, file, &[])?;
-    assert_eq!(rt; text.as_str(), "0 groups 1 samples 3 dropped 0\n");
-    assert_eq!(rt; sorted.as_slice().len(), 1232);
-    for part in SORTED {
-        assert!(rt; stands(sorted.as_slice(), part));
-    }
+    let made = made_of(&rt, SORT, file, &[])?;
+    is_made(
+        &rt,
+        &made,
+        "0 groups 1 samples 3 dropped 0\n",
+        1232,
+        &SORTED,
+    );
     Ok(())
 }
 
 #[test]
 fn a_recording_is_not_sorted(rt: HostRuntime) -> Result<(), Fail> {
-    let (text, out) = made_of(&rt, SORT, recorded(&rt, COUNTING)?, &[])?;
-    assert_eq!(rt; text.as_str(), "3 unfinalized 33 1\n");
-    assert_eq!(rt; out.as_slice().len(), 0);
+    let made = made_of(&rt, SORT, recorded(&rt, COUNTING)?, &[])?;
+    is_made(&rt, &made, "3 unfinalized 33 1\n", 0, &[]);
+    Ok(())
+}
+
+// Two groups of one source, of a number and of a value of variable length. The six orders in which two samples of the one and two
+// of the other can come.
+const TWO_GROUPS: &str =
+    "block 64\ngroup 0 a\nchannel x u64\ngroup 0 b\nchannel note vartext\nbegin\n";
+
+const ORDERS: [&str; 6] = [
+    "0 1\n0 2\n1 x6869\n1 x21\n",
+    "0 1\n1 x6869\n0 2\n1 x21\n",
+    "0 1\n1 x6869\n1 x21\n0 2\n",
+    "1 x6869\n0 1\n0 2\n1 x21\n",
+    "1 x6869\n0 1\n1 x21\n0 2\n",
+    "1 x6869\n1 x21\n0 1\n0 2\n",
+];
+
+// The sorted file of each: from 792 on DG, CG, its name, CN and its name of the one group, and at 1184 its records; from 1224 on
+// those of the other, at 1616 its offsets, and at 1656 its values, each behind its length.
+const TWO_SORTED: [Part; 6] = [
+    (792, b"##DG"),
+    (1184, b"##DT\0\0\0\0\x28\0\0\0\0\0\0\0"),
+    (1208, b"\x01\0\0\0\0\0\0\0\x02\0\0\0\0\0\0\0##DG"),
+    (1616, b"##DT\0\0\0\0\x28\0\0\0\0\0\0\0"),
+    (1640, b"\0\0\0\0\0\0\0\0\x06\0\0\0\0\0\0\0##SD"),
+    (1680, b"\x02\0\0\0hi\x01\0\0\0!\0\0\0\0\0"),
+];
+
+/// The sorted file of the finished recording of the samples in this order.
+fn sorted_of<R>(rt: &R, order: &str) -> Result<Bytes, Fail>
+where
+    R: AllocGlobal + Threads + Wait + Sync,
+{
+    let script = format!(in rt.alloc(); "{TWO_GROUPS}{order}end\n")?;
+    let (_, file) = finalized(rt, recorded(rt, script.as_str())?, &[])?;
+    let (_, sorted) = made_of(rt, SORT, file, &[])?;
+    Ok(sorted)
+}
+
+/// Whether that is this file.
+fn is_sorted_to<R>(rt: &R, order: &str, want: &Bytes) -> Result<bool, Fail>
+where
+    R: AllocGlobal + Threads + Wait + Sync,
+{
+    Ok(sorted_of(rt, order)?.as_slice() == want.as_slice())
+}
+
+#[test]
+fn six_orders_one_sorted_file(rt: HostRuntime) -> Result<(), Fail> {
+    let want = sorted_of(&rt, ORDERS[0])?;
+    assert!(rt; want.as_slice().len() == 1696);
+    all_stand(&rt, want.as_slice(), &TWO_SORTED);
+    for order in &ORDERS {
+        assert!(rt; is_sorted_to(&rt, *order, &want)?);
+    }
     Ok(())
 }

@@ -1,8 +1,8 @@
 //! Finalized files of another hand: what `check` and `info` say of them.
 
 use crate::recordings::{Part, put, recording};
-use crate::runs::{Given, told};
-use mdf_disk::MemoryDisk;
+use crate::runs::said;
+use crate::told::is_told;
 use mdf_num::Bytes;
 use std::alloc::Global;
 use std::sync::Wait;
@@ -137,57 +137,34 @@ const CHECK: &[&str] = &["check", "in.mf4"];
 const INFO: &[&str] = &["info", "in.mf4"];
 
 // The command, what is changed in the file, and the status and what is printed.
-type Row = (&'static [&'static str], &'static [Part], &'static str);
-
-const READ: [Row; 7] = [
-    (CHECK, &[], "0 valid\n"),
+const READ: &[(Asked, &str)] = &[
+    (Asked(CHECK, &[]), "0 valid\n"),
     (
-        INFO,
-        &[],
+        Asked(INFO, &[]),
         "0 version 410\ngroup 0 engine channels 2 samples 2\ngroup 1 gearbox channels 2 samples 1\ngroups 2 samples 3 dropped 0\n",
     ),
     // the cycle count of the first group
     (
-        CHECK,
-        &[(432, b"\x03")],
+        Asked(CHECK, &[(432, b"\x03")]),
         "3 cycles group 0 said 3 found 2\n",
     ),
-    (CHECK, &[(432, b"\x01")], "0 readable\n"),
+    (Asked(CHECK, &[(432, b"\x01")]), "0 readable\n"),
     (
-        INFO,
-        &[(432, b"\x01")],
+        Asked(INFO, &[(432, b"\x01")]),
         "0 version 410\ngroup 0 engine channels 2 samples 1\ngroup 1 gearbox channels 2 samples 1\ngroups 2 samples 2 dropped 0\n",
     ),
-    (CHECK, &TWO_DATA_BLOCKS, "0 valid\n"),
+    (Asked(CHECK, &TWO_DATA_BLOCKS), "0 valid\n"),
     (
-        INFO,
-        &TWO_DATA_BLOCKS,
+        Asked(INFO, &TWO_DATA_BLOCKS),
         "0 version 410\ngroup 0 engine channels 2 samples 2\ngroup 1 gearbox channels 2 samples 2\ngroups 2 samples 4 dropped 0\n",
     ),
 ];
 
-fn said<R>(rt: &R, words: &'static [&'static str], file: Vec<u8>) -> Result<String, Fail>
-where
-    R: AllocGlobal + Threads + Wait + Sync,
-{
-    let given = Given {
-        words,
-        script: "",
-        broken: &[],
-        failing: &[],
-    };
-    told(
-        rt,
-        given,
-        MemoryDisk::holding(rt.alloc(), Bytes::from_vec(file)),
-    )
-}
-
 /// The bytes of the file of the data groups engine and gearbox, with these parts put in.
 pub fn engine_and_gearbox(alloc: Global, changes: &[Part]) -> Result<Vec<u8>, Fail> {
     let mut file = vec![in alloc; 0u8; 1936]?;
-    for part in ENGINE_AND_GEARBOX {
-        put(&mut file, part);
+    for part in &ENGINE_AND_GEARBOX {
+        put(&mut file, *part);
     }
     for part in changes {
         put(&mut file, *part);
@@ -195,32 +172,54 @@ pub fn engine_and_gearbox(alloc: Global, changes: &[Part]) -> Result<Vec<u8>, Fa
     Ok(file)
 }
 
+/// A command, and what is changed in the file.
+struct Asked(&'static [&'static str], &'static [Part]);
+
+impl Asked {
+    fn told<R>(&self, rt: &R) -> Result<String, Fail>
+    where
+        R: AllocGlobal + Threads + Wait + Sync,
+    {
+        let file = engine_and_gearbox(rt.alloc(), self.1)?;
+        said(rt, self.0, Bytes::from_vec(file))
+    }
+}
+
 #[test]
 fn files_of_other_tools_are_read(rt: HostRuntime) -> Result<(), Fail> {
-    for (words, changes, want) in READ {
-        let file = engine_and_gearbox(rt.alloc(), changes)?;
-        let text = said(&rt, words, file)?;
-        assert_eq!(rt; text.as_str(), want);
+    for (row, want) in READ {
+        is_told(&rt, row.told(&rt), *want)?;
     }
     Ok(())
 }
 
 // What is changed in a finalized file whose data group at 168 names the block at 232, and what `check` says: the data are
 // compressed, the version is 4.20, and the data group is its own next one.
-const REFUSED: [(Part, &str); 3] = [
-    ((232, b"##DZ"), "3 compressed at 232\n"),
-    ((28, b"\xA4\x01"), "3 version 420\n"),
-    ((192, b"\xA8"), "3 too many DG at 168\n"),
+const REFUSED: &[(Refused, &str)] = &[
+    (Refused((232, b"##DZ")), "3 compressed at 232\n"),
+    (Refused((28, b"\xA4\x01")), "3 version 420\n"),
+    (Refused((192, b"\xA8")), "3 too many DG at 168\n"),
 ];
+
+/// What is changed in that file.
+struct Refused(Part);
+
+impl Refused {
+    fn told<R>(&self, rt: &R) -> Result<String, Fail>
+    where
+        R: AllocGlobal + Threads + Wait + Sync,
+    {
+        let mut file = recording(rt.alloc(), 313, self.0)?;
+        put(&mut file, (0, b"MDF     "));
+        put(&mut file, (60, b"\0\0\0\0"));
+        said(rt, CHECK, Bytes::from_vec(file))
+    }
+}
 
 #[test]
 fn compressed_data_a_later_version_and_a_loop_are_refused(rt: HostRuntime) -> Result<(), Fail> {
-    for (change, want) in REFUSED {
-        let mut file = recording(rt.alloc(), 313, change)?;
-        put(&mut file, (0, b"MDF     "));
-        put(&mut file, (60, b"\0\0\0\0"));
-        let text = said(&rt, CHECK, file)?;
-        assert_eq!(rt; text.as_str(), want);
+    for (row, want) in REFUSED {
+        is_told(&rt, row.told(&rt), *want)?;
     }
     Ok(())
 }

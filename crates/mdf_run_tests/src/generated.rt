@@ -1,7 +1,8 @@
 //! Recordings of the generated script.
 
 use crate::finalizing::{SORT, finalized, made_of};
-use crate::runs::{Given, made, record};
+use crate::runs::{Given, made, record, told};
+use crate::told::is_told;
 use mdf_disk::MemoryDisk;
 use mdf_num::Bytes;
 use std::sync::Wait;
@@ -12,7 +13,9 @@ const fn generating<'a>(words: &'a [&'a str]) -> Given<'a> {
     Given {
         words,
         script: "",
+        second: &[],
         broken: &[],
+        lost: &[],
         failing: &[],
     }
 }
@@ -64,9 +67,8 @@ where
 fn ten_samples_are_generated(rt: HostRuntime) -> Result<(), Fail> {
     let (text, file) = sorted_of(&rt, generating(&["gen", "10", "out.mf4"]))?;
     let (_, same) = sorted_of(&rt, record(TEN, &[], &[]))?;
-    assert_eq!(rt; text.as_str(), TEN_TOLD);
     assert!(rt; file.as_slice() == same.as_slice());
-    Ok(())
+    is_told(&rt, Ok(text), TEN_TOLD)
 }
 
 // Behind each thousandth sample of a source stands a flush: of 4,004 samples each source has 1,001.
@@ -75,9 +77,13 @@ const FLUSHED: &str =
 
 #[test]
 fn a_thousandth_sample_is_flushed(rt: HostRuntime) -> Result<(), Fail> {
-    let alloc = rt.alloc();
-    let given = generating(&["gen", "4004", "out.mf4"]);
-    let (text, _) = made(&rt, given, MemoryDisk::new(alloc), MemoryDisk::new(alloc))?;
-    assert_eq!(rt; text.as_str(), FLUSHED);
-    Ok(())
+    is_told(
+        &rt,
+        told(
+            &rt,
+            generating(&["gen", "4004", "out.mf4"]),
+            MemoryDisk::new(rt.alloc()),
+        ),
+        FLUSHED,
+    )
 }

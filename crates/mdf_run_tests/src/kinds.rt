@@ -1,7 +1,7 @@
 //! Recordings of channels of every type.
 
 use crate::recordings::Part;
-use crate::runs::{recorded, stands};
+use crate::runs::{all_stand, recorded};
 use mdf_gate::opened;
 use std::test::Fail;
 
@@ -71,6 +71,35 @@ fn a_channel_of_every_type_is_recorded(rt: HostRuntime) -> Result<(), Fail> {
     Ok(())
 }
 
+// Two channels of variable length, with the values nothing and xy, ab and z, and c and nothing.
+const THREE_VALUES: &str = "group 0 g
+channel v var
+channel w var
+begin
+0 x x7879
+0 x6162 x7a
+0 x63 x
+end
+";
+
+// Its block: the header of 24 bytes; of each sample the record of either value, with the ids 2 and 3, and the group's record
+// with their offsets, which are 0, 4 and 10 of the first channel and 0, 6 and 11 of the second; and a zero byte up to the
+// next place.
+const VALUE_RECORDS: [&[u8]; 5] = [
+    b"##DT\0\0\0\0\x6F\0\0\0\0\0\0\0\0\0\0\0\0\0\0\0",
+    b"\x02\0\0\0\0\x03\x02\0\0\0xy\x01\0\0\0\0\0\0\0\0\0\0\0\0\0\0\0\0",
+    b"\x02\x02\0\0\0ab\x03\x01\0\0\0z\x01\x04\0\0\0\0\0\0\0\x06\0\0\0\0\0\0\0",
+    b"\x02\x01\0\0\0c\x03\0\0\0\0\x01\x0A\0\0\0\0\0\0\0\x0B\0\0\0\0\0\0\0",
+    b"\0",
+];
+
+#[test]
+fn offsets_and_stream_of_variable_values(rt: HostRuntime) -> Result<(), Fail> {
+    let file = recorded(&rt, THREE_VALUES)?;
+    assert!(rt; has_blocks(file.as_slice(), &VALUE_RECORDS));
+    Ok(())
+}
+
 // Two groups with a channel of variable length each, and no samples.
 const TWO_VALUES: &str = "group 0 a\nchannel p var\ngroup 0 b\nchannel q var\nbegin\nend\n";
 
@@ -102,10 +131,8 @@ const VALUE_GROUPS: [Part; 14] = [
 #[test]
 fn groups_of_values_stand_behind_the_groups(rt: HostRuntime) -> Result<(), Fail> {
     let file = recorded(&rt, TWO_VALUES)?;
-    assert_eq!(rt; file.as_slice().len(), 1305);
-    for part in VALUE_GROUPS {
-        assert!(rt; stands(file.as_slice(), part));
-    }
+    assert!(rt; file.as_slice().len() == 1305);
+    all_stand(&rt, file.as_slice(), &VALUE_GROUPS);
     Ok(())
 }
 
@@ -115,7 +142,7 @@ pub const EMPTY: &str = "group 0 g\nchannel t u64 master\nbegin\nend\n";
 #[test]
 fn an_empty_recording_is_a_head_and_a_closed_place(rt: HostRuntime) -> Result<(), Fail> {
     let file = recorded(&rt, EMPTY)?;
-    assert_eq!(rt; file.as_slice().len(), 769);
-    assert!(rt; stands(file.as_slice(), (768, b"\0")));
+    assert!(rt; file.as_slice().len() == 769);
+    all_stand(&rt, file.as_slice(), &[(768, b"\0")]);
     Ok(())
 }

@@ -12,7 +12,13 @@ mod foreign;
 #[cfg(test)]
 mod generated;
 #[cfg(test)]
+mod joined;
+#[cfg(test)]
 mod kinds;
+#[cfg(test)]
+mod live;
+#[cfg(test)]
+mod orders;
 #[cfg(test)]
 mod readings;
 #[cfg(test)]
@@ -21,5 +27,7 @@ mod recordings;
 mod runs;
 #[cfg(test)]
 mod tables;
+#[cfg(test)]
+mod told;
 #[cfg(test)]
 mod workers;

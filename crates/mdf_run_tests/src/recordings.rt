@@ -1,7 +1,9 @@
+use crate::told::is_told;
 use mdf_gate::opened;
 use std::alloc::Global;
-use std::process::Abort;
+use std::sync::Wait;
 use std::test::Fail;
+use std::thread::Threads;
 
 /// Bytes that stand at a place of a file.
 pub type Part = (usize, &'static [u8]);
@@ -37,173 +39,134 @@ pub fn put(file: &mut Vec<u8>, (at, part): Part) {
 /// The recording of two blocks, so many bytes of it, with another part put in.
 pub fn recording(alloc: Global, length: usize, change: Part) -> Result<Vec<u8>, Fail> {
     let mut file = vec![in alloc; 0u8; 313]?;
-    for part in TWO_BLOCKS {
-        put(&mut file, part);
+    for part in &TWO_BLOCKS {
+        put(&mut file, *part);
     }
     put(&mut file, change);
     file.truncate(length);
     Ok(file)
 }
 
-/// The opened blocks of that recording, their bytes and their first and last place; or why it is none.
-fn told<R: AllocGlobal + Abort>(rt: &R, length: usize, change: Part) -> Result<String, Fail> {
-    let alloc = rt.alloc();
-    let file = recording(alloc, length, change)?;
-    assert!(rt; file.len() <= 313);
-    let answer = opened(&file);
-    Ok(format!(in alloc; "{answer:?}")?)
+/// So many bytes of that recording, with this part put in.
+struct Changed(usize, Part);
+
+// Its opened blocks, their bytes and their first and last place; or why it is none.
+impl Changed {
+    fn told<R>(&self, rt: &R) -> Result<String, Fail>
+    where
+        R: AllocGlobal + Threads + Wait + Sync,
+    {
+        let file = recording(rt.alloc(), self.0, self.1)?;
+        if file.len() > 313 {
+            return Err("too long".into());
+        }
+        let answer = opened(&file);
+        Ok(format!(in rt.alloc(); "{answer:?}")?)
+    }
 }
 
-// What the row shows; the length of the file and the part that is put into it; what is told.
-const OPENED: [(&str, usize, Part, &str); 5] = [
+// The length of the file and the part that is put into it; what is told.
+const OPENED: &[(Changed, &str)] = &[
+    // no block behind a closed first place
     (
-        "no block behind a closed first place",
-        233,
-        (232, b"\0"),
+        Changed(233, (232, b"\0")),
         "Ok(Opened { blocks: 0, bytes: 0, first: 232, next: 232 })",
     ),
+    // no block behind the end of the file
     (
-        "no block behind the end of the file",
-        232,
-        (0, b""),
+        Changed(232, (0, b"")),
         "Ok(Opened { blocks: 0, bytes: 0, first: 232, next: 232 })",
     ),
+    // two blocks and their places
     (
-        "two blocks and their places",
-        313,
-        (0, b""),
+        Changed(313, (0, b"")),
         "Ok(Opened { blocks: 2, bytes: 26, first: 232, next: 312 })",
     ),
+    // a quote mark does not open
     (
-        "a quote mark does not open",
-        313,
-        (272, b"\""),
+        Changed(313, (272, b"\"")),
         "Ok(Opened { blocks: 1, bytes: 10, first: 232, next: 272 })",
     ),
+    // a missing next gate is closed
     (
-        "a missing next gate is closed",
-        312,
-        (0, b""),
+        Changed(312, (0, b"")),
         "Ok(Opened { blocks: 2, bytes: 26, first: 232, next: 312 })",
     ),
 ];
 
 #[test]
 fn opened_blocks_and_their_places(rt: HostRuntime) -> Result<(), Fail> {
-    for (shown, length, change, want) in OPENED {
-        let text = told(&rt, length, change)?;
-        assert_eq!(rt; text.as_str(), want, "{shown}");
+    for (row, want) in OPENED {
+        is_told(&rt, row.told(&rt), *want)?;
     }
     Ok(())
 }
 
-// What is broken; the length of the file and the part that is put into it; what is told.
-const REFUSED: [(&str, usize, Part, &str); 18] = [
-    ("a zero first byte", 313, (0, b"\0"), "Err(NotMdf)"),
-    ("a part of an identification", 63, (0, b""), "Err(NotMdf)"),
+// The same of what is broken.
+const REFUSED: &[(Changed, &str)] = &[
+    // a zero first byte
+    (Changed(313, (0, b"\0")), "Err(NotMdf)"),
+    // a part of an identification
+    (Changed(63, (0, b"")), "Err(NotMdf)"),
+    // version 399
+    (Changed(313, (28, b"\x8F")), "Err(Version { ver: 399 })"),
+    // version 420
+    (Changed(313, (28, b"\xA4")), "Err(Version { ver: 420 })"),
+    // a finalized file
     (
-        "version 399",
-        313,
-        (28, b"\x8F"),
-        "Err(Version { ver: 399 })",
-    ),
-    (
-        "version 420",
-        313,
-        (28, b"\xA4"),
-        "Err(Version { ver: 420 })",
-    ),
-    (
-        "a finalized file",
-        313,
-        (0, b"MDF     "),
+        Changed(313, (0, b"MDF     ")),
         "Err(NotRecording { std: 33, custom: 1 })",
     ),
+    // another custom word
     (
-        "another custom word",
-        313,
-        (62, b"\x02"),
+        Changed(313, (62, b"\x02")),
         "Err(NotRecording { std: 33, custom: 2 })",
     ),
+    // no header
+    (Changed(313, (66, b"X")), "Err(Bad { at: 64, want: Hd })"),
+    // a header with 5 links
+    (Changed(313, (80, b"\x05")), "Err(Bad { at: 64, want: Hd })"),
+    // no data group
+    (Changed(313, (88, b"\0")), "Err(Bad { at: 0, want: Dg })"),
+    // a data group at no multiple of 8
     (
-        "no header",
-        313,
-        (66, b"X"),
-        "Err(Bad { at: 64, want: Hd })",
-    ),
-    (
-        "a header with 5 links",
-        313,
-        (80, b"\x05"),
-        "Err(Bad { at: 64, want: Hd })",
-    ),
-    (
-        "no data group",
-        313,
-        (88, b"\0"),
-        "Err(Bad { at: 0, want: Dg })",
-    ),
-    (
-        "a data group at no multiple of 8",
-        313,
-        (88, b"\xA9"),
+        Changed(313, (88, b"\xA9")),
         "Err(Bad { at: 169, want: Dg })",
     ),
+    // another block for the data group
+    (Changed(313, (171, b"T")), "Err(Bad { at: 168, want: Dg })"),
+    // a data group that is too short
     (
-        "another block for the data group",
-        313,
-        (171, b"T"),
+        Changed(313, (176, b"\x37")),
         "Err(Bad { at: 168, want: Dg })",
     ),
+    // an address near 2^64
     (
-        "a data group that is too short",
-        313,
-        (176, b"\x37"),
-        "Err(Bad { at: 168, want: Dg })",
-    ),
-    (
-        "an address near 2^64",
-        313,
-        (88, b"\xF8\xFF\xFF\xFF\xFF\xFF\xFF\xFF"),
+        Changed(313, (88, b"\xF8\xFF\xFF\xFF\xFF\xFF\xFF\xFF")),
         "Err(Bad { at: 18446744073709551608, want: Dg })",
     ),
+    // no data link
+    (Changed(313, (208, b"\0")), "Err(Bad { at: 0, want: Dt })"),
+    // a data link at no multiple of 8
     (
-        "no data link",
-        313,
-        (208, b"\0"),
-        "Err(Bad { at: 0, want: Dt })",
-    ),
-    (
-        "a data link at no multiple of 8",
-        313,
-        (208, b"\xE9"),
+        Changed(313, (208, b"\xE9")),
         "Err(Bad { at: 233, want: Dt })",
     ),
+    // an open place without a block
+    (Changed(313, (274, b"X")), "Err(Bad { at: 272, want: Dt })"),
+    // an opened block that passes the end
     (
-        "an open place without a block",
-        313,
-        (274, b"X"),
+        Changed(313, (280, b"\x2A")),
         "Err(Bad { at: 272, want: Dt })",
     ),
-    (
-        "an opened block that passes the end",
-        313,
-        (280, b"\x2A"),
-        "Err(Bad { at: 272, want: Dt })",
-    ),
-    (
-        "an opened block that is cut",
-        311,
-        (0, b""),
-        "Err(Bad { at: 272, want: Dt })",
-    ),
+    // an opened block that is cut
+    (Changed(311, (0, b"")), "Err(Bad { at: 272, want: Dt })"),
 ];
 
 #[test]
 fn what_is_no_recording_is_refused(rt: HostRuntime) -> Result<(), Fail> {
-    for (what, length, change, want) in REFUSED {
-        let text = told(&rt, length, change)?;
-        assert_eq!(rt; text.as_str(), want, "{what}");
+    for (row, want) in REFUSED {
+        is_told(&rt, row.told(&rt), *want)?;
     }
     Ok(())
 }

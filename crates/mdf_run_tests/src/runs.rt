@@ -1,22 +1,26 @@
 ghost use Rattle.std.specs.Prelude.{◌≡◌, None, IfOk};
 
 use crate::recordings::{Part, recording};
-use book_owned::Marks;
+use crate::told::is_told;
 use mdf_disk::{Disk, MemoryDisk, Role};
-use mdf_num::{Bytes, Failed, FaultCount, Numbers, Rows};
+use mdf_num::{Bytes, Failed, FaultCount, Memory, Numbers, Rows};
 use mdf_port::{MemorySink, MemorySource};
 use mdf_run::{Finished, Gate, Open, run};
 use std::alloc::Global;
+use std::process::Abort;
 use std::sync::Wait;
 use std::test::Fail;
 use std::thread::Threads;
 
-/// What a run is given: the command words, the text at the source, and which calls of the source and of the sink fail.
+/// What a run is given: the command words, the text at the source, the bytes of the second input, and which calls of the
+/// source, of that input's disk and of the sink fail.
 #[derive(Clone, Copy)]
 pub struct Given<'a> {
     pub words: &'a [&'a str],
     pub script: &'a str,
+    pub second: &'a [u8],
     pub broken: &'a [u64],
+    pub lost: &'a [u64],
     pub failing: &'a [u64],
 }
 
@@ -36,17 +40,41 @@ fn words(alloc: Global, texts: &[&str]) -> Result<Rows<Bytes>, Fail> {
 }
 
 pub fn numbers(alloc: Global, items: &[u64]) -> Result<Numbers, Fail> {
-    let mut numbers = Numbers::empty(alloc);
-    for item in items {
-        numbers.push(*item)?;
-    }
-    Ok(numbers)
+    Ok(Numbers::from_vec(items.to_vec(alloc)?))
 }
 
 fn source_of(alloc: Global, given: Given<'_>) -> Result<MemorySource, Fail> {
     let broken = numbers(alloc, given.broken)?;
     let script = Bytes::from_slice(alloc, given.script.as_bytes())?;
     Ok(MemorySource::new(script, broken))
+}
+
+/// The disk of the second input.
+fn second_of(alloc: Global, given: Given<'_>) -> Result<MemoryDisk, Fail>
+    ensures { IfOk result (λ disk. ⟦<MemoryDisk as Disk>⟧.asked disk ≡ None) }
+{
+    let lost = numbers(alloc, given.lost)?;
+    let mut disk = MemoryDisk::holding(alloc, Bytes::from_slice(alloc, given.second)?);
+    disk.fail_at(lost);
+    Ok(disk)
+}
+
+/// The words and the streams of a run.
+#[derive(Drop)]
+struct Streams {
+    words: Rows<Bytes>,
+    source: MemorySource,
+    sink: MemorySink,
+}
+
+fn streams_of(alloc: Global, given: Given<'_>) -> Result<Streams, Fail> {
+    let failing = numbers(alloc, given.failing)?;
+    let source = source_of(alloc, given)?;
+    Ok(Streams {
+        words: words(alloc, given.words)?,
+        source,
+        sink: MemorySink::new(alloc, failing),
+    })
 }
 
 /// Runs what is given over these disks, with this gate for the sources of a recording.
@@ -66,10 +94,12 @@ where
     requires out { C.asked out ≡ None }
 {
     let alloc = rt.alloc();
-    let words = words(alloc, given.words)?;
-    let mut source = source_of(alloc, given)?;
-    let mut sink = MemorySink::new(alloc, numbers(alloc, given.failing)?);
-    let mut second = MemoryDisk::new(alloc);
+    let mut second = second_of(alloc, given)?;
+    let Streams {
+        words,
+        mut source,
+        mut sink,
+    } = streams_of(alloc, given)?;
     let finished = run(
         rt,
         alloc,
@@ -104,24 +134,20 @@ pub fn line<A, C>(alloc: Global, ended: &Ended<A, C>) -> Result<String, Fail> {
     Ok(format!(in alloc; "{status} {text}")?)
 }
 
-/// The number of samples of each mark.
-fn throughs(alloc: Global, marks: &Marks) -> Result<Numbers, Fail> {
-    let mut throughs = Numbers::empty(alloc);
-    for mark in marks.rest(0) {
-        throughs.push(mark.through)?;
-    }
-    Ok(throughs)
-}
-
 /// That line; how many bytes the file that was made has, and how many samples were accepted; and how many samples each
 /// mark has.
 fn record_line<A>(alloc: Global, ended: &Ended<A, MemoryDisk>) -> Result<String, Fail> {
-    let line = line(alloc, ended)?;
+    let mut line = line(alloc, ended)?;
     let length = ended.finished.out.bytes().len();
     let accepted = ended.finished.history.len();
-    let marks = throughs(alloc, &ended.finished.marks)?;
-    let marks = marks.as_slice();
-    Ok(format!(in alloc; "{line}file {length} history {accepted} marks {marks:?}")?)
+    write!(line, "file {length} history {accepted} marks [")?;
+    let mut between = "";
+    for mark in ended.finished.marks.rest(0) {
+        write!(line, "{between}{}", mark.through)?;
+        between = ", ";
+    }
+    line.push(']')?;
+    Ok(line)
 }
 
 pub fn told<R, A>(rt: &R, given: Given<'_>, first: A) -> Result<String, Fail>
@@ -133,6 +159,12 @@ where
     let alloc = rt.alloc();
     let ended = ran(rt, given, first, MemoryDisk::new(alloc))?;
     line(alloc, &ended)
+}
+
+/// That line, and the bytes of the file that was made.
+fn line_and_file<A>(alloc: Global, ended: &Ended<A, MemoryDisk>) -> Result<(String, Bytes), Fail> {
+    let line = line(alloc, ended)?;
+    Ok((line, Bytes::from_slice(alloc, ended.finished.out.bytes())?))
 }
 
 /// What is printed, and the bytes of the file that was made.
@@ -149,8 +181,23 @@ where
 {
     let alloc = rt.alloc();
     let ended = ran(rt, given, first, out)?;
-    let file = Bytes::from_slice(alloc, ended.finished.out.bytes())?;
-    Ok((line(alloc, &ended)?, file))
+    line_and_file(alloc, &ended)
+}
+
+/// What a command prints of this file.
+pub fn said<R>(rt: &R, words: &[&str], file: Bytes) -> Result<String, Fail>
+where
+    R: AllocGlobal + Threads + Wait + Sync,
+{
+    let given = Given {
+        words,
+        script: "",
+        second: &[],
+        broken: &[],
+        lost: &[],
+        failing: &[],
+    };
+    told(rt, given, MemoryDisk::holding(rt.alloc(), file))
 }
 
 pub fn record_told<R>(rt: &R, given: Given<'_>, out: MemoryDisk) -> Result<String, Fail>
@@ -167,7 +214,9 @@ const fn opened(failing: &[u64]) -> Given<'_> {
     Given {
         words: &["opened", "in.mf4"],
         script: "",
+        second: &[],
         broken: &[],
+        lost: &[],
         failing,
     }
 }
@@ -176,7 +225,9 @@ pub const fn record<'a>(script: &'a str, broken: &'a [u64], failing: &'a [u64]) 
     Given {
         words: &["record", "out.mf4"],
         script,
+        second: &[],
         broken,
+        lost: &[],
         failing,
     }
 }
@@ -199,29 +250,49 @@ fn two_blocks(
 
 // The length of the recording of two blocks and the part that is put into it; which calls of its disk and of the sink
 // fail; the status and what is printed.
-const OPENED: [(usize, Part, &[u64], &[u64], &str); 14] = [
-    (233, (232, b"\0"), &[], &[], "0 blocks 0 bytes 0\n"),
-    (313, (0, b""), &[], &[], "0 blocks 2 bytes 26\n"),
-    (313, (272, b"\""), &[], &[], "0 blocks 1 bytes 10\n"),
-    (312, (0, b""), &[], &[], "0 blocks 2 bytes 26\n"),
-    (313, (0, b"\0"), &[], &[], "3 not MDF\n"),
-    (313, (274, b"X"), &[], &[], "3 block at 272 is not ##DT\n"),
-    (313, (28, b"\xA4"), &[], &[], "3 version 420\n"),
-    (313, (62, b"\x02"), &[], &[], "3 not a recording 33 2\n"),
-    (313, (0, b""), &[0], &[], "4 device fault\n"),
-    (313, (0, b""), &[1], &[], "4 device fault\n"),
-    (313, (0, b""), &[2], &[], "4 device fault\n"),
-    (313, (0, b""), &[], &[0], "6 "),
-    (313, (0, b""), &[], &[3], "6 blocks 2 bytes "),
-    (0, (0, b""), &[], &[0], "3 "),
+const OPENED: &[(Opening, &str)] = &[
+    (Opening(233, (232, b"\0"), &[], &[]), "0 blocks 0 bytes 0\n"),
+    (Opening(313, (0, b""), &[], &[]), "0 blocks 2 bytes 26\n"),
+    (
+        Opening(313, (272, b"\""), &[], &[]),
+        "0 blocks 1 bytes 10\n",
+    ),
+    (Opening(312, (0, b""), &[], &[]), "0 blocks 2 bytes 26\n"),
+    (Opening(313, (0, b"\0"), &[], &[]), "3 not MDF\n"),
+    (
+        Opening(313, (274, b"X"), &[], &[]),
+        "3 block at 272 is not ##DT\n",
+    ),
+    (Opening(313, (28, b"\xA4"), &[], &[]), "3 version 420\n"),
+    (
+        Opening(313, (62, b"\x02"), &[], &[]),
+        "3 not a recording 33 2\n",
+    ),
+    (Opening(313, (0, b""), &[0], &[]), "4 device fault\n"),
+    (Opening(313, (0, b""), &[1], &[]), "4 device fault\n"),
+    (Opening(313, (0, b""), &[2], &[]), "4 device fault\n"),
+    (Opening(313, (0, b""), &[], &[0]), "6 "),
+    (Opening(313, (0, b""), &[], &[3]), "6 blocks 2 bytes "),
+    (Opening(0, (0, b""), &[], &[0]), "3 "),
 ];
+
+/// So many bytes of the recording of two blocks, with this part put in; and which calls of its disk and of the sink fail.
+struct Opening(usize, Part, &'static [u64], &'static [u64]);
+
+impl Opening {
+    fn told<R>(&self, rt: &R) -> Result<String, Fail>
+    where
+        R: AllocGlobal + Threads + Wait + Sync,
+    {
+        let first = two_blocks(rt.alloc(), self.0, self.1, self.2)?;
+        told(rt, opened(self.3), first)
+    }
+}
 
 #[test]
 fn opened_prints_its_line(rt: HostRuntime) -> Result<(), Fail> {
-    for (length, change, faults, failing, want) in OPENED {
-        let first = two_blocks(rt.alloc(), length, change, faults)?;
-        let text = told(&rt, opened(failing), first)?;
-        assert_eq!(rt; text.as_str(), want);
+    for (row, want) in OPENED {
+        is_told(&rt, row.told(&rt), *want)?;
     }
     Ok(())
 }
@@ -229,46 +300,55 @@ fn opened_prints_its_line(rt: HostRuntime) -> Result<(), Fail> {
 const USAGE: &str =
     "1 usage: opened IN | record OUT | finalize IN OUT | check IN | info IN | sort IN OUT | cut IN OUT FROM TO | concat A B OUT | export IN GROUP | gen N OUT\n";
 
-// Words that are no command.
-const WRONG: [&[&str]; 27] = [
-    &[],
-    &["frob"],
-    &["opened"],
-    &["opened", "a", "b"],
-    &["record"],
-    &["record", "a", "b"],
-    &["finalize", "a"],
-    &["Record", "a"],
-    &["", "a"],
-    &["cut", "a", "b", "0"],
-    &["cut", "a", "b", "x", "5"],
-    &["cut", "a", "b", "0", "+5"],
-    &["cut", "a", "b", "-0", "5"],
-    &["cut", "a", "b", "007", "8"],
-    &["cut", "a", "b", "0", ""],
-    &["cut", "a", "b", "0", "-"],
-    &["cut", "a", "b", "0", "18446744073709551616"],
-    &["cut", "a", "b", "-9223372036854775809", "0"],
-    &["export", "a"],
-    &["export", "a", "-1"],
-    &["export", "a", "18446744073709551616"],
-    &["gen", "1"],
-    &["gen", "0", "a"],
-    &["gen", "1000001", "a"],
-    &["gen", "01", "a"],
-    &["gen", "+1", "a"],
-    &["gen", "", "a"],
-];
+// Words that are no command, a command a line, with one blank between two words.
+const WRONG: &str = "frob
+opened
+opened a b
+record
+record a b
+finalize a
+Record a
+ a
+cut a b 0
+cut a b x 5
+cut a b 0 +5
+cut a b -0 5
+cut a b 007 8
+cut a b 0\x20
+cut a b 0 -
+cut a b 0 18446744073709551616
+cut a b -9223372036854775809 0
+concat a b
+concat a b c d
+export a
+export a -1
+export a 18446744073709551616
+gen 1
+gen 0 a
+gen 1000001 a
+gen 01 a
+gen +1 a
+gen  a";
+
+/// The words of a line.
+fn words_of(alloc: Global, line: &'static str) -> Result<Vec<&'static str>, Memory> {
+    let mut words = Vec::new(alloc);
+    for word in line.split(' ') {
+        words.push(word)?;
+    }
+    Ok(words)
+}
 
 #[test]
 fn wrong_words_print_the_usage(rt: HostRuntime) -> Result<(), Fail> {
-    for words in WRONG {
-        let given = Given {
-            words,
-            ..opened(&[])
-        };
-        let text = told(&rt, given, MemoryDisk::new(rt.alloc()))?;
-        assert_eq!(rt; text.as_str(), USAGE);
+    is_told(&rt, said(&rt, &[], Bytes::empty(rt.alloc())), USAGE)?;
+    for line in WRONG.lines() {
+        let words = words_of(rt.alloc(), line)?;
+        is_told(
+            &rt,
+            said(&rt, words.as_slice(), Bytes::empty(rt.alloc())),
+            USAGE,
+        )?;
     }
     Ok(())
 }
@@ -338,9 +418,11 @@ fn an_input_over_the_limit_is_refused(rt: HostRuntime) -> Result<(), Fail> {
         asked: None,
         faults: FaultCount::zero(),
     };
-    let text = told(&rt, opened(&[]), first)?;
-    assert_eq!(rt; text.as_str(), "5 input over 536870913 536870912\n");
-    Ok(())
+    is_told(
+        &rt,
+        told(&rt, opened(&[]), first),
+        "5 input over 536870913 536870912\n",
+    )
 }
 
 // Three samples of one channel, with a flush after the second.
@@ -372,140 +454,86 @@ const FULL_BLOCK: &str =
 // A script; which calls of the source, of the disk and of the sink fail; the status and what is printed, with what is
 // left. The head and its closed gate are 769 bytes. A block adds 24 bytes and its data, up to the next multiple of 8.
 // Making the file takes the calls 0 to 7 of the disk, and each block four.
-const RECORDED: [(&str, &[u64], &[u64], &[u64], &str); 21] = [
+const RECORDED: &[(Recording, &str)] = &[
     (
-        COUNTING,
-        &[],
-        &[],
-        &[],
+        Recording(COUNTING, &[], &[], &[]),
         "0 source 0 accepted 3\nsamples 3 durable 3\nfile 857 history 3 marks [0, 2, 3]",
     ),
     (
-        SMALL_BLOCKS,
-        &[],
-        &[],
-        &[],
+        Recording(SMALL_BLOCKS, &[], &[], &[]),
         "0 source 0 accepted 3\nsamples 3 durable 3\nfile 889 history 3 marks [0, 1, 2, 3]",
     ),
     (
-        TWO_SOURCES,
-        &[],
-        &[],
-        &[],
+        Recording(TWO_SOURCES, &[], &[], &[]),
         "0 source 0 accepted 2\nsource 1 accepted 2\nsamples 4 durable 4\nfile 1129 history 4 marks [0, 4]",
     ),
     (
-        THREE_TEXTS,
-        &[],
-        &[],
-        &[],
+        Recording(THREE_TEXTS, &[], &[], &[]),
         "0 source 0 accepted 3\nsamples 3 durable 3\nfile 945 history 3 marks [0, 3]",
     ),
     (
-        FULL_BLOCK,
-        &[],
-        &[],
-        &[],
+        Recording(FULL_BLOCK, &[], &[], &[]),
         "8 script line 6\nfile 0 history 0 marks []",
     ),
     (
-        COUNTING,
-        &[0],
-        &[],
-        &[],
+        Recording(COUNTING, &[0], &[], &[]),
         "2 source fault\nfile 0 history 0 marks []",
     ),
     (
-        COUNTING,
-        &[1],
-        &[],
-        &[],
+        Recording(COUNTING, &[1], &[], &[]),
         "2 source fault\nfile 0 history 0 marks []",
     ),
     (
-        "group 0 g\ngroup 0 g\n",
-        &[],
-        &[],
-        &[],
+        Recording("group 0 g\ngroup 0 g\n", &[], &[], &[]),
         "8 script line 2\nfile 0 history 0 marks []",
     ),
-    ("", &[], &[], &[0], "8 file 0 history 0 marks []"),
+    (Recording("", &[], &[], &[0]), "8 file 0 history 0 marks []"),
     (
-        SHORT_SESSION,
-        &[],
-        &[],
-        &[],
+        Recording(SHORT_SESSION, &[], &[], &[]),
         "5 source 0 accepted 1\nsamples 1 durable 1\nsession full 145 145 200\nfile 809 history 1 marks [0, 1]",
     ),
     (
-        TWO_SAMPLES,
-        &[],
-        &[],
-        &[],
+        Recording(TWO_SAMPLES, &[], &[], &[]),
         "5 source 0 accepted 2\nsamples 2 durable 2\nsession full 290 145 290\nfile 817 history 2 marks [0, 2]",
     ),
     (
-        SHORT_SESSION,
-        &[],
-        &[8],
-        &[],
+        Recording(SHORT_SESSION, &[], &[8], &[]),
         "4 source 0 accepted 1\nsamples 1 durable 0\ndevice fault\nfile 769 history 1 marks [0]",
     ),
     (
-        COUNTING,
-        &[],
-        &[0],
-        &[],
+        Recording(COUNTING, &[], &[0], &[]),
         "4 device fault\nfile 0 history 0 marks []",
     ),
     (
-        COUNTING,
-        &[],
-        &[8],
-        &[],
+        Recording(COUNTING, &[], &[8], &[]),
         "4 source 0 accepted 2\nsamples 2 durable 0\ndevice fault\nfile 769 history 2 marks [0]",
     ),
     (
-        COUNTING,
-        &[],
-        &[12],
-        &[],
+        Recording(COUNTING, &[], &[12], &[]),
         "4 source 0 accepted 3\nsamples 3 durable 2\ndevice fault\nfile 817 history 3 marks [0, 2]",
     ),
-    (COUNTING, &[], &[8], &[0], "4 file 769 history 2 marks [0]"),
     (
-        COUNTING,
-        &[],
-        &[],
-        &[0],
+        Recording(COUNTING, &[], &[8], &[0]),
+        "4 file 769 history 2 marks [0]",
+    ),
+    (
+        Recording(COUNTING, &[], &[], &[0]),
         "6 file 857 history 3 marks [0, 2, 3]",
     ),
     (
-        COUNTING,
-        &[],
-        &[],
-        &[3],
+        Recording(COUNTING, &[], &[], &[3]),
         "6 source 0 accepted file 857 history 3 marks [0, 2, 3]",
     ),
     (
-        COUNTING,
-        &[],
-        &[],
-        &[5],
+        Recording(COUNTING, &[], &[], &[5]),
         "6 source 0 accepted 3\nfile 857 history 3 marks [0, 2, 3]",
     ),
     (
-        COUNTING,
-        &[],
-        &[],
-        &[8],
+        Recording(COUNTING, &[], &[], &[8]),
         "6 source 0 accepted 3\nsamples 3 durable file 857 history 3 marks [0, 2, 3]",
     ),
     (
-        COUNTING,
-        &[],
-        &[],
-        &[9],
+        Recording(COUNTING, &[], &[], &[9]),
         "6 source 0 accepted 3\nsamples 3 durable 3file 857 history 3 marks [0, 2, 3]",
     ),
 ];
@@ -519,12 +547,23 @@ pub fn failing_disk(alloc: Global, failing: &[u64]) -> Result<MemoryDisk, Fail>
     Ok(disk)
 }
 
+/// A script, and which calls of the source, of the disk and of the sink fail.
+struct Recording(&'static str, &'static [u64], &'static [u64], &'static [u64]);
+
+impl Recording {
+    fn told<R>(&self, rt: &R) -> Result<String, Fail>
+    where
+        R: AllocGlobal + Threads + Wait + Sync,
+    {
+        let out = failing_disk(rt.alloc(), self.2)?;
+        record_told(rt, record(self.0, self.1, self.3), out)
+    }
+}
+
 #[test]
 fn a_script_is_recorded(rt: HostRuntime) -> Result<(), Fail> {
-    for (script, broken, faults, failing, want) in RECORDED {
-        let out = failing_disk(rt.alloc(), faults)?;
-        let text = record_told(&rt, record(script, broken, failing), out)?;
-        assert_eq!(rt; text.as_str(), want);
+    for (row, want) in RECORDED {
+        is_told(&rt, row.told(&rt), *want)?;
     }
     Ok(())
 }
@@ -533,10 +572,11 @@ fn a_script_is_recorded(rt: HostRuntime) -> Result<(), Fail> {
 fn a_taken_name_is_not_recorded_over(rt: HostRuntime) -> Result<(), Fail> {
     let alloc = rt.alloc();
     let taken = MemoryDisk::holding(alloc, Bytes::from_slice(alloc, b"taken")?);
-    let text = record_told(&rt, record(COUNTING, &[], &[]), taken)?;
-    let want = "4 device fault\nfile 5 history 0 marks []";
-    assert_eq!(rt; text.as_str(), want);
-    Ok(())
+    is_told(
+        &rt,
+        record_told(&rt, record(COUNTING, &[], &[]), taken),
+        "4 device fault\nfile 5 history 0 marks []",
+    )
 }
 
 /// The bytes of a recording of this script.
@@ -578,19 +618,20 @@ pub fn stands(file: &[u8], (at, part): Part) -> bool {
     at <= file.len() && file[at..].starts_with(part)
 }
 
-#[test]
-fn a_recording_has_its_blocks(rt: HostRuntime) -> Result<(), Fail> {
-    let file = recorded(&rt, COUNTING)?;
-    for (at, part) in COUNTED {
-        assert!(rt; stands(file.as_slice(), (at, part)), "at {at}");
+/// Asserts that these parts stand in the file.
+pub fn all_stand<R: Abort>(rt: &R, file: &[u8], parts: &[Part]) {
+    for part in parts {
+        assert!(rt; stands(file, *part), "at {}", part.0);
     }
-    Ok(())
 }
 
 #[test]
-fn a_recording_is_opened(rt: HostRuntime) -> Result<(), Fail> {
-    let first = MemoryDisk::holding(rt.alloc(), recorded(&rt, COUNTING)?);
-    let text = told(&rt, opened(&[]), first)?;
-    assert_eq!(rt; text.as_str(), "0 blocks 2 bytes 27\n");
-    Ok(())
+fn a_recording_has_its_blocks(rt: HostRuntime) -> Result<(), Fail> {
+    let file = recorded(&rt, COUNTING)?;
+    all_stand(&rt, file.as_slice(), &COUNTED);
+    is_told(
+        &rt,
+        said(&rt, &["opened", "in.mf4"], file),
+        "0 blocks 2 bytes 27\n",
+    )
 }

@@ -1,6 +1,7 @@
 //! The sources of a recording at work at once.
 
 use crate::runs::{TWO_SOURCES, line, ran_under, record, record_told};
+use crate::told::is_told;
 use mdf_disk::MemoryDisk;
 use mdf_run::Gate;
 use std::sync::atomic::AtomicBool;
@@ -47,11 +48,12 @@ fn two_sources_record_at_once(rt: HostRuntime) -> Result<(), Fail> {
     };
     let (first, out) = (MemoryDisk::new(alloc), MemoryDisk::new(alloc));
     let ended = ran_under(&rt, record(TWO_SOURCES, &[], &[]), first, out, &meeting)?;
-    let text = line(alloc, &ended)?;
-    let want = "0 source 0 accepted 2\nsource 1 accepted 2\nsamples 4 durable 4\n";
-    assert_eq!(rt; text.as_str(), want);
     assert!(rt; !meeting.in_vain.load(SeqCst));
-    Ok(())
+    is_told(
+        &rt,
+        line(alloc, &ended),
+        "0 source 0 accepted 2\nsource 1 accepted 2\nsamples 4 durable 4\n",
+    )
 }
 
 // The first source has no room for its third sample, since each costs 145, but the second has room for its one, which costs
