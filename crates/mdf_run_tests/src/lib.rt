@@ -18,8 +18,6 @@ mod kinds;
 #[cfg(test)]
 mod live;
 #[cfg(test)]
-mod orders;
-#[cfg(test)]
 mod readings;
 #[cfg(test)]
 mod recordings;
