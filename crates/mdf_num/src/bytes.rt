@@ -43,6 +43,14 @@ impl Bytes {
         Bytes { items }
     }
 
+    /// The vector of the bytes. It takes no memory.
+    pub fn into_vec(self) -> Vec<u8>
+        ensures { result.items ≡ self }
+    {
+        let Bytes { items } = self;
+        items
+    }
+
     /// Adds bytes at the end. After an error the list is as before.
     pub fn push_slice(&mut self, bytes: &[u8]) -> Result<(), Memory>
         ensures ok { OnOk result (self.new ≡ self.old ++ bytes.now) }
