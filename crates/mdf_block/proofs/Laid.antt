@@ -1,15 +1,18 @@
 -- The items of a draft stand one behind the other.
 use Rattle.std.proofs.Common.{◌≡◌, ◌+◌, ◌<◌, ◌≤◌, ◌^◌, ℕ, zero, suc, List, [], ◌∷◌, ◌++◌, length, get_or, take, set, replicate, map, refl, sym, ◌∙◌, ap, subst, arith, length-set}
-use Rattle.std.proofs.lemmas.List.{take_all, get_or-map, length-map}
-use Rattle.std.proofs.lemmas.List.Sums.{sum_by-cons, sum_by_push, get_or-le-sum_by}
+use Rattle.std.proofs.lemmas.List.{take_all, map-append, flat_map_more}
+use Rattle.std.proofs.lemmas.List.Sums.{sum_by-cons, sum_by-append, sum_by_push}
 use Rattle.std.specs.Prelude.{sum_by}
+use Rattle.std.specs.List.{flat_map}
 use Rattle.mdf_block.specs.declared.item.Item.{Item}
 use Rattle.mdf_block.specs.declared.link.Link.{Link}
 use Rattle.mdf_block.specs.declared.link.Link.TheVariants as links
 use Rattle.mdf_format.specs.Number.{aligned}
 use Rattle.mdf_format.specs.Block.{header_size}
-use Rattle.mdf_block.specs.Draft.{Placed, unlinked, size_of, room_of, end_of, address_of, HasLink, with_link}
-use Rattle.mdf_block.specs.Item.{placed_of, AreLaidOut}
+use Rattle.mdf_block.specs.Draft.{Placed, unlinked, size_of, room_of, end_of, block_bytes, HasLink, with_link}
+use Rattle.mdf_block.specs.Item.{placed_of, at_of, AreLaidOut}
+use Rattle.mdf_block.specs.Places.{AreAddresses}
+use Rattle.mdf_block.specs.declared.places.Places.{Places}
 use Rattle.mdf_format.specs.declared.kind.Kind.{Kind}
 use Rattle.mdf_block.proofs.Laying.{le_room}
 
@@ -41,11 +44,25 @@ laid_at at (item ∷ items) end (suc n) d laid below =
       sum_by-cons room_of (placed_of item) (take n (map placed_of items)),
     )
 
--- the end of all is the address of a block that is not there
-pub past_address : (items : List Item) (end n : ℕ) → AreLaidOut 64 items end → length items ≤ n → end ≡ address_of (map placed_of items) n
-past_address items end n laid past =
-    laid_end 64 items end laid
-    ∙ ap end_of (sym (take_all n (map placed_of items) (omega (arith, past, length-map items placed_of))))
+-- the places of the items, with the end of all in the place of one that is not there
+start_laid : (at : ℕ) (items : List Item) (end n : ℕ) → AreLaidOut at items end
+    → get_or (map at_of items) n end ≡ at + sum_by room_of (take n (map placed_of items))
+unfolding AreLaidOut
+start_laid at [] end n laid = omega (arith, laid, ap (sum_by room_of) (take_all n [] (omega arith)))
+start_laid at (item ∷ items) end zero laid = omega (arith, laid.0)
+start_laid at (item ∷ items) end (suc n) laid =
+    omega (
+      arith,
+      start_laid (at + room_of (placed_of item)) items end n laid.1,
+      sum_by-cons room_of (placed_of item) (take n (map placed_of items)),
+    )
+
+pub addresses : (items : List Item) (places : Places) → AreLaidOut 64 items places.end → places.starts.items ≡ map at_of items
+    → AreAddresses (map placed_of items) places
+addresses items places laid are = record {
+  starts = λ n. ap (λ (starts : List ℕ). get_or starts n places.end) are ∙ start_laid 64 items places.end n laid;
+  ends = laid_end 64 items places.end laid;
+}
 
 -- an item with other links, and as many of them, stands where it stood
 pub laid_set : (at : ℕ) (items : List Item) (end n : ℕ) (y d : Item) → AreLaidOut at items end → y.at ≡ (get_or items n d).at
@@ -93,18 +110,26 @@ placed_small items end old b placed laid view is small =
     omega (arith, small, laid_end 64 items end laid, ap (sum_by room_of) view, sum_by_push room_of old b, ap room_of is)
 
 -- no block is longer than all of them
-pub item_small : (items : List Item) (end n : ℕ) (x : Item) → AreLaidOut 64 items end → n < length items → x ≡ get_or items n x
+pub item_small : (items : List Item) (end : ℕ) (front rest : List Item) (x : Item) → AreLaidOut 64 items end → front ++ x ∷ rest ≡ items
     → size_of (placed_of x) ≤ end
-item_small items end n x laid below is =
-    let same : placed_of x ≡ get_or (map placed_of items) n (placed_of x) =
-    ap placed_of is ∙ sym (get_or-map placed_of items n x (placed_of x) below) in
+item_small items end front rest x laid split =
     omega (
       arith,
       laid_end 64 items end laid,
+      ap (λ (all : List Item). sum_by room_of (map placed_of all)) split,
+      ap (sum_by room_of) (map-append placed_of front (x ∷ rest)),
+      sum_by-append room_of (map placed_of front) (map placed_of (x ∷ rest)),
+      sum_by-cons room_of (placed_of x) (map placed_of rest),
       le_room (placed_of x),
-      ap room_of same,
-      get_or-le-sum_by room_of (map placed_of items) n (placed_of x) (omega (arith, below, length-map items placed_of)),
     )
+
+-- one block more is written
+pub block_more : (all : List Placed) (old : List ℕ) (items : List Item) (x : Item)
+    → old ++ flat_map (block_bytes all) (map placed_of items) ++ block_bytes all (placed_of x)
+    ≡ old ++ flat_map (block_bytes all) (map placed_of (items ++ x ∷ []))
+block_more all old items x =
+    flat_map_more (block_bytes all) old (map placed_of items) (placed_of x)
+    ∙ ap (λ (blocks : List Placed). old ++ flat_map (block_bytes all) blocks) (sym (map-append placed_of items (x ∷ [])))
 
 -- there is room for a block that is placed with its links, where no part of it is longer than any memory
 pub linked_small : (end : ℕ) (b : Placed) → end ≤ 2 ^ 61 → length b.links < 2 ^ 31 → length b.body ≤ 2 ^ 60

@@ -7,6 +7,10 @@ use Rattle.mdf_block.specs.Draft.{Placed, room_of}
 abbrev pub placed_of : Item → Placed
 placed_of item = record { kind = item.kind; links = item.links.items; body = item.body }
 
+-- its address
+abbrev pub at_of : Item → ℕ
+at_of item = item.at
+
 -- the items stand one behind the other, from an address on up to another
 unfoldable pub AreLaidOut : ℕ → List Item → ℕ → Type 0
 AreLaidOut at [] end = end ≡ at

@@ -5,4 +5,5 @@ pub mod Chain
 pub mod Each
 pub mod Draft
 pub mod Item
+pub mod Places
 pub mod Truth

@@ -3,9 +3,9 @@ ghost use Rattle.mdf_block.specs.Draft.{Placed, unlinked, linked, end_of, addres
 
 use crate::Link;
 use crate::item::Item;
-use crate::work::{bytes_of, links_of, room_of, set_link};
+use crate::work::{links_of, pieces_of, room_of, set_link};
 use mdf_format::Kind;
-use mdf_num::{Bytes, Memory};
+use mdf_num::{Bytes, Memory, Pieces};
 use std::alloc::Global;
 use std::marker::Model;
 
@@ -137,12 +137,23 @@ impl Draft {
     }
 
     /// The whole file: these 64 bytes, and each block at its address with its links, its body, and zero bytes as
-    /// filler.
-    pub fn bytes(&self, ident: &[u8; 64]) -> Result<Bytes, Memory>
-        ensures is { IfOk result (λ bytes. bytes ≡ written ident.now self.now) }
-        ensures len { IfOk result (λ bytes. length bytes ≡ end_of self.now) }
-        ensures stand { IfOk result (λ bytes. AllStand bytes self.now) }
+    /// filler. A body of 4,096 bytes or more is not copied. What is in front of it, and what is behind it, is joined.
+    pub fn into_pieces(self, ident: &[u8; 64]) -> Result<Pieces, Memory>
+        ensures is { IfOk result (λ pieces. pieces ≡ written ident.now self) }
+        ensures len { IfOk result (λ pieces. length pieces ≡ end_of self) }
+        ensures stand { IfOk result (λ pieces. AllStand pieces self) }
     {
-        bytes_of(*self.items.allocator(), ident, &self.items, self.end)
+        let Draft { items, end } = self;
+        pieces_of(*items.allocator(), ident, items, end)
+    }
+
+    /// The same in one piece, which is copied once more.
+    pub fn bytes(self, ident: &[u8; 64]) -> Result<Bytes, Memory>
+        ensures is { IfOk result (λ bytes. bytes ≡ written ident.now self) }
+        ensures len { IfOk result (λ bytes. length bytes ≡ end_of self) }
+        ensures stand { IfOk result (λ bytes. AllStand bytes self) }
+    {
+        let pieces = self.into_pieces(ident)?;
+        pieces.joined()
     }
 }

@@ -13,11 +13,13 @@ mod name;
 mod named;
 mod note;
 mod place;
+mod places;
 mod text;
 mod walk;
 mod what;
 mod word;
 mod work;
+mod writing;
 
 pub use block::{block_at, block_in};
 pub use draft::Draft;

@@ -1,12 +1,15 @@
-ghost use Rattle.std.specs.Prelude.{ℕ, ◌≡◌, ◌+◌, ◌-◌, ◌^◌, ◌<◌, ◌≤◌, [], ◌∷◌, ◌++◌, length, map, replicate, IfOk, OnOk};
+ghost use Rattle.std.specs.Prelude.{ℕ, ◌≡◌, ◌+◌, ◌-◌, ◌^◌, ◌<◌, ◌≤◌, List, [], ◌∷◌, ◌++◌, length, map, replicate, IfOk, OnOk};
 ghost use Rattle.std.specs.List.{flat_map};
-ghost use Rattle.mdf_block.specs.Draft.{size_of, room_of, end_of, link_number, link_bytes, block_bytes, written, HasLink, with_link};
+ghost use Rattle.mdf_block.specs.Draft.{Placed, size_of, room_of, end_of, link_bytes, block_bytes, written, HasLink, with_link};
 ghost use Rattle.mdf_block.specs.Item.{placed_of, AreLaidOut};
+ghost use Rattle.mdf_block.specs.Places.{AreAddresses, front_bytes};
 
 use crate::Link;
 use crate::item::Item;
 use crate::name::name_of;
-use mdf_num::{Bytes, Memory, align8};
+use crate::places::{Places, places_of};
+use crate::writing::Writing;
+use mdf_num::{Memory, Pieces, align8};
 use std::alloc::Global;
 
 /// So many links that name nothing.
@@ -41,74 +44,67 @@ pub(crate) fn set_link(items: &mut Vec<Item>, from: u32, k: u32, link: Link)
     items[from as usize].links[k as usize] = link;
 }
 
-/// The number that is written for a link.
-fn number_of(items: &[Item], end: u64, link: Link) -> u64
-    requires { AreLaidOut 64 items.now end }
-    ensures { result ≡ link_number (map placed_of items.now) link }
-{
-    match link {
-        Link::Nothing => 0,
-        Link::Block(n) => match items.get(n as usize) {
-            Some(item) => item.at,
-            None => end,
-        },
-        Link::End => end,
-    }
-}
-
 /// Adds the links at the end.
-fn push_links(bytes: &mut Bytes, items: &[Item], end: u64, links: &[Link]) -> Result<(), Memory>
-    requires { AreLaidOut 64 items.now end }
-    ensures { OnOk result (bytes.new ≡ bytes.old ++ flat_map (link_bytes (map placed_of items.now)) links.now) }
+fn push_links(file: &mut Writing, places: &Places, links: &[Link]) -> Result<(), Memory>
+    ensures { (blocks : List Placed) → AreAddresses blocks places.now
+        → OnOk result (file.new ≡ file.old ++ flat_map (link_bytes blocks) links.now) }
 {
     for link in links {
-        let number = number_of(items, end, *link);
-        bytes.push_slice(&number.to_le_bytes())?;
+        let number = places.number(*link);
+        file.push_slice(&number.to_le_bytes())?;
     }
     Ok(())
 }
 
 /// Adds fewer than 8 zero bytes at the end.
-fn push_filler(bytes: &mut Bytes, count: u64) -> Result<(), Memory>
+fn push_filler(file: &mut Writing, count: u64) -> Result<(), Memory>
     requires { count < 8 }
-    ensures { OnOk result (bytes.new ≡ bytes.old ++ replicate count 0) }
+    ensures { OnOk result (file.new ≡ file.old ++ replicate count 0) }
 {
     let zeros = [0u8; 8];
-    bytes.push_slice(&zeros[..count as usize])
+    file.push_slice(&zeros[..count as usize])
+}
+
+/// Adds the header and the links of a block at the end.
+fn push_front(file: &mut Writing, places: &Places, item: &Item) -> Result<(), Memory>
+    requires { size_of (placed_of item.now) < 2 ^ 62 }
+    ensures { (blocks : List Placed) → AreAddresses blocks places.now
+        → OnOk result (file.new ≡ file.old ++ front_bytes blocks (placed_of item.now)) }
+{
+    file.push_slice(&name_of(item.kind))?;
+    file.push_slice(&[0; 4])?;
+    file.push_slice(&size_of(item).to_le_bytes())?;
+    file.push_slice(&(item.links.len() as u64).to_le_bytes())?;
+    push_links(file, places, item.links.as_slice())
 }
 
 /// Adds a block with its filler at the end.
-fn push_block(bytes: &mut Bytes, items: &[Item], end: u64, item: &Item) -> Result<(), Memory>
-    requires laid { AreLaidOut 64 items.now end }
-    requires small { size_of (placed_of item.now) < 2 ^ 62 }
-    ensures { OnOk result (bytes.new ≡ bytes.old ++ block_bytes (map placed_of items.now) (placed_of item.now)) }
+fn push_block(file: &mut Writing, places: &Places, item: Item) -> Result<(), Memory>
+    requires { size_of (placed_of item) < 2 ^ 62 }
+    ensures { (blocks : List Placed) → AreAddresses blocks places.now
+        → OnOk result (file.new ≡ file.old ++ block_bytes blocks (placed_of item)) }
 {
-    let size = size_of(item);
-    bytes.push_slice(&name_of(item.kind))?;
-    bytes.push_slice(&[0; 4])?;
-    bytes.push_slice(&size.to_le_bytes())?;
-    bytes.push_slice(&(item.links.len() as u64).to_le_bytes())?;
-    push_links(bytes, items, end, item.links.as_slice())?;
-    bytes.push_slice(item.body.as_slice())?;
-    push_filler(bytes, align8(size) - size)
+    let size = size_of(&item);
+    push_front(file, places, &item)?;
+    file.push_body(item.body)?;
+    push_filler(file, align8(size) - size)
 }
 
-/// The whole file. Its room is found at once, so that it is not copied while it grows.
-pub(crate) fn bytes_of(
+/// The whole file, behind these bytes.
+pub(crate) fn pieces_of(
     alloc: Global,
     ident: &[u8; 64],
-    items: &[Item],
+    items: Vec<Item>,
     end: u64,
-) -> Result<Bytes, Memory>
-    requires laid { AreLaidOut 64 items.now end }
+) -> Result<Pieces, Memory>
+    requires laid { AreLaidOut 64 items.items end }
     requires small { end < 2 ^ 62 }
-    ensures { IfOk result (λ bytes. bytes ≡ written ident.now (map placed_of items.now)) }
+    ensures { IfOk result (λ pieces. pieces ≡ written ident.now (map placed_of items.items)) }
 {
-    let mut whole = Vec::with_capacity(alloc, end as usize)?;
-    whole.extend_from_slice(ident)?;
-    let mut bytes = Bytes::from_vec(whole);
+    let places = places_of(alloc, items.as_slice(), end)?;
+    let mut file = Writing::begin(alloc, ident)?;
     for item in items {
-        push_block(&mut bytes, items, end, item)?;
+        push_block(&mut file, &places, item)?;
     }
-    Ok(bytes)
+    file.finish()
 }
