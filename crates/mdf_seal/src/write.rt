@@ -1,24 +1,44 @@
-ghost use Rattle.std.specs.Prelude.{◌≡◌, ◌≤◌, ◌<◌, ◌^◌, length, true, is_some, OnOk};
+ghost use Rattle.std.specs.Prelude.{◌≡◌, ◌≤◌, ◌<◌, ◌^◌, [], length, true, is_some, OnOk};
+ghost use Rattle.std.specs.List.{concat};
 ghost use Rattle.mdf_format.specs.Cause.{HasCause};
 ghost use Rattle.mdf_disk.specs.Crash.{Adds};
-ghost use Rattle.mdf_seal.specs.Images.{IsSealedImage};
-ghost use Rattle.mdf_seal.specs.Seal.{IsBlank, IsKept};
+ghost use Rattle.mdf_seal.specs.Images.{IsClosed, IsSealedImage};
+ghost use Rattle.mdf_seal.specs.Seal.{Seals, IsBlank, IsKept};
 
 use crate::Sealed;
 use mdf_disk::Disk;
-use mdf_num::Failed;
+use mdf_num::{Bytes, Failed, Pieces};
 
-/// Writes a whole file under a seal, on a disk that is attached with an empty file.
+/// Gives these pieces, one behind the other, to a file of which nothing was given yet. For an empty one it makes no call.
+fn give_all<D: Disk>(seal: &mut Sealed, disk: &mut D, pieces: &[Bytes]) -> Result<(), Failed>
+    requires attached { D.attached disk.old ≡ true }
+    requires begun { Seals seal.old (D.content disk.old) (D.story disk.old) [] }
+    requires short { length (concat pieces.now) < 2 ^ 62 }
+    ensures ok { OnOk result (Seals seal.new (D.content disk.new) (D.story disk.new) (concat pieces.now)) }
+    ensures any_moment { Adds (D.story disk.old) (D.story disk.new) IsClosed }
+    ensures cause { HasCause (D.faults disk.old) (D.faults disk.new) result }
+    ensures asked { D.asked disk.new ≡ D.asked disk.old }
+    ensures attached { D.attached disk.new ≡ D.attached disk.old }
+    ensures moment { D.moment disk.old ≤ D.moment disk.new }
+    ensures told { is_some (D.story disk.new) ≡ is_some (D.story disk.old) }
+    ensures told_content { is_some (D.content disk.new) ≡ is_some (D.content disk.old) }
+{
+    for piece in pieces {
+        seal.give(disk, piece.as_slice())?;
+    }
+    Ok(())
+}
+
+/// Writes a whole file under a seal, piece by piece, on a disk that is attached with an empty file.
 ///
 /// # Errors
 /// `Failed` where the disk failed.
-pub fn write_sealed<D: Disk>(disk: &mut D, bytes: &[u8]) -> Result<(), Failed>
+pub fn write_sealed<D: Disk>(disk: &mut D, file: &Pieces) -> Result<(), Failed>
     requires attached { D.attached disk.old ≡ true }
     requires blank { IsBlank (D.content disk.old) (D.story disk.old) }
-    requires some { 1 ≤ length bytes.now }
-    requires short { length bytes.now < 2 ^ 62 }
-    ensures ok { OnOk result (IsKept (D.content disk.new) (D.story disk.new) bytes.now) }
-    ensures any_moment { Adds (D.story disk.old) (D.story disk.new) (IsSealedImage bytes.now) }
+    requires some { 1 ≤ length file.now }
+    ensures ok { OnOk result (IsKept (D.content disk.new) (D.story disk.new) file.now) }
+    ensures any_moment { Adds (D.story disk.old) (D.story disk.new) (IsSealedImage file.now) }
     ensures cause { HasCause (D.faults disk.old) (D.faults disk.new) result }
     ensures asked { D.asked disk.new ≡ D.asked disk.old }
     ensures attached { D.attached disk.new ≡ D.attached disk.old }
@@ -27,6 +47,6 @@ pub fn write_sealed<D: Disk>(disk: &mut D, bytes: &[u8]) -> Result<(), Failed>
     ensures told_content { is_some (D.content disk.new) ≡ is_some (D.content disk.old) }
 {
     let mut seal = Sealed::begin(disk)?;
-    seal.give(disk, bytes)?;
+    give_all(&mut seal, disk, file.as_slice())?;
     seal.finish(disk)
 }

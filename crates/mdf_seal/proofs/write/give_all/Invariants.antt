@@ -1,0 +1,23 @@
+use Rattle.std.proofs.Common.{◌≡◌, ◌≤◌, take}
+use Rattle.std.specs.Prelude.{is_some}
+use Rattle.std.specs.List.{concat}
+use Rattle.mdf_disk.specs.Crash.{Adds}
+use Rattle.mdf_seal.specs.Images.{IsClosed}
+use Rattle.mdf_seal.specs.Seal.{Seals}
+use Rattle.mdf_seal.proofs.write.give_all.Given as goal
+
+-- the pieces so far were given
+abbrev pub invariant-loop-piece : goal.invariant-loop-piece
+invariant-loop-piece g l =
+    let disk = g.D.Disk in
+    let old = l.initial.disk in
+    record {
+      seals : Seals l.seal (disk.content l.disk) (disk.story l.disk) (concat (take l.piece-index l.pieces));
+      any_moment : Adds (disk.story old) (disk.story l.disk) IsClosed;
+      later : disk.faults old ≤ disk.faults l.disk;
+      asked : disk.asked l.disk ≡ disk.asked old;
+      attached : disk.attached l.disk ≡ disk.attached old;
+      moment : disk.moment old ≤ disk.moment l.disk;
+      told : is_some (disk.story l.disk) ≡ is_some (disk.story old);
+      told_content : is_some (disk.content l.disk) ≡ is_some (disk.content old);
+    }
