@@ -2,7 +2,7 @@
 # Times `record` of a script of 200,000 samples of one source, and of one of as many samples of four sources, each of which has a
 # thread of its own. Prints the best times in microseconds and their ratio: four sources are to be no slower than one. Then
 # records the script of four once more, and prints how often a source met the turn of another and slept, for each thousand appends;
-# who gives the turn back makes a call to wake the others only where one sleeps, and how often that was is printed too.
+# only a flush wakes who sleeps, and how often that was is printed too.
 #
 # usage: bench/record/sources.sh [RUNS]
 #
@@ -38,4 +38,4 @@ before
 TURNS_SAID="$work/turns" LD_PRELOAD="$work/turns.so" "$recorder" record "$work/made.mf4" < "$work/4.txt" > "$work/said"
 read -r sleeps wakes < "$work/turns"
 awk -v sleeps="$sleeps" -v wakes="$wakes" \
-    'BEGIN { printf "four sources: the turn was met %.1f times in 1,000 appends, and others woken %.1f times\n", sleeps / 200, wakes / 200 }'
+    'BEGIN { printf "four sources: the turn was met %.1f times in 1,000 appends, and a flush woke the others %.1f times\n", sleeps / 200, wakes / 200 }'

@@ -80,7 +80,7 @@ impl<D: Disk, V: Shown> SharedBook<D, V> {
         ensures sources { AreOfSources self.basis result.history }
     {
         let whole = gather(&self, seats);
-        let SharedBook { table, waiting: _ } = self;
+        let SharedBook { table, flushes: _ } = self;
         book_of(table.close_with(whole))
     }
 }

@@ -110,7 +110,7 @@ impl<D: Disk, V: Shown> SharedBook<D, V> {
             Ok((table, first)) => {
                 let shared = SharedBook {
                     table,
-                    waiting: AtomicU64::new(0),
+                    flushes: AtomicU64::new(0),
                 };
                 part(&shared, first, &mut seats, fixed.owners, sources);
                 Ok((shared, seats))

@@ -29,6 +29,12 @@ use std::sync::Wait;
 use std::sync::atomic::AtomicU64;
 use std::sync::atomic::Ordering::SeqCst;
 use std::thread::Threads;
+use std::time::Duration;
+
+/// How long a seat sleeps, in microseconds, that met the turn of another, before it looks again. An append takes far less than it, and wakes
+/// nobody: so of several sources at work one at a time has the turn again and again, and the others sleep, and no system call is
+/// made for each sample.
+const NAP: u64 = 100;
 
 /// The greatest even turn word. From it no turn is taken any more.
 const LAST: u64 = 18446744073709551614;
@@ -37,9 +43,8 @@ const LAST: u64 = 18446744073709551614;
 /// the next odd one takes it out, and gives it back when it changes the word to the next even one.
 pub struct SharedBook<D: Disk, V: Shown> {
     pub(crate) table: Table<Option<Book<D, V>>, View, Fixed<Book<D, V>>, Running, Global>,
-    /// How many seats are about to sleep, or sleep, until the turn is given back. No promise rests on it: where there is none,
-    /// nobody has to be woken.
-    pub(crate) waiting: AtomicU64,
+    /// How many flushes have given the turn back. Who waits for the turn sleeps on it. No promise rests on it.
+    pub(crate) flushes: AtomicU64,
 }
 
 impl<D: Disk, V: Shown> Model for SharedBook<D, V> {
@@ -102,7 +107,7 @@ impl<D: Disk, V: Shown> SharedBook<D, V> {
             .compare_exchange::<Take>(seat, 0, word, word + 1)
     }
 
-    /// Gives the book that is out with the seat back, and wakes who waits for the turn.
+    /// Gives the book that is out with the seat back.
     fn give(&self, seat: &mut Chair<D, V>, word: u64)
         requires table { seat.old.table_id ≡ self.now.table }
         requires word { word ≡ seat.old.me.0.met }
@@ -113,9 +118,6 @@ impl<D: Disk, V: Shown> SharedBook<D, V> {
         ensures given { (book : Account D V) → seat.old.me.1 ≡ (0, Some book) ∷ [] → seat.new.me ≡ (given seat.old.me.0 (word + 1) book, []) }
     {
         self.table.shared.store::<Give>(seat, 0, word + 1);
-        if self.waiting.load(SeqCst) > 0 {
-            self.table.shared.wake_all(0);
-        }
     }
 
     /// Takes the turn by one load and at most one exchange, and answers the word that it made. At `Err` the turn was not
@@ -140,12 +142,20 @@ impl<D: Disk, V: Shown> SharedBook<D, V> {
         Ok(word + 1)
     }
 
-    /// Sleeps until the turn is given back, unless the turn word is another one already. The seat is counted before the word is
-    /// looked at, and who gives the turn back looks at the count behind its store: so one of the two sees the other.
-    fn sleep<R: Wait>(&self, rt: &R, word: u64) {
-        self.waiting.fetch_add(1, SeqCst);
-        self.table.shared.park(rt, 0, (word % 4294967296) as u32);
-        self.waiting.fetch_sub(1, SeqCst);
+    /// Sleeps for `NAP`, or until a flush gives the turn back.
+    fn sleep<R: Wait>(&self, rt: &R) {
+        let flushes = self.flushes.load(SeqCst);
+        self.flushes.park_timeout(
+            rt,
+            (flushes % 4294967296) as u32,
+            Duration::from_micros(NAP),
+        );
+    }
+
+    /// Wakes all who wait for the turn.
+    fn wake(&self) {
+        self.flushes.fetch_add(1, SeqCst);
+        self.flushes.wake_all();
     }
 
     /// Takes the turn, and waits for it where another seat has it. Answers the word that it made.
@@ -160,7 +170,7 @@ impl<D: Disk, V: Shown> SharedBook<D, V> {
         for _ in rt.forever() {
             match self.try_take(seat) {
                 Ok(word) => return word,
-                Err(word) if word % 2 == 1 => self.sleep(rt, word),
+                Err(word) if word % 2 == 1 => self.sleep(rt),
                 Err(_word) => {}
             }
         }
@@ -255,6 +265,7 @@ impl<D: Disk, V: Shown> SharedBook<D, V> {
         let word = self.seize(rt, seat);
         let answer = self.flush_out(rt, seat);
         self.give(seat, word);
+        self.wake();
         answer
     }
 

@@ -217,7 +217,7 @@ fn a_seat_is_busy_while_another_flushes(rt: HostRuntime) -> Result<(), Fail> {
     Ok(())
 }
 
-// The append sleeps while the flush has the turn, and is woken when that is given back.
+// The append sleeps while the flush has the turn, and goes on when that is given back.
 #[test]
 fn an_append_waits_while_another_flushes(rt: HostRuntime) -> Result<(), Fail> {
     assert_eq!(rt;

@@ -11,10 +11,6 @@ store-requires g c =
       stores_book (basis_of c.self.inside.table.shared.key) _ _ _ c.args.word held.0 held.1 c.requires.word c.requires.low held.2,
     )
 
-pub returns-then-load-gt0-clause-free : goal.returns-then-load-gt0-clause-free
-returns-then-load-gt0-clause-free g c =
-    let held = c.requires.returns in ap (λ (seat : Here g.row.D.Denot g.row.V.Denot). seat.1) (c.store.ensures.2 held.0 held.1)
-
-pub returns-else-load-gt0-clause-free : goal.returns-else-load-gt0-clause-free
-returns-else-load-gt0-clause-free g c =
+pub returns-clause-free : goal.returns-clause-free
+returns-clause-free g c =
     let held = c.requires.returns in ap (λ (seat : Here g.row.D.Denot g.row.V.Denot). seat.1) (c.store.ensures.2 held.0 held.1)
