@@ -1,3 +1,4 @@
 pub mod Opened
 pub mod Counted
 pub mod Session
+pub mod Standing

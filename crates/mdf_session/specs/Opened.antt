@@ -1,5 +1,5 @@
 -- The opened blocks of a recording, as the parts of one stream.
-use Rattle.std.specs.Prelude.{ℕ, zero, suc, ◌+◌, ◌%◌, Bool, ◌||◌, not, nat_eq, if◌then◌else◌, List, [], ◌∷◌, length, get_or, Ok, Err}
+use Rattle.std.specs.Prelude.{ℕ, zero, suc, ◌+◌, ◌≤◌, ◌%◌, Bool, ◌||◌, not, nat_eq, if◌then◌else◌, List, [], ◌∷◌, length, get_or, Ok, Err}
 use Rattle.mdf_format.specs.Number.{aligned}
 use Rattle.mdf_format.specs.declared.kind.Kind.TheVariants.{Dt}
 use Rattle.mdf_block.specs.declared.place.BlockAt.{BlockAt}
@@ -38,3 +38,8 @@ is_place place = not (nat_eq place 0 || not (nat_eq (place % 8) 0))
 -- the opened blocks from the first place on; there are no more than the file has bytes
 unfoldable pub opened_parts : List ℕ → ℕ → Read (List Part)
 opened_parts file first = if is_place first then opened_from file (length file) first else Err (Bad first Dt)
+
+-- each part stands in the file at its place in the stream or behind it, where the first of them has this place
+unfoldable pub AreBehind : ℕ → List Part → Type 0
+AreBehind place [] = Unit {0}
+AreBehind place (part ∷ parts) = (place ≤ part.at) × AreBehind (place + part.len) parts

@@ -3,9 +3,11 @@
 #![tactic(auto)]
 
 mod counted;
+mod moved;
 mod opened;
 mod session;
+mod standing;
 
 pub use mdf_content::ReadFault;
 pub use opened::opened_in;
-pub use session::{Session, read_session, session_in};
+pub use session::{Session, read_session, session_in, session_of};

@@ -5,7 +5,7 @@ ghost use Rattle.mdf_block.specs.Block.{IsInside};
 ghost use Rattle.mdf_stream.specs.Parts.{ArePartsInside, stream_size};
 ghost use Rattle.mdf_stream.specs.Link.{part_of};
 ghost use Rattle.mdf_content.specs.Fault.{read_refusal};
-ghost use Rattle.mdf_session.specs.Opened.{is_open, is_place, opened_from, opened_parts, place_behind, unit};
+ghost use Rattle.mdf_session.specs.Opened.{AreBehind, is_open, is_place, opened_from, opened_parts, place_behind, unit};
 
 use mdf_block::{BlockAt, BlockFault, block_in};
 use mdf_content::{Kind, ReadFault};
@@ -66,6 +66,7 @@ fn add_unit(view: &mut DataView, place: u64, unit: &BlockAt) -> Result<u64, Memo
     ensures behind { IfOk result (λ next. next ≡ place_behind unit.now) }
     ensures later { IfOk result (λ next. place < next) }
     ensures below { IfOk result (λ next. stream_size view.new ≤ next) }
+    ensures after { OnOk result (place < unit.now.body_at) }
 {
     let end = unit.body_at + unit.body_len;
     if unit.body_at <= place || end >= LONGEST {
@@ -79,6 +80,7 @@ fn add_unit(view: &mut DataView, place: u64, unit: &BlockAt) -> Result<u64, Memo
 fn units_in<P: Span>(alloc: Global, span: &mut P, first: u64) -> Result<DataView, Halt<ReadFault>>
     ensures found { (f : List ℕ) → P.bytes span.old ≡ Some f → Gives read_refusal result (opened_from f (length f) first) }
     ensures inside { IfOk result (ArePartsInside (P.size span.old)) }
+    ensures behind { IfOk result (AreBehind 0) }
     ensures plain { IfErr result (IsPlain read_refusal) }
     ensures same { P.bytes span.new ≡ P.bytes span.old }
     ensures size { P.size span.new ≡ P.size span.old }
@@ -106,6 +108,7 @@ pub fn opened_in<P: Span>(
 ) -> Result<DataView, Halt<ReadFault>>
     ensures found { (f : List ℕ) → P.bytes span.old ≡ Some f → Gives read_refusal result (opened_parts f first) }
     ensures inside { IfOk result (ArePartsInside (P.size span.old)) }
+    ensures behind { IfOk result (AreBehind 0) }
     ensures plain { IfErr result (IsPlain read_refusal) }
     ensures same { P.bytes span.new ≡ P.bytes span.old }
     ensures size { P.size span.new ≡ P.size span.old }

@@ -1,19 +1,16 @@
-ghost use Rattle.std.specs.Prelude.{◌≡◌, ◌+◌, ◌<◌, ◌≤◌, ℕ, List, Some, length, map, slice_index_or, true, IfOk, IfErr};
+ghost use Rattle.std.specs.Prelude.{◌≡◌, ◌≤◌, ◌<◌, ℕ, List, Some, Ok, length, slice_index_or, true, IfOk, IfErr};
 ghost use Rattle.mdf_format.specs.Number.{bytes_at};
 ghost use Rattle.mdf_num.specs.Halt.{HaltCause, StopCause};
-ghost use Rattle.mdf_block.specs.Refusal.{Gives, GivesOf, IsPlain};
+ghost use Rattle.mdf_block.specs.Refusal.{Fails, Gives, GivesOf, Halts, IsPlain};
 ghost use Rattle.mdf_stream.specs.Parts.{ArePartsInside, stream_of, stream_size};
 ghost use Rattle.mdf_content.specs.Fault.{read_refusal};
-ghost use Rattle.mdf_session.specs.Counted.{records_content};
-ghost use Rattle.mdf_data.specs.Places.{HaveRoom};
-ghost use Rattle.mdf_content.specs.Records.{known_of};
 ghost use Rattle.mdf_group.specs.declared.row.DataRow.{DataRow};
-ghost use Rattle.mdf_session.specs.Session.{HasFirst, IsCountedOf, first_kept, kept, kept_of, recording, session};
+ghost use Rattle.mdf_session.specs.Session.{HasFirst, recording, session};
+ghost use Rattle.mdf_session.specs.Standing.{StandIn, session_from, with_content};
 
-use crate::counted::{all_streams_in, counts_of, totals_in};
-use crate::opened::opened_in;
-use mdf_content::{Kind, ReadFault, count_at, layouts_in, record_size, records_in};
-use mdf_data::Places;
+use crate::moved::moved_front;
+use crate::standing::{Standing, first_standing_in};
+use mdf_content::ReadFault;
 use mdf_group::DataRow;
 use mdf_head::{Head, History, Ident};
 use mdf_model::{Tree, identity_in, tree_in};
@@ -30,6 +27,13 @@ struct Kept {
     counts: Rows<u64>,
     totals: Rows<u64>,
     streams: Streams,
+}
+
+/// A recording that is read, with its records still in the file.
+#[derive(Drop)]
+struct Found {
+    tree: Tree,
+    standing: Standing,
 }
 
 /// The identification of a recording.
@@ -55,26 +59,6 @@ fn recording_in<P: Span>(span: &mut P) -> Result<Ident, Halt<ReadFault>>
     Ok(id)
 }
 
-/// How many bytes the records of a data group with a stream of so many bytes have.
-fn content_size(row: &DataRow, total: u64, lists: &[Places]) -> u64
-    ensures within { result ≤ total }
-    ensures content { (stream : List ℕ) → length stream ≡ total → records_content stream row.now lists.now ≡ bytes_at result stream 0 }
-{
-    let groups = row.groups.as_slice();
-    if row.id_size != 0 {
-        return total;
-    }
-    if groups.is_empty() {
-        return 0;
-    }
-    let size = record_size(&groups[0]) as u128 * count_at(lists, 0) as u128;
-    if size < total as u128 {
-        size as u64
-    } else {
-        total
-    }
-}
-
 /// The first bytes of a stream, so many.
 fn front_in<P: Span>(alloc: Global, span: &mut P, view: &DataView, size: u64) -> Result<Bytes, Stop>
     requires inside { ArePartsInside (P.size span.old) view.now }
@@ -89,88 +73,6 @@ fn front_in<P: Span>(alloc: Global, span: &mut P, view: &DataView, size: u64) ->
     };
     view.read_in(span, 0, front.as_mut_slice())?;
     Ok(Bytes::from_vec(front))
-}
-
-/// What is counted of the records at these places, with the streams and the records themselves, which are copied last.
-#[tactic(auto, unfolding(crate::specs::Session::kept_of))]
-fn counted_in<P: Span>(
-    alloc: Global,
-    span: &mut P,
-    view: &DataView,
-    row: &DataRow,
-    lists: Rows<Places>,
-) -> Result<Kept, Halt<ReadFault>>
-    requires inside { ArePartsInside (P.size span.old) view.now }
-    requires room { HaveRoom (stream_size view.now) (map known_of row.now.groups) lists }
-    ensures found { (f : List ℕ) → P.bytes span.old ≡ Some f → Gives read_refusal result (kept_of f row.now view.now lists) }
-    ensures plain { IfErr result (IsPlain read_refusal) }
-    ensures counted { IfOk result (IsCountedOf row.now) }
-    ensures same { P.bytes span.new ≡ P.bytes span.old }
-    ensures size { P.size span.new ≡ P.size span.old }
-    ensures cause { HaltCause true (P.faults span.old) (P.faults span.new) result }
-{
-    let groups = row.groups.as_slice();
-    let streams = all_streams_in(alloc, span, view, groups, lists.as_slice())?;
-    let counts = counts_of(alloc, groups, lists.as_slice())?;
-    let totals = totals_in(alloc, span, view, groups, lists.as_slice())?;
-    let size = content_size(row, view.len(), lists.as_slice());
-    drop(lists);
-    let content = front_in(alloc, span, view, size)?;
-    Ok(Kept {
-        content,
-        counts,
-        totals,
-        streams,
-    })
-}
-
-/// What a data group of a recording holds.
-///
-/// # Errors
-/// The first fault in this order: `Layout` of its id size; `Layout` of the first channel that breaks a rule; that of its
-/// opened blocks, as `opened_in`; that of its records, as `records_in`; and of each channel of variable length in order the
-/// fault of its link to data, and `Offset` of the first record whose offset meets no value. The span's own; and want of
-/// memory.
-#[tactic(auto, unfolding(crate::specs::Session::kept))]
-fn kept_in<P: Span>(alloc: Global, span: &mut P, row: &DataRow) -> Result<Kept, Halt<ReadFault>>
-    ensures found { (f : List ℕ) → P.bytes span.old ≡ Some f → Gives read_refusal result (kept f row.now) }
-    ensures counted { IfOk result (IsCountedOf row.now) }
-    ensures plain { IfErr result (IsPlain read_refusal) }
-    ensures same { P.bytes span.new ≡ P.bytes span.old }
-    ensures size { P.size span.new ≡ P.size span.old }
-    ensures cause { HaltCause true (P.faults span.old) (P.faults span.new) result }
-{
-    layouts_in(alloc, span, row)?;
-    let view = opened_in(alloc, span, row.content)?;
-    let lists = records_in(alloc, span, &view, false, row)?;
-    let kept = counted_in(alloc, span, &view, row, lists)?;
-    Ok(kept)
-}
-
-/// What the first data group of a recording holds.
-///
-/// # Errors
-/// `Block` with 0 and `Dg` exactly where there is none; else as `kept_in`.
-fn first_kept_in<P: Span>(
-    alloc: Global,
-    span: &mut P,
-    rows: &[DataRow],
-) -> Result<Kept, Halt<ReadFault>>
-    ensures found { (f : List ℕ) → P.bytes span.old ≡ Some f → Gives read_refusal result (first_kept f rows.now) }
-    ensures plain { IfErr result (IsPlain read_refusal) }
-    ensures counted { IfOk result (HasFirst rows.now) }
-    ensures same { P.bytes span.new ≡ P.bytes span.old }
-    ensures size { P.size span.new ≡ P.size span.old }
-    ensures cause { HaltCause true (P.faults span.old) (P.faults span.new) result }
-{
-    if rows.is_empty() {
-        return Err(Halt::Fault(ReadFault::Block {
-            at: 0,
-            want: Kind::Dg,
-        }));
-    }
-    let kept = kept_in(alloc, span, &rows[0])?;
-    Ok(kept)
 }
 
 /// A recording that is read. Contracts see it as its parts.
@@ -271,13 +173,70 @@ impl Session {
     }
 }
 
+/// The recording that a file is, with its records still in the file.
+///
+/// # Errors
+/// As `session_in`.
+#[tactic(auto, unfolding(crate::specs::Session::session))]
+fn found_in<P: Span>(alloc: Global, span: &mut P) -> Result<Found, Halt<ReadFault>>
+    ensures found { (f : List ℕ) → P.bytes span.old ≡ Some f → IfOk result (λ found. session f ≡ Ok (session_from f found)) }
+    ensures refused { (f : List ℕ) → P.bytes span.old ≡ Some f → IfErr result (λ halt. Halts read_refusal halt (session f)) }
+    ensures plain { IfErr result (IsPlain read_refusal) }
+    ensures stands { IfOk result (λ found. StandIn (P.size span.old) found.standing) }
+    ensures counted { IfOk result (λ found. (content : List ℕ) → HasFirst found.tree.rows (with_content content found.standing)) }
+    ensures same { P.bytes span.new ≡ P.bytes span.old }
+    ensures size { P.size span.new ≡ P.size span.old }
+    ensures cause { HaltCause true (P.faults span.old) (P.faults span.new) result }
+{
+    recording_in(span)?;
+    let tree = tree_in(alloc, span)?;
+    let standing = first_standing_in(alloc, span, tree.rows.as_slice())?;
+    Ok(Found { tree, standing })
+}
+
+/// The recording that these bytes are, with its records still in them.
+///
+/// # Errors
+/// As `read_session`.
+fn found_of(alloc: Global, bytes: &[u8]) -> Result<Found, ReadFault>
+    ensures found { IfOk result (λ found. session bytes.now ≡ Ok (session_from bytes.now found)) }
+    ensures refused { IfErr result (λ fault. Fails (read_refusal fault) (session bytes.now)) }
+    ensures stands { IfOk result (λ found. StandIn (length bytes.now) found.standing) }
+    ensures counted { IfOk result (λ found. (content : List ℕ) → HasFirst found.tree.rows (with_content content found.standing)) }
+{
+    match found_in(alloc, &mut SliceSpan::new(bytes)) {
+        Ok(found) => Ok(found),
+        Err(Halt::Fault(fault)) => Err(fault),
+        Err(Halt::Memory) => Err(ReadFault::Memory),
+        Err(Halt::Failed) => unreachable!(),
+    }
+}
+
+/// What the data group holds, with these records.
+fn kept_with(content: Bytes, standing: Standing) -> Kept
+    ensures { result ≡ with_content content standing }
+{
+    let Standing {
+        view: _,
+        size: _,
+        counts,
+        totals,
+        streams,
+    } = standing;
+    Kept {
+        content,
+        counts,
+        totals,
+        streams,
+    }
+}
+
 /// The recording that a file is, read through a span.
 ///
 /// # Errors
 /// The first fault in this order: `NotMdf`, `Version` and `NotRecording`; of the header, its comment and the history; of the
 /// data groups; `Block` with 0 and `Dg` where there is none; and of what the first of them holds: its layouts, its opened
 /// blocks, its records, and its values. The span's own; and want of memory.
-#[tactic(auto, unfolding(crate::specs::Session::session))]
 pub fn session_in<P: Span>(alloc: Global, span: &mut P) -> Result<Session, Halt<ReadFault>>
     ensures found { (f : List ℕ) → P.bytes span.old ≡ Some f → Gives read_refusal result (session f) }
     ensures plain { IfErr result (IsPlain read_refusal) }
@@ -285,9 +244,9 @@ pub fn session_in<P: Span>(alloc: Global, span: &mut P) -> Result<Session, Halt<
     ensures size { P.size span.new ≡ P.size span.old }
     ensures cause { HaltCause true (P.faults span.old) (P.faults span.new) result }
 {
-    recording_in(span)?;
-    let tree = tree_in(alloc, span)?;
-    let kept = first_kept_in(alloc, span, tree.rows.as_slice())?;
+    let Found { tree, standing } = found_in(alloc, span)?;
+    let content = front_in(alloc, span, &standing.view, standing.size)?;
+    let kept = kept_with(content, standing);
     Ok(Session { tree, kept })
 }
 
@@ -304,4 +263,17 @@ pub fn read_session(alloc: Global, bytes: &[u8]) -> Result<Session, ReadFault>
         Err(Halt::Memory) => Err(ReadFault::Memory),
         Err(Halt::Failed) => unreachable!(),
     }
+}
+
+/// The recording that a file is. Its records are moved to the front of the file's own bytes, and no others are taken for them.
+///
+/// # Errors
+/// As `read_session`.
+pub fn session_of(alloc: Global, file: Bytes) -> Result<Session, ReadFault>
+    ensures exact { GivesOf read_refusal result (session file) }
+{
+    let Found { tree, standing } = found_of(alloc, file.as_slice())?;
+    let content = moved_front(file, &standing.view, standing.size);
+    let kept = kept_with(content, standing);
+    Ok(Session { tree, kept })
 }

@@ -5,6 +5,7 @@ use Rattle.mdf_stream.specs.Link.{part_of}
 use Rattle.mdf_stream.proofs.Links.{all_more}
 use Rattle.mdf_content.specs.Fault.{read_refusal}
 use Rattle.mdf_session.specs.Opened.{is_open, place_behind}
+use Rattle.mdf_session.proofs.Moves.{behind_more, none_behind}
 use Rattle.mdf_session.proofs.Units.{begins, is_done, goes_on, ends}
 use Rattle.mdf_session.proofs.opened.units_in.Goals as goal
 
@@ -12,6 +13,7 @@ pub loop-view-init : goal.loop-view-init
 loop-view-init g c = record {
   found = λ f told. rw c.empty-view.ensures (begins f c.args.first);
   inside = rw c.empty-view.ensures tt;
+  behind = none_behind _ c.empty-view.ensures;
   below = rw c.empty-view.ensures (omega arith);
   same = refl;
   size = refl;
@@ -47,6 +49,7 @@ loop-view-preserved g c =
           all_more (IsPartInside (g.P.Span.size c.args.span.now)) loop.view _ loop.invariant.inside
           (subst (λ (n : ℕ). unit.unit.body_at + unit.unit.body_len ≤ n) size unit.ensures.inside.ends, tt)
           );
+      behind = rw next.added (behind_more 0 loop.view _ loop.invariant.behind (omega (arith, loop.invariant.below, next.after)));
       below = next.below;
       same = unit.ensures.same ∙ gate.same ∙ loop.invariant.same;
       size = unit.ensures.size ∙ gate.size ∙ loop.invariant.size;

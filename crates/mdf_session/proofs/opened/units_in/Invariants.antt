@@ -1,6 +1,6 @@
 use Rattle.std.proofs.Common.{◌≡◌, ◌-◌, ◌≤◌, ℕ, List, Some, length}
 use Rattle.mdf_stream.specs.Parts.{ArePartsInside, stream_size}
-use Rattle.mdf_session.specs.Opened.{opened_from}
+use Rattle.mdf_session.specs.Opened.{AreBehind, opened_from}
 use Rattle.mdf_session.proofs.Units.{Opens}
 use Rattle.mdf_session.proofs.opened.units_in.Given as goal
 
@@ -8,6 +8,7 @@ abbrev pub invariant-loop-view : goal.invariant-loop-view
 invariant-loop-view g l = record {
   found : (f : List ℕ) → g.P.Span.bytes l.initial.span ≡ Some f → Opens f l.view l.place (opened_from f (length f) l.first);
   inside : ArePartsInside (g.P.Span.size l.initial.span) l.view;
+  behind : AreBehind 0 l.view;
   below : stream_size l.view ≤ l.place;
   same : g.P.Span.bytes l.span ≡ g.P.Span.bytes l.initial.span;
   size : g.P.Span.size l.span ≡ g.P.Span.size l.initial.span;
