@@ -1,21 +1,17 @@
 -- What a recording keeps, whatever happened.
 use Rattle.std.proofs.Common.{◌≡◌, ◌≢◌, ◌⊎◌, ◌<◌, ◌≤◌, inl, inr, ⊎_elim, ℕ, List, [], ◌∷◌, length, Option, Some, None, Ok, refl, subst, arith, ◌++◌, sym, ◌∙◌, ap, append-nil}
-use Rattle.std.specs.Prelude.{is_some, slice_get, IfSome, IsSomeAnd, ◌==◌}
+use Rattle.std.specs.Prelude.{slice_get, IfSome, IsSomeAnd, ◌==◌}
 use Rattle.std.specs.Io.KnownBytes.{Appends}
 use Rattle.std.proofs.lemmas.Bool.{cases_eq, cond-false, ne_eqb}
-use mathlib.Core.List.{IsPrefix}
 use Rattle.mdf_port.specs.State.{SinkState}
 use Rattle.mdf_disk.specs.State.{DiskState}
-use Rattle.mdf_layout.specs.History.{source_samples}
 use Rattle.mdf_layout.specs.declared.sample.Sample.{Sample}
 use Rattle.mdf_gate.proofs.Carrying.{carries_begun}
-use Rattle.book_owned.specs.Kept.{MarksHold, StartHolds}
-use Rattle.book_owned.specs.Marks.{AreRising, durable}
+use Rattle.book_owned.specs.Marks.{durable}
 use Rattle.book_owned.specs.declared.mark.Mark.{Mark}
 use Rattle.acq_script.specs.Script.{script_of}
 use Rattle.acq_script.specs.Tasks.{samples_of}
 use Rattle.acq_script.specs.declared.script.Script.{Script}
-use Rattle.mdf_record.specs.Sources.{AreOwnMarked}
 use Rattle.mdf_block.specs.Refusal.{Refusal}
 use Rattle.mdf_content.specs.Fault.{read_refusal}
 use Rattle.mdf_command.specs.Faults.{fault_status, refused_status}
@@ -23,7 +19,7 @@ use Rattle.mdf_disk.specs.Crash.{HoldsSince}
 use Rattle.mdf_gate.specs.Images.{IsBegun}
 use Rattle.mdf_record.specs.Head.{script_head}
 use Rattle.mdf_run.specs.Kept.{IsDone, IsReported, Keeps}
-use Rattle.mdf_record.specs.Record.{AreAccepted, CloseComes, IsComplete, OfSources, Outcome, fault_code, fault_text, live_of, live_text, record_status, record_text, summary_text}
+use Rattle.mdf_record.specs.Record.{AreAccepted, CloseComes, IsComplete, Outcome, fault_code, fault_text, live_of, live_text, record_status, record_text, summary_text}
 use Rattle.mdf_record.specs.Script.{SCRIPT_LIMIT}
 use Rattle.mdf_record.specs.Recorded.{IsClosed, IsNotBegun, IsRefused, IsUnread, RecordComes}
 use Rattle.mdf_command.specs.Texts.{Prints, unwritten_status}

@@ -1,6 +1,9 @@
-mod Asked
+mod Causes
+mod Ended
+mod Joinable
 mod Keeps
 mod Recovered
+mod Requests
+mod Scripts
 mod Sound
 mod Words
-mod Joinable

@@ -1,6 +1,5 @@
 -- All is recovered where all is durable.
 use Rattle.std.proofs.Common.{◌≡◌, ◌⊎◌, ◌-◌, ◌<◌, ◌≤◌, ⊎_elim, ℕ, List, [], ◌∷◌, ◌++◌, length, get_or, fold, Option, refl, sym, ◌∙◌, ap, subst, arith, length-append, append-nil}
-use mathlib.Core.List.{IsPrefix}
 use Rattle.mdf_disk.specs.Story.{Story, LeftSince}
 use Rattle.mdf_disk.specs.Crash.{HoldsSince}
 use Rattle.mdf_layout.specs.declared.sample.Sample.{Sample}

@@ -1,11 +1,10 @@
 -- A command on a sound input does what it was asked for, unless a disk fails or memory is wanted.
-use Rattle.std.proofs.Common.{◌≡◌, ◌⊎◌, ◌≤◌, ◌<◌, inl, inr, ⊎_elim, ℕ, List, length, Option, Some, None, Result, Ok, Err, refl, sym, ◌∙◌, ap, subst, arith}
+use Rattle.std.proofs.Common.{◌≡◌, ◌⊎◌, ◌≤◌, inl, inr, ⊎_elim, ℕ, List, length, Option, Some, None, Result, Ok, Err, refl, sym, ◌∙◌, ap, subst, arith}
 use Rattle.std.specs.Prelude.{IfSome}
 use Rattle.mdf_port.specs.State.{SinkState}
 use Rattle.mdf_disk.specs.State.{DiskState}
 use Rattle.mdf_block.specs.Refusal.{Refusal, Read, Fails}
 use Rattle.mdf_content.specs.Fault.{read_refusal}
-use Rattle.mdf_content.specs.declared.fault.ReadFault.{ReadFault}
 use Rattle.mdf_model.specs.Measurement.{Measured, measurement}
 use Rattle.mdf_session.specs.Session.{session}
 use Rattle.mdf_carried.specs.Recovers.{IsReadable}

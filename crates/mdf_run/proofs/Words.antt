@@ -1,5 +1,5 @@
 -- The numbers among the command words are what the words say.
-use Rattle.std.proofs.Common.{◌≡◌, ◌∷◌, [], ℕ, List, SFits, to_z, of_z, to_z-of_z, subst, arith}
+use Rattle.std.proofs.Common.{◌≡◌, ℕ, List, SFits, to_z, of_z, to_z-of_z, subst, arith}
 use mir.Syntax.{w128}
 use Rattle.std.specs.Prelude.{ℤ, pos, negsuc}
 use Rattle.std.specs.Fmt.{decimal, signed_decimal}
@@ -16,17 +16,15 @@ pub passed : (P : ℤ → ℤ → Type 0) (from to : ℤ) → IsBound from × Is
 passed P from to within holds =
     subst (λ t. P from t) (to_z-of_z (fits to within.1)) (subst (λ f. P f (to_z w128 (of_z w128 to))) (to_z-of_z (fits from within.0)) holds)
 
--- what holds of the range that the words ask for holds of each that they ask for
-pub of_range : (words : List (List ℕ)) (input output input' output' : List ℕ) (from to from' to' : ℤ) (P : ℤ → ℤ → Type 0) → AsksCut words input output from to
-    → AsksCut words input' output' from' to' → P from to → P from' to'
-of_range words input output input' output' from to from' to' P asks also holds =
+-- the words ask for one range
+pub same_range : (words : List (List ℕ)) (input output input' output' : List ℕ) (from to from' to' : ℤ) → AsksCut words input output from to
+    → AsksCut words input' output' from' to' → (from ≡ from') × (to ≡ to')
+same_range words input output input' output' from to from' to' asks also =
     let first : signed_decimal from ≡ signed_decimal from' = cc (asks.0, also.0) in
     let last : signed_decimal to ≡ signed_decimal to' = cc (asks.0, also.0) in
-    subst (λ t. P from' t) (one_bound to to' asks.1.1 also.1.1 last) (subst (λ f. P f to) (one_bound from from' asks.1.0 also.1.0 first) holds)
+    (one_bound from from' asks.1.0 also.1.0 first, one_bound to to' asks.1.1 also.1.1 last)
 
--- and of the group
-pub of_group : (words : List (List ℕ)) (input input' : List ℕ) (group group' : ℕ) (P : ℕ → Type 0) → AsksExport words input group → AsksExport words input' group'
-    → P group → P group'
-of_group words input input' group group' P asks also holds =
-    let written : decimal group ≡ decimal group' = cc (asks.0, also.0) in
-    subst P (decimal_injective group group' asks.1 also.1 written) holds
+-- and for one group
+pub same_group : (words : List (List ℕ)) (input input' : List ℕ) (group group' : ℕ) → AsksExport words input group → AsksExport words input' group' → group ≡ group'
+same_group words input input' group group' asks also =
+    let written : decimal group ≡ decimal group' = cc (asks.0, also.0) in decimal_injective group group' asks.1 also.1 written

@@ -1,13 +1,20 @@
 //! The program: `run` calls the command that the words name.
 //!
 //! The sources, sinks and disks are handed in, so the program's `main` gives the real ones and a test those over memory.
-//! Each command has a call of its own in the crates below, whose contract says what that command prints and leaves.
+//! Each command has a call of its own in the crates below, whose contract says what that command prints and leaves. Here
+//! the words are sorted by what they ask for, and each kind has a function: to show a file, to make one, and to record.
 #![tactic(auto)]
 
+mod answer;
+mod asked;
+mod finished;
+mod making;
 mod program;
 mod recording;
+mod showing;
 mod unread;
 
+pub use finished::Finished;
 pub use mdf_record::{Gate, Open};
-pub use program::{Finished, run};
+pub use program::run;
 pub use unread::run_unread;

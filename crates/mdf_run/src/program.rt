@@ -31,60 +31,16 @@ ghost use Rattle.mdf_recovered.specs.Samples.{IsRecovered};
 ghost use Rattle.mdf_command.specs.Faults.{INPUT_LIMIT};
 ghost use Rattle.mdf_run.specs.Kept.{IfRecorded, OfRecording, RecordsNothing, AreJoinable, AsksToJoin, HasGroup, HasSaved, IsDone, IsDoneOrLacked, IsMeasured, IsReported};
 
-use crate::recording::{record_generated, record_source};
-use book_owned::Marks;
-use mdf_command::Piece::Text;
-use mdf_command::{Command, command_of, give_line, status_after};
+use crate::answer::answer;
+use crate::asked::asked_of;
+use crate::finished::Finished;
 use mdf_disk::Disk;
-use mdf_inspect::{Question, run_export, run_opened, run_reading};
-use mdf_layout::Samples;
-use mdf_make::{run_concat, run_cut, run_finalize, run_sort};
 use mdf_num::{Bytes, Rows};
 use mdf_port::{Sink, Source};
 use mdf_record::Gate;
 use std::alloc::Global;
 use std::sync::Wait;
 use std::thread::Threads;
-
-/// What is printed where the words are no command.
-const USAGE: &[u8] =
-    b"usage: opened IN | record OUT | finalize IN OUT | check IN | info IN | sort IN OUT | cut IN OUT FROM TO | concat A B OUT | export IN GROUP | gen N OUT";
-
-/// Prints the usage line.
-fn run_usage<K: Sink>(sink: &mut K) -> u8
-    ensures { Prints usage_line 1 (sink_state K.Sink sink.old) (sink_state K.Sink sink.new) result }
-{
-    let given = give_line(sink, &[Text(USAGE)]);
-    status_after(given, 1)
-}
-
-/// How a run ended: the program's status, and the disks that were handed in, as the run left them.
-#[derive(Drop)]
-pub struct Finished<A, C> {
-    pub status: u8,
-    pub first: A,
-    pub out: C,
-    /// The samples that a recording accepted, in order, and its marks; both empty for the other commands.
-    pub history: Samples,
-    pub marks: Marks,
-}
-
-/// What a command other than a recording leaves.
-fn without_recording<A, C>(alloc: Global, status: u8, first: A, out: C) -> Finished<A, C>
-    ensures status { result.status ≡ status }
-    ensures first { result.first ≡ first }
-    ensures out { result.out ≡ out }
-    ensures history { result.history.items ≡ [] }
-    ensures marks { result.marks.items ≡ [] }
-{
-    Finished {
-        status,
-        first,
-        out,
-        history: Samples::empty(alloc),
-        marks: Marks::empty(alloc),
-    }
-}
 
 /// Runs the command that the words name.
 ///
@@ -240,77 +196,8 @@ where
     ensures output_untouched { C.asked result.out ≡ None → result.out ≡ out }
     ensures out { ((output : List ℕ) → ¬ AsksToMake words.now output) → result.out ≡ out }
 {
-    match command_of(words) {
-        Some(Command::Opened { input }) => {
-            let mut first = first;
-            let status = run_opened(alloc, input, sink, &mut first);
-            without_recording(alloc, status, first, out)
-        }
-        Some(Command::Record { output }) => {
-            record_source(rt, alloc, output, now_ns, source, sink, first, out, gate)
-        }
-        Some(Command::Finalize { input, output }) => {
-            let mut first = first;
-            let mut out = out;
-            let status = run_finalize(alloc, input, output, now_ns, sink, &mut first, &mut out);
-            without_recording(alloc, status, first, out)
-        }
-        Some(Command::Check { input }) => {
-            let mut first = first;
-            let status = run_reading(alloc, Question::Verdict, input, sink, &mut first);
-            without_recording(alloc, status, first, out)
-        }
-        Some(Command::Info { input }) => {
-            let mut first = first;
-            let status = run_reading(alloc, Question::Contents, input, sink, &mut first);
-            without_recording(alloc, status, first, out)
-        }
-        Some(Command::Sort { input, output }) => {
-            let mut first = first;
-            let mut out = out;
-            let status = run_sort(alloc, input, output, now_ns, sink, &mut first, &mut out);
-            without_recording(alloc, status, first, out)
-        }
-        Some(
-            Command::Cut {
-                input,
-                output,
-                from,
-                to,
-            },
-        ) => {
-            let mut first = first;
-            let mut out = out;
-            let status = run_cut(
-                alloc, input, output, from, to, now_ns, sink, &mut first, &mut out,
-            );
-            without_recording(alloc, status, first, out)
-        }
-        Some(Command::Export { input, group }) => {
-            let mut first = first;
-            let status = run_export(alloc, input, group, sink, &mut first);
-            without_recording(alloc, status, first, out)
-        }
-        Some(
-            Command::Concat {
-                input,
-                second: other,
-                output,
-            },
-        ) => {
-            let mut first = first;
-            let mut out = out;
-            let status = run_concat(
-                alloc, input, other, output, now_ns, sink, &mut first, second, &mut out,
-            );
-            without_recording(alloc, status, first, out)
-        }
-        Some(Command::Gen { samples, output }) => {
-            record_generated(rt, alloc, samples, output, now_ns, sink, first, out, gate)
-        }
-        None => {
-            let status = run_usage(sink);
-            without_recording(alloc, status, first, out)
-        }
-    }
+    let asked = asked_of(words);
+    answer(
+        rt, alloc, asked, now_ns, source, sink, first, second, out, gate,
+    )
 }

@@ -9,42 +9,22 @@ ghost use Rattle.script_gen.specs.Generated.{generated_script};
 ghost use Rattle.mdf_record.specs.Record.{outcome};
 ghost use Rattle.mdf_record.specs.Recorded.{EndsGenerated, EndsRecord};
 ghost use Rattle.mdf_record.specs.Recovers.{AreRecovered};
+ghost use Rattle.mdf_run.specs.Asked.{IsGenerable, IsOnlyMade, TakesNone};
+ghost use Rattle.mdf_run.specs.Ends.{EndsRecording};
 ghost use Rattle.mdf_run.specs.Kept.{Keeps};
 
-use crate::program::Finished;
+use crate::asked::Origin;
+use crate::finished::{Finished, with_recording};
 use mdf_disk::Disk;
 use mdf_num::Bytes;
 use mdf_port::{Sink, Source};
-use mdf_record::{Gate, Recorded, run_generated, run_record};
+use mdf_record::{Gate, run_generated, run_record};
 use std::alloc::Global;
 use std::sync::Wait;
 use std::thread::Threads;
 
-/// What a recording leaves, beside the disk of an input, of which it asks nothing.
-fn with_recording<A, C>(status: u8, first: A, recorded: Recorded<C>) -> Finished<A, C>
-    ensures status { result.status ≡ status }
-    ensures first { result.first ≡ first }
-    ensures out { result.out ≡ recorded.out }
-    ensures history { result.history ≡ recorded.history }
-    ensures marks { result.marks ≡ recorded.marks }
-{
-    let Recorded {
-        end: _,
-        out,
-        history,
-        marks,
-    } = recorded;
-    Finished {
-        status,
-        first,
-        out,
-        history,
-        marks,
-    }
-}
-
 /// Records the script of the source.
-pub(crate) fn record_source<R, S, K, A, C, G>(
+fn record_source<R, S, K, A, C, G>(
     rt: &R,
     alloc: Global,
     output: &Bytes,
@@ -81,7 +61,7 @@ where
 }
 
 /// Records the generated script of so many samples.
-pub(crate) fn record_generated<R, K, A, C, G>(
+fn record_generated<R, K, A, C, G>(
     rt: &R,
     alloc: Global,
     samples: u64,
@@ -114,4 +94,42 @@ where
 {
     let (status, recorded) = run_generated(rt, alloc, samples, output, now_ns, sink, out, gate);
     with_recording(status, first, recorded)
+}
+
+/// Records the script of this origin into the output.
+pub(crate) fn record<R, S, K, A, C, G>(
+    rt: &R,
+    alloc: Global,
+    origin: Origin,
+    output: &Bytes,
+    now_ns: u64,
+    source: &mut S,
+    sink: &mut K,
+    first: A,
+    out: C,
+    gate: &G,
+) -> Finished<A, C>
+where
+    R: Threads + Wait + Sync,
+    S: Source,
+    K: Sink,
+    C: Disk + Send,
+    G: Gate + Sync,
+    requires asked { C.asked out ≡ None }
+    requires samples { IsGenerable origin }
+    ensures ends { EndsRecording origin output.now now_ns (source_state S.Source source.old) (source_state S.Source source.new) (state_of C.Disk out)
+        (outcome C.Disk result.out result.history.items result.marks.items)
+        (sink_state K.Sink sink.old) (sink_state K.Sink sink.new) result.status }
+    ensures first { result.first ≡ first }
+    ensures output { IsOnlyMade C.Disk (Some output.now) out result.out }
+    ensures source { TakesNone origin → source.new ≡ source.old }
+{
+    match origin {
+        Origin::Source => {
+            record_source(rt, alloc, output, now_ns, source, sink, first, out, gate)
+        }
+        Origin::Generated { samples } => {
+            record_generated(rt, alloc, samples, output, now_ns, sink, first, out, gate)
+        }
+    }
 }

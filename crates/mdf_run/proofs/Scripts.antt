@@ -1,11 +1,11 @@
 -- Which script the words ask to record.
-use Rattle.std.proofs.Common.{◌≡◌, ◌<◌, ◌^◌, ℕ, List, [], ◌∷◌, Option, Some, Ok, subst, sym, arith}
+use Rattle.std.proofs.Common.{◌≡◌, ℕ, List, Option, Some, Ok, subst, arith}
 use Rattle.std.specs.Fmt.{decimal}
 use Rattle.std.proofs.lemmas.Fmt.{decimal_injective}
 use Rattle.acq_script.specs.Script.{script_of}
 use Rattle.acq_script.specs.declared.script.Script.{Script}
 use Rattle.script_gen.specs.Generated.{generated_script}
-use Rattle.mdf_command.specs.Words.{Asks, AsksGenerated, AsksRecord, IsUsage, generated, recorded}
+use Rattle.mdf_command.specs.Words.{AsksGenerated, AsksRecord, IsUsage, generated, recorded}
 use Rattle.mdf_run.specs.Kept.{IfRecorded, OfRecording}
 
 -- no words ask for a recording of both scripts
@@ -13,18 +13,11 @@ other_script : (words : List (List ℕ)) (output : List ℕ) (samples : ℕ) (na
 other_script words output samples name asks also = absurd (cc (asks.0, also.0))
 
 -- and of one number of samples at most
-one_number : (words : List (List ℕ)) (samples : ℕ) (output : List ℕ) (number : ℕ) (name : List ℕ) → AsksGenerated words samples output
+pub one_number : (words : List (List ℕ)) (samples : ℕ) (output : List ℕ) (number : ℕ) (name : List ℕ) → AsksGenerated words samples output
     → AsksGenerated words number name → samples ≡ number
 one_number words samples output number name asks also =
     let written : decimal samples ≡ decimal number = cc (asks.0, also.0) in
     decimal_injective samples number (omega (arith, asks.1)) (omega (arith, also.1)) written
-
--- what holds of the number of samples and of the name of a command holds of those that the words ask for
-pub as_asked : (words : List (List ℕ)) (samples : ℕ) (output : List ℕ) (number : ℕ) (name : List ℕ) (P : ℕ → List ℕ → Type 0)
-    → AsksGenerated words samples output → AsksGenerated words number name → P samples output → P number name
-as_asked words samples output number name P asks also holds =
-    let same : output ≡ name = cc (asks.0, also.0) in
-    subst (λ n. P n name) (one_number words samples output number name asks also) (subst (P samples) same holds)
 
 pub of_record : (words : List (List ℕ)) (left : Option (List ℕ)) (P : Script → Type 0) (output : List ℕ) → AsksRecord words output
     → ((text : List ℕ) → left ≡ Some text → (script : Script) → script_of text ≡ Ok script → P script) → OfRecording words left P

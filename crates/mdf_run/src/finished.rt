@@ -1,0 +1,58 @@
+// How a run ended.
+ghost use Rattle.std.specs.Prelude.{◌≡◌, []};
+
+use book_owned::Marks;
+use mdf_layout::Samples;
+use mdf_record::Recorded;
+use std::alloc::Global;
+
+/// How a run ended: the program's status, and the disks that were handed in, as the run left them.
+#[derive(Drop)]
+pub struct Finished<A, C> {
+    pub status: u8,
+    pub first: A,
+    pub out: C,
+    /// The samples that a recording accepted, in order, and its marks; both empty for the other commands.
+    pub history: Samples,
+    pub marks: Marks,
+}
+
+/// What a command other than a recording leaves.
+pub(crate) fn without_recording<A, C>(alloc: Global, status: u8, first: A, out: C) -> Finished<A, C>
+    ensures status { result.status ≡ status }
+    ensures first { result.first ≡ first }
+    ensures out { result.out ≡ out }
+    ensures history { result.history.items ≡ [] }
+    ensures marks { result.marks.items ≡ [] }
+{
+    Finished {
+        status,
+        first,
+        out,
+        history: Samples::empty(alloc),
+        marks: Marks::empty(alloc),
+    }
+}
+
+/// What a recording leaves, beside the disk of an input, of which it asks nothing.
+pub(crate) fn with_recording<A, C>(status: u8, first: A, recorded: Recorded<C>) -> Finished<A, C>
+    ensures status { result.status ≡ status }
+    ensures first { result.first ≡ first }
+    ensures out { result.out ≡ recorded.out }
+    ensures history { result.history ≡ recorded.history }
+    ensures marks { result.marks ≡ recorded.marks }
+{
+    let Recorded {
+        end: _,
+        out,
+        history,
+        marks,
+    } = recorded;
+    Finished {
+        status,
+        first,
+        out,
+        history,
+        marks,
+    }
+}
