@@ -1,10 +1,10 @@
 -- What the words ask for, by its kind, and what is asked of the disks for it.
-use Rattle.std.specs.Prelude.{ℕ, ◌≡◌, ◌⊎◌, ◌≤◌, List, Option, Some, None}
+use Rattle.std.specs.Prelude.{ℕ, ◌≡◌, ◌⊎◌, List, Option, Some, None}
 use Rattle.mdf_disk.specs.declared.disk.Disk.{Ghosts}
 use Rattle.mdf_disk.specs.declared.role.Role.{Role}
 use Rattle.mdf_disk.specs.declared.role.Role.TheVariants.{Read, Create}
 use Rattle.mdf_inspect.specs.declared.answer.Question.TheVariants.{Verdict, Contents}
-use Rattle.mdf_command.specs.Words.{IsBound, Request, opened, recorded, finalized, checked, described, sorted, cut, exported, joined, generated}
+use Rattle.mdf_command.specs.Words.{IsBound, IsGenerable, Request, opened, recorded, finalized, checked, described, sorted, cut, exported, joined, generated}
 use Rattle.mdf_run.specs.declared.asked.Asked.{Asked}
 use Rattle.mdf_run.specs.declared.asked.Asked.TheVariants.{Show, Make, Record}
 use Rattle.mdf_run.specs.declared.asked.View.TheVariants.{Opened, Reading, Table}
@@ -64,16 +64,16 @@ abbrev pub AreBounds : Tool → Type 0
 AreBounds (Cut from to) = IsBound from × IsBound to
 AreBounds _ = Unit {0}
 
--- so many samples are generated at most
-abbrev pub IsGenerable : Origin → Type 0
-IsGenerable (Generated samples) = samples ≤ 1000000
-IsGenerable _ = Unit {0}
+-- and so is the count of samples
+abbrev pub HasCount : Origin → Type 0
+HasCount (Generated samples) = IsGenerable samples
+HasCount _ = Unit {0}
 
 -- its numbers are such as it takes
-abbrev pub IsInRange : Option Asked → Type 0
-IsInRange (Some (Make input output tool)) = AreBounds tool
-IsInRange (Some (Record output origin)) = IsGenerable origin
-IsInRange _ = Unit {0}
+abbrev pub HasNumbers : Option Asked → Type 0
+HasNumbers (Some (Make input output tool)) = AreBounds tool
+HasNumbers (Some (Record output origin)) = HasCount origin
+HasNumbers _ = Unit {0}
 
 -- a disk was asked for nothing, or for this file in this role
 abbrev pub AsksOnly : Role → Option (List ℕ) → Option (List ℕ × Role) → Type 0

@@ -4,7 +4,7 @@ ghost use Rattle.mdf_port.specs.State.{sink_state, source_state};
 ghost use Rattle.mdf_disk.specs.State.{state_of};
 ghost use Rattle.mdf_command.specs.Texts.{Prints, usage_line};
 ghost use Rattle.mdf_record.specs.Record.{outcome};
-ghost use Rattle.mdf_run.specs.Asked.{IsInRange, IsOnlyMade, IsOnlyRead, TakesNothing, input_asked, output_asked, second_asked};
+ghost use Rattle.mdf_run.specs.Asked.{HasNumbers, IsOnlyMade, IsOnlyRead, TakesNothing, input_asked, output_asked, second_asked};
 ghost use Rattle.mdf_run.specs.Ends.{HasEnded};
 
 use crate::asked::Asked;
@@ -54,7 +54,7 @@ where
     B: Disk,
     C: Disk + Send,
     G: Gate + Sync,
-    requires range { IsInRange asked }
+    requires numbers { HasNumbers asked }
     requires first { A.asked first ≡ None }
     requires second { B.asked second.old ≡ None }
     requires out { C.asked out ≡ None }

@@ -2,7 +2,7 @@
 ghost use Rattle.std.specs.Prelude.{◌≡◌, MatchOption};
 ghost use Rattle.mdf_command.specs.Words.{Asks, IsUsage};
 ghost use Rattle.mdf_command.specs.Commands.{request_of};
-ghost use Rattle.mdf_run.specs.Asked.{IsInRange, request_for};
+ghost use Rattle.mdf_run.specs.Asked.{HasNumbers, request_for};
 
 use mdf_command::{Command, command_of};
 use mdf_inspect::Question;
@@ -94,7 +94,7 @@ fn asked_by(command: Command<'_>) -> Asked<'_>
 /// What the words ask for, if anything.
 pub(crate) fn asked_of(words: &Rows<Bytes>) -> Option<Asked<'_>>
     ensures asked { MatchOption result (IsUsage words.now) (λ asked. Asks words.now (request_for asked)) }
-    ensures range { IsInRange result }
+    ensures numbers { HasNumbers result }
 {
     let command = command_of(words)?;
     Some(asked_by(command))

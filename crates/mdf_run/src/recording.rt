@@ -9,7 +9,7 @@ ghost use Rattle.script_gen.specs.Generated.{generated_script};
 ghost use Rattle.mdf_record.specs.Record.{outcome};
 ghost use Rattle.mdf_record.specs.Recorded.{EndsGenerated, EndsRecord};
 ghost use Rattle.mdf_record.specs.Recovers.{AreRecovered};
-ghost use Rattle.mdf_run.specs.Asked.{IsGenerable, IsOnlyMade, TakesNone};
+ghost use Rattle.mdf_run.specs.Asked.{HasCount, IsOnlyMade, TakesNone};
 ghost use Rattle.mdf_run.specs.Ends.{EndsRecording};
 ghost use Rattle.mdf_run.specs.Kept.{Keeps};
 
@@ -116,7 +116,7 @@ where
     C: Disk + Send,
     G: Gate + Sync,
     requires asked { C.asked out ≡ None }
-    requires samples { IsGenerable origin }
+    requires count { HasCount origin }
     ensures ends { EndsRecording origin output.now now_ns (source_state S.Source source.old) (source_state S.Source source.new) (state_of C.Disk out)
         (outcome C.Disk result.out result.history.items result.marks.items)
         (sink_state K.Sink sink.old) (sink_state K.Sink sink.new) result.status }
