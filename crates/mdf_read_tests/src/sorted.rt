@@ -106,10 +106,11 @@ fn made(alloc: Global, size: usize, tables: &[&[Piece]]) -> Result<Vec<u8>, Memo
 // The sorted file of it.
 fn spelled(alloc: Global, measurement: &Measurement, done: Done) -> Result<Bytes, Memory> {
     let now = 0x1112_1314_1516_1718;
-    match done {
+    let pieces = match done {
         Done::Sort => spell_sorted(alloc, measurement, "sort", now),
         Done::Concat => spell_sorted(alloc, measurement, "concat", now),
-    }
+    }?;
+    pieces.joined()
 }
 
 // Whether the sorted file of it is the one of these blocks.

@@ -7,7 +7,7 @@ ghost use Rattle.mdf_sorted.specs.Sorted.{IsTitle, measures_blocks, sorted_block
 use crate::group::place_part;
 use mdf_block::Draft;
 use mdf_model::Measurement;
-use mdf_num::{Bytes, Memory};
+use mdf_num::{Memory, Pieces};
 use mdf_spell::{FINALIZED_IDENT, place_head};
 use std::alloc::Global;
 
@@ -81,17 +81,17 @@ pub fn spell_sorted(
     measurement: &Measurement,
     title: &str,
     now_ns: u64,
-) -> Result<Bytes, Memory>
+) -> Result<Pieces, Memory>
     requires { IsTitle title.now }
     ensures written { IfOk result (λ bytes. bytes ≡ sorted_file measurement.now title.now now_ns) }
     ensures keeps { (file : List ℕ) → StandsIn file measurement.now → IfOk result (IsSortedOf measurement.now title.now now_ns) }
 {
     let blocks = blocks_of(alloc, measurement, title, now_ns)?;
-    blocks.bytes(&FINALIZED_IDENT)
+    blocks.into_pieces(&FINALIZED_IDENT)
 }
 
 /// The same, where the measurement is given back to the allocator before the file is made of its blocks: so its records are
-/// held twice and no more.
+/// held twice and no more, and once where the file is written.
 ///
 /// # Errors
 /// As `spell_sorted`.
@@ -100,11 +100,11 @@ pub(crate) fn spell_from(
     measurement: Measurement,
     title: &str,
     now_ns: u64,
-) -> Result<Bytes, Memory>
+) -> Result<Pieces, Memory>
     requires { IsTitle title.now }
     ensures written { IfOk result (λ bytes. bytes ≡ sorted_file measurement title.now now_ns) }
     ensures keeps { (file : List ℕ) → StandsIn file measurement → IfOk result (IsSortedOf measurement title.now now_ns) }
 {
     let blocks = blocks_from(alloc, measurement, title, now_ns)?;
-    blocks.bytes(&FINALIZED_IDENT)
+    blocks.into_pieces(&FINALIZED_IDENT)
 }

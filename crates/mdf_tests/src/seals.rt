@@ -1,19 +1,31 @@
-ghost use Rattle.std.specs.Prelude.{◌≡◌, None};
+ghost use Rattle.std.specs.Prelude.{◌≡◌, ◌≤◌, length, None, IfOk};
 
 use crate::disks::{images_are, name};
 use crate::told::{Told, all_are_told};
 use mdf_disk::{Disk, Fuse, MemoryDisk, Role};
-use mdf_num::{Bytes, Failed, Memory};
+use mdf_num::{Bytes, Failed, Memory, Pieces};
 use mdf_seal::write_sealed;
 use std::alloc::Global;
 use std::test::Fail;
 
-/// Makes the file `abc` under a seal, in seven calls.
-fn make_sealed<D: Disk>(name: Bytes, disk: &mut D) -> Result<(), Failed>
-    requires { D.asked disk.old ≡ None }
+/// The file `abc`, in three pieces, one of them empty.
+fn pieces(alloc: Global) -> Result<Pieces, Memory>
+    ensures { IfOk result (λ file. 1 ≤ length file) }
+{
+    let mut file = Pieces::empty(alloc);
+    file.push(Bytes::from_slice(alloc, b"a")?)?;
+    file.push(Bytes::empty(alloc))?;
+    file.push(Bytes::from_slice(alloc, b"bc")?)?;
+    Ok(file)
+}
+
+/// Makes a file under a seal: `abc` in seven calls.
+fn make_sealed<D: Disk>(name: Bytes, file: &Pieces, disk: &mut D) -> Result<(), Failed>
+    requires asked { D.asked disk.old ≡ None }
+    requires some { 1 ≤ length file.now }
 {
     disk.attach(name, Role::Create)?;
-    write_sealed(disk, b"abc")
+    write_sealed(disk, file)
 }
 
 // The call, the pick and the image. The file is made by an attach (call 0), a write of the closed byte (1), a sync (2), a
@@ -41,8 +53,9 @@ const IMAGES: [(u64, u8, &[u8]); 17] = [
 #[test]
 fn images_of_a_sealed_file(rt: HostRuntime) -> Result<(), Fail> {
     let name = name(rt.alloc())?;
+    let file = pieces(rt.alloc())?;
     let mut disk = MemoryDisk::new(rt.alloc());
-    let _made = make_sealed(name, &mut disk);
+    let _made = make_sealed(name, &file, &mut disk);
     images_are(&rt, &disk, &IMAGES)
 }
 
@@ -60,8 +73,9 @@ fn sealed_line(alloc: Global, made: bool, fuse: &Fuse<MemoryDisk>) -> Result<Str
 fn sealed_told(alloc: Global, name: Bytes, disk: MemoryDisk, calls: u64) -> Result<String, Memory>
     requires { ⟦<MemoryDisk as Disk>⟧.asked disk ≡ None }
 {
+    let file = pieces(alloc)?;
     let mut fuse = Fuse::new(disk, calls);
-    let made = make_sealed(name, &mut fuse).is_ok();
+    let made = make_sealed(name, &file, &mut fuse).is_ok();
     sealed_line(alloc, made, &fuse)
 }
 

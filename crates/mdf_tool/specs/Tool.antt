@@ -24,10 +24,9 @@ fault_of_read fault = fault_or_memory fault (read_refusal fault)
 abbrev pub IsToolImage : List ℕ → List ℕ → Type 0
 IsToolImage bytes file = (¬ IsMdf file) ⊎ (file ≡ bytes)
 
--- How the writing of a made file ends, by what its disk tells before and after: the file is kept whole; or the disk failed;
--- or no call of the disk was made.
+-- How the writing of a made file ends, by what its disk tells before and after: the file is kept whole, or the disk failed.
 abbrev pub WriteEnds : Made → DiskState → DiskState → Result Report ToolFault → Type 0
 WriteEnds made old new (Ok report) = (report ≡ made.report) × IsKept new.content new.story made.bytes
 WriteEnds made old new (Err (tool.Read fault)) = ⊥
 WriteEnds made old new (Err tool.Failed) = Rose old.faults new.faults
-WriteEnds made old new (Err tool.Memory) = new ≡ old
+WriteEnds made old new (Err tool.Memory) = ⊥

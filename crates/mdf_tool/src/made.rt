@@ -1,4 +1,4 @@
-use mdf_num::Bytes;
+use mdf_num::Pieces;
 
 /// What is told of a file that was made.
 #[derive(Clone, Copy, Debug, PartialEq, Eq)]
@@ -11,9 +11,9 @@ pub struct Report {
     pub dropped: u64,
 }
 
-/// What a tool made: the bytes of a file, and what is told of it.
+/// What a tool made: the bytes of a file, in pieces, and what is told of it.
 #[derive(Debug, Drop)]
 pub struct Made {
-    pub bytes: Bytes,
+    pub bytes: Pieces,
     pub report: Report,
 }

@@ -9,14 +9,11 @@ use crate::{Made, Report, ToolFault};
 use mdf_disk::Disk;
 use mdf_seal::write_sealed;
 
-/// From this many bytes on no file is written under a seal.
-const TOO_LONG: u64 = 1 << 62;
-
 /// Writes the file that a tool made under a seal, on a disk that is attached with an empty file, and answers what is told
-/// of it. The file is marked as finalized; so whatever a crash leaves is the whole file, or no MDF.
+/// of it. It takes no memory. The file is marked as finalized; so whatever a crash leaves is the whole file, or no MDF.
 ///
 /// # Errors
-/// `Failed` where the disk failed. `Memory` for a file of 2^62 bytes or more; then no call of the disk was made.
+/// `Failed` where the disk failed.
 pub fn write_made<C: Disk>(out: &mut C, made: Made) -> Result<Report, ToolFault>
     requires attached { C.attached out.old ≡ true }
     requires blank { IsBlank (C.content out.old) (C.story out.old) }
@@ -29,10 +26,6 @@ pub fn write_made<C: Disk>(out: &mut C, made: Made) -> Result<Report, ToolFault>
     ensures told { is_some (C.story out.new) ≡ is_some (C.story out.old) }
 {
     let Made { bytes, report } = made;
-    let file = bytes.as_slice();
-    if file.len() as u64 >= TOO_LONG {
-        return Err(ToolFault::Memory);
-    }
-    write_sealed(out, file)?;
+    write_sealed(out, &bytes)?;
     Ok(report)
 }

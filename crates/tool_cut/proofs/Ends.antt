@@ -26,7 +26,7 @@ module _ (file : List ℕ) (asked : Cutting) (found : Measured) (made : Made) (r
   ends old new (Ok report) end = (made.bytes, subst (λ (told : Report). IsCutOf file asked made.bytes told) (sym end.0) of_file, end.1)
   ends old new (Err (tool.Read fault)) end = absurd end
   ends old new (Err tool.Failed) end = end
-  ends old new (Err tool.Memory) end = end
+  ends old new (Err tool.Memory) end = absurd end
 
   image_of : (image : List ℕ) → IsToolImage made.bytes image → IsCutImage file asked image
   image_of image left =

@@ -23,7 +23,7 @@ module _ (file : List ℕ) (now : ℕ) (found : SessionParts) (made : Made) (who
       (made.bytes, subst (λ (told : Report). IsFinalizedOf file now made.bytes told) (sym done.0) of_file, done.1)
   ends old new (Err (tool.Read fault)) done = absurd done
   ends old new (Err tool.Failed) done = done
-  ends old new (Err tool.Memory) done = done
+  ends old new (Err tool.Memory) done = absurd done
 
   image_of : (image : List ℕ) → IsToolImage made.bytes image → IsFinalizeImage file now image
   image_of image left =

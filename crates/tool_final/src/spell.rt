@@ -3,7 +3,7 @@ ghost use Rattle.mdf_spell.specs.Counts.{IsCounted};
 ghost use Rattle.tool_final.specs.Finalized.{AreSessionBlocks, IsSessionFile, IsSessionFront, IsOfSession, KeepsSession};
 
 use mdf_block::Draft;
-use mdf_num::{Bytes, Memory};
+use mdf_num::{Memory, Pieces};
 use mdf_session::Session;
 use mdf_spell::{FINALIZED_IDENT, Front, Recovered, finalized_front, with_data};
 use std::alloc::Global;
@@ -43,15 +43,15 @@ fn blocks_of(alloc: Global, session: Session, now_ns: u64) -> Result<Draft, Memo
 }
 
 /// The finalized file of a session: its header, its history with the entry of this finalizing at `now_ns` (ns since 1970) as
-/// its last, and its first data group, unsorted, with its records in the order of the recording. The records are moved out of the session:
-/// so they are held twice and no more.
+/// its last, and its first data group, unsorted, with its records in the order of the recording. The records are moved out of the session
+/// and into the file: so they are held once.
 ///
 /// # Errors
 /// `Memory` where memory runs out, or where there are more than 2^30 blocks.
-pub fn spell_session(alloc: Global, session: Session, now_ns: u64) -> Result<Bytes, Memory>
+pub fn spell_session(alloc: Global, session: Session, now_ns: u64) -> Result<Pieces, Memory>
     ensures of { IfOk result (IsSessionFile session now_ns) }
     ensures keeps { IfOk result (KeepsSession session now_ns) }
 {
     let blocks = blocks_of(alloc, session, now_ns)?;
-    blocks.bytes(&FINALIZED_IDENT)
+    blocks.into_pieces(&FINALIZED_IDENT)
 }

@@ -24,7 +24,7 @@ module _ (file : List ℕ) (now : ℕ) (found : Measured) (made : Made) (read : 
   ends old new (Ok report) end = (made.bytes, subst (λ (told : Report). IsSorting file now made.bytes told) (sym end.0) of_file, end.1)
   ends old new (Err (tool.Read fault)) end = absurd end
   ends old new (Err tool.Failed) end = end
-  ends old new (Err tool.Memory) end = end
+  ends old new (Err tool.Memory) end = absurd end
 
   image_of : (image : List ℕ) → IsToolImage made.bytes image → IsSortImage file now image
   image_of image left =

@@ -9,8 +9,8 @@ use Rattle.mdf_sorted.proofs.sorted.spell_sorted.Goals as goal
 
 pub returns-clause-written : goal.returns-clause-written
 returns-clause-written c =
-    IfOk-weaker c.bytes.result _ _ (λ bytes is. is ∙ ap (λ (blocks : List Placed). written finalized_ident blocks) c.in_ok-blocks.ensures.placed)
-    c.bytes.ensures.is
+    IfOk-weaker c.into_pieces.result _ _ (λ bytes is. is ∙ ap (λ (blocks : List Placed). written finalized_ident blocks) c.in_ok-blocks.ensures.placed)
+    c.into_pieces.ensures.is
 
 pub returns-clause-keeps : goal.returns-clause-keeps
 returns-clause-keeps c = λ file stands.
@@ -18,7 +18,7 @@ returns-clause-keeps c = λ file stands.
     let title = c.args.title.now in
     let blocks = c.in_ok-blocks.blocks in
     both_if (λ (bytes : List ℕ). bytes ≡ written finalized_ident blocks) (λ (bytes : List ℕ). AllStand bytes blocks) (IsSortedOf m title c.args.now_ns)
-    c.bytes.result
+    c.into_pieces.result
     (λ bytes is stand. spelled_kept file bytes blocks m title c.args.now_ns c.requires c.ranges.now_ns.fits stands c.in_ok-blocks.ensures.fit
     c.in_ok-blocks.ensures.placed is stand)
-    c.bytes.ensures.is c.bytes.ensures.stand
+    c.into_pieces.ensures.is c.into_pieces.ensures.stand

@@ -6,7 +6,7 @@ use Rattle.mdf_spell.proofs.Filing.{blocks_written, blocks_keep}
 use Rattle.mdf_spell.proofs.finalized.finalized_file.Goals as goal
 
 -- the blocks that are written
-placed : (c : goal.After-drop-blocks-inside) → c.in_ok-blocks.blocks ≡ session_blocks c.args.recovered.now c.args.now_ns
+placed : (c : goal.After-bytes) → c.in_ok-blocks.blocks ≡ session_blocks c.args.recovered.now c.args.now_ns
 placed c =
     file_placed c.in_ok-front.front c.args.recovered.now c.args.now_ns c.in_ok-content.content c.args.recovered.now.streams.now
     c.in_ok-blocks.blocks c.in_ok-front.ensures.front c.in_ok-content.ensures refl c.in_ok-blocks.ensures

@@ -15,7 +15,7 @@ use Rattle.mdf_spell.proofs.Finding.{both_if, head_first, recording_head_found, 
 use Rattle.mdf_spell.proofs.recording.recording_head.Goals as goal
 
 -- the blocks that are placed
-placed : (c : goal.After-drop-draft-inside-2) → c.place_groups.new.draft ≡ recording_blocks c.args.start_ns c.args.rows.now
+placed : (c : goal.After-bytes) → c.place_groups.new.draft ≡ recording_blocks c.args.start_ns c.args.rows.now
 placed c =
     let rows = c.args.rows.now in
     let w1 = c.place_front.new.draft in
