@@ -13,24 +13,24 @@ use crate::{report_of, spell_session};
 use mdf_content::ReadFault;
 use mdf_disk::Disk;
 use mdf_num::{Bytes, Memory};
-use mdf_session::{Session, read_session};
+use mdf_session::{Session, session_of};
 use mdf_tool::{Made, Report, ToolFault, write_made};
 use std::alloc::Global;
 
-/// The session of these bytes.
-fn session_read(alloc: Global, bytes: &[u8]) -> Result<Session, ReadFault>
-    ensures exact { GivesOf read_refusal result (session bytes.now) }
-    ensures bytes { AreBytes bytes.now }
+/// Nothing: the elements of a slice of bytes are bytes.
+fn are_bytes(bytes: &[u8])
+    ensures { AreBytes bytes.now }
 {
-    read_session(alloc, bytes)
+    let _len = bytes.len();
 }
 
-/// The session of a file, which is given back to the allocator before anything is made of it.
-fn session_of(alloc: Global, file: Bytes) -> Result<Session, ReadFault>
+/// The session of a file, whose memory becomes that of its records.
+fn session_read(alloc: Global, file: Bytes) -> Result<Session, ReadFault>
     ensures exact { GivesOf read_refusal result (session file) }
     ensures bytes { AreBytes file }
 {
-    session_read(alloc, file.as_slice())
+    are_bytes(file.as_slice());
+    session_of(alloc, file)
 }
 
 /// The finalized file of a session, and what is told of it.
@@ -43,7 +43,8 @@ fn made_of(alloc: Global, session: Session, now_ns: u64) -> Result<Made, Memory>
 }
 
 /// Writes the finalized file of a recording at `now_ns` (ns since 1970) under a seal, on a disk that is attached with an
-/// empty file, and answers what is told of it. The input is given back to the allocator before the output is made.
+/// empty file, and answers what is told of it. The memory of the input becomes that of
+/// the records, so that they are held once until the output is made.
 ///
 /// # Errors
 /// `Read` where the file is no recording, with the first fault of `read_session`; `Memory` where memory runs out: of both no
@@ -63,7 +64,7 @@ pub fn finalize<C: Disk>(
     ensures moment { C.moment out.old ≤ C.moment out.new }
     ensures told { is_some (C.story out.new) ≡ is_some (C.story out.old) }
 {
-    let session = session_of(alloc, file)?;
+    let session = session_read(alloc, file)?;
     let made = made_of(alloc, session, now_ns)?;
     write_made(out, made)
 }
