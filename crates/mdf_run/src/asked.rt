@@ -9,7 +9,7 @@ use mdf_inspect::Question;
 use mdf_num::{Bytes, Rows};
 
 /// What is shown of a file.
-pub enum View {
+pub(crate) enum View {
     /// How many opened blocks it has.
     Opened,
     /// What a finalized file answers.
@@ -19,7 +19,7 @@ pub enum View {
 }
 
 /// What is made of a file.
-pub enum Tool<'a> {
+pub(crate) enum Tool<'a> {
     Finalize,
     Sort,
     Cut { from: i128, to: i128 },
@@ -28,14 +28,14 @@ pub enum Tool<'a> {
 }
 
 /// Where a script comes from.
-pub enum Origin {
+pub(crate) enum Origin {
     Source,
     /// It is generated, for so many samples.
     Generated { samples: u64 },
 }
 
 /// What the words ask for.
-pub enum Asked<'a> {
+pub(crate) enum Asked<'a> {
     /// To show the file of this name.
     Show(&'a Bytes, View),
     /// To make a file.
