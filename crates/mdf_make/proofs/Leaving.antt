@@ -83,9 +83,9 @@ module _ {Input : Type 0} (inputs : Inputs Input) (Makes : Input → List ℕ �
   pub load_fault : (old new out : DiskState) → (Rose old.faults new.faults → inputs.Failed) → ((size limit : ℕ) → IsOver old size limit → inputs.IsOver size limit)
       → Agrees out.story out.content out.moment → IsFresh out.story → (problem : Fault) → LoadFaultComes old new problem
       → MakingComes inputs Makes Refuses out out (Err problem)
-  load_fault old new out failed over agrees fresh fault.Device comes = inl (failed comes)
+  load_fault old new out failed over agrees fresh fault.Device comes = inl (failed comes, refl)
   load_fault old new out failed over agrees fresh (fault.InputOver size limit) comes =
-      (over size limit comes, still_nothing out.story out.story out.content out.moment agrees fresh refl)
+      (over size limit comes, still_nothing out.story out.story out.content out.moment agrees fresh refl, refl)
   load_fault old new out failed over agrees fresh fault.Memory comes = still_nothing out.story out.story out.content out.moment agrees fresh refl
   load_fault old new out failed over agrees fresh problem comes = absurd comes
 

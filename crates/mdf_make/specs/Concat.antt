@@ -51,16 +51,21 @@ pub record AreBothLoaded (now_ns : ℕ) (disk other : DiskState) (asked : Joinin
   pub second : IsLoaded other asked.second
   pub now : asked.now ≡ now_ns
 
--- the file of the second disk is read only where that of the first is loaded
-abbrev pub OneIsOver : DiskState → DiskState → ℕ → ℕ → Type 0
-OneIsOver disk other size limit = IsOver disk size limit ⊎ (((file : List ℕ) × IsLoaded disk file) × IsOver other size limit)
+-- the second disk is asked for nothing where the file of the first is not loaded
+abbrev pub OneIsOver : DiskState → DiskState → DiskState → ℕ → ℕ → Type 0
+OneIsOver disk other other' size limit = (IsOver disk size limit × (other' ≡ other))
+    ⊎ (((file : List ℕ) × IsLoaded disk file) × IsOver other size limit)
+
+abbrev pub OneFailed : DiskState → DiskState → DiskState → DiskState → Type 0
+OneFailed disk disk' other other' = (Rose disk.faults disk'.faults × (other' ≡ other))
+    ⊎ (((file : List ℕ) × IsLoaded disk file) × Rose other.faults other'.faults)
 
 -- two inputs, which are joined at a time in ns
 abbrev pub two_inputs : ℕ → DiskState → DiskState → DiskState → DiskState → Inputs Joining
 two_inputs now disk disk' other other' = record {
   AreLoaded = AreBothLoaded now disk other;
-  Failed = Rose disk.faults disk'.faults ⊎ Rose other.faults other'.faults;
-  IsOver = OneIsOver disk other;
+  Failed = OneFailed disk disk' other other';
+  IsOver = OneIsOver disk other other';
 }
 
 -- How the command ends, by what the disks of both inputs and of the output and the sink tell before and after.

@@ -48,11 +48,11 @@ one_input old new = record { AreLoaded = IsLoaded old; Failed = Rose old.faults 
 
 -- The command ends so only where this holds of the disks of the inputs and of the output before and after: what the tool
 -- makes of the input is kept whole; or a disk failed; or a crash leaves nothing of the output, since an input is too long
--- or refused, or memory was wanted.
+-- or refused, or memory was wanted. Where an input could not be read whole, the disk of the output was asked for nothing.
 abbrev pub MakingComes : {Input : Type 0} → Inputs Input → (Input → List ℕ → Report → Type 0) → (Input → Fault → Type 0) → DiskState → DiskState → Result Report Fault → Type 0
 MakingComes {Input = Input} inputs Makes Refuses out out' (Ok report) = (input : Input) × inputs.AreLoaded input × IsMade (Makes input) out' report
-MakingComes inputs Makes Refuses out out' (Err fault.Device) = inputs.Failed ⊎ Rose out.faults out'.faults
-MakingComes inputs Makes Refuses out out' (Err (fault.InputOver size limit)) = inputs.IsOver size limit × MakesNothing out out'
+MakingComes inputs Makes Refuses out out' (Err fault.Device) = (inputs.Failed × (out' ≡ out)) ⊎ Rose out.faults out'.faults
+MakingComes inputs Makes Refuses out out' (Err (fault.InputOver size limit)) = inputs.IsOver size limit × MakesNothing out out' × (out' ≡ out)
 MakingComes inputs Makes Refuses out out' (Err fault.Memory) = MakesNothing out out'
 MakingComes {Input = Input} inputs Makes Refuses out out' (Err problem) = ((input : Input) × inputs.AreLoaded input × Refuses input problem) × MakesNothing out out'
 

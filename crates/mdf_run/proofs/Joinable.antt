@@ -50,11 +50,11 @@ module _ (asked : Joining) (one two : List ℕ) (is_one : asked.first ≡ one) (
       absurd (not_wide wide.read.one.groups wide.read.other.groups group channel (of_read (λ a b. NoneWideTo a.groups b.groups (length a.groups)) wide.read joinable.held) wide.first)
   both_taken problem refuses = absurd refuses
 
-module _ (first second : DiskState) (one two : List ℕ) (told_one : first.content ≡ Some one) (told_two : second.content ≡ Some two)
+module _ (first second second' : DiskState) (one two : List ℕ) (told_one : first.content ≡ Some one) (told_two : second.content ≡ Some two)
     (short_one : length one ≤ INPUT_LIMIT) (short_two : length two ≤ INPUT_LIMIT) where
-  none_over : (size limit : ℕ) → ¬ OneIsOver first second size limit
+  none_over : (size limit : ℕ) → ¬ OneIsOver first second second' size limit
   none_over size limit over =
-      ⊎_elim (λ first_over. absurd (not_over first one told_one short_one size limit first_over))
+      ⊎_elim (λ first_over. absurd (not_over first one told_one short_one size limit first_over.0))
       (λ second_over. absurd (not_over second two told_two short_two size limit second_over.1))
       over
 
@@ -70,8 +70,8 @@ module _ (now : ℕ) (first first' second second' out out' : DiskState) (sink si
       → IfSome content (λ two. AreJoinable one two → length one ≤ INPUT_LIMIT → length two ≤ INPUT_LIMIT → IsDoneOrLacked status)
   with_second one told None other = tt
   with_second one told (Some two) other = λ joinable short short_two.
-      making_well (two_inputs now first first' second second') Joins AreNotJoined out out' (none_over first second one two told other short short_two)
-      (loaded_taken first second one two told other short short_two now joinable) sink sink' status ends
+      making_well (two_inputs now first first' second second') Joins AreNotJoined out out' (none_over first second second' one two told other short short_two)
+      (loaded_taken first second second' one two told other short short_two now joinable) sink sink' status ends
 
   pub joinable_is_joined : (content other : Option (List ℕ)) → first.content ≡ content → second.content ≡ other
       → IfSome content (λ one. IfSome other (λ two. AreJoinable one two → length one ≤ INPUT_LIMIT → length two ≤ INPUT_LIMIT → IsDoneOrLacked status))
