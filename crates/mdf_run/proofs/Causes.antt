@@ -144,7 +144,7 @@ module _ {Input : Type 0} (inputs : Inputs Input) (Makes : Input → List ℕ �
   making_coded : (end : Result Report Fault) → MakingComes inputs Makes Refuses out out' end → Coded ⊥ (inputs.Failed ⊎ Rose out.faults out'.faults) (making_status end)
   making_coded (Ok report) comes = done ⊥ (inputs.Failed ⊎ Rose out.faults out'.faults)
   making_coded (Err problem) comes = fault_coded ⊥ (inputs.Failed ⊎ Rose out.faults out'.faults) problem refused
-      (λ is. subst (λ p. MakingComes inputs Makes Refuses out out' (Err p)) is comes) where
+      (λ is. ⊎_elim (λ failed. inl failed.0) inr (subst (λ p. MakingComes inputs Makes Refuses out out' (Err p)) is comes)) where
         refused : ¬ (problem ≡ fault.Source)
         refused is =
             let made : MakingComes inputs Makes Refuses out out' (Err fault.Source) = subst (λ p. MakingComes inputs Makes Refuses out out' (Err p)) is comes in

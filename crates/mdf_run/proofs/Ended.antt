@@ -146,7 +146,7 @@ module _ (said : List (List ℕ)) (t : Told) where
       widened _ _ _ _ _ _ t.status
       (making_caused (two_inputs t.now t.first t.first' t.second t.second') Joins AreNotJoined (λ joining refused. refused) t.out t.left.disk t.sink t.sink' t.status ends.0)
       (λ wrong. absurd wrong)
-      (λ disks. ⊎_elim (λ inputs. ⊎_elim (λ first. inl first) (λ other. inr (inr ((input.now, second.now, output.now, asks), other))) inputs) (λ out. inr (inl out)) disks)
+      (λ disks. ⊎_elim (λ inputs. ⊎_elim (λ first. inl first.0) (λ other. inr (inr ((input.now, second.now, output.now, asks), other.1))) inputs) (λ out. inr (inl out)) disks)
       (λ sink. sink)
   caused_by (Record output origin) asks ends =
       widened _ _ _ _ _ _ t.status ends.caused (λ source. source) (λ out. inr (inl out)) (λ sink. sink)
