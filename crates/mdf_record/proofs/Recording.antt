@@ -40,7 +40,7 @@ use Rattle.acq_run.specs.declared.work.Ended.{Ended}
 use Rattle.acq_run.specs.declared.work.Ended.TheVariants as work
 use Rattle.acq_run.proofs.Later.{all_later}
 use Rattle.mdf_record.specs.Sources.{RanAll, ends_of, feds_of, told_of}
-use Rattle.mdf_record.specs.Finish.{FileFaultComes, Finishes, FinishEnds, IsAllDurable, IsUnmade, NoteComes}
+use Rattle.mdf_record.specs.Finish.{FileFaultComes, Finishes, FinishEnds, IsAllDurable, IsMade, IsUnmade, NoteComes}
 use Rattle.mdf_record.specs.Record.{AreAccepted, AreEnds, CloseComes, IsComplete, IsFull, IsNext, IsRecorded, IsSaved, IsShort, IsUnshown, Outcome, SourceComes, live_of, outcome}
 use Rattle.mdf_record.specs.Head.{script_head}
 use Rattle.mdf_record.specs.Recorded.{Closes, HasRun, RunComes, RecordComes}
@@ -296,9 +296,9 @@ close_earlier script earlier faults left (Some problem) later comes = comes
 pub record_comes : {C : Type 0} (tells : DiskOf C) (Says : Script → Type 0) (Refuses : Fault → Type 0) (name : List ℕ) (now : ℕ) (out : C) (script : Script) (file : Gated C) (left : Outcome) (end : RecordEnd)
     → Says script → IsScript script → IsReadHead now script.plan.rows → tells.asked file.disk ≡ Some (name, Create) → HoldsSince (tells.story file.disk) (tells.moment out) (IsBegun (script_head now script))
     → IfSome (tells.story file.disk) (λ _. head_of (tells.story file.disk) file.first ≡ script_head now script) → is_some (tells.story file.disk) ≡ is_some (tells.story out)
-    → IfSome (tells.story out) (λ _. file.start ≡ tells.moment out) → tells.faults out ≤ file.faults → HasRun tells script file left end
+    → IfSome (tells.story out) (λ _. file.start ≡ tells.moment out) → tells.faults out ≤ file.faults → IsMade (script_head now script) (state_of tells file.disk) → HasRun tells script file left end
     → RecordComes Says Refuses name now (state_of tells out) left end
-record_comes tells Says Refuses name now out script file left end says is_script readable asked_is begun head_is told start_is later run = of_end end run.comes where
+record_comes tells Says Refuses name now out script file left end says is_script readable asked_is begun head_is told start_is later made run = of_end end run.comes where
   of_end : (e : RecordEnd) → RunComes script (state_of tells file.disk) (head_of (tells.story file.disk) file.first) file.start file.faults left e
       → RecordComes Says Refuses name now (state_of tells out) left e
   of_end (Refused problem) comes = record {
@@ -308,7 +308,8 @@ record_comes tells Says Refuses name now out script file left end says is_script
       script = script;
       says = says;
       begun = subst (λ (d : DiskState). HoldsSince d.story (tells.moment out) (IsBegun (script_head now script))) (sym comes.1) begun;
-      comes = subst (FileFaultComes (state_of tells out) left.disk) (sym comes.0) tt;
+      comes = subst (FileFaultComes (script_head now script) (state_of tells out) left.disk) (sym comes.0)
+          (inr (subst (IsMade (script_head now script)) (sym comes.1) made));
       asked_is = inr (run.asked_is ∙ asked_is);
     });
   }
@@ -385,4 +386,4 @@ fresh_begun head story content clock agrees fresh = begun_since head story story
 pub unmade : {C : Type 0} (tells : DiskOf C) (name head : List ℕ) (out : C) → tells.asked out ≡ None → Agrees (tells.story out) (tells.content out) (tells.moment out)
     → IsFresh (tells.story out) → IsUnmade name head (state_of tells out) (state_of tells out) fault.Memory
 unmade tells name head out asked agrees fresh =
-    record { asked_is = inl asked; begun = fresh_begun head (tells.story out) (tells.content out) (tells.moment out) agrees fresh; comes = tt }
+    record { asked_is = inl asked; begun = fresh_begun head (tells.story out) (tells.content out) (tells.moment out) agrees fresh; comes = inl refl }

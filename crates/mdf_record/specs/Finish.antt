@@ -1,5 +1,5 @@
 -- How a recording is begun and finished.
-use Rattle.std.specs.Prelude.{ℕ, ◌≡◌, ◌≤◌, ◌⊎◌, Bool, true, false, List, [], length, take, Option, Some, None, Result, Err, IsOk}
+use Rattle.std.specs.Prelude.{ℕ, ◌≡◌, ◌≤◌, ◌⊎◌, Bool, true, false, List, [], ◌∷◌, ◌++◌, length, take, Option, Some, None, Result, Err, IfSome, IsOk}
 use Rattle.mdf_format.specs.Cause.{Rose}
 use Rattle.mdf_disk.specs.State.{DiskState}
 use Rattle.mdf_disk.specs.Crash.{HoldsSince}
@@ -15,17 +15,23 @@ use Rattle.mdf_record.specs.declared.sources.End.TheVariants as end_
 use Rattle.mdf_command.specs.declared.fault.Fault.{Fault}
 use Rattle.mdf_command.specs.declared.fault.Fault.TheVariants as fault
 
--- the file could not be made, or the book not begun
-abbrev pub FileFaultComes : DiskState → DiskState → Fault → Type 0
-FileFaultComes old new fault.Device = Rose old.faults new.faults
-FileFaultComes old new fault.Memory = Unit {0}
-FileFaultComes old new _ = ⊥
+-- the file was made, and has the head alone, behind which the gate of its first place is closed
+pub record IsMade (head : List ℕ) (disk : DiskState) : Type 0 where
+  pub attached : disk.attached ≡ true
+  pub content : IfSome disk.content (λ file. file ≡ head ++ 0 ∷ [])
+
+-- The file with this head could not be made, or the book not be begun: the disk failed, or memory was wanted before the disk
+-- was asked for anything or when the file was made.
+abbrev pub FileFaultComes : List ℕ → DiskState → DiskState → Fault → Type 0
+FileFaultComes head old new fault.Device = Rose old.faults new.faults
+FileFaultComes head old new fault.Memory = (new ≡ old) ⊎ IsMade head new
+FileFaultComes head old new _ = ⊥
 
 -- no file was made: what the disk was asked for, what a crash since may leave, and why
 pub record IsUnmade (name head : List ℕ) (old new : DiskState) (fault : Fault) : Type 0 where
   pub asked_is : (new.asked ≡ None) ⊎ (new.asked ≡ Some (name, Create))
   pub begun : HoldsSince new.story old.moment (IsBegun head)
-  pub comes : FileFaultComes old new fault
+  pub comes : FileFaultComes head old new fault
 
 -- all samples are durable
 abbrev pub IsAllDurable : {D V : Type 0} → Account D V → Type 0

@@ -30,12 +30,12 @@ use Rattle.mdf_record.specs.declared.record.RecordEnd.{RecordEnd}
 use Rattle.mdf_record.specs.declared.record.RecordEnd.TheVariants.{Refused, Closed}
 
 -- The script was made, but the file could not be, or the book not be begun: since the start a crash leaves no MDF file, or
--- the head with no opened block.
+-- the head with no opened block. Want of memory does not stand for a fault of the disk.
 pub record IsNotBegun (Says : Script → Type 0) (name : List ℕ) (now : ℕ) (disk left : DiskState) (fault : Fault) : Type 0 where
   pub script : Script
   pub says : Says script
   pub begun : HoldsSince left.story disk.moment (IsBegun (script_head now script))
-  pub comes : FileFaultComes disk left fault
+  pub comes : FileFaultComes (script_head now script) disk left fault
   pub asked_is : (left.asked ≡ None) ⊎ (left.asked ≡ Some (name, Create))
 
 -- There was no script: the disk is as before, and since the start a crash leaves no MDF file, whatever head it has.

@@ -9,7 +9,7 @@ ghost use Rattle.script_gen.specs.Generated.{generated_script};
 ghost use Rattle.mdf_spell.specs.Recording.{head_file};
 ghost use Rattle.mdf_group.specs.Recordable.{AreRecordable};
 ghost use Rattle.mdf_record.specs.Script.{SaysScript, ScriptFaultComes};
-ghost use Rattle.mdf_record.specs.Finish.{IsUnmade, Finishes};
+ghost use Rattle.mdf_record.specs.Finish.{IsMade, IsUnmade, Finishes};
 ghost use Rattle.mdf_port.specs.State.{sink_state, source_state};
 ghost use Rattle.mdf_command.specs.Texts.{Gives, Prints, numbered};
 ghost use Rattle.mdf_record.specs.Record.{fault_text, live_text, outcome, record_status, record_text, source_line, summary_text};
@@ -105,6 +105,7 @@ fn create<C: Disk>(
     ensures created { IfOk result (IsNewFile C.Disk) }
     ensures head { IfOk result (λ file. IfSome (C.story file.disk) (λ _. head_of (C.story file.disk) file.first ≡ head_file now_ns rows.now)) }
     ensures asked { IfOk result (λ file. C.asked file.disk ≡ Some (name.now, Create)) }
+    ensures made { IfOk result (λ file. IsMade (head_file now_ns rows.now) (state_of C.Disk file.disk)) }
     ensures begun { IfOk result (λ file. HoldsSince (C.story file.disk) (C.moment out) (IsBegun (head_file now_ns rows.now))) }
     ensures told { IfOk result (λ file. is_some (C.story file.disk) ≡ is_some (C.story out)) }
     ensures start { IfOk result (λ file. IfSome (C.story out) (λ _. file.start ≡ C.moment out)) }

@@ -1,4 +1,4 @@
-use Rattle.std.proofs.Common.{◌∙◌, ap, inr, subst, sym, Some, arith}
+use Rattle.std.proofs.Common.{◌∙◌, ◌++◌, ◌∷◌, [], ap, inr, subst, sym, Some, arith}
 use Rattle.mdf_disk.specs.declared.role.Role.TheVariants.{Create}
 use Rattle.mdf_disk.specs.Crash.{Adds}
 use Rattle.mdf_disk.proofs.Crash.{adds_none}
@@ -108,3 +108,9 @@ returns-in-Ok-made-clause-start g c =
     subst (λ n. IfSome (disk.story out) (λ _. n ≡ disk.moment out)) (sym c.in-Ok-made.ensures.start)
     (one_moment (disk.story out) (disk.story made) (disk.content out) (disk.content made) (disk.moment out) (disk.moment made) (laws.agrees out) (laws.agrees made)
     c.attach.ensures.story)
+
+pub returns-in-Ok-made-clause-made : goal.returns-in-Ok-made-clause-made
+returns-in-Ok-made-clause-made g c = record {
+  attached = c.in-Ok-made.ensures.attached;
+  content = subst (λ h. IfSome (g.C.Disk.content c.in-Ok-made.file.disk) (λ file. file ≡ h ++ 0 ∷ [])) (c.as_slice.ensures ∙ c.in-Ok.ensures.head) c.in-Ok-made.ensures.content;
+}
