@@ -1,7 +1,8 @@
 #!/usr/bin/env bash
-# Times `record` of a script of 200,000 samples of one source, and of one of as many samples of four sources, each of which has a
-# thread of its own. Prints the best times in microseconds and their ratio: four sources are to be no slower than one. Then
-# records the script of four once more, and prints how often a source met the turn of another and slept, for each thousand appends;
+# Times `record` of a script of 200,000 samples of one source, and of two of as many samples of four sources, each of which has a
+# thread of its own: in the one the lines of the sources come in runs of 1,000, in the other they alternate. Prints the best times in
+# microseconds and their ratios: four sources are to be no slower than one. Then
+# records the last script once more, and prints how often a source met the turn of another and slept, for each thousand appends;
 # only a flush wakes who sleeps, and how often that was is printed too.
 #
 # usage: bench/record/sources.sh [RUNS]
@@ -24,18 +25,19 @@ before() { rm -f "$work/made.mf4"; }
 "$top/mdf4rec" opened "$top/examples/two_blocks.mf4" > "$work/said" # builds the program where it is stale
 recorder="$top/crates/mdf_cli/out/mdf_cli"
 
-for sources in 1 4; do
-    python3 "$here/sources.py" "$sources" > "$work/$sources.txt"
+python3 "$here/sources.py" 1 > "$work/one.txt"
+one="$(best "$work/one.txt" "$recorder" record "$work/made.mf4")"
+for turn in 1000 1; do
+    python3 "$here/sources.py" 4 "$turn" > "$work/four.txt"
+    four="$(best "$work/four.txt" "$recorder" record "$work/made.mf4")"
+    tail -n 1 "$work/said"
+    awk -v turn="$turn" -v one="$one" -v four="$four" \
+        'BEGIN { printf "runs of %d: one source %d us, four sources %d us, ratio %.2f\n", turn, one, four, four / one }'
 done
-one="$(best "$work/1.txt" "$recorder" record "$work/made.mf4")"
-four="$(best "$work/4.txt" "$recorder" record "$work/made.mf4")"
-tail -n 1 "$work/said"
-awk -v one="$one" -v four="$four" \
-    'BEGIN { printf "record: one source %d us, four sources %d us, ratio %.2f\n", one, four, four / one }'
 
 "${CC:-cc}" -O2 -shared -fPIC -o "$work/turns.so" "$here/turns.c" -ldl
 before
-TURNS_SAID="$work/turns" LD_PRELOAD="$work/turns.so" "$recorder" record "$work/made.mf4" < "$work/4.txt" > "$work/said"
+TURNS_SAID="$work/turns" LD_PRELOAD="$work/turns.so" "$recorder" record "$work/made.mf4" < "$work/four.txt" > "$work/said"
 read -r sleeps wakes < "$work/turns"
 awk -v sleeps="$sleeps" -v wakes="$wakes" \
     'BEGIN { printf "four sources: the turn was met %.1f times in 1,000 appends, and a flush woke the others %.1f times\n", sleeps / 200, wakes / 200 }'
