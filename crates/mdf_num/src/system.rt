@@ -1,4 +1,4 @@
-ghost use Rattle.std.specs.Prelude.{◌≡◌, ◌↔◌, ◌<◌, ◌≤◌, Some, IsSome, IfErr};
+ghost use Rattle.std.specs.Prelude.{◌≡◌, ◌+◌, ◌-◌, ◌^◌, ◌↔◌, ◌<◌, ◌≤◌, min, Some, IsSome, IfErr, OnOk, OnErr};
 ghost use Rattle.mdf_format.specs.Cause.{Rose, HasCause};
 ghost use Rattle.mdf_num.specs.System.{IsAnswer};
 
@@ -27,6 +27,7 @@ impl SystemFaults {
     /// Counts a fault, keeps its error in place of the one before, and answers the fault.
     pub fn fail(&mut self, error: Error) -> Failed
         ensures last { self.new.last ≡ Some error }
+        ensures count { self.new.count ≡ min (self.old.count + 1) (2 ^ 64 - 1) }
         ensures rose { Rose self.old.count self.new.count }
         ensures later { self.old.count ≤ self.new.count }
     {
@@ -40,7 +41,9 @@ impl SystemFaults {
     /// `Failed` exactly where the call gave an error.
     pub fn checked<T: Drop>(&mut self, outcome: io::Result<T>) -> Result<T, Failed>
         ensures answer { IsAnswer outcome result }
+        ensures same { OnOk outcome (self.new ≡ self.old) }
         ensures last { IfErr outcome (λ error. self.new.last ≡ Some error) }
+        ensures count { OnErr outcome (self.new.count ≡ min (self.old.count + 1) (2 ^ 64 - 1)) }
         ensures cause { HasCause self.old.count self.new.count result }
     {
         match outcome {

@@ -1,4 +1,4 @@
-ghost use Rattle.std.specs.Prelude.{◌≡◌, ◌+◌, ◌≤◌, ◌<◌, ◌^◌, ◌++◌, ◌⊎◌, List, ℕ, [], length, true, is_some, IfSome, IfOk, OnOk};
+ghost use Rattle.std.specs.Prelude.{◌≡◌, ◌+◌, ◌≤◌, ◌<◌, ◌^◌, ◌++◌, ◌⊎◌, List, ℕ, [], length, true, is_some, IfSome, IfOk, OnOk, OnErr};
 ghost use Rattle.std.specs.Option.{option_map};
 ghost use Rattle.mdf_format.specs.Cause.{HasCause};
 ghost use Rattle.mdf_disk.specs.Crash.{Adds, NowHas};
@@ -68,13 +68,14 @@ impl Sealed {
     /// Appends bytes, keeping the very first one back. Where there are none to write it makes no call.
     ///
     /// # Errors
-    /// `Failed` where the disk failed.
+    /// `Failed` where the disk failed. Then the seal is as before.
     pub fn give<D: Disk>(&mut self, disk: &mut D, bytes: &[u8]) -> Result<(), Failed>
         requires attached { D.attached disk.old ≡ true }
         requires sealed { (given : List ℕ) × Seals self.old (D.content disk.old) (D.story disk.old) given
             × (length given + length bytes.now < 2 ^ 62) }
         ensures ok { (given : List ℕ) → Seals self.old (D.content disk.old) (D.story disk.old) given
             → OnOk result (Seals self.new (D.content disk.new) (D.story disk.new) (given ++ bytes.now)) }
+        ensures err { OnErr result (self.new ≡ self.old) }
         ensures any_moment { Adds (D.story disk.old) (D.story disk.new) IsClosed }
         ensures none { bytes.now ≡ [] → disk.new ≡ disk.old }
         ensures cause { HasCause (D.faults disk.old) (D.faults disk.new) result }
