@@ -1,4 +1,4 @@
-ghost use Rattle.std.specs.Prelude.{◌≡◌, ◌+◌, ◌^◌, ◌<◌, [], ◌∷◌, ◌++◌, length, map, IfOk, OnOk};
+ghost use Rattle.std.specs.Prelude.{◌≡◌, ◌+◌, ◌^◌, ◌<◌, [], ◌∷◌, ◌++◌, length, map, IfOk, OnOk, OnErr};
 ghost use Rattle.std.specs.List.{AllByRecursion};
 ghost use Rattle.mdf_format.specs.declared.kind.Kind.TheVariants.{Sd};
 ghost use Rattle.mdf_tree.specs.Group.{next_link, data_groups, past_data_group, data_group_blocks};
@@ -21,7 +21,8 @@ use std::alloc::Global;
 /// # Errors
 /// `Memory` where memory runs out; then no block was placed.
 pub fn place_data(alloc: Global, draft: &mut Draft, kind: Kind, bytes: &[u8]) -> Result<(), Memory>
-    ensures { OnOk result (draft.new ≡ draft.old ++ data_block kind bytes.now ∷ []) }
+    ensures ok { OnOk result (draft.new ≡ draft.old ++ data_block kind bytes.now ∷ []) }
+    ensures err { OnErr result (draft.new ≡ draft.old) }
 {
     let body = Bytes::from_slice(alloc, bytes)?;
     draft.place_linked(kind, Vec::new(alloc), body)
@@ -92,7 +93,8 @@ pub fn place_data_group(
     content: Link,
     comment: &Note,
 ) -> Result<(), Memory>
-    ensures { OnOk result (draft.new ≡ draft.old ++ data_own (length draft.old) id_size next groups content comment.now ∷ []) }
+    ensures ok { OnOk result (draft.new ≡ draft.old ++ data_own (length draft.old) id_size next groups content comment.now ∷ []) }
+    ensures err { OnErr result (draft.new ≡ draft.old) }
 {
     let n = next_number(draft)?;
     let links = vec![in alloc; next, groups, content, note_link(n + 1, comment)]?;

@@ -1,4 +1,4 @@
-ghost use Rattle.std.specs.Prelude.{◌≡◌, [], ◌∷◌, ◌++◌, length, IfOk, OnOk};
+ghost use Rattle.std.specs.Prelude.{◌≡◌, ◌⊎◌, [], ◌∷◌, ◌++◌, length, IfOk, OnOk, OnErr};
 ghost use Rattle.mdf_tree.specs.Text.{note_blocks};
 ghost use Rattle.mdf_tree.specs.Group.{next_if};
 ghost use Rattle.mdf_tree.specs.Head.{entry_body, entry_block, past_entry, head_body, header_block};
@@ -23,13 +23,18 @@ fn entry_body(alloc: Global, entry: &History) -> Result<Bytes, Memory>
 }
 
 /// Places an entry of the history: FH, and then its comment. Where one more follows it is linked.
+///
+/// # Errors
+/// `Memory` where memory runs out; then no block was placed, or FH alone.
 pub fn place_entry(
     alloc: Global,
     draft: &mut Draft,
     entry: &History,
     more: bool,
 ) -> Result<(), Memory>
-    ensures { OnOk result (draft.new ≡ draft.old ++ (entry_block (length draft.old) (next_if more (past_entry (length draft.old) entry.now)) entry.now ∷ note_blocks entry.now.comment)) }
+    ensures ok { OnOk result (draft.new ≡ draft.old ++ (entry_block (length draft.old) (next_if more (past_entry (length draft.old) entry.now)) entry.now ∷ note_blocks entry.now.comment)) }
+    ensures err { OnErr result ((draft.new ≡ draft.old)
+        ⊎ (draft.new ≡ draft.old ++ entry_block (length draft.old) (next_if more (past_entry (length draft.old) entry.now)) entry.now ∷ [])) }
 {
     let comment = plus(next_number(draft)?, 1)?;
     let past = plus(comment, note_count(&entry.comment))?;
@@ -53,6 +58,9 @@ fn head_body(alloc: Global, head: &Head) -> Result<Bytes, Memory>
 }
 
 /// Places a header alone, with its links to its comment, to the history and to the data groups.
+///
+/// # Errors
+/// `Memory` where memory runs out; then no block was placed.
 pub fn place_header(
     alloc: Global,
     draft: &mut Draft,
@@ -61,7 +69,8 @@ pub fn place_header(
     entries: Link,
     groups: Link,
 ) -> Result<(), Memory>
-    ensures { OnOk result (draft.new ≡ draft.old ++ header_block comment entries groups head.now ∷ []) }
+    ensures ok { OnOk result (draft.new ≡ draft.old ++ header_block comment entries groups head.now ∷ []) }
+    ensures err { OnErr result (draft.new ≡ draft.old) }
 {
     let links = vec![in alloc;
         groups,

@@ -1,4 +1,4 @@
-ghost use Rattle.std.specs.Prelude.{◌≡◌, ◌≤◌, ◌++◌, length, IfOk, OnOk};
+ghost use Rattle.std.specs.Prelude.{◌≡◌, ◌≤◌, ◌++◌, length, IfOk, OnOk, OnErr};
 ghost use Rattle.mdf_tree.specs.Text.{text_body, note_blocks, note_link};
 
 use mdf_block::{Draft, Kind, Link, Note};
@@ -17,9 +17,13 @@ fn text_body(alloc: Global, text: &[u8]) -> Result<Bytes, Memory>
 }
 
 /// Places the block of a text, if there is one: a TXBLOCK, or an MDBLOCK for XML.
+///
+/// # Errors
+/// `Memory` where memory runs out; then no block was placed.
 #[tactic(auto, unfolding(crate::specs::Text::note_blocks))]
 pub fn place_note(alloc: Global, draft: &mut Draft, note: &Note) -> Result<(), Memory>
-    ensures { OnOk result (draft.new ≡ draft.old ++ note_blocks note.now) }
+    ensures ok { OnOk result (draft.new ≡ draft.old ++ note_blocks note.now) }
+    ensures err { OnErr result (draft.new ≡ draft.old) }
 {
     match note {
         Note::Nothing => Ok(()),

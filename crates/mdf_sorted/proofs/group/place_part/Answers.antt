@@ -19,7 +19,7 @@ returns-clause-placed c =
     let tree = c.in_ok-place_tree.ensures
     ∙ ap (λ (link : Link). w0 ++ tree_blocks (length w0) link part count)
     (c.next_if.ensures ∙ ap (next_if c.args.more) (c.in_ok-past.ensures.past ∙ ap (λ (n : ℕ). past_part n part) c.in_ok-next_number.ensures.0)) in
-    let content = c.in_ok-place_data.ensures ∙ ap (λ (bytes : List ℕ). w1 ++ data_block Dt bytes ∷ []) c.as_slice.ensures in
+    let content = c.in_ok-place_data.ensures.ok ∙ ap (λ (bytes : List ℕ). w1 ++ data_block Dt bytes ∷ []) c.as_slice.ensures in
     on_ok_weaker c.place_values.result
     (λ placed. part_placed w0 w1 w2 c.place_values.new.draft next part count tree content
     (placed ∙ ap (λ (streams : List (List ℕ)). w2 ++ map (data_block Sd) streams) c.as_slice-2.ensures))

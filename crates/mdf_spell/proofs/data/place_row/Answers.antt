@@ -16,6 +16,6 @@ returns-clause-placed c =
     let w2 = c.place_note.new.draft in
     on_ok_weaker c.place_groups.result
     (λ placed. data_placed w0 c.place_own.new.draft w2 c.place_groups.new.draft c.args.content values row counts totals
-    c.requires.counts c.requires.totals c.in_ok-place_own.ensures c.in_ok-place_note.ensures
+    c.requires.counts c.requires.totals c.in_ok-place_own.ensures c.in_ok-place_note.ensures.ok
     (placed ∙ ap (λ (rows : List GroupRow). w2 ++ groups_blocks (length w2) values (counted_groups counts totals rows)) c.as_slice.ensures))
     c.place_groups.ensures.placed

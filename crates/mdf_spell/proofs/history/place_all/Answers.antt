@@ -16,11 +16,11 @@ returns c =
     let number : c.in_ok-groups.groups ≡ head_groups head entries =
     omega (arith, c.in_ok-groups.ensures.0, c.in_ok-comment.ensures, c.note_count.ensures.count) in
     let groups = next_if more (head_groups head entries) in
-    let own = c.in_ok-place_header.ensures
+    let own = c.in_ok-place_header.ensures.ok
     ∙ ap (λ (n : ℕ). w0 ++ header_block n (links.Block 1) c.next_if.result head ∷ []) c.in_ok-comment.ensures
     ∙ ap (λ (link : Link). w0 ++ header_block (past_history 1 entries) (links.Block 1) link head ∷ [])
     (c.next_if.ensures ∙ ap (λ (n : ℕ). next_if more n) number) in
     on_ok_weaker c.place_note.result
     (λ placed. head_placed w0 c.place_header.new.draft c.place_history.new.draft c.place_note.new.draft head c.args.history.now c.args.last.now groups
     c.requires own c.in_ok-place_history.ensures placed)
-    c.place_note.ensures
+    c.place_note.ensures.ok

@@ -14,7 +14,7 @@ loop-entry-preserved c =
     let entry = c.entry-item.result in
     let w = c.loop-entry.draft in
     let cut = rest_is entries k entry c.loop-entry-test.true c.entry-item.is in
-    history_step w c.place_entry.new.draft entry (drop (k + 1) entries) last c.in_ok-place_entry.ensures
+    history_step w c.place_entry.new.draft entry (drop (k + 1) entries) last c.in_ok-place_entry.ensures.ok
     ∙ ap (λ (left : List History). w ++ history_blocks (length w) (left ++ last ∷ [])) (sym cut)
     ∙ c.loop-entry.invariant
 
@@ -23,4 +23,4 @@ returns c =
     on_ok_weaker c.place_entry-2.result
     (λ placed. history_last c.loop-entry.draft c.place_entry-2.new.draft c.args.entries.now c.loop-entry.entry-index c.args.last.now c.loop-entry-test.false placed
     ∙ c.loop-entry.invariant)
-    c.place_entry-2.ensures
+    c.place_entry-2.ensures.ok

@@ -14,4 +14,4 @@ returns c =
     (λ placed. placed
     ∙ ap (λ (blocks : List Placed). w ++ blocks) (entry_is (length w) entry)
     ∙ ap (λ (one : History). w ++ history_blocks (length w) (one ∷ [])) c.in_ok-entry.ensures)
-    c.place_entry.ensures
+    c.place_entry.ensures.ok

@@ -37,6 +37,6 @@ place_whole-returns t c =
     ∙ ap (λ (b : Placed). w0 ++ b ∷ []) (linked_is Cc c.in_ok-links.links.items named c.in_ok-body.body (conv_body conv) c.in_ok-links.ensures c.in_ok-body.ensures) in
     on_ok_weaker c.place_refs.result
     (λ last. conv_placed inner conv n w0 c.place_linked.new.self c.place_note.new.draft c.place_note-2.new.draft w4 c.place_refs.new.draft
-    c.in_ok-next_number.ensures.0 own c.in_ok-place_note.ensures c.in_ok-place_note-2.ensures c.in_ok-place_note-3.ensures
+    c.in_ok-next_number.ensures.0 own c.in_ok-place_note.ensures.ok c.in_ok-place_note-2.ensures.ok c.in_ok-place_note-3.ensures.ok
     (last ∙ ap (λ (rows : List Ref). w4 ++ refs_blocks inner (length w4) rows) c.as_slice.ensures))
     c.place_refs.ensures

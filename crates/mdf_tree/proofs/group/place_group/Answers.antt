@@ -15,7 +15,7 @@ returns-clause-placed c =
     on_ok_weaker c.place_channels.result
     (λ last. group_placed w0 c.place_own.new.draft c.place_note.new.draft c.place_source_part.new.draft w4 c.place_channels.new.draft
     (next_if c.args.more (past_group (length w0) row)) c.args.values.now (counted_row c.args.counted row)
-    c.in_ok-place_own.ensures.placed c.in_ok-place_note.ensures c.in_ok-place_source_part.ensures c.in_ok-place_note-2.ensures
+    c.in_ok-place_own.ensures.placed c.in_ok-place_note.ensures.ok c.in_ok-place_source_part.ensures c.in_ok-place_note-2.ensures.ok
     (last
     ∙ ap (λ (values : List Link). w4 ++ channels_blocks (length w4) values c.as_slice.result.now) c.group_values.ensures
     ∙ ap (λ (rows : List ChannelRow). w4 ++ channels_blocks (length w4) (group_values c.args.values.now row) rows) c.as_slice.ensures))

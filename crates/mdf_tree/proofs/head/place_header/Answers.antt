@@ -7,8 +7,8 @@ use Rattle.mdf_tree.specs.Head.{head_body, header_block}
 use Rattle.mdf_tree.proofs.Placing.{linked_is}
 use Rattle.mdf_tree.proofs.head.place_header.Goals as goal
 
-pub returns : goal.returns
-returns c =
+pub returns-clause-ok : goal.returns-clause-ok
+returns-clause-ok c =
     let w = c.args.draft.now in
     let own = header_block c.args.comment c.args.entries c.args.groups c.args.head.now in
     let links : ◌≡◌ {A = List Link} c.in_ok-links.links.items own.links = c.in_ok-links.ensures.items ∙ rw c.note_link.ensures in
