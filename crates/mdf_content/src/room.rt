@@ -1,4 +1,4 @@
-ghost use Rattle.std.specs.Prelude.{◌≡◌, ◌+◌, OnOk, OnErr};
+ghost use Rattle.std.specs.Prelude.{◌≡◌, ◌+◌, ◌*◌, ◌-◌, ◌^◌, ◌<◌, min, OnOk, OnErr};
 
 use mdf_num::{Memory, Span};
 
@@ -11,7 +11,9 @@ pub struct Room {
 
 impl Room {
     /// Room for twice as many bytes as the file has.
-    pub fn of_file<P: Span>(span: &P) -> Room {
+    pub fn of_file<P: Span>(span: &P) -> Room
+        ensures { result.left ≡ min (P.size span.now * 2) (2 ^ 64 - 1) }
+    {
         Room {
             left: span.len().saturating_mul(2),
         }
@@ -30,6 +32,7 @@ impl Room {
     /// Exactly where there is less room.
     pub(crate) fn take(&mut self, bytes: u64) -> Result<(), Memory>
         ensures ok { OnOk result (self.new.left + bytes ≡ self.old.left) }
+        ensures less { OnErr result (self.old.left < bytes) }
         ensures err { OnErr result (self.new ≡ self.old) }
     {
         if bytes > self.left {

@@ -1,4 +1,4 @@
-ghost use Rattle.std.specs.Prelude.{◌≡◌, ℕ, List, Some, true, IfErr};
+ghost use Rattle.std.specs.Prelude.{◌≡◌, ℕ, List, Some, false, IfErr};
 ghost use Rattle.mdf_num.specs.Halt.{HaltCause};
 ghost use Rattle.mdf_block.specs.Refusal.{Gives, IsPlain};
 ghost use Rattle.mdf_head.specs.Ident.{identify};
@@ -13,7 +13,7 @@ use mdf_num::{Halt, Span};
 fn ident_of(front: &[u8]) -> Result<Ident, Halt<ReadFault>>
     ensures found { Gives read_refusal result (identify front.now) }
     ensures plain { IfErr result (IsPlain read_refusal) }
-    ensures cause { HaltCause true 0 0 result }
+    ensures cause { HaltCause false 0 0 result }
 {
     match ident(front) {
         Ok(id) => Ok(id),
@@ -22,16 +22,16 @@ fn ident_of(front: &[u8]) -> Result<Ident, Halt<ReadFault>>
     }
 }
 
-/// The identification of a file.
+/// The identification of a file. It takes no memory of its own.
 ///
 /// # Errors
-/// `NotMdf`, then `Version`, as `ident`; the span's own; and want of memory.
+/// `NotMdf`, then `Version`, as `ident`; and the span's own.
 pub fn identity_in<P: Span>(span: &mut P) -> Result<Ident, Halt<ReadFault>>
     ensures found { (f : List ℕ) → P.bytes span.old ≡ Some f → Gives read_refusal result (identify f) }
     ensures plain { IfErr result (IsPlain read_refusal) }
     ensures same { P.bytes span.new ≡ P.bytes span.old }
     ensures size { P.size span.new ≡ P.size span.old }
-    ensures cause { HaltCause true (P.faults span.old) (P.faults span.new) result }
+    ensures cause { HaltCause P.may_want (P.faults span.old) (P.faults span.new) result }
 {
     if span.len() < 64 {
         return Err(Halt::Fault(ReadFault::NotMdf));
@@ -42,18 +42,18 @@ pub fn identity_in<P: Span>(span: &mut P) -> Result<Ident, Halt<ReadFault>>
     Ok(id)
 }
 
-/// The identification of a finalized file.
+/// The identification of a finalized file. It takes no memory of its own.
 ///
 /// # Errors
-/// `NotMdf`, then `Version`, as `ident`; then `Unfinalized` exactly where the file says that it is not finalized; the
-/// span's own; and want of memory.
+/// `NotMdf`, then `Version`, as `ident`; then `Unfinalized` exactly where the file says that it is not finalized; and the
+/// span's own.
 #[tactic(auto, unfolding(crate::specs::Tree::finalized))]
 pub fn finalized_in<P: Span>(span: &mut P) -> Result<Ident, Halt<ReadFault>>
     ensures found { (f : List ℕ) → P.bytes span.old ≡ Some f → Gives read_refusal result (finalized f) }
     ensures plain { IfErr result (IsPlain read_refusal) }
     ensures same { P.bytes span.new ≡ P.bytes span.old }
     ensures size { P.size span.new ≡ P.size span.old }
-    ensures cause { HaltCause true (P.faults span.old) (P.faults span.new) result }
+    ensures cause { HaltCause P.may_want (P.faults span.old) (P.faults span.new) result }
 {
     let id = identity_in(span)?;
     if !id.finalized {
