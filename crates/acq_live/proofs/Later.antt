@@ -6,7 +6,7 @@ use mathlib.Core.List.{IsPrefix}
 use Rattle.mdf_layout.specs.declared.sample.Sample.{Sample}
 use Rattle.mdf_gate.proofs.Carrying.{prefix_take, prefix_trans}
 use Rattle.book_view.specs.Known.{Known, Note}
-use Rattle.acq_live.specs.Watching.{AnyLooks, IsOf, Looks, Watches}
+use Rattle.acq_live.specs.Watching.{AnyLooks, IsFresh, IsOf, Looks, Watches}
 use Rattle.acq_live.specs.declared.watcher.Watcher.{Watcher}
 
 -- so many samples of the history are the note's
@@ -68,3 +68,9 @@ watch_first which (reader ∷ readers) each zero d within = record {
   knows = λ other is. (other.samples, refl);
 }
 watch_first which (reader ∷ readers) each (suc k) d within = watch_first which readers (λ j e less. each (suc j) e (omega (arith, less))) k d (omega (arith, within))
+
+-- no flush has told anything to the watchers of readers that were just made
+pub fresh_readers : (readers : List Known) → All IsFresh (map (λ (reader : Known). record { reader = Some reader; told = 0; flushes = 0 }) readers)
+fresh_readers [] k d within = absurd (omega (arith, within))
+fresh_readers (reader ∷ readers) zero d within = record { told = refl; flushes = refl }
+fresh_readers (reader ∷ readers) (suc k) d within = fresh_readers readers k d (omega (arith, within))

@@ -16,7 +16,8 @@ watches_on watcher which seen more is (rest, begins) =
     }
 
 pub hears_none : (watcher : Watcher) → Hears watcher 0 watcher
-hears_none watcher = (omega arith, λ less. omega arith)
+hears_none watcher = (omega arith, (λ less. omega arith), omega arith)
 
 pub hears_more : (first second third : Watcher) (n m : ℕ) → Hears first n second → Hears second m third → Hears first (n + m) third
-hears_more first second third n m one two = (omega (arith, one.0, two.0), λ less. omega (arith, two.1 less, one.1 (omega (arith, less, two.1 less))))
+hears_more first second third n m one two =
+    (omega (arith, one.0, two.0), (λ less. omega (arith, two.1 less, one.1 (omega (arith, less, two.1 less)))), omega (arith, one.2, two.2))

@@ -1,5 +1,5 @@
 -- What the reader of a source has seen.
-use Rattle.std.specs.Prelude.{ℕ, suc, ◌≡◌, ◌≤◌, ◌+◌, ◌^◌, ◌<◌, List, length, take, Option, Some, None, IsSomeAnd}
+use Rattle.std.specs.Prelude.{ℕ, suc, ◌≡◌, ◌≤◌, ◌+◌, ◌-◌, ◌^◌, ◌<◌, ◌⊎◌, min, max, List, length, take, Option, Some, None, IsSomeAnd}
 use Rattle.std.specs.Option.{ForSome}
 use mathlib.Core.List.{IsPrefix}
 use Rattle.mdf_layout.specs.declared.sample.Sample.{Sample}
@@ -18,16 +18,29 @@ pub record Watches (watcher : Watcher) (which : ℕ) (seen : List Sample) : Type
   pub of_view : IsOf watcher.reader which
   pub knows : ForSome watcher.reader (λ reader. IsPrefix (take watcher.told seen) reader.samples)
 
--- From the one to the other just so many flushes were told, unless the count stands at the last value.
+-- From the one to the other just so many flushes were told, unless the count stands at the last value, and the number of
+-- samples that were shown at one of them did not fall.
 abbrev pub Hears : Watcher → ℕ → Watcher → Type 0
 Hears before flushes now =
     (now.flushes ≤ before.flushes + flushes) × (now.flushes + 1 < 2 ^ 64 → now.flushes ≡ before.flushes + flushes)
+    × (before.told ≤ now.told)
 
--- a reader has learnt a note, and knows all that it knew
+-- no flush has told it anything
+pub record IsFresh (watcher : Watcher) : Type 0 where
+  pub told : watcher.told ≡ 0
+  pub flushes : watcher.flushes ≡ 0
+
+-- a reader has learnt a note, and knows all that it knew; it was refused once more at most
 pub record Looks (before : Known) (note : Note) (now : Known) : Type 0 where
   pub told : IsPrefix note.samples now.samples
   pub seen : IsPrefix before.samples now.samples
   pub which : now.which ≡ before.which
+  pub refused : (now.refusals ≡ before.refusals) ⊎ (now.refusals ≡ min (before.refusals + 1) (2 ^ 64 - 1))
+
+-- so many samples were shown at one of the flushes that were told, where the last one has this note
+abbrev pub told_with : ℕ → Option Note → ℕ
+told_with told None = told
+told_with told (Some note) = max told (length note.samples)
 
 -- so of a source's reader, where it has one
 abbrev pub AnyLooks : Option Known → Note → Option Known → Type 0

@@ -1,7 +1,7 @@
 ghost use Rattle.std.specs.Prelude.{◌≡◌, ◌≤◌, ◌<◌, List, [], length, map, All, IfOk, MatchBool, Some, None};
 ghost use Rattle.mdf_layout.specs.declared.sample.Sample.{Sample};
 ghost use Rattle.acq_live.specs.Audience.{shows_in, hands_in, count_in, which_in};
-ghost use Rattle.acq_live.specs.Watching.{Watches};
+ghost use Rattle.acq_live.specs.Watching.{IsFresh, Watches};
 
 use crate::Watcher;
 use book_owned::{NoView, Shown};
@@ -61,6 +61,7 @@ impl Audience {
         ensures which { IfOk result (λ made. MatchBool live (0 < which_in made.0) (which_in made.0 ≡ 0)) }
         ensures count { IfOk result (λ made. length made.1.items ≡ sources) }
         ensures watch { IfOk result (λ made. All (λ watcher. Watches watcher (which_in made.0) []) made.1.items) }
+        ensures fresh { IfOk result (λ made. All IsFresh made.1.items) }
     {
         if !live {
             let watchers = without_readers(alloc, sources)?;

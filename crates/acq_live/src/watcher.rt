@@ -1,8 +1,8 @@
-ghost use Rattle.std.specs.Prelude.{ℕ, suc, ◌≡◌, ◌≤◌, List, length, take, All, IfSome};
+ghost use Rattle.std.specs.Prelude.{ℕ, suc, ◌≡◌, List, length, take, All};
 ghost use Rattle.std.specs.Option.{ForSome};
 ghost use Rattle.mdf_layout.specs.declared.sample.Sample.{Sample};
 ghost use Rattle.acq_live.specs.Audience.{tells_of};
-ghost use Rattle.acq_live.specs.Watching.{AnyLooks, Hears, Looks, Watches, counted};
+ghost use Rattle.acq_live.specs.Watching.{AnyLooks, Hears, Looks, Watches, counted, told_with};
 
 use crate::Audience;
 use acq_run::Follower;
@@ -113,7 +113,7 @@ impl Follower<Audience> for Watcher {
         requires { (which : ℕ) × (seen : List Sample) × Watches self.old which seen × tells_of note which (take _shown seen) }
         ensures follows { (which : ℕ) (seen : List Sample) → Watches self.old which seen → tells_of note which (take _shown seen) → Watches self.new which seen }
         ensures heard { Hears self.old 1 self.new }
-        ensures told { IfSome note (λ note. length note.samples ≤ self.new.told) }
+        ensures told { self.new.told ≡ told_with self.old.told note }
     {
         self.flushes = self.flushes.saturating_add(1);
         if let Some(note) = note {

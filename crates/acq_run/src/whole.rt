@@ -1,8 +1,8 @@
 //! A recording from the book that begins it to the book that has it, with all sources at work in between.
-ghost use Rattle.std.specs.Prelude.{◌≡◌, ◌≤◌, ◌<◌, [], length, map, vec_len, IfOk, IfErr};
+ghost use Rattle.std.specs.Prelude.{◌≡◌, ◌≤◌, ◌<◌, [], length, map, vec_len, All, IfOk, IfErr};
 ghost use Rattle.std.specs.Vec.{vec_capacity};
 ghost use Rattle.acq_run.specs.Ran.{AllRan, AllMayFeed, AreOwned};
-ghost use Rattle.acq_run.specs.Workers.{driven_of};
+ghost use Rattle.acq_run.specs.Workers.{IsIdle, driven_of};
 
 use crate::nobody::{Nobody, drive_all};
 use crate::tasks::Feed;
@@ -15,7 +15,7 @@ use std::alloc::Global;
 use std::sync::Wait;
 use std::thread::Threads;
 
-/// Gives each seat its feed and its follower, in order.
+/// Gives each seat its feed and its follower, in order. None of them has worked.
 pub fn seat_all<F: Drop, L: Drop>(
     workers: &mut Vec<Worker<F, L>>,
     seats: Vec<SourceSeat>,
@@ -29,6 +29,7 @@ pub fn seat_all<F: Drop, L: Drop>(
     ensures seats { map (λ worker. worker.seat) workers.new.items ≡ seats.items }
     ensures feeds { map (λ worker. worker.feed) workers.new.items ≡ feeds.items }
     ensures followers { map (λ worker. worker.follower) workers.new.items ≡ followers.items }
+    ensures idle { All IsIdle workers.new.items }
 {
     let mut seats = seats.into_iter();
     let mut followers = followers.into_iter();
