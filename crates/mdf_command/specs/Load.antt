@@ -1,5 +1,5 @@
 -- The input file of a command.
-use Rattle.std.specs.Prelude.{ℕ, ◌≡◌, ◌<◌, ◌≤◌, List, length, IfSome, Result, Ok, Err}
+use Rattle.std.specs.Prelude.{ℕ, ◌≡◌, ◌<◌, ◌≤◌, ◌⊎◌, List, length, true, IfSome, Result, Ok, Err}
 use Rattle.mdf_format.specs.Cause.{Rose}
 use Rattle.mdf_disk.specs.State.{DiskState}
 use Rattle.mdf_command.specs.Faults.{INPUT_LIMIT}
@@ -17,11 +17,16 @@ pub record IsOver (disk : DiskState) (size limit : ℕ) : Type 0 where
   pub over : limit < size
   pub told : IfSome disk.content (λ file. size ≡ length file)
 
+-- Memory was wanted for the name of the file, or for its bytes. So it stands for no disk that cannot open the file, and for no
+-- file that is too long.
+abbrev pub LoadWants : DiskState → DiskState → Type 0
+LoadWants old new = (new ≡ old) ⊎ ((new.attached ≡ true) × IfSome old.content (λ file. length file ≤ INPUT_LIMIT))
+
 -- The input could not be loaded only where this holds of its disk before and after.
 abbrev pub LoadFaultComes : DiskState → DiskState → Fault → Type 0
 LoadFaultComes old new fault.Device = Rose old.faults new.faults
 LoadFaultComes old new (fault.InputOver size limit) = IsOver old size limit
-LoadFaultComes old new fault.Memory = Unit {0}
+LoadFaultComes old new fault.Memory = LoadWants old new
 LoadFaultComes old new _ = ⊥
 
 abbrev pub LoadComes : DiskState → DiskState → Result (List ℕ) Fault → Type 0

@@ -1,5 +1,5 @@
 -- What is left of the output of a tool.
-use Rattle.std.proofs.Common.{◌≡◌, ◌≤◌, ⊎_elim, inl, inr, ℕ, List, [], Option, Some, None, Result, Ok, Err, refl, sym, ◌∙◌, ap, subst, arith}
+use Rattle.std.proofs.Common.{◌≡◌, ◌≤◌, ⊎_elim, inl, inr, ℕ, List, [], Option, Some, None, true, Result, Ok, Err, refl, sym, ◌∙◌, ap, subst, arith}
 use Rattle.std.specs.Prelude.{IfSome, ℤ}
 use Rattle.mdf_disk.specs.Crash.{Adds, HoldsSince}
 use Rattle.mdf_disk.specs.State.{DiskState}
@@ -21,7 +21,7 @@ use Rattle.tool_concat.specs.Concat.{ConcatEnds, Joining}
 use Rattle.tool_concat.specs.declared.fault.ConcatFault.{ConcatFault}
 use Rattle.tool_concat.specs.declared.fault.ConcatFault.TheVariants as concat
 use Rattle.mdf_make.specs.Concat.{AreNotJoined, Joins, fault_of_concat}
-use Rattle.mdf_command.specs.Load.{IsOver, LoadFaultComes}
+use Rattle.mdf_command.specs.Load.{IsOver, LoadFaultComes, LoadWants}
 use Rattle.mdf_format.specs.Cause.{Rose}
 use Rattle.mdf_make.specs.Making.{Inputs, MakeComes, MakesNothing, MakingComes}
 use Rattle.mdf_command.specs.declared.fault.Fault.{Fault}
@@ -63,15 +63,15 @@ module _ (Makes : List ℕ → Report → Type 0) (Refuses : Fault → Type 0) (
   nothing is = still_nothing out.story out'.story out.content out.moment agrees fresh (ap (λ (d : DiskState). d.story) is ∙ same)
 
   -- why no file was made on the disk that was attached
-  make_fault : (problem : Fault) → ToolEnds Makes Refuses mid out' (Err problem) → MakeComes Makes Refuses out out' (Err problem)
-  make_fault fault.Device ends = omega (arith, later, ends)
-  make_fault fault.Memory ends = nothing ends
-  make_fault (fault.InputOver size limit) ends = absurd ends
-  make_fault problem ends = (ends.0, nothing ends.1)
+  make_fault : mid.attached ≡ true → (problem : Fault) → ToolEnds Makes Refuses mid out' (Err problem) → MakeComes Makes Refuses out out' (Err problem)
+  make_fault attached fault.Device ends = omega (arith, later, ends)
+  make_fault attached fault.Memory ends = (nothing ends, inr (ap (λ (d : DiskState). d.attached) ends ∙ attached))
+  make_fault attached (fault.InputOver size limit) ends = absurd ends
+  make_fault attached problem ends = (ends.0, nothing ends.1)
 
-  pub make_ends : (end : Result Report Fault) → ToolEnds Makes Refuses mid out' end → MakeComes Makes Refuses out out' end
-  make_ends (Ok report) ends = record { bytes = ends.0; is_of = ends.1; kept = ends.2 }
-  make_ends (Err problem) ends = make_fault problem ends
+  pub make_ends : mid.attached ≡ true → (end : Result Report Fault) → ToolEnds Makes Refuses mid out' end → MakeComes Makes Refuses out out' end
+  make_ends attached (Ok report) ends = record { bytes = ends.0; is_of = ends.1; kept = ends.2 }
+  make_ends attached (Err problem) ends = make_fault attached problem ends
 
   pub make_leaves : Adds mid.story out'.story (IsImage Makes) → HoldsSince out'.story out.moment (IsImage Makes)
   make_leaves adds =
@@ -81,19 +81,20 @@ module _ (Makes : List ℕ → Report → Type 0) (Refuses : Fault → Type 0) (
 -- of inputs of which one was not loaded nothing was made
 module _ {Input : Type 0} (inputs : Inputs Input) (Makes : Input → List ℕ → Report → Type 0) (Refuses : Input → Fault → Type 0) where
   pub load_fault : (old new out : DiskState) → (Rose old.faults new.faults → inputs.Failed) → ((size limit : ℕ) → IsOver old size limit → inputs.IsOver size limit)
-      → Agrees out.story out.content out.moment → IsFresh out.story → (problem : Fault) → LoadFaultComes old new problem
+      → (LoadWants old new → inputs.Wanted) → Agrees out.story out.content out.moment → IsFresh out.story → (problem : Fault) → LoadFaultComes old new problem
       → MakingComes inputs Makes Refuses out out (Err problem)
-  load_fault old new out failed over agrees fresh fault.Device comes = inl (failed comes, refl)
-  load_fault old new out failed over agrees fresh (fault.InputOver size limit) comes =
+  load_fault old new out failed over wanted agrees fresh fault.Device comes = inl (failed comes, refl)
+  load_fault old new out failed over wanted agrees fresh (fault.InputOver size limit) comes =
       (over size limit comes, still_nothing out.story out.story out.content out.moment agrees fresh refl, refl)
-  load_fault old new out failed over agrees fresh fault.Memory comes = still_nothing out.story out.story out.content out.moment agrees fresh refl
-  load_fault old new out failed over agrees fresh problem comes = absurd comes
+  load_fault old new out failed over wanted agrees fresh fault.Memory comes =
+      (still_nothing out.story out.story out.content out.moment agrees fresh refl, inl (wanted comes, refl))
+  load_fault old new out failed over wanted agrees fresh problem comes = absurd comes
 
   -- what was made of inputs that were loaded
   module _ (out out' : DiskState) (input : Input) (loaded : inputs.AreLoaded input) where
     made_of : (problem : Fault) → MakeComes (Makes input) (Refuses input) out out' (Err problem) → MakingComes inputs Makes Refuses out out' (Err problem)
     made_of fault.Device comes = inr comes
-    made_of fault.Memory comes = comes
+    made_of fault.Memory comes = (comes.0, inr ((input, loaded), comes.1))
     made_of (fault.InputOver size limit) comes = absurd comes
     made_of problem comes = ((input, loaded, comes.0), comes.1)
 

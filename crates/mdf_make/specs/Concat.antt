@@ -11,7 +11,7 @@ use Rattle.mdf_tool.specs.declared.made.Report.{Report}
 use Rattle.tool_concat.specs.Concat.{Differs, IsConcatOf, Joining, TooWide}
 use Rattle.tool_concat.specs.declared.fault.ConcatFault.{ConcatFault}
 use Rattle.tool_concat.specs.declared.fault.ConcatFault.TheVariants as concat
-use Rattle.mdf_command.specs.Load.{IsLoaded, IsOver}
+use Rattle.mdf_command.specs.Load.{IsLoaded, IsOver, LoadWants}
 use Rattle.mdf_command.specs.declared.fault.Fault.{Fault}
 use Rattle.mdf_command.specs.declared.fault.Fault.TheVariants as fault
 use Rattle.mdf_make.specs.Making.{EndsMaking, Inputs}
@@ -60,12 +60,18 @@ abbrev pub OneFailed : DiskState → DiskState → DiskState → DiskState → T
 OneFailed disk disk' other other' = (Rose disk.faults disk'.faults × (other' ≡ other))
     ⊎ (((file : List ℕ) × IsLoaded disk file) × Rose other.faults other'.faults)
 
+-- the second disk is asked for nothing where the file of the first is not loaded
+abbrev pub OneWants : DiskState → DiskState → DiskState → DiskState → Type 0
+OneWants disk disk' other other' = (LoadWants disk disk' × (other' ≡ other))
+    ⊎ (((file : List ℕ) × IsLoaded disk file) × LoadWants other other')
+
 -- two inputs, which are joined at a time in ns
 abbrev pub two_inputs : ℕ → DiskState → DiskState → DiskState → DiskState → Inputs Joining
 two_inputs now disk disk' other other' = record {
   AreLoaded = AreBothLoaded now disk other;
   Failed = OneFailed disk disk' other other';
   IsOver = OneIsOver disk other other';
+  Wanted = OneWants disk disk' other other';
 }
 
 -- How the command ends, by what the disks of both inputs and of the output and the sink tell before and after.

@@ -19,7 +19,7 @@ returns-in_err-one-clause-comes g c =
     let other = state_of g.B.Disk c.args.second.now in
     let p = err_from_is_err_and c.from_residual.result c.from_residual.ensures.1 in
     rw (p.1, p.2) (load_fault (two_inputs c.args.now_ns old new other other) Joins AreNotJoined old new (state_of disk out)
-    (λ failed. inl (failed, refl)) (λ size limit over. inl (over, refl)) (laws.agrees out) (laws.unattached out (laws.unasked out c.requires.out))
+    (λ failed. inl (failed, refl)) (λ size limit over. inl (over, refl)) (λ wants. inl (wants, refl)) (laws.agrees out) (laws.unattached out (laws.unasked out c.requires.out))
     c.in_err-one.field-0.0 c.in_err-one.ensures.comes)
 
 pub returns-in_err-two-clause-comes : goal.returns-in_err-two-clause-comes
@@ -33,7 +33,8 @@ returns-in_err-two-clause-comes g c =
     let p = err_from_is_err_and c.from_residual-in_err-two.result c.from_residual-in_err-two.ensures.1 in
     rw (p.1, p.2) (load_fault (two_inputs c.args.now_ns first (state_of g.A.Disk c.load.new.first) old new) Joins AreNotJoined old new (state_of disk out)
     (λ failed. inr ((c.in_ok-one.one, c.in_ok-one.ensures.comes), failed))
-    (λ size limit over. inr ((c.in_ok-one.one, c.in_ok-one.ensures.comes), over)) (laws.agrees out) (laws.unattached out (laws.unasked out c.requires.out))
+    (λ size limit over. inr ((c.in_ok-one.one, c.in_ok-one.ensures.comes), over)) (λ wants. inr ((c.in_ok-one.one, c.in_ok-one.ensures.comes), wants))
+    (laws.agrees out) (laws.unattached out (laws.unasked out c.requires.out))
     c.in_err-two.field-0.0 c.in_err-two.ensures.comes)
 
 pub returns-in_err-one-clause-any_moment : goal.returns-in_err-one-clause-any_moment

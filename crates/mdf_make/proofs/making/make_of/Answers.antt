@@ -17,7 +17,7 @@ returns-in_err-file-clause-comes g c =
     let old = state_of g.A.Disk c.args.first.now in
     let new = state_of g.A.Disk c.load.new.first in
     rw (p.1, p.2) (load_fault (one_input old new) (g.T.Tool.makes c.args.tool) (g.T.Tool.refuses c.args.tool)
-    old new (state_of disk out) (λ failed. failed) (λ size limit over. over) (laws.agrees out) (laws.unattached out (laws.unasked out c.requires.out)) c.in_err-file.field-0.0 c.in_err-file.ensures.comes)
+    old new (state_of disk out) (λ failed. failed) (λ size limit over. over) (λ wants. wants) (laws.agrees out) (laws.unattached out (laws.unasked out c.requires.out)) c.in_err-file.field-0.0 c.in_err-file.ensures.comes)
 
 pub returns-in_err-file-clause-any_moment : goal.returns-in_err-file-clause-any_moment
 returns-in_err-file-clause-any_moment g c =
