@@ -2,8 +2,8 @@ use crate::files::{Piece, file_of, put, put_block};
 use crate::finalized::{IDENT as FINALIZED, VARIABLE};
 use crate::recorded::{BLOCKS, FH, IDENT, MD};
 use crate::told::{Told, all_are_told};
-use mdf_num::Memory;
-use mdf_session::{Session, read_session};
+use mdf_num::{Bytes, Memory};
+use mdf_session::{Session, read_session, session_of};
 use std::alloc::Global;
 
 // The numbers 1 and 2, the number 3, a record that ends too early, and one of a group that is not there.
@@ -99,6 +99,30 @@ impl Told for Recorded {
     }
 }
 
+/// A recording that is read in its own memory.
+struct Taken(Recorded);
+
+// A recording of two blocks, and what it is told as.
+const TAKEN: &[(Taken, &str)] = &[(
+    Taken(Recorded(
+        &IDENT,
+        BLOCKS,
+        &[(768, b"##DT", &[], TWO), (816, b"##DT", &[], THIRD)],
+        857,
+    )),
+    "[3] [0] [1, 1, 0, 0, 0, 0, 0, 0, 0, 1, 2, 0, 0, 0, 0, 0, 0, 0, 1, 3, 0, 0, 0, 0, 0, 0, 0] 0",
+)];
+
+impl Told for Taken {
+    fn told(&self, alloc: Global) -> Result<String, Memory> {
+        let file = bytes_of(alloc, &self.0)?;
+        match session_of(alloc, Bytes::from_vec(file)) {
+            Ok(session) => parts_told(alloc, &session),
+            Err(fault) => Ok(format!(in alloc; "{fault:?}")?),
+        }
+    }
+}
+
 fn parts_told(alloc: Global, session: &Session) -> Result<String, Memory> {
     Ok(format!(in alloc;
         "{:?} {:?} {:?} {}",
@@ -112,4 +136,9 @@ fn parts_told(alloc: Global, session: &Session) -> Result<String, Memory> {
 #[test]
 fn recordings_are_read(rt: HostRuntime) -> Result<(), Memory> {
     all_are_told(&rt, TOLD)
+}
+
+#[test]
+fn recordings_are_read_in_their_own_memory(rt: HostRuntime) -> Result<(), Memory> {
+    all_are_told(&rt, TAKEN)
 }
