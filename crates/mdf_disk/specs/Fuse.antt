@@ -1,5 +1,5 @@
 -- A disk that passes only so many calls on.
-use Rattle.std.specs.Prelude.{ℕ}
+use Rattle.std.specs.Prelude.{ℕ, ◌≡◌, Result, IsErr}
 use Rattle.mdf_disk.specs.declared.fuse.Fuse.{Fuse}
 
 -- the disk under it, and how many calls it still passes on
@@ -8,3 +8,7 @@ disk_of fuse = fuse.disk
 
 abbrev pub left_of : {D : Type 0} → Fuse D → ℕ
 left_of fuse = fuse.left
+
+-- where no call was left, this one failed and the disk under it was asked nothing
+abbrev pub IsSpent : {D T E : Type 0} → ℕ → D → D → Result T E → Type 0
+IsSpent left old new result = left ≡ 0 → IsErr result × (new ≡ old)

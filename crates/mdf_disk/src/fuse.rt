@@ -1,4 +1,7 @@
-ghost use Rattle.std.specs.Prelude.{◌≡◌, ◌+◌, ◌-◌, ◌^◌, ◌<◌, ◌↔◌, ℕ, List, Option, Some, None, IsTrue, min};
+ghost use Rattle.std.specs.Prelude.{◌≡◌, ◌+◌, ◌-◌, ◌^◌, ◌<◌, ◌↔◌, ◌≤◌, ℕ, List, Option, Some, None, true, IsTrue, IsOk, IfOk, IfSome, OnOk, length, min};
+ghost use Rattle.mdf_format.specs.Number.{bytes_at};
+ghost use Rattle.mdf_format.specs.Cause.{HasCause};
+ghost use Rattle.mdf_disk.specs.Calls.{Attaches, Patches, Writes, Keeps, Syncs};
 ghost use Rattle.mdf_disk.specs.Asked.{first_asked, unasked_below};
 
 use crate::{Disk, Role};
@@ -57,6 +60,8 @@ impl<D: Disk> Fuse<D> {
 }
 
 impl<D: Disk> Disk for Fuse<D> {
+    ghost use Rattle.mdf_disk.specs.Fuse.{disk_of, left_of, IsSpent};
+
     ghost asked = { λ f. first_asked f.refused (D.asked f.disk) };
 
     ghost attached = { λ f. D.attached f.disk };
@@ -75,7 +80,17 @@ impl<D: Disk> Disk for Fuse<D> {
 
     ghost unattached = { λ f. D.unattached f.disk };
 
-    fn attach(&mut self, name: Bytes, role: Role) -> Result<(), Failed> {
+    fn attach(&mut self, name: Bytes, role: Role) -> Result<(), Failed>
+        requires { ⟦<Fuse<D> as Disk>⟧.asked self.old ≡ None }
+        ensures asked { ⟦<Fuse<D> as Disk>⟧.asked self.new ≡ Some (name, role) }
+        ensures attached { IsOk result ↔ (⟦<Fuse<D> as Disk>⟧.attached self.new ≡ true) }
+        ensures content { Attaches role (⟦<Fuse<D> as Disk>⟧.content self.old) (⟦<Fuse<D> as Disk>⟧.content self.new) result }
+        ensures story { ⟦<Fuse<D> as Disk>⟧.story self.new ≡ ⟦<Fuse<D> as Disk>⟧.story self.old }
+        ensures moment { ⟦<Fuse<D> as Disk>⟧.moment self.old ≤ ⟦<Fuse<D> as Disk>⟧.moment self.new }
+        ensures cause { HasCause (⟦<Fuse<D> as Disk>⟧.faults self.old) (⟦<Fuse<D> as Disk>⟧.faults self.new) result }
+        ensures counted { left_of self.new ≡ left_of self.old - 1 }
+        ensures spent { IsSpent (left_of self.old) (disk_of self.old) (disk_of self.new) result }
+    {
         if !spend(&mut self.left) {
             self.refused = Some((name, role));
             return Err(self.faults.fail());
@@ -83,28 +98,72 @@ impl<D: Disk> Disk for Fuse<D> {
         self.disk.attach(name, role)
     }
 
-    fn size(&mut self) -> Result<u64, Failed> {
+    fn size(&mut self) -> Result<u64, Failed>
+        requires { ⟦<Fuse<D> as Disk>⟧.attached self.old ≡ true }
+        ensures size { IfOk result (λ n. IfSome (⟦<Fuse<D> as Disk>⟧.content self.old) (λ file. n ≡ length file)) }
+        ensures asked { ⟦<Fuse<D> as Disk>⟧.asked self.new ≡ ⟦<Fuse<D> as Disk>⟧.asked self.old }
+        ensures attached { ⟦<Fuse<D> as Disk>⟧.attached self.new ≡ ⟦<Fuse<D> as Disk>⟧.attached self.old }
+        ensures content { ⟦<Fuse<D> as Disk>⟧.content self.new ≡ ⟦<Fuse<D> as Disk>⟧.content self.old }
+        ensures story { ⟦<Fuse<D> as Disk>⟧.story self.new ≡ ⟦<Fuse<D> as Disk>⟧.story self.old }
+        ensures moment { ⟦<Fuse<D> as Disk>⟧.moment self.old ≤ ⟦<Fuse<D> as Disk>⟧.moment self.new }
+        ensures cause { HasCause (⟦<Fuse<D> as Disk>⟧.faults self.old) (⟦<Fuse<D> as Disk>⟧.faults self.new) result }
+        ensures counted { left_of self.new ≡ left_of self.old - 1 }
+        ensures spent { IsSpent (left_of self.old) (disk_of self.old) (disk_of self.new) result }
+    {
         if !spend(&mut self.left) {
             return Err(self.faults.fail());
         }
         self.disk.size()
     }
 
-    fn read_at(&mut self, at: u64, buf: &mut [u8]) -> Result<(), Failed> {
+    fn read_at(&mut self, at: u64, buf: &mut [u8]) -> Result<(), Failed>
+        requires attached { ⟦<Fuse<D> as Disk>⟧.attached self.old ≡ true }
+        requires within { IfSome (⟦<Fuse<D> as Disk>⟧.content self.old) (λ file. at + length buf.old ≤ length file) }
+        ensures bytes { OnOk result (IfSome (⟦<Fuse<D> as Disk>⟧.content self.old) (λ file. buf.new ≡ bytes_at (length buf.old) file at)) }
+        ensures asked { ⟦<Fuse<D> as Disk>⟧.asked self.new ≡ ⟦<Fuse<D> as Disk>⟧.asked self.old }
+        ensures attached { ⟦<Fuse<D> as Disk>⟧.attached self.new ≡ ⟦<Fuse<D> as Disk>⟧.attached self.old }
+        ensures content { ⟦<Fuse<D> as Disk>⟧.content self.new ≡ ⟦<Fuse<D> as Disk>⟧.content self.old }
+        ensures story { ⟦<Fuse<D> as Disk>⟧.story self.new ≡ ⟦<Fuse<D> as Disk>⟧.story self.old }
+        ensures moment { ⟦<Fuse<D> as Disk>⟧.moment self.old ≤ ⟦<Fuse<D> as Disk>⟧.moment self.new }
+        ensures cause { HasCause (⟦<Fuse<D> as Disk>⟧.faults self.old) (⟦<Fuse<D> as Disk>⟧.faults self.new) result }
+        ensures counted { left_of self.new ≡ left_of self.old - 1 }
+        ensures spent { IsSpent (left_of self.old) (disk_of self.old) (disk_of self.new) result }
+    {
         if !spend(&mut self.left) {
             return Err(self.faults.fail());
         }
         self.disk.read_at(at, buf)
     }
 
-    fn write_at(&mut self, at: u64, bytes: &[u8]) -> Result<(), Failed> {
+    fn write_at(&mut self, at: u64, bytes: &[u8]) -> Result<(), Failed>
+        requires attached { ⟦<Fuse<D> as Disk>⟧.attached self.old ≡ true }
+        requires within { IfSome (⟦<Fuse<D> as Disk>⟧.content self.old) (λ file. at ≤ length file) }
+        ensures asked { ⟦<Fuse<D> as Disk>⟧.asked self.new ≡ ⟦<Fuse<D> as Disk>⟧.asked self.old }
+        ensures attached { ⟦<Fuse<D> as Disk>⟧.attached self.new ≡ ⟦<Fuse<D> as Disk>⟧.attached self.old }
+        ensures content { Patches (⟦<Fuse<D> as Disk>⟧.content self.old) (⟦<Fuse<D> as Disk>⟧.content self.new) at bytes.now result }
+        ensures story { Writes (⟦<Fuse<D> as Disk>⟧.story self.old) (⟦<Fuse<D> as Disk>⟧.story self.new) at bytes.now result }
+        ensures moment { ⟦<Fuse<D> as Disk>⟧.moment self.old ≤ ⟦<Fuse<D> as Disk>⟧.moment self.new }
+        ensures cause { HasCause (⟦<Fuse<D> as Disk>⟧.faults self.old) (⟦<Fuse<D> as Disk>⟧.faults self.new) result }
+        ensures counted { left_of self.new ≡ left_of self.old - 1 }
+        ensures spent { IsSpent (left_of self.old) (disk_of self.old) (disk_of self.new) result }
+    {
         if !spend(&mut self.left) {
             return Err(self.faults.fail());
         }
         self.disk.write_at(at, bytes)
     }
 
-    fn sync(&mut self) -> Result<(), Failed> {
+    fn sync(&mut self) -> Result<(), Failed>
+        requires { ⟦<Fuse<D> as Disk>⟧.attached self.old ≡ true }
+        ensures asked { ⟦<Fuse<D> as Disk>⟧.asked self.new ≡ ⟦<Fuse<D> as Disk>⟧.asked self.old }
+        ensures attached { ⟦<Fuse<D> as Disk>⟧.attached self.new ≡ ⟦<Fuse<D> as Disk>⟧.attached self.old }
+        ensures content { Keeps (⟦<Fuse<D> as Disk>⟧.content self.old) (⟦<Fuse<D> as Disk>⟧.content self.new) result }
+        ensures story { Syncs (⟦<Fuse<D> as Disk>⟧.story self.old) (⟦<Fuse<D> as Disk>⟧.story self.new) result }
+        ensures moment { ⟦<Fuse<D> as Disk>⟧.moment self.old ≤ ⟦<Fuse<D> as Disk>⟧.moment self.new }
+        ensures cause { HasCause (⟦<Fuse<D> as Disk>⟧.faults self.old) (⟦<Fuse<D> as Disk>⟧.faults self.new) result }
+        ensures counted { left_of self.new ≡ left_of self.old - 1 }
+        ensures spent { IsSpent (left_of self.old) (disk_of self.old) (disk_of self.new) result }
+    {
         if !spend(&mut self.left) {
             return Err(self.faults.fail());
         }

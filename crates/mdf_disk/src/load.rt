@@ -14,7 +14,7 @@ pub enum LoadFault {
     /// The disk failed.
     #[error("the device failed")]
     Failed,
-    /// The file has more bytes than the limit. Nothing of it was read.
+    /// The file has more bytes than the limit.
     #[error("{size} bytes are over the limit of {limit}")]
     TooLong { size: u64, limit: u64 },
     /// Want of memory.
@@ -38,10 +38,10 @@ impl From<AllocError> for LoadFault {
     }
 }
 
-/// Reads the whole file: its size once, and then all of it in one read.
+/// Reads the whole file.
 ///
 /// # Errors
-/// `TooLong` exactly where the size answered is over the limit; no byte is read then. `Failed` where the disk failed.
+/// `TooLong` only where the size answered is over the limit. `Failed` where the disk failed.
 /// `Memory` for want of memory, of a file within the limit.
 pub fn read_whole<D: Disk>(alloc: Global, disk: &mut D, limit: u64) -> Result<Bytes, LoadFault>
     requires { D.attached disk.old ≡ true }

@@ -35,6 +35,8 @@ fn log(tape: &mut Tape, plan: &mut FaultPlan, call: Call) -> Result<(), Failed>
     ensures err { OnErr result (tape.new ≡ tape.old) }
     ensures possible { OnOk result (MayLeave (story_of tape.new).now (story_of tape.new).now.content) }
     ensures cause { HasCause plan.old.faults plan.new.faults result }
+    ensures failing { plan.new.failing ≡ plan.old.failing }
+    ensures begun { plan.new.calls ≡ plan.old.calls }
 {
     if tape.record(call).is_err() {
         return Err(plan.fail());
@@ -55,7 +57,7 @@ fn pick_of(pick: u8) -> Pick
 }
 
 impl MemoryDisk {
-    ghost use Rattle.mdf_disk.specs.Memory.{calls_of, file_of};
+    ghost use Rattle.mdf_disk.specs.Memory.{calls_of, file_of, plan_of};
 
     /// A disk without a file. It tells its story.
     pub fn new(alloc: Global) -> MemoryDisk
@@ -66,6 +68,8 @@ impl MemoryDisk {
         ensures faults { ⟦<MemoryDisk as Disk>⟧.faults result ≡ 0 }
         ensures calls { calls_of result ≡ [] }
         ensures file { file_of result ≡ None }
+        ensures failing { (plan_of result).failing ≡ [] }
+        ensures begun { (plan_of result).calls ≡ 0 }
     {
         MemoryDisk {
             alloc,
@@ -86,6 +90,8 @@ impl MemoryDisk {
         ensures faults { ⟦<MemoryDisk as Disk>⟧.faults result ≡ 0 }
         ensures calls { calls_of result ≡ [] }
         ensures file { file_of result ≡ Some bytes }
+        ensures failing { (plan_of result).failing ≡ [] }
+        ensures begun { (plan_of result).calls ≡ 0 }
     {
         MemoryDisk {
             alloc,
@@ -105,6 +111,8 @@ impl MemoryDisk {
         ensures faults { ⟦<MemoryDisk as Disk>⟧.faults self.new ≡ ⟦<MemoryDisk as Disk>⟧.faults self.old }
         ensures calls { calls_of self.new ≡ calls_of self.old }
         ensures file { file_of self.new ≡ file_of self.old }
+        ensures failing { (plan_of self.new).failing ≡ calls }
+        ensures begun { (plan_of self.new).calls ≡ (plan_of self.old).calls }
     {
         self.plan.fail_at(calls);
     }
@@ -151,10 +159,11 @@ impl MemoryDisk {
 }
 
 impl Disk for MemoryDisk {
-    ghost use Rattle.std.specs.Prelude.{◌↔◌, IsOk};
-    ghost use Rattle.mdf_disk.specs.Calls.{Attaches};
-    ghost use Rattle.mdf_disk.specs.Memory.{file_of, calls_of, IsThere};
-    ghost use Rattle.mdf_disk.specs.declared.call.Call.TheVariants.{Attach};
+    ghost use Rattle.std.specs.Prelude.{◌↔◌, ◌+◌, ◌-◌, ◌^◌, IsOk, IfSome, Contains, min};
+    ghost use Rattle.mdf_format.specs.Number.{bytes_at};
+    ghost use Rattle.mdf_disk.specs.Calls.{Attaches, Patches, Writes, Keeps, Syncs};
+    ghost use Rattle.mdf_disk.specs.Memory.{file_of, calls_of, plan_of, failed_write, Records, IsThere};
+    ghost use Rattle.mdf_disk.specs.declared.call.Call.TheVariants.{Attach, Size, Read, Write, Sync};
 
     ghost asked = { λ d. d.asked };
 
@@ -186,6 +195,9 @@ impl Disk for MemoryDisk {
         ensures there { OnOk result (IsThere role (file_of self.old)) }
         ensures recorded { OnOk result (calls_of self.new ≡ calls_of self.old ++ Attach ∷ []) }
         ensures file { file_of self.new ≡ file_of self.old }
+        ensures planned { OnOk result (¬ Contains (plan_of self.old).failing (plan_of self.old).calls) }
+        ensures failing { (plan_of self.new).failing ≡ (plan_of self.old).failing }
+        ensures begun { (plan_of self.new).calls ≡ min ((plan_of self.old).calls + 1) (2 ^ 64 - 1) }
     {
         self.asked = Some((name, role));
         let may = self.plan.call();
@@ -202,7 +214,21 @@ impl Disk for MemoryDisk {
         Ok(())
     }
 
-    fn size(&mut self) -> Result<u64, Failed> {
+    fn size(&mut self) -> Result<u64, Failed>
+        requires { ⟦<MemoryDisk as Disk>⟧.attached self.old ≡ true }
+        ensures size { IfOk result (λ n. IfSome (⟦<MemoryDisk as Disk>⟧.content self.old) (λ file. n ≡ length file)) }
+        ensures asked { ⟦<MemoryDisk as Disk>⟧.asked self.new ≡ ⟦<MemoryDisk as Disk>⟧.asked self.old }
+        ensures attached { ⟦<MemoryDisk as Disk>⟧.attached self.new ≡ ⟦<MemoryDisk as Disk>⟧.attached self.old }
+        ensures content { ⟦<MemoryDisk as Disk>⟧.content self.new ≡ ⟦<MemoryDisk as Disk>⟧.content self.old }
+        ensures story { ⟦<MemoryDisk as Disk>⟧.story self.new ≡ ⟦<MemoryDisk as Disk>⟧.story self.old }
+        ensures moment { ⟦<MemoryDisk as Disk>⟧.moment self.old ≤ ⟦<MemoryDisk as Disk>⟧.moment self.new }
+        ensures cause { HasCause (⟦<MemoryDisk as Disk>⟧.faults self.old) (⟦<MemoryDisk as Disk>⟧.faults self.new) result }
+        ensures recorded { Records (calls_of self.old) (calls_of self.new) Size Size result }
+        ensures file { file_of self.new ≡ file_of self.old }
+        ensures planned { OnOk result (¬ Contains (plan_of self.old).failing (plan_of self.old).calls) }
+        ensures failing { (plan_of self.new).failing ≡ (plan_of self.old).failing }
+        ensures begun { (plan_of self.new).calls ≡ min ((plan_of self.old).calls + 1) (2 ^ 64 - 1) }
+    {
         let may = self.plan.call();
         log(&mut self.tape, &mut self.plan, Call::Size)?;
         if !may {
@@ -211,7 +237,22 @@ impl Disk for MemoryDisk {
         Ok(self.bytes().len() as u64)
     }
 
-    fn read_at(&mut self, at: u64, buf: &mut [u8]) -> Result<(), Failed> {
+    fn read_at(&mut self, at: u64, buf: &mut [u8]) -> Result<(), Failed>
+        requires attached { ⟦<MemoryDisk as Disk>⟧.attached self.old ≡ true }
+        requires within { IfSome (⟦<MemoryDisk as Disk>⟧.content self.old) (λ file. at + length buf.old ≤ length file) }
+        ensures bytes { OnOk result (IfSome (⟦<MemoryDisk as Disk>⟧.content self.old) (λ file. buf.new ≡ bytes_at (length buf.old) file at)) }
+        ensures asked { ⟦<MemoryDisk as Disk>⟧.asked self.new ≡ ⟦<MemoryDisk as Disk>⟧.asked self.old }
+        ensures attached { ⟦<MemoryDisk as Disk>⟧.attached self.new ≡ ⟦<MemoryDisk as Disk>⟧.attached self.old }
+        ensures content { ⟦<MemoryDisk as Disk>⟧.content self.new ≡ ⟦<MemoryDisk as Disk>⟧.content self.old }
+        ensures story { ⟦<MemoryDisk as Disk>⟧.story self.new ≡ ⟦<MemoryDisk as Disk>⟧.story self.old }
+        ensures moment { ⟦<MemoryDisk as Disk>⟧.moment self.old ≤ ⟦<MemoryDisk as Disk>⟧.moment self.new }
+        ensures cause { HasCause (⟦<MemoryDisk as Disk>⟧.faults self.old) (⟦<MemoryDisk as Disk>⟧.faults self.new) result }
+        ensures recorded { Records (calls_of self.old) (calls_of self.new) Read Read result }
+        ensures file { file_of self.new ≡ file_of self.old }
+        ensures planned { OnOk result (¬ Contains (plan_of self.old).failing (plan_of self.old).calls) }
+        ensures failing { (plan_of self.new).failing ≡ (plan_of self.old).failing }
+        ensures begun { (plan_of self.new).calls ≡ min ((plan_of self.old).calls + 1) (2 ^ 64 - 1) }
+    {
         let may = self.plan.call();
         log(&mut self.tape, &mut self.plan, Call::Read)?;
         if !may {
@@ -222,7 +263,22 @@ impl Disk for MemoryDisk {
         Ok(())
     }
 
-    fn write_at(&mut self, at: u64, bytes: &[u8]) -> Result<(), Failed> {
+    fn write_at(&mut self, at: u64, bytes: &[u8]) -> Result<(), Failed>
+        requires attached { ⟦<MemoryDisk as Disk>⟧.attached self.old ≡ true }
+        requires within { IfSome (⟦<MemoryDisk as Disk>⟧.content self.old) (λ file. at ≤ length file) }
+        ensures asked { ⟦<MemoryDisk as Disk>⟧.asked self.new ≡ ⟦<MemoryDisk as Disk>⟧.asked self.old }
+        ensures attached { ⟦<MemoryDisk as Disk>⟧.attached self.new ≡ ⟦<MemoryDisk as Disk>⟧.attached self.old }
+        ensures content { Patches (⟦<MemoryDisk as Disk>⟧.content self.old) (⟦<MemoryDisk as Disk>⟧.content self.new) at bytes.now result }
+        ensures story { Writes (⟦<MemoryDisk as Disk>⟧.story self.old) (⟦<MemoryDisk as Disk>⟧.story self.new) at bytes.now result }
+        ensures moment { ⟦<MemoryDisk as Disk>⟧.moment self.old ≤ ⟦<MemoryDisk as Disk>⟧.moment self.new }
+        ensures cause { HasCause (⟦<MemoryDisk as Disk>⟧.faults self.old) (⟦<MemoryDisk as Disk>⟧.faults self.new) result }
+        ensures recorded { Records (calls_of self.old) (calls_of self.new) (Write at bytes.now true)
+            (failed_write (file_of self.old) at bytes.now) result }
+        ensures file { file_of self.new ≡ file_of self.old }
+        ensures planned { OnOk result (¬ Contains (plan_of self.old).failing (plan_of self.old).calls) }
+        ensures failing { (plan_of self.new).failing ≡ (plan_of self.old).failing }
+        ensures begun { (plan_of self.new).calls ≡ min ((plan_of self.old).calls + 1) (2 ^ 64 - 1) }
+    {
         let may = self.plan.call();
         if self.file.is_some() {
             log(&mut self.tape, &mut self.plan, Call::Refused)?;
@@ -243,7 +299,20 @@ impl Disk for MemoryDisk {
         Ok(())
     }
 
-    fn sync(&mut self) -> Result<(), Failed> {
+    fn sync(&mut self) -> Result<(), Failed>
+        requires { ⟦<MemoryDisk as Disk>⟧.attached self.old ≡ true }
+        ensures asked { ⟦<MemoryDisk as Disk>⟧.asked self.new ≡ ⟦<MemoryDisk as Disk>⟧.asked self.old }
+        ensures attached { ⟦<MemoryDisk as Disk>⟧.attached self.new ≡ ⟦<MemoryDisk as Disk>⟧.attached self.old }
+        ensures content { Keeps (⟦<MemoryDisk as Disk>⟧.content self.old) (⟦<MemoryDisk as Disk>⟧.content self.new) result }
+        ensures story { Syncs (⟦<MemoryDisk as Disk>⟧.story self.old) (⟦<MemoryDisk as Disk>⟧.story self.new) result }
+        ensures moment { ⟦<MemoryDisk as Disk>⟧.moment self.old ≤ ⟦<MemoryDisk as Disk>⟧.moment self.new }
+        ensures cause { HasCause (⟦<MemoryDisk as Disk>⟧.faults self.old) (⟦<MemoryDisk as Disk>⟧.faults self.new) result }
+        ensures recorded { Records (calls_of self.old) (calls_of self.new) (Sync true) (Sync false) result }
+        ensures file { file_of self.new ≡ file_of self.old }
+        ensures planned { OnOk result (¬ Contains (plan_of self.old).failing (plan_of self.old).calls) }
+        ensures failing { (plan_of self.new).failing ≡ (plan_of self.old).failing }
+        ensures begun { (plan_of self.new).calls ≡ min ((plan_of self.old).calls + 1) (2 ^ 64 - 1) }
+    {
         let may = self.plan.call();
         log(&mut self.tape, &mut self.plan, Call::Sync { done: may })?;
         if !may {

@@ -23,7 +23,8 @@ pub trait Sink {
         ensures some { IfOk result (λ n. 0 < n) }
         ensures bound { IfOk result (λ n. n ≤ length bytes.now) }
         ensures given { WriteAppends (held self.old) (held self.new) result bytes.now }
-        ensures cause { HasCause (faults self.old) (faults self.new) result };
+        ensures cause { HasCause (faults self.old) (faults self.new) result }
+        ensures calm { OnOk result (faults self.new ≡ faults self.old) };
 
     /// How often the sink has failed.
     fn faults(&self) -> u64
@@ -38,6 +39,7 @@ pub fn give_all<K: Sink>(sink: &mut K, bytes: &[u8]) -> Result<(), Failed>
     ensures ok { OnOk result (Appends (K.held sink.old) (K.held sink.new) bytes.now) }
     ensures err { OnErr result (AppendsFront (K.held sink.old) (K.held sink.new) bytes.now) }
     ensures cause { HasCause (K.faults sink.old) (K.faults sink.new) result }
+    ensures calm { OnOk result (K.faults sink.new ≡ K.faults sink.old) }
 {
     let mut at = 0;
     while at < bytes.len() {
@@ -65,7 +67,7 @@ impl<W: Write> StdSink<W> {
         }
     }
 
-    /// What the writer said of the last call that failed. There is something exactly where one failed.
+    /// An error, exactly where a call has failed.
     pub fn last_error(&self) -> Option<Error>
         ensures { IsSome result ↔ (0 < ⟦<StdSink<W> as Sink>⟧.faults self.now) }
     {

@@ -25,7 +25,8 @@ pub trait Source {
         requires { 0 < length buf.old }
         ensures bound { IfOk result (λ n. n ≤ length buf.old) }
         ensures taken { ReadConsumes (left self.old) (left self.new) result buf.new }
-        ensures cause { HasCause (faults self.old) (faults self.new) result };
+        ensures cause { HasCause (faults self.old) (faults self.new) result }
+        ensures calm { OnOk result (faults self.new ≡ faults self.old) };
 
     /// How often the source has failed.
     fn faults(&self) -> u64
@@ -65,15 +66,18 @@ impl From<Memory> for TakeFault {
 /// Takes all that is left, at most `limit` bytes.
 ///
 /// # Errors
-/// `TooLong` exactly where more than the limit is left. `Failed` where the source failed. `Memory` for want of memory.
-/// Then a front of what was left has been taken.
+/// `TooLong` only where more than the limit was left; want of memory or a fault may come first. `Failed` where the
+/// source failed. `Memory` for want of memory, while what was taken is within the limit. Then a front of what was left
+/// has been taken.
 pub fn take_all<S: Source>(alloc: Global, source: &mut S, limit: u64) -> Result<Bytes, TakeFault>
     ensures all { IfOk result (λ bytes. Consumes (S.left source.old) (S.left source.new) bytes) }
     ensures end { OnOk result (IsAtEnd (S.left source.new)) }
     ensures short { IfOk result (λ bytes. length bytes ≤ limit) }
     ensures front { OnErr result (TakesFront (S.left source.old) (S.left source.new)) }
-    ensures cause { IfErr result (TakeCause (S.left source.old) (S.faults source.old) (S.faults source.new) limit) }
+    ensures cause { IfErr result
+        (TakeCause (S.left source.old) (S.left source.new) (S.faults source.old) (S.faults source.new) limit) }
     ensures later { S.faults source.old ≤ S.faults source.new }
+    ensures calm { OnOk result (S.faults source.new ≡ S.faults source.old) }
 {
     let mut all = Bytes::empty(alloc);
     let mut buf = [0u8; 4096];
@@ -108,7 +112,7 @@ impl<R: Read> StdSource<R> {
         }
     }
 
-    /// What the reader said of the last call that failed. There is something exactly where one failed.
+    /// An error, exactly where a call has failed.
     pub fn last_error(&self) -> Option<io::Error>
         ensures { IsSome result ↔ (0 < ⟦<StdSource<R> as Source>⟧.faults self.now) }
     {

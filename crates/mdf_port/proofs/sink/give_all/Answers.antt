@@ -1,4 +1,4 @@
-use Rattle.std.proofs.Common.{take, drop, arith, length-drop, take-append-drop}
+use Rattle.std.proofs.Common.{take, drop, arith, length-drop, take-append-drop, ◌∙◌}
 use Rattle.std.proofs.Math.Seq.{take-add}
 use Rattle.std.proofs.lemmas.List.{take_rest}
 use Rattle.std.proofs.lemmas.Result.{err_from_is_err_and}
@@ -22,5 +22,5 @@ loop-at-preserved g c =
     let bound = rw (take_rest bytes c.loop-at.at) at c.in_ok-at.ensures.bound in record {
       within = omega (arith, bound, length-drop c.loop-at.at bytes);
       given = rw (take-add c.loop-at.at c.in_ok-at.field-0 bytes) (appends_more _ _ _ _ _ c.loop-at.invariant.given more);
-      later = omega (arith, c.in_ok-at.ensures.cause.later);
+      calm = c.in_ok-at.ensures.calm ∙ c.loop-at.invariant.calm;
     }
