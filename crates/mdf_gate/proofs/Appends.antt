@@ -9,9 +9,9 @@ use Rattle.mdf_format.specs.Recording.{AreUnits}
 use Rattle.mdf_disk.specs.Story.{Moment, Story, MayLeave, Agrees, LeftInOne, LeftSince, settled}
 use Rattle.mdf_disk.specs.Crash.{Adds, HoldsSince}
 use Rattle.mdf_disk.proofs.Crash.{adds_more, now_more, settled_leaves}
-use Rattle.mdf_seal.specs.Seal.{IsKept}
+use Rattle.mdf_seal.specs.Seal.{IsKept, synced}
 use Rattle.mdf_gate.specs.Gated.{Rests, RestsOn, room_of, payload_of}
-use Rattle.mdf_gate.specs.Images.{head_of, Opens, OpensEither, IsStage}
+use Rattle.mdf_gate.specs.Images.{head_of, Opens, OpensEither, IsStage, IsStaged}
 use Rattle.mdf_gate.proofs.Resting.{rests_after, rests_opens, stage_opens, length-head}
 
 -- a file that is kept is at rest where its bytes are
@@ -33,6 +33,22 @@ rests_kept None file clock first blocks place agrees rests = record { whole = re
 rests_kept (Some s) file clock first blocks place agrees rests =
     let is : s.now.content ≡ file = same_Some _ _ (sym agrees.content_is) in
     record { whole = refl; kept = rests.kept ∙ ap settled is }
+
+-- of a file at rest some content is kept
+pub kept_of : (content : Option (List ℕ)) (story : Option Story) (clock first : ℕ) (blocks : List (List ℕ)) (place : ℕ) → Agrees story content clock
+    → RestsOn content story first blocks place → (kept : List ℕ) × IsKept content story kept
+kept_of (Some file) story clock first blocks place agrees rests = (file, rests_kept story file clock first blocks place agrees rests)
+kept_of None None clock first blocks place agrees rests = ([], record { whole = tt; kept = tt })
+kept_of None (Some s) clock first blocks place agrees rests = absurd (cc agrees.content_is)
+
+-- what the disk keeps where an append failed
+pub staged_after : (old new : Option Story) (content : Option (List ℕ)) (clock first : ℕ) (blocks : List (List ℕ)) (place : ℕ) (payload : List ℕ)
+    → Agrees old content clock → RestsOn content old first blocks place
+    → ((kept : List ℕ) → IsKept content old kept → length kept ≡ place + 1 → IfSome (synced new) (IsStaged kept payload))
+    → IfSome content (λ file. IfSome (synced new) (IsStaged file payload))
+staged_after old new None clock first blocks place payload agrees rests staged = tt
+staged_after old new (Some file) clock first blocks place payload agrees rests staged =
+    staged file (rests_kept old file clock first blocks place agrees rests) rests.rests.ends
 
 pub next_is : (place count : ℕ) → place % 8 ≡ 0 → place + room_of count ≡ aligned (place + 24 + count)
 next_is place count on_eight = omega (arith, on_eight)

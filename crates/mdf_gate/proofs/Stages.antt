@@ -1,17 +1,34 @@
 -- The two writes of a block: the payload behind the last gate of a file, and that gate.
 use Rattle.std.proofs.Common.{◌≡◌, inl, inr, ℕ, ◌+◌, List, [], ◌∷◌, ◌++◌, length, take, drop, get_or, Option, Some, None, Result, Ok, Err, sym, ◌∙◌, ap, subst, arith, take-append-drop, append_assoc}
-use Rattle.std.specs.Prelude.{IfSome, OnOk}
+use Rattle.std.specs.Prelude.{IfSome, OnOk, OnErr}
 use Rattle.std.specs.Option.{option_map}
 use Rattle.std.proofs.lemmas.List.{take_all, drop_all, drop_more, append-nil, length-take-le}
 use Rattle.mdf_format.specs.Number.{patched}
+use Rattle.mdf_disk.specs.Story.{Moment, Story, settled}
+use Rattle.mdf_disk.specs.Crash.{NowHas}
+use Rattle.mdf_seal.specs.Seal.{synced}
 use Rattle.mdf_gate.specs.Gated.{opened_at}
-use Rattle.mdf_gate.specs.Images.{IsTorn, IsStage}
+use Rattle.mdf_gate.specs.Images.{IsTorn, IsStage, IsStaged}
 use Rattle.mdf_gate.proofs.Left.{left_behind, left_one, patched_gate}
 
 -- two facts about a success make a third
 pub both_ok : {T E : Type 0} (A B C : Type 0) (result : Result T E) → OnOk result A → OnOk result B → (A → B → C) → OnOk result C
 both_ok A B C (Ok done) one other make = make one other
 both_ok A B C (Err e) one other make = tt
+
+-- what holds holds at an error too
+pub on_err : {T E : Type 0} (A : Type 0) (result : Result T E) → A → OnErr result A
+on_err A (Ok done) one = tt
+on_err A (Err e) one = one
+
+-- the first write is not kept
+pub none_staged : (old new : Option Story) (kept payload : List ℕ) → synced new ≡ synced old → NowHas old (λ moment. moment ≡ settled kept)
+    → IfSome (synced new) (IsStaged kept payload)
+none_staged old new kept payload same now = subst (λ s. IfSome s (IsStaged kept payload)) (sym same) (before old now)
+  where
+    before : (old : Option Story) → NowHas old (λ moment. moment ≡ settled kept) → IfSome (synced old) (IsStaged kept payload)
+    before None now = tt
+    before (Some story) now = inl (ap (λ (m : Moment). m.stable) now)
 
 -- a content after two changes
 pub changed_twice : (old mid new : Option (List ℕ)) (f g : List ℕ → List ℕ) (kept : List ℕ) → IfSome old (λ file. file ≡ kept) → mid ≡ option_map f old
@@ -30,12 +47,16 @@ module _ (place : ℕ) (kept payload : List ℕ) (ends : length kept ≡ place +
       ∙ ap (λ (rest : List ℕ). take place kept ++ rest) (drop_more kept place 0 (omega (arith, ends))
       ∙ ap (λ (rest : List ℕ). get_or kept place 0 ∷ rest) (drop_all (place + 1) kept (omega (arith, ends))))
 
-  -- the payload stands behind the last gate
-  staged : patched (place + 1) payload kept ≡ take place kept ++ get_or kept place 0 ∷ payload
-  staged =
+  behind : patched (place + 1) payload kept ≡ kept ++ payload
+  behind =
       ap (λ (before : List ℕ). before ++ payload ++ drop (place + 1 + length payload) kept) (take_all (place + 1) kept (omega (arith, ends)))
       ∙ ap (λ (rest : List ℕ). kept ++ payload ++ rest) (drop_all (place + 1 + length payload) kept (omega (arith, ends)))
       ∙ append-nil (kept ++ payload)
+
+  -- the payload stands behind the last gate
+  staged : patched (place + 1) payload kept ≡ take place kept ++ get_or kept place 0 ∷ payload
+  staged =
+      behind
       ∙ ap (λ (before : List ℕ). before ++ payload) parts
       ∙ append_assoc (take place kept) (get_or kept place 0 ∷ []) payload
 
@@ -46,6 +67,15 @@ module _ (place : ℕ) (kept payload : List ℕ) (ends : length kept ≡ place +
   second_stage file torn =
       let whole = subst (λ (bytes : List ℕ). IsTorn place 1 bytes file) staged torn in
       inr (left_one (take place kept) (get_or kept place 0) payload file (subst (λ (at : ℕ). IsTorn at 1 (take place kept ++ get_or kept place 0 ∷ payload) file) (sym long) whole))
+
+  -- the first write is kept, and the second is not
+  pub all_staged : (mid new : Option Story) → synced new ≡ synced mid → NowHas mid (λ moment. moment ≡ settled (patched (place + 1) payload kept))
+      → IfSome (synced new) (IsStaged kept payload)
+  all_staged mid new same now = subst (λ s. IfSome s (IsStaged kept payload)) (sym same) (after mid now)
+    where
+      after : (mid : Option Story) → NowHas mid (λ moment. moment ≡ settled (patched (place + 1) payload kept)) → IfSome (synced mid) (IsStaged kept payload)
+      after None now = tt
+      after (Some story) now = inr (ap (λ (m : Moment). m.stable) now ∙ behind)
 
   -- the gate is open
   pub opened : patched place (35 ∷ []) (patched (place + 1) payload kept) ≡ take place kept ++ 35 ∷ payload

@@ -49,3 +49,8 @@ IsGrown kept payload file = IsPrefix kept file × (length file ≤ length kept +
 -- file with something behind it, or the file but for that gate, and the payload.
 abbrev pub IsStage : ℕ → List ℕ → List ℕ → List ℕ → Type 0
 IsStage place kept payload file = IsGrown kept payload file ⊎ IsButGate (take place kept) payload file
+
+-- what the disk keeps while a payload is written, until the gate before it is open: the file as it was, or with the whole
+-- payload behind it
+abbrev pub IsStaged : List ℕ → List ℕ → List ℕ → Type 0
+IsStaged file payload kept = (kept ≡ file) ⊎ (kept ≡ file ++ payload)

@@ -1,17 +1,17 @@
-ghost use Rattle.std.specs.Prelude.{◌≡◌, ◌+◌, ◌≤◌, ◌<◌, ◌^◌, ◌↔◌, ℕ, List, [], ◌∷◌, ◌++◌, length, take, true, is_some, All, IsTrue, IfSome, IfOk, OnOk};
+ghost use Rattle.std.specs.Prelude.{◌≡◌, ◌+◌, ◌≤◌, ◌<◌, ◌^◌, ◌↔◌, ℕ, List, [], ◌∷◌, ◌++◌, length, take, true, is_some, All, IsTrue, IfSome, IfOk, OnOk, OnErr};
 ghost use Rattle.std.specs.Option.{option_map};
 ghost use Rattle.mdf_format.specs.Number.{bytes_at, patched};
 ghost use Rattle.mdf_format.specs.Cause.{HasCause};
-ghost use Rattle.mdf_disk.specs.Crash.{Adds};
+ghost use Rattle.mdf_disk.specs.Crash.{Adds, NowHas};
 ghost use Rattle.mdf_layout.specs.Written.{AreApart};
 ghost use Rattle.mdf_layout.specs.Stored.{IsStored};
 ghost use Rattle.mdf_layout.specs.Record.{SampleFits, encoded_size};
 ghost use Rattle.mdf_layout.specs.Behind.{first_id, IsEncodingBehind};
 ghost use Rattle.mdf_layout.specs.Next.{AreNext};
 ghost use Rattle.mdf_layout.specs.declared.sample.Sample.{Sample};
-ghost use Rattle.mdf_seal.specs.Seal.{IsKept};
+ghost use Rattle.mdf_seal.specs.Seal.{IsKept, synced};
 ghost use Rattle.mdf_gate.specs.Gated.{header_of, room_of, payload_of, opened_at};
-ghost use Rattle.mdf_gate.specs.Images.{IsStage};
+ghost use Rattle.mdf_gate.specs.Images.{IsStage, IsStaged};
 
 use crate::stage::write_block;
 use mdf_disk::Disk;
@@ -185,10 +185,15 @@ impl Block {
         ensures content { OnOk result (D.content disk.new ≡ option_map (opened_at place (payload_of self.old.bytes)) (D.content disk.old)) }
         ensures any_moment { (kept : List ℕ) → IsKept (D.content disk.old) (D.story disk.old) kept → length kept ≡ place + 1
             → Adds (D.story disk.old) (D.story disk.new) (IsStage place kept (payload_of self.old.bytes)) }
+        ensures staged { (kept : List ℕ) → IsKept (D.content disk.old) (D.story disk.old) kept → length kept ≡ place + 1
+            → OnErr result (IfSome (synced (D.story disk.new)) (IsStaged kept (payload_of self.old.bytes))) }
+        ensures in_flight { (kept : List ℕ) → IsKept (D.content disk.old) (D.story disk.old) kept
+            → OnErr result (NowHas (D.story disk.new) (λ moment. length moment.writes ≤ 1)) }
         ensures told { is_some (D.story disk.new) ≡ is_some (D.story disk.old) }
         ensures told_content { is_some (D.content disk.new) ≡ is_some (D.content disk.old) }
         ensures moment { D.moment disk.old ≤ D.moment disk.new }
         ensures calls { OnOk result (IfSome (D.story disk.old) (λ _. D.moment disk.new ≡ D.moment disk.old + 4)) }
+        ensures few { IfSome (D.story disk.old) (λ _. D.moment disk.new ≤ D.moment disk.old + 4) }
         ensures cause { HasCause (D.faults disk.old) (D.faults disk.new) result }
         ensures asked { D.asked disk.new ≡ D.asked disk.old }
         ensures attached { D.attached disk.new ≡ D.attached disk.old }

@@ -2,10 +2,11 @@ ghost use Rattle.std.specs.Prelude.{◌≡◌, ◌+◌, ◌%◌, ◌≤◌, ◌<
 ghost use Rattle.std.specs.Option.{option_map};
 ghost use Rattle.mdf_format.specs.Number.{aligned};
 ghost use Rattle.mdf_format.specs.Cause.{Rose, HasCause};
-ghost use Rattle.mdf_disk.specs.Crash.{Adds, HoldsSince};
-ghost use Rattle.mdf_seal.specs.Seal.{IsBlank, IsKept};
+ghost use Rattle.mdf_disk.specs.Crash.{Adds, NowHas, HoldsSince};
+ghost use Rattle.mdf_seal.specs.Seal.{IsBlank, IsKept, synced};
+ghost use Rattle.mdf_seal.specs.Images.{IsUnopened};
 ghost use Rattle.mdf_gate.specs.Gated.{IsRecordingHead, RestsOn, disk_of, payload_of, opened_at};
-ghost use Rattle.mdf_gate.specs.Images.{head_of, Opens, OpensEither, IsBegun};
+ghost use Rattle.mdf_gate.specs.Images.{head_of, Opens, OpensEither, IsBegun, IsStaged};
 
 use crate::Block;
 use mdf_disk::Disk;
@@ -43,6 +44,8 @@ fn write_head<D: Disk>(disk: &mut D, head: &[u8]) -> Result<(), Failed>
     requires short { length head.now < 2 ^ 61 }
     ensures ok { OnOk result (IsKept (D.content disk.new) (D.story disk.new) (head.now ++ 0 ∷ [])) }
     ensures any_moment { Adds (D.story disk.old) (D.story disk.new) (IsBegun head.now) }
+    ensures unopened { OnErr result (IfSome (synced (D.story disk.new)) (IsUnopened (head.now ++ 0 ∷ []))) }
+    ensures calls { IfSome (D.story disk.old) (λ _. D.moment disk.new ≤ D.moment disk.old + 7) }
     ensures cause { HasCause (D.faults disk.old) (D.faults disk.new) result }
     ensures asked { D.asked disk.new ≡ D.asked disk.old }
     ensures attached { D.attached disk.new ≡ D.attached disk.old }
@@ -58,10 +61,12 @@ fn write_head<D: Disk>(disk: &mut D, head: &[u8]) -> Result<(), Failed>
 
 impl<D: Disk> GatedFile<D> {
     /// Makes a recording of this head, on a disk that is attached with an empty file: the head, whose length is the
-    /// first place, and one closed byte, under a seal. It takes no memory.
+    /// first place, and one closed byte, under a seal. It takes no memory. The clock of a disk that tells its story rises by
+    /// 7 at most.
     ///
     /// # Errors
-    /// `Failed` where the disk failed, with the disk.
+    /// `Failed` where the disk failed, with the disk. If that tells its story, it keeps no byte, a closed one, or all but the
+    /// first byte behind a closed one.
     pub fn create(mut disk: D, head: &[u8]) -> Result<GatedFile<D>, (Failed, D)>
         requires attached { D.attached disk ≡ true }
         requires blank { IsBlank (D.content disk) (D.story disk) }
@@ -76,6 +81,8 @@ impl<D: Disk> GatedFile<D> {
         ensures content { IfOk result (λ file. IfSome (D.content file.disk) (λ bytes. bytes ≡ head.now ++ 0 ∷ [])) }
         ensures head { IfOk result (λ file. IfSome (D.story file.disk) (λ _. head_of (D.story file.disk) file.first ≡ head.now)) }
         ensures any_moment { Adds (D.story disk) (D.story (disk_of result)) (IsBegun head.now) }
+        ensures unopened { OnErr result (IfSome (synced (D.story (disk_of result))) (IsUnopened (head.now ++ 0 ∷ []))) }
+        ensures calls { IfSome (D.story disk) (λ _. D.moment (disk_of result) ≤ D.moment disk + 7) }
         ensures begun { IfOk result (λ file. HoldsSince (D.story file.disk) file.start (IsBegun (head_of (D.story file.disk) file.first))) }
         ensures cause { HasCause (D.faults disk) (D.faults (disk_of result)) result }
         ensures asked { D.asked (disk_of result) ≡ D.asked disk }
@@ -106,7 +113,9 @@ impl<D: Disk> GatedFile<D> {
     /// is empty.
     ///
     /// # Errors
-    /// `Failed` where the disk failed. The block is as it was, and the file has failed.
+    /// `Failed` where the disk failed. The block is as it was, and the file has failed. A disk that tells its story keeps the
+    /// file as it was, or with all but the first byte of the block behind its closed gate, and at most one write is behind
+    /// its last successful sync.
     pub fn append(&mut self, block: &mut Block) -> Result<(), Failed>
         requires going { self.old.failed ≡ false }
         requires some { 1 ≤ length block.old.bytes }
@@ -133,6 +142,10 @@ impl<D: Disk> GatedFile<D> {
         ensures moment { D.moment self.old.disk ≤ D.moment self.new.disk }
         ensures rises { OnOk result (IfSome (D.story self.old.disk) (λ _. D.moment self.old.disk < D.moment self.new.disk)) }
         ensures calls { OnOk result (IfSome (D.story self.old.disk) (λ _. D.moment self.new.disk ≡ D.moment self.old.disk + 4)) }
+        ensures few { IfSome (D.story self.old.disk) (λ _. D.moment self.new.disk ≤ D.moment self.old.disk + 4) }
+        ensures staged { OnErr result (IfSome (D.content self.old.disk) (λ file. IfSome (synced (D.story self.new.disk))
+            (IsStaged file (payload_of block.old.bytes)))) }
+        ensures in_flight { OnErr result (NowHas (D.story self.new.disk) (λ moment. length moment.writes ≤ 1)) }
         ensures stays { OnErr result (self.new.place ≡ self.old.place) }
         ensures cause { HasCause (D.faults self.old.disk) (D.faults self.new.disk) result }
         ensures asked { D.asked self.new.disk ≡ D.asked self.old.disk }

@@ -1,12 +1,12 @@
-ghost use Rattle.std.specs.Prelude.{◌≡◌, ◌+◌, ◌≤◌, ◌<◌, ◌^◌, ◌++◌, ℕ, List, [], ◌∷◌, length, take, Some, true, is_some, IfSome, OnOk};
+ghost use Rattle.std.specs.Prelude.{◌≡◌, ◌+◌, ◌≤◌, ◌<◌, ◌^◌, ◌++◌, ℕ, List, [], ◌∷◌, length, take, Some, true, is_some, IfSome, OnOk, OnErr};
 ghost use Rattle.std.specs.Option.{option_map};
 ghost use Rattle.mdf_format.specs.Number.{patched};
 ghost use Rattle.mdf_format.specs.Cause.{HasCause};
 ghost use Rattle.mdf_disk.specs.Story.{settled};
 ghost use Rattle.mdf_disk.specs.Crash.{Adds, NowHas};
-ghost use Rattle.mdf_seal.specs.Seal.{IsKept};
+ghost use Rattle.mdf_seal.specs.Seal.{IsKept, synced};
 ghost use Rattle.mdf_gate.specs.Gated.{opened_at};
-ghost use Rattle.mdf_gate.specs.Images.{IsTorn, IsStage};
+ghost use Rattle.mdf_gate.specs.Images.{IsTorn, IsStage, IsStaged};
 
 use mdf_disk::Disk;
 use mdf_num::Failed;
@@ -20,10 +20,14 @@ fn write_and_sync<D: Disk>(disk: &mut D, at: u64, bytes: &[u8]) -> Result<(), Fa
         → OnOk result (NowHas (D.story disk.new) (λ moment. moment ≡ settled (patched at bytes.now kept))) }
     ensures any_moment { (kept : List ℕ) → NowHas (D.story disk.old) (λ moment. moment ≡ settled kept)
         → Adds (D.story disk.old) (D.story disk.new) (IsTorn at (length bytes.now) kept) }
+    ensures unsynced { OnErr result (synced (D.story disk.new) ≡ synced (D.story disk.old)) }
+    ensures in_flight { (kept : List ℕ) → NowHas (D.story disk.old) (λ moment. moment ≡ settled kept)
+        → OnErr result (NowHas (D.story disk.new) (λ moment. length moment.writes ≤ 1)) }
     ensures told { is_some (D.story disk.new) ≡ is_some (D.story disk.old) }
     ensures told_content { is_some (D.content disk.new) ≡ is_some (D.content disk.old) }
     ensures moment { D.moment disk.old ≤ D.moment disk.new }
     ensures calls { OnOk result (IfSome (D.story disk.old) (λ _. D.moment disk.new ≡ D.moment disk.old + 2)) }
+    ensures few { IfSome (D.story disk.old) (λ _. D.moment disk.new ≤ D.moment disk.old + 2) }
     ensures cause { HasCause (D.faults disk.old) (D.faults disk.new) result }
     ensures asked { D.asked disk.new ≡ D.asked disk.old }
     ensures attached { D.attached disk.new ≡ D.attached disk.old }
@@ -42,10 +46,15 @@ pub fn write_block<D: Disk>(disk: &mut D, place: u64, payload: &[u8]) -> Result<
     ensures content { OnOk result (D.content disk.new ≡ option_map (opened_at place payload.now) (D.content disk.old)) }
     ensures any_moment { (kept : List ℕ) → IsKept (D.content disk.old) (D.story disk.old) kept → length kept ≡ place + 1
         → Adds (D.story disk.old) (D.story disk.new) (IsStage place kept payload.now) }
+    ensures staged { (kept : List ℕ) → IsKept (D.content disk.old) (D.story disk.old) kept → length kept ≡ place + 1
+        → OnErr result (IfSome (synced (D.story disk.new)) (IsStaged kept payload.now)) }
+    ensures in_flight { (kept : List ℕ) → IsKept (D.content disk.old) (D.story disk.old) kept
+        → OnErr result (NowHas (D.story disk.new) (λ moment. length moment.writes ≤ 1)) }
     ensures told { is_some (D.story disk.new) ≡ is_some (D.story disk.old) }
     ensures told_content { is_some (D.content disk.new) ≡ is_some (D.content disk.old) }
     ensures moment { D.moment disk.old ≤ D.moment disk.new }
     ensures calls { OnOk result (IfSome (D.story disk.old) (λ _. D.moment disk.new ≡ D.moment disk.old + 4)) }
+    ensures few { IfSome (D.story disk.old) (λ _. D.moment disk.new ≤ D.moment disk.old + 4) }
     ensures cause { HasCause (D.faults disk.old) (D.faults disk.new) result }
     ensures asked { D.asked disk.new ≡ D.asked disk.old }
     ensures attached { D.attached disk.new ≡ D.attached disk.old }

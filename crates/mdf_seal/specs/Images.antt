@@ -1,5 +1,5 @@
 -- What a crash may leave of a file that is written under a seal.
-use Rattle.std.specs.Prelude.{◌≡◌, ◌≤◌, ◌⊎◌, ℕ, List, ◌∷◌, length, drop, get_or}
+use Rattle.std.specs.Prelude.{◌≡◌, ◌≤◌, ◌⊎◌, ℕ, List, [], ◌∷◌, length, drop, get_or}
 use Rattle.mdf_disk.specs.Story.{Moment, IsUntouched}
 
 -- the file has no first byte, or a closed one
@@ -19,6 +19,10 @@ pub record IsWholeButFirst (bytes file : List ℕ) : Type 0 where
 -- any first byte
 abbrev pub IsSealedImage : List ℕ → List ℕ → Type 0
 IsSealedImage bytes file = (length file ≤ 1) ⊎ IsClosed file ⊎ IsWholeButFirst bytes file
+
+-- what the disk keeps of a file of these bytes until it keeps the whole: no byte, a closed one, or all but for the first
+abbrev pub IsUnopened : List ℕ → List ℕ → Type 0
+IsUnopened bytes kept = (kept ≡ []) ⊎ (kept ≡ 0 ∷ []) ⊎ (kept ≡ closed bytes)
 
 -- the first byte of the file is closed on the disk, and no write since the last sync touches it
 pub record IsShut (moment : Moment) : Type 0 where

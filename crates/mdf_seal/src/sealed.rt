@@ -1,8 +1,9 @@
-ghost use Rattle.std.specs.Prelude.{◌≡◌, ◌+◌, ◌≤◌, ◌<◌, ◌^◌, ◌++◌, ◌⊎◌, List, ℕ, [], length, true, is_some, IfSome, IfOk, OnOk, OnErr};
+ghost use Rattle.std.specs.Prelude.{◌≡◌, ◌+◌, ◌≤◌, ◌<◌, ◌^◌, ◌++◌, ◌⊎◌, List, ℕ, [], ◌∷◌, length, true, is_some, IfSome, IfOk, OnOk, OnErr};
 ghost use Rattle.std.specs.Option.{option_map};
 ghost use Rattle.mdf_format.specs.Cause.{HasCause};
 ghost use Rattle.mdf_disk.specs.Crash.{Adds, NowHas};
-ghost use Rattle.mdf_seal.specs.Images.{IsShut, IsClosed, IsWholeButFirst};
+ghost use Rattle.mdf_seal.specs.Images.{IsShut, IsClosed, IsWholeButFirst, closed};
+ghost use Rattle.mdf_seal.specs.Seal.{synced};
 
 use mdf_disk::Disk;
 use mdf_num::Failed;
@@ -23,6 +24,8 @@ fn append<D: Disk>(disk: &mut D, at: u64, bytes: &[u8]) -> Result<(), Failed>
     requires shut { NowHas (D.story disk.old) IsShut }
     ensures content { OnOk result (D.content disk.new ≡ option_map (λ file. file ++ bytes.now) (D.content disk.old)) }
     ensures shut { OnOk result (NowHas (D.story disk.new) IsShut) }
+    ensures unsynced { synced (D.story disk.new) ≡ synced (D.story disk.old) }
+    ensures calls { IfSome (D.story disk.old) (λ _. D.moment disk.new ≤ D.moment disk.old + 1) }
     ensures any_moment { Adds (D.story disk.old) (D.story disk.new) IsClosed }
     ensures none { bytes.now ≡ [] → disk.new ≡ disk.old }
     ensures cause { HasCause (D.faults disk.old) (D.faults disk.new) result }
@@ -41,15 +44,18 @@ fn append<D: Disk>(disk: &mut D, at: u64, bytes: &[u8]) -> Result<(), Failed>
 impl Sealed {
     ghost use Rattle.mdf_seal.specs.Seal.{Seals, IsBlank, IsKept};
 
-    /// Begins a file: writes a closed byte and syncs.
+    /// Begins a file: writes a closed byte and syncs. The clock of a disk that tells its story rises by 2 at most.
     ///
     /// # Errors
-    /// `Failed` where the disk failed.
+    /// `Failed` where the disk failed. Then such a disk keeps no byte.
     pub fn begin<D: Disk>(disk: &mut D) -> Result<Sealed, Failed>
         requires attached { D.attached disk.old ≡ true }
         requires blank { IsBlank (D.content disk.old) (D.story disk.old) }
         ensures ok { IfOk result (λ seal. Seals seal (D.content disk.new) (D.story disk.new) []) }
         ensures any_moment { Adds (D.story disk.old) (D.story disk.new) (λ file. length file ≤ 1) }
+        ensures closed { OnOk result (IfSome (synced (D.story disk.new)) (λ kept. kept ≡ 0 ∷ [])) }
+        ensures unbegun { OnErr result (IfSome (synced (D.story disk.new)) (λ kept. kept ≡ [])) }
+        ensures calls { IfSome (D.story disk.old) (λ _. D.moment disk.new ≤ D.moment disk.old + 2) }
         ensures cause { HasCause (D.faults disk.old) (D.faults disk.new) result }
         ensures asked { D.asked disk.new ≡ D.asked disk.old }
         ensures attached { D.attached disk.new ≡ D.attached disk.old }
@@ -65,7 +71,8 @@ impl Sealed {
         })
     }
 
-    /// Appends bytes, keeping the very first one back. Where there are none to write it makes no call.
+    /// Appends bytes, keeping the very first one back. Where there are none to write it makes no call. The clock of a disk
+    /// that tells its story rises by 1 at most, and nothing is synced.
     ///
     /// # Errors
     /// `Failed` where the disk failed. Then the seal is as before.
@@ -77,6 +84,8 @@ impl Sealed {
             → OnOk result (Seals self.new (D.content disk.new) (D.story disk.new) (given ++ bytes.now)) }
         ensures err { OnErr result (self.new ≡ self.old) }
         ensures any_moment { Adds (D.story disk.old) (D.story disk.new) IsClosed }
+        ensures unsynced { synced (D.story disk.new) ≡ synced (D.story disk.old) }
+        ensures calls { IfSome (D.story disk.old) (λ _. D.moment disk.new ≤ D.moment disk.old + 1) }
         ensures none { bytes.now ≡ [] → disk.new ≡ disk.old }
         ensures cause { HasCause (D.faults disk.old) (D.faults disk.new) result }
         ensures asked { D.asked disk.new ≡ D.asked disk.old }
@@ -98,10 +107,11 @@ impl Sealed {
         Ok(())
     }
 
-    /// Ends the file: syncs, writes the first byte, and syncs.
+    /// Ends the file: syncs, writes the first byte, and syncs. The clock of a disk that tells its story rises by 3 at most.
     ///
     /// # Errors
-    /// `Failed` where the disk failed.
+    /// `Failed` where the disk failed. Then such a disk keeps what it kept before, or the bytes that were given with the
+    /// first one closed.
     pub fn finish<D: Disk>(self, disk: &mut D) -> Result<(), Failed>
         requires attached { D.attached disk.old ≡ true }
         requires sealed { (given : List ℕ) × Seals self (D.content disk.old) (D.story disk.old) given
@@ -110,6 +120,9 @@ impl Sealed {
             → OnOk result (IsKept (D.content disk.new) (D.story disk.new) given) }
         ensures any_moment { (given : List ℕ) → Seals self (D.content disk.old) (D.story disk.old) given
             → Adds (D.story disk.old) (D.story disk.new) (λ file. IsClosed file ⊎ IsWholeButFirst given file) }
+        ensures unopened { (given : List ℕ) → Seals self (D.content disk.old) (D.story disk.old) given
+            → OnErr result ((synced (D.story disk.new) ≡ synced (D.story disk.old)) ⊎ IfSome (synced (D.story disk.new)) (λ kept. kept ≡ closed given)) }
+        ensures calls { IfSome (D.story disk.old) (λ _. D.moment disk.new ≤ D.moment disk.old + 3) }
         ensures cause { HasCause (D.faults disk.old) (D.faults disk.new) result }
         ensures asked { D.asked disk.new ≡ D.asked disk.old }
         ensures attached { D.attached disk.new ≡ D.attached disk.old }

@@ -1,9 +1,9 @@
-ghost use Rattle.std.specs.Prelude.{◌≡◌, ◌≤◌, ◌<◌, ◌^◌, [], length, true, is_some, OnOk};
+ghost use Rattle.std.specs.Prelude.{◌≡◌, ◌≤◌, ◌<◌, ◌^◌, [], length, true, is_some, IfSome, OnOk, OnErr};
 ghost use Rattle.std.specs.List.{concat};
 ghost use Rattle.mdf_format.specs.Cause.{HasCause};
 ghost use Rattle.mdf_disk.specs.Crash.{Adds};
-ghost use Rattle.mdf_seal.specs.Images.{IsClosed, IsSealedImage};
-ghost use Rattle.mdf_seal.specs.Seal.{Seals, IsBlank, IsKept};
+ghost use Rattle.mdf_seal.specs.Images.{IsClosed, IsSealedImage, IsUnopened};
+ghost use Rattle.mdf_seal.specs.Seal.{Seals, IsBlank, IsKept, synced};
 
 use crate::Sealed;
 use mdf_disk::Disk;
@@ -16,6 +16,7 @@ fn give_all<D: Disk>(seal: &mut Sealed, disk: &mut D, pieces: &[Bytes]) -> Resul
     requires short { length (concat pieces.now) < 2 ^ 62 }
     ensures ok { OnOk result (Seals seal.new (D.content disk.new) (D.story disk.new) (concat pieces.now)) }
     ensures any_moment { Adds (D.story disk.old) (D.story disk.new) IsClosed }
+    ensures unsynced { synced (D.story disk.new) ≡ synced (D.story disk.old) }
     ensures cause { HasCause (D.faults disk.old) (D.faults disk.new) result }
     ensures asked { D.asked disk.new ≡ D.asked disk.old }
     ensures attached { D.attached disk.new ≡ D.attached disk.old }
@@ -32,13 +33,15 @@ fn give_all<D: Disk>(seal: &mut Sealed, disk: &mut D, pieces: &[Bytes]) -> Resul
 /// Writes a whole file under a seal, piece by piece, on a disk that is attached with an empty file.
 ///
 /// # Errors
-/// `Failed` where the disk failed.
+/// `Failed` where the disk failed. Then a disk that tells its story keeps no byte, a closed one, or all but the first
+/// byte behind a closed one.
 pub fn write_sealed<D: Disk>(disk: &mut D, file: &Pieces) -> Result<(), Failed>
     requires attached { D.attached disk.old ≡ true }
     requires blank { IsBlank (D.content disk.old) (D.story disk.old) }
     requires some { 1 ≤ length file.now }
     ensures ok { OnOk result (IsKept (D.content disk.new) (D.story disk.new) file.now) }
     ensures any_moment { Adds (D.story disk.old) (D.story disk.new) (IsSealedImage file.now) }
+    ensures unopened { OnErr result (IfSome (synced (D.story disk.new)) (IsUnopened file.now)) }
     ensures cause { HasCause (D.faults disk.old) (D.faults disk.new) result }
     ensures asked { D.asked disk.new ≡ D.asked disk.old }
     ensures attached { D.attached disk.new ≡ D.attached disk.old }

@@ -1,10 +1,10 @@
 use Rattle.std.proofs.Common.{◌+◌, ◌++◌, [], ◌∷◌, length, take, subst}
 use Rattle.mdf_format.specs.Number.{patched}
-use Rattle.std.proofs.lemmas.Result.{on_ok_weaker}
+use Rattle.std.proofs.lemmas.Result.{on_ok_weaker, on_err_weaker}
 use Rattle.mdf_disk.proofs.Crash.{adds_both, adds_more}
 use Rattle.mdf_seal.specs.Seal.{IsKept}
 use Rattle.mdf_gate.specs.Images.{IsTorn, IsStage}
-use Rattle.mdf_gate.proofs.Stages.{both_ok, changed_twice, written_twice, first_stage, second_stage, opened}
+use Rattle.mdf_gate.proofs.Stages.{both_ok, changed_twice, written_twice, on_err, none_staged, all_staged, first_stage, second_stage, opened}
 use Rattle.mdf_gate.proofs.stage.write_block.Goals as goal
 
 pub returns-in_err-write_and_sync-clause-any_moment : goal.returns-in_err-write_and_sync-clause-any_moment
@@ -53,3 +53,20 @@ returns-clause-content g c =
     (written_twice c.args.place c.args.payload.now (content c.args.disk.now) (content c.write_and_sync.new.disk) (content c.write_and_sync-2.new.disk)
     c.requires.ends c.in_ok-write_and_sync.ensures.content)
     c.write_and_sync-2.ensures.content
+
+pub returns-in_err-write_and_sync-clause-staged : goal.returns-in_err-write_and_sync-clause-staged
+returns-in_err-write_and_sync-clause-staged g c = λ kept is ends.
+    let story = g.D.Disk.story in
+    on_err _ _ (none_staged (story c.args.disk.now) (story c.write_and_sync.new.disk) kept c.args.payload.now c.in_err-write_and_sync.ensures.unsynced is.kept)
+
+pub returns-clause-staged : goal.returns-clause-staged
+returns-clause-staged g c = λ kept is ends.
+    let story = g.D.Disk.story in
+    on_err_weaker c.write_and_sync-2.result
+    (λ same. all_staged c.args.place kept c.args.payload.now ends (story c.write_and_sync.new.disk) (story c.write_and_sync-2.new.disk) same
+    (c.in_ok-write_and_sync.ensures.kept kept is.kept))
+    c.write_and_sync-2.ensures.unsynced
+
+pub returns-clause-in_flight : goal.returns-clause-in_flight
+returns-clause-in_flight g c = λ kept is.
+    c.write_and_sync-2.ensures.in_flight (patched (c.args.place + 1) c.args.payload.now kept) (c.in_ok-write_and_sync.ensures.kept kept is.kept)

@@ -33,6 +33,7 @@ loop-piece-preserved g c =
     record {
       seals = subst (λ (bytes : List ℕ). Seals c.give.new.self (disk.content new) (disk.story new) bytes) joined (c.in_ok-give.ensures.ok given before.seals);
       any_moment = adds_both (disk.story c.args.disk.now) (disk.story c.loop-piece.disk) (disk.story new) IsClosed before.any_moment after.any_moment;
+      unsynced = after.unsynced ∙ before.unsynced;
       later = omega (arith, before.later, after.cause.later);
       asked = after.asked ∙ before.asked;
       attached = after.attached ∙ before.attached;

@@ -3,7 +3,7 @@ use Rattle.std.specs.Prelude.{is_some}
 use Rattle.std.specs.List.{concat}
 use Rattle.mdf_disk.specs.Crash.{Adds}
 use Rattle.mdf_seal.specs.Images.{IsClosed}
-use Rattle.mdf_seal.specs.Seal.{Seals}
+use Rattle.mdf_seal.specs.Seal.{Seals, synced}
 use Rattle.mdf_seal.proofs.write.give_all.Given as goal
 
 -- the pieces so far were given
@@ -14,6 +14,7 @@ invariant-loop-piece g l =
     record {
       seals : Seals l.seal (disk.content l.disk) (disk.story l.disk) (concat (take l.piece-index l.pieces));
       any_moment : Adds (disk.story old) (disk.story l.disk) IsClosed;
+      unsynced : synced (disk.story l.disk) ≡ synced (disk.story old);
       later : disk.faults old ≤ disk.faults l.disk;
       asked : disk.asked l.disk ≡ disk.asked old;
       attached : disk.attached l.disk ≡ disk.attached old;

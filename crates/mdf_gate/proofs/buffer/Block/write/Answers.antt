@@ -1,10 +1,10 @@
 use Rattle.std.proofs.Common.{◌≡◌, ◌++◌, ◌∷◌, ◌∙◌, List, ℕ, length, take, ap, subst, rules}
-use Rattle.std.specs.Prelude.{OnOk}
+use Rattle.std.specs.Prelude.{IfSome, OnOk, OnErr}
 use Rattle.std.specs.Option.{option_map}
 use Rattle.mdf_disk.specs.Crash.{Adds}
-use Rattle.mdf_seal.specs.Seal.{IsKept}
+use Rattle.mdf_seal.specs.Seal.{IsKept, synced}
 use Rattle.mdf_gate.specs.Gated.{Buffered, payload_of, opened_at}
-use Rattle.mdf_gate.specs.Images.{IsStage}
+use Rattle.mdf_gate.specs.Images.{IsStage, IsStaged}
 use Rattle.mdf_gate.proofs.Buffers.{written_payload}
 use Rattle.mdf_gate.proofs.buffer.Block.write.Goals as goal
 
@@ -43,3 +43,15 @@ returns-clause-content g c =
     len long c.deref_mut.ensures.value c.deref.ensures.value c.align8-end.ensures.aligned c.from.ensures c.frame.ensures.payload (ap (λ (b : Buffered). b.bytes) c.self.view_is) in
     subst (λ (bytes : List ℕ). OnOk c.write_block.result (content c.write_block.new.disk ≡ option_map (opened_at c.args.place bytes) (content c.args.disk.now))) payload
     c.write_block.ensures.content
+
+pub returns-clause-staged : goal.returns-clause-staged
+returns-clause-staged g c = λ kept is ends.
+    let block = c.self.inside in
+    let new = c.write_block.new.disk in
+    let len : block.bytes.len ≡ length block.bytes.items = search rules in
+    let long : length c.frame.new.bytes ≡ length block.bytes.items = c.frame.ensures.length ∙ ap length c.deref_mut.ensures.value in
+    let payload : take c.align8-end.result c.deref.result.now ≡ payload_of c.args.self.now.bytes =
+    written_payload block.bytes.items c.deref_mut.result.now c.frame.new.bytes c.deref.result.now c.args.self.now.bytes block.used block.bytes.len c.align8-end.result c.from.result
+    len long c.deref_mut.ensures.value c.deref.ensures.value c.align8-end.ensures.aligned c.from.ensures c.frame.ensures.payload (ap (λ (b : Buffered). b.bytes) c.self.view_is) in
+    subst (λ (bytes : List ℕ). OnErr c.write_block.result (IfSome (synced (g.D.Disk.story new)) (IsStaged kept bytes))) payload
+    (c.write_block.ensures.staged kept is ends)

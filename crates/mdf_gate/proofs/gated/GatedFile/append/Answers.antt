@@ -1,8 +1,9 @@
 use Rattle.std.proofs.Common.{◌≡◌, ◌+◌, ◌<◌, ◌^◌, ◌++◌, [], ◌∷◌, ℕ, length, false, Ok, ap, sym, subst, ◌∙◌, arith}
 use Rattle.mdf_format.specs.Number.{aligned}
 use Rattle.mdf_num.specs.declared.failure.Failed.{Failed}
-use Rattle.mdf_gate.specs.Gated.{Gated, Buffered, RestsOn}
-use Rattle.mdf_gate.proofs.Appends.{rests_on_after, adds_after, head_stays}
+use Rattle.mdf_gate.specs.Gated.{Gated, Buffered, RestsOn, payload_of}
+use Rattle.mdf_gate.proofs.Appends.{rests_on_after, adds_after, head_stays, kept_of, staged_after}
+use Rattle.mdf_gate.proofs.Stages.{on_err}
 use Rattle.mdf_gate.proofs.gated.GatedFile.append.Goals as goal
 
 pub returns-in_err-write-clause-any_moment : goal.returns-in_err-write-clause-any_moment
@@ -84,3 +85,19 @@ returns-clause-head g c = rw (← c.self.view_is) (
 
 pub returns-clause-content : goal.returns-clause-content
 returns-clause-content g c = rw (← c.self.view_is) c.in_ok-write.ensures.content
+
+pub returns-in_err-write-clause-staged : goal.returns-in_err-write-clause-staged
+returns-in_err-write-clause-staged g c = rw (← c.self.view_is) (
+    let file = c.self.inside in
+    let going : file.failed ≡ false = ap (λ (s : Gated _). s.failed) c.self.view_is ∙ c.requires.going in
+    let rests = c.self.invariant.1.rests going in
+    on_err _ _ (staged_after (g.D.Disk.story file.disk) (g.D.Disk.story c.write.new.disk) (g.D.Disk.content file.disk) _ file.first rests.0 file.place (payload_of c.args.block.now.bytes)
+    (g.met.D.Disk.agrees file.disk) rests.1 c.in_err-write.ensures.staged))
+
+pub returns-in_err-write-clause-in_flight : goal.returns-in_err-write-clause-in_flight
+returns-in_err-write-clause-in_flight g c =
+    let file = c.self.inside in
+    let going : file.failed ≡ false = ap (λ (s : Gated _). s.failed) c.self.view_is ∙ c.requires.going in
+    let rests = c.self.invariant.1.rests going in
+    let kept = kept_of (g.D.Disk.content file.disk) (g.D.Disk.story file.disk) _ file.first rests.0 file.place (g.met.D.Disk.agrees file.disk) rests.1 in
+    on_err _ _ (c.in_err-write.ensures.in_flight kept.0 kept.1)
