@@ -6,6 +6,7 @@ pub mod Refusals
 pub mod Notes
 pub mod Chains
 pub mod Eachs
+pub mod Everys
 pub mod Rests
 pub mod Laying
 pub mod Standing

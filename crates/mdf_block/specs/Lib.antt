@@ -3,6 +3,7 @@ pub mod Block
 pub mod Text
 pub mod Chain
 pub mod Each
+pub mod Every
 pub mod Draft
 pub mod Item
 pub mod Places

@@ -5,6 +5,7 @@
 
 mod block;
 mod draft;
+mod every;
 mod fault;
 mod field;
 mod item;
@@ -23,6 +24,7 @@ mod writing;
 
 pub use block::{block_at, block_in};
 pub use draft::Draft;
+pub use every::{Visit, every_in};
 pub use fault::{BlockFault, NoteFault};
 pub use field::{u16_field, u32_field, u64_field};
 pub use link::Link;

@@ -1,4 +1,5 @@
-ghost use Rattle.std.specs.Prelude.{◌≡◌, ◌≤◌, ℕ, List, Option, Some, true, IfErr};
+ghost use Rattle.std.specs.Prelude.{◌≡◌, ◌≤◌, ℕ, List, Option, Some, true, IfOk, IfErr};
+ghost use Rattle.std.specs.List.{AllByRecursion};
 ghost use Rattle.mdf_num.specs.Halt.{HaltCause, HaltReason};
 ghost use Rattle.mdf_block.specs.Refusal.{Refusal, Read, Gives, Halts, IsPlain};
 ghost use Rattle.mdf_block.specs.Chain.{Step, chain};
@@ -27,6 +28,9 @@ pub trait Walk {
     /// What is answered at the address of an item past the most.
     ghost full: { Self → List ℕ → ℕ → Read (List Self.Item × ℕ × Self.State) };
 
+    /// What is known of an item of a file of so many bytes.
+    ghost gives: { Self → ℕ → Self.Item → Type 0 } = { λ _ _ _. Unit {0} };
+
     /// The item at `at`, the address of the next one, and what is left.
     fn step_in<P: Span>(
         &self,
@@ -36,6 +40,7 @@ pub trait Walk {
         left: Self::State,
     ) -> Result<(Self::Item, u64, Self::State), Halt<Self::Fault>>
         ensures found { (f : List ℕ) → P.bytes span.old ≡ Some f → Gives refusal result (step self.now f at left) }
+        ensures given { IfOk result (λ found. gives self.now (P.size span.old) found.0) }
         ensures plain { IfErr result (IsPlain refusal) }
         ensures same { P.bytes span.new ≡ P.bytes span.old }
         ensures size { P.size span.new ≡ P.size span.old }
@@ -65,6 +70,7 @@ pub fn chain_in<W: Walk, P: Span>(
     start: W::State,
 ) -> Result<(Rows<W::Item>, u64, W::State), Halt<W::Fault>>
     ensures found { (f : List ℕ) → P.bytes span.old ≡ Some f → Gives W.refusal result (chain (W.step walk.now f) (W.full walk.now f) most first start) }
+    ensures given { IfOk result (λ found. AllByRecursion (W.gives walk.now (P.size span.old)) found.0) }
     ensures plain { IfErr result (IsPlain W.refusal) }
     ensures same { P.bytes span.new ≡ P.bytes span.old }
     ensures size { P.size span.new ≡ P.size span.old }

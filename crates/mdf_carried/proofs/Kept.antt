@@ -33,7 +33,7 @@ use Rattle.mdf_valid.specs.Contents.{MeetsValue, IsChannelStream, IsValuesOf}
 use Rattle.mdf_valid.proofs.Bodies.{bodies_at}
 use Rattle.mdf_valid.proofs.Channels.{HoldBodies, held_by, values_of, take_less}
 use Rattle.mdf_valid.proofs.Cases.{two_ways}
-use Rattle.mdf_carried.proofs.Laid.{all_gathered}
+use Rattle.mdf_carried.proofs.Laid.{every_found}
 
 -- an offset that meets a value passes the test
 value_has : (stream : List ℕ) (offset : ℕ) (value : List ℕ) → IsValueAt stream offset value → has_value stream offset ≡ true
@@ -157,7 +157,7 @@ module _ (file : List ℕ) (row : DataRow) (parts : List Part) (lists : List (Li
   unfolding streams channel_item
   channels_read k group there samples such =
       let item = channel_item file held (of_group k group) in
-      let all = all_gathered item 0 group.channels (λ j channel known.
+      let all = every_found item 0 group.channels (λ j channel known.
       elim (two_ways (nat_eq channel.kind 1)) [
         | inl variable ↦
             let is = such j channel known variable in
@@ -181,7 +181,7 @@ module _ (file : List ℕ) (row : DataRow) (parts : List Part) (lists : List (Li
   unfolding all_streams group_streams
   streams_read laid such =
       let item = group_streams file held in
-      let all = all_gathered item 0 row.groups (λ k group there.
+      let all = every_found item 0 row.groups (λ k group there.
       let place : slice_get row.groups k ≡ Some group = there in
       elim (two_ways (is_variable group)) [
         | inl variable ↦ (

@@ -13,7 +13,7 @@ use Rattle.mdf_group.specs.Group.{is_variable}
 use Rattle.mdf_layout.specs.Layout.{Layout}
 use Rattle.mdf_layout.specs.Rule.{breaks_row_rule, BreaksRule}
 use Rattle.mdf_layout.specs.declared.field.FieldRow.{FieldRow}
-use Rattle.mdf_content.specs.Visit.{gathered}
+use Rattle.mdf_block.specs.Every.{every}
 use Rattle.mdf_content.specs.Layouts.{field_of, placed_channels, layout_of, first_unplaced, layout_unless, layout, laid_group, has_id_size, layouts}
 use Rattle.mdf_valid.specs.Contents.{KeepsRules}
 use Rattle.mdf_tree.proofs.Placing.{all_append}
@@ -31,18 +31,18 @@ one_on : (n k : ℕ) → n + suc k ≡ n + 1 + k
 one_on n k = omega arith
 
 -- what is read for each item of a list is read for all
-pub all_gathered : {A B : Type 0} (item : ℕ → A → Unit {0} → Read (Option B × Unit {0})) (k : ℕ) (xs : List A)
+pub every_found : {A B : Type 0} (item : ℕ → A → Unit {0} → Read (Option B × Unit {0})) (k : ℕ) (xs : List A)
     → ((j : ℕ) (x : A) → slice_get xs j ≡ Some x → (y : Option B) × (item (k + j) x tt ≡ Ok (y, tt)))
-    → (ys : List B) × (gathered item k xs tt ≡ Ok (ys, tt))
-unfolding gathered
-all_gathered item k [] each = ([], refl)
-all_gathered {A} {B} item k (x ∷ xs) each =
+    → (ys : List B) × (every item k xs tt ≡ Ok (ys, tt))
+unfolding every
+every_found item k [] each = ([], refl)
+every_found {A} {B} item k (x ∷ xs) each =
     let first = each 0 x refl in
     let here : item k x tt ≡ Ok (first.0, tt) = ap (λ (n : ℕ). item n x tt) (from_here k) ∙ first.1 in
-    let rest = all_gathered item (k + 1) xs (λ j y there.
+    let rest = every_found item (k + 1) xs (λ j y there.
     let found = each (suc j) y there in (found.0, ap (λ (n : ℕ). item n y tt) (sym (one_on k j)) ∙ found.1)) in (
       option_to_list first.0 ++ rest.0,
-      ap (λ (read : Read (Option B × Unit {0})). read >>= λ found. gathered item (k + 1) xs found.1 >>= λ more. Ok (option_to_list found.0 ++ more.0, more.1)) here
+      ap (λ (read : Read (Option B × Unit {0})). read >>= λ found. every item (k + 1) xs found.1 >>= λ more. Ok (option_to_list found.0 ++ more.0, more.1)) here
           ∙ ap (λ (read : Read (List B × Unit {0})). read >>= λ more. Ok (option_to_list first.0 ++ more.0, more.1)) rest.1,
     )
 
@@ -91,17 +91,17 @@ module _ (tells : TestTells) where
       subst (AllByRecursion IsLaid) (sym is.groups_are)
       (all_append IsLaid is.front is.back (fronts_laid is.at 0 is.front ls is.fronts) (backs_laid is.at 0 is.back is.backs))
 
-  laid_all : (k : ℕ) (groups : List GroupRow) → AllByRecursion IsLaid groups → gathered laid_group k groups tt ≡ Ok ([], tt)
-  unfolding gathered
+  laid_all : (k : ℕ) (groups : List GroupRow) → AllByRecursion IsLaid groups → every laid_group k groups tt ≡ Ok ([], tt)
+  unfolding every
   laid_all k [] each = refl
   laid_all k (group ∷ groups) each =
       let seen : Read Layout → Read (Option (Unit {0}) × Unit {0}) = λ read. read >>= λ _. Ok (None, tt) in
-      ap (λ (read : Read Layout). seen read >>= λ found. gathered laid_group (k + 1) groups found.1 >>= λ more. Ok (option_to_list found.0 ++ more.0, more.1)) each.0
+      ap (λ (read : Read Layout). seen read >>= λ found. every laid_group (k + 1) groups found.1 >>= λ more. Ok (option_to_list found.0 ++ more.0, more.1)) each.0
       ∙ ap (λ (read : Read (List (Unit {0}) × Unit {0})). read >>= λ more. Ok (more.0, more.1)) (laid_all (k + 1) groups each.1)
 
   pub layouts_found : (ls : List Layout) (row : DataRow) → IsRecorded ls row → layouts row ≡ Ok tt
   unfolding layouts
   layouts_found ls row is =
       let size : has_id_size row ≡ true = one_byte row is.id_size in
-      cond-true (has_id_size row) (gathered laid_group 0 row.groups tt >>= λ _. Ok tt) (Err (refusals.Layout row.at)) size
+      cond-true (has_id_size row) (every laid_group 0 row.groups tt >>= λ _. Ok tt) (Err (refusals.Layout row.at)) size
       ∙ ap (λ (read : Read (List (Unit {0}) × Unit {0})). read >>= λ _. Ok tt) (laid_all 0 row.groups (groups_laid ls row is))

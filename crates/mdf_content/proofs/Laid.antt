@@ -19,7 +19,7 @@ use Rattle.mdf_layout.specs.Rule.{spot_in, IsPlacedAs}
 use Rattle.mdf_layout.specs.Values.{IsRowPlaced}
 use Rattle.mdf_layout.specs.declared.field.FieldKind.{FieldKind}
 use Rattle.mdf_layout.specs.declared.field.FieldKind.TheVariants.{Variable}
-use Rattle.mdf_content.specs.Visit.{Each}
+use Rattle.mdf_block.specs.Every.{AllByNumber}
 use Rattle.mdf_content.specs.Layouts.{HasOffset, field_of, placed_channels, layout_of, first_unplaced, layout_unless, layout}
 
 abbrev breaks : Layout → ℕ → ChannelRow → Bool
@@ -121,7 +121,7 @@ offset_placed data_bytes inval_bytes channels placed k d below kind =
     subst (λ (form : FieldKind). IsPlacedAs form data_bytes (spot_in (field_of channel))) (is_offset (numbers_of channel) kind) there.field
 
 pub offsets_placed : (group : GroupRow) → is_variable group ≡ false → IsRuled (layout_of group)
-    → Each (λ k. HasOffset group.data_bytes) group.channels
+    → AllByNumber (λ k. HasOffset group.data_bytes) group.channels
 offsets_placed group other ruled =
     let same : placed_channels group ≡ group.channels = cond-false (is_variable group) [] group.channels other in
     offset_placed group.data_bytes group.inval_bytes group.channels

@@ -1,4 +1,3 @@
-pub mod Gathered
 pub mod Laid
 pub mod Rooms
 pub mod Offsets

@@ -12,7 +12,7 @@ use Rattle.mdf_data.specs.Record.{least_size}
 use Rattle.mdf_data.specs.Places.{steps, places_alone, HaveRoom}
 use Rattle.mdf_data.proofs.Steps.{step_more}
 use Rattle.mdf_group.specs.declared.row.GroupRow.{GroupRow}
-use Rattle.mdf_content.specs.Visit.{Each}
+use Rattle.mdf_block.specs.Every.{AllByNumber}
 use Rattle.mdf_content.specs.Records.{size_of, known_of, HasRoom}
 
 -- what holds of each holds of the one at a place
@@ -66,7 +66,7 @@ room_alone total empties size (first ∷ []) group places few is size_is places_
 room_alone total empties size (first ∷ second ∷ rest) group places few is size_is places_are = absurd (omega (arith, few))
 
 -- each group by its number
-pub rooms : (total : ℕ) (groups : List GroupRow) (lists : List (List ℕ)) → HaveRoom total (map known_of groups) lists → Each (HasRoom total lists) groups
+pub rooms : (total : ℕ) (groups : List GroupRow) (lists : List (List ℕ)) → HaveRoom total (map known_of groups) lists → AllByNumber (HasRoom total lists) groups
 rooms total groups lists room = λ k d below. subst
     (λ (known : Known). AllByRecursion (λ place. place + least_size known.size ≤ total) (slice_index_or lists k []))
     (get_or-map known_of groups k d (known_of d) below)

@@ -30,7 +30,7 @@ use Rattle.mdf_layout.specs.declared.field.FieldKind.TheVariants.{Unsigned, Sign
 use Rattle.mdf_layout.specs.declared.sample.Value.{Value}
 use Rattle.mdf_layout.specs.declared.sample.Value.TheVariants as value
 use Rattle.mdf_layout.specs.declared.sample.Entry.{Entry}
-use Rattle.mdf_content.specs.Visit.{gathered}
+use Rattle.mdf_block.specs.Every.{every}
 use Rattle.mdf_content.specs.Layouts.{field_of, layout}
 use Rattle.mdf_content.specs.Values.{DataStream, GroupRecords, has_value, offset_met, offsets_met, offset_in, channel_values, channel_stream, channel_item, streams}
 use Rattle.mdf_content.specs.Records as bodies
@@ -251,15 +251,15 @@ sampled_more f held records channel channels (Some stream) found is rest =
     )
 
 sampled : (f : List ℕ) (held : DataStream) (records : GroupRecords) (channels : List ChannelRow) (c : ℕ) (left : Unit {0}) (found : List (List ℕ) × Unit {0})
-    → gathered (channel_item f held records) c channels left ≡ Ok found → Sampled f held records channels found.0
-unfolding gathered sample_by
+    → every (channel_item f held records) c channels left ≡ Ok found → Sampled f held records channels found.0
+unfolding every sample_by
 sampled f held records [] c left found is =
     let same : ([], left) ≡ found = ok_injective _ _ is in
     subst (λ (y : List (List ℕ) × Unit {0}). Sampled f held records [] y.0) same (refl, λ row inval index below. ([], refl))
 sampled f held records (channel ∷ channels) c left found is =
     let first = bind_ok (channel_item f held records c channel left)
-    (λ one. gathered (channel_item f held records) (c + 1) channels one.1 >>= λ rest. Ok (option_to_list one.0 ++ rest.0, rest.1)) found is in
-    let second = bind_ok (gathered (channel_item f held records) (c + 1) channels first.0.1)
+    (λ one. every (channel_item f held records) (c + 1) channels one.1 >>= λ rest. Ok (option_to_list one.0 ++ rest.0, rest.1)) found is in
+    let second = bind_ok (every (channel_item f held records) (c + 1) channels first.0.1)
     (λ rest. Ok (option_to_list first.0.0 ++ rest.0, rest.1)) found first.2 in
     let same : (option_to_list first.0.0 ++ second.0.0, second.0.1) ≡ found = ok_injective _ _ second.2 in
     subst (λ (y : List (List ℕ) × Unit {0}). Sampled f held records (channel ∷ channels) y.0) same
@@ -298,7 +298,7 @@ module _ (f : List ℕ) (held : DataStream) (records : GroupRecords) (channels :
       let size = records.data_bytes + inval_bytes in
       let front = take records.count records.places in
       let long : length front ≡ records.count = length-take-le records.count records.places few in
-      let all = bind_ok (gathered (channel_item f held records) 0 channels tt) (λ found. Ok found.0) found is in
+      let all = bind_ok (every (channel_item f held records) 0 channels tt) (λ found. Ok found.0) found is in
       let same : all.0.0 ≡ found = ok_injective _ _ all.2 in
       let each = subst (Sampled f held records channels) same (sampled f held records channels 0 tt all.0 all.1) in
       record {

@@ -12,7 +12,7 @@ use Rattle.mdf_group.specs.declared.row.DataRow.{DataRow}
 use Rattle.mdf_group.specs.Group.{is_variable}
 use Rattle.mdf_content.specs.declared.contents.Contents.{Contents}
 use Rattle.mdf_content.specs.declared.contents.DataContents.{DataContents}
-use Rattle.mdf_content.specs.Visit.{gathered}
+use Rattle.mdf_block.specs.Every.{every}
 use Rattle.mdf_content.specs.Layouts.{layout, layouts}
 use Rattle.mdf_content.specs.Records.{record_size, places_of, counted}
 use Rattle.mdf_content.specs.Samples.{AreSamples}
@@ -49,7 +49,7 @@ group_item file held believed k group left =
     else (contents file held believed group (slice_index_or held.lists k []) >>= λ found. Ok (Some found, left))
 
 unfoldable pub all_contents : List ℕ → DataStream → Bool → Read (List Contents)
-all_contents file held believed = gathered (group_item file held believed) 0 held.groups tt >>= λ found. Ok found.0
+all_contents file held believed = every (group_item file held believed) 0 held.groups tt >>= λ found. Ok found.0
 
 -- how many bytes of a stream without ids are records of its one group
 abbrev pub taken : List GroupRow → List (List ℕ) → ℕ

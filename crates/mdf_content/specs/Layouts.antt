@@ -12,7 +12,7 @@ use Rattle.mdf_layout.specs.Row.{field_row}
 use Rattle.mdf_format.specs.Row.{IsNumberPlaced}
 use Rattle.mdf_layout.specs.Rule.{spot_in, breaks_row_rule}
 use Rattle.mdf_layout.specs.declared.field.FieldRow.{FieldRow}
-use Rattle.mdf_content.specs.Visit.{gathered}
+use Rattle.mdf_block.specs.Every.{every}
 
 -- the field of a channel
 abbrev pub field_of : ChannelRow → FieldRow
@@ -59,7 +59,7 @@ has_id_size row =
 -- the id size of a data group, and then the layouts of its groups
 unfoldable pub layouts : DataRow → Read (Unit {0})
 layouts row =
-    if has_id_size row then (gathered laid_group 0 row.groups tt >>= λ _. Ok tt) else Err (refusals.Layout row.at)
+    if has_id_size row then (every laid_group 0 row.groups tt >>= λ _. Ok tt) else Err (refusals.Layout row.at)
 
 -- a channel of variable length has its offset in so many data bytes
 abbrev pub HasOffset : ℕ → ChannelRow → Type 0

@@ -1,5 +1,4 @@
 pub mod Fault
-pub mod Visit
 pub mod Layouts
 pub mod Records
 pub mod Values

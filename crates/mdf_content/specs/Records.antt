@@ -11,7 +11,7 @@ use Rattle.mdf_data.specs.Places.{places, places_alone}
 use Rattle.mdf_group.specs.declared.row.GroupRow.{GroupRow}
 use Rattle.mdf_group.specs.declared.row.DataRow.{DataRow}
 use Rattle.mdf_group.specs.Group.{is_variable}
-use Rattle.mdf_content.specs.Visit.{gathered}
+use Rattle.mdf_block.specs.Every.{every}
 
 -- how long the records of a group are, without their ids
 abbrev pub record_size : GroupRow → ℕ
@@ -61,7 +61,7 @@ counted_group lists k group number =
 
 -- the groups of a data group one after another, where so many groups of the file were counted before, and how many then
 unfoldable pub counted : List (List ℕ) → List GroupRow → ℕ → Read ℕ
-counted lists groups number = gathered (counted_group lists) 0 groups number >>= λ found. Ok found.1
+counted lists groups number = every (counted_group lists) 0 groups number >>= λ found. Ok found.1
 
 -- the places of group k leave room for the least bodies of its records in a stream of so many bytes
 abbrev pub HasRoom : ℕ → List (List ℕ) → ℕ → GroupRow → Type 0

@@ -18,7 +18,7 @@ use Rattle.mdf_layout.specs.Rule.{spot_in}
 use Rattle.mdf_layout.specs.declared.field.FieldRow.{FieldRow}
 use Rattle.mdf_content.specs.Layouts.{field_of}
 use Rattle.mdf_content.specs.Records.{known_of}
-use Rattle.mdf_content.specs.Visit.{gathered}
+use Rattle.mdf_block.specs.Every.{every}
 use Rattle.mdf_content.specs.declared.values.Held.{Held}
 use Rattle.mdf_content.specs.declared.values.Records.{Records}
 use Rattle.std.specs.BTreeMap.{get}
@@ -118,4 +118,4 @@ channel_item file held records c channel left =
 
 -- the streams of all channels of variable length of a group
 unfoldable pub streams : List ℕ → DataStream → GroupRecords → List ChannelRow → Read (List (List ℕ))
-streams file held records channels = gathered (channel_item file held records) 0 channels tt >>= λ found. Ok found.0
+streams file held records channels = every (channel_item file held records) 0 channels tt >>= λ found. Ok found.0

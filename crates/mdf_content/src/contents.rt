@@ -31,9 +31,8 @@ use crate::layouts::{is_variable, layout_in, layouts_in};
 use crate::lower::view_of;
 use crate::records::{count_at, counted_in, record_size, records_in};
 use crate::values::{Held, Records, bytes_in, place_at, places_or, streams_in, values_table};
-use crate::visit::{Visit, gathered_in};
 use crate::{ReadFault, Room};
-use mdf_block::Kind;
+use mdf_block::{Kind, Visit, every_in};
 use mdf_data::{DataView, Places};
 use mdf_group::{DataRow, GroupRow};
 use mdf_layout::Shape;
@@ -260,6 +259,12 @@ impl Visit for Groups<'_> {
 
     type State = ();
 
+    type Room = Room;
+
+    type Fault = ReadFault;
+
+    ghost refusal = { read_refusal };
+
     ghost read = { λ groups file. group_item file (held_of groups.held.now) groups.believed };
 
     ghost needs = { λ groups size. IsHeld size groups.held.now };
@@ -323,7 +328,7 @@ fn all_contents_in<P: Span>(
         held: &held,
         believed,
     };
-    let (found, _) = gathered_in(alloc, &visit, span, groups, (), room)?;
+    let (found, _) = every_in(alloc, &visit, span, groups, (), room)?;
     Ok(found)
 }
 

@@ -1,14 +1,14 @@
 ghost use Rattle.std.specs.Prelude.{◌≡◌, ℕ, List, Some, map, true, false, IsTrue, IfOk, IfErr};
 ghost use Rattle.mdf_num.specs.Halt.{HaltCause};
 ghost use Rattle.mdf_block.specs.Refusal.{Gives, IsPlain, Refuses};
+ghost use Rattle.mdf_block.specs.Every.{AllByNumber};
 ghost use Rattle.mdf_group.specs.Group.{is_variable};
 ghost use Rattle.mdf_layout.specs.Rule.{IsFirstBad};
 ghost use Rattle.mdf_content.specs.Fault.{read_refusal};
-ghost use Rattle.mdf_content.specs.Visit.{Each};
 ghost use Rattle.mdf_content.specs.Layouts.{HasOffset, field_of, placed_channels, layout, laid_group, has_id_size, layouts};
 
-use crate::visit::{Visit, gathered_in};
-use crate::{ReadFault, Room};
+use crate::ReadFault;
+use mdf_block::{Visit, every_in};
 use mdf_group::{ChannelRow, DataRow, GroupRow};
 use mdf_layout::{ChannelNumbers, FieldRow, Shape, ShapeFault, field_row, shape_of};
 use mdf_num::{Halt, Memory, Rows, Span};
@@ -76,7 +76,7 @@ fn unplaced(group: &GroupRow, channel: u32) -> ReadFault
 /// `Layout` exactly where a channel breaks a rule of layouts, with the address of the first that does; and `Memory`.
 pub fn layout_in(alloc: Global, group: &GroupRow) -> Result<Shape, Halt<ReadFault>>
     ensures found { Gives read_refusal result (layout group.now) }
-    ensures offsets { IfOk result (λ _. is_variable group.now ≡ false → Each (λ _. HasOffset group.now.data_bytes) group.now.channels) }
+    ensures offsets { IfOk result (λ _. is_variable group.now ≡ false → AllByNumber (λ _. HasOffset group.now.data_bytes) group.now.channels) }
     ensures plain { IfErr result (IsPlain read_refusal) }
     ensures cause { HaltCause true 0 0 result }
 {
@@ -100,6 +100,12 @@ impl Visit for Layouts {
 
     type State = ();
 
+    type Room = ();
+
+    type Fault = ReadFault;
+
+    ghost refusal = { read_refusal };
+
     ghost read = { λ _ _. laid_group };
 
     ghost needs = { λ _ _. Unit {0} };
@@ -113,7 +119,7 @@ impl Visit for Layouts {
         _k: usize,
         item: &GroupRow,
         _state: (),
-        _room: &mut Room,
+        _room: &mut (),
     ) -> Result<(Option<()>, ()), Halt<ReadFault>> {
         layout_in(alloc, item)?;
         Ok((None, ()))
@@ -150,13 +156,6 @@ pub fn layouts_in<P: Span>(
     if !has_id_size(row) {
         return Err(Halt::Fault(ReadFault::Layout { at: row.at }));
     }
-    gathered_in(
-        alloc,
-        &Layouts,
-        span,
-        row.groups.as_slice(),
-        (),
-        &mut Room::none(),
-    )?;
+    every_in(alloc, &Layouts, span, row.groups.as_slice(), (), &mut ())?;
     Ok(())
 }

@@ -11,7 +11,6 @@ mod lower;
 mod records;
 mod room;
 mod values;
-mod visit;
 
 pub use contents::{Contents, DataContents, data_in};
 pub use fault::ReadFault;
@@ -20,4 +19,3 @@ pub use mdf_block::{Kind, What};
 pub use records::{count_at, counted_in, record_size, records_in};
 pub use room::Room;
 pub use values::{Held, Records, place_at, places_or, streams_in, values_table};
-pub use visit::{Visit, gathered_in};

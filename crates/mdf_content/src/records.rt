@@ -16,11 +16,10 @@ ghost use Rattle.mdf_content.specs.Records.{
   counted,
 };
 
+use crate::ReadFault;
 use crate::layouts::is_variable;
 use crate::lower::places_with;
-use crate::visit::{Visit, gathered_in};
-use crate::{ReadFault, Room};
-use mdf_block::What;
+use mdf_block::{Visit, What, every_in};
 use mdf_data::{DataView, Known, Places, Size, places_alone};
 use mdf_group::{DataRow, GroupRow};
 use mdf_num::{Halt, Memory, Rows, Span};
@@ -176,6 +175,12 @@ impl Visit for Counts<'_> {
 
     type State = u32;
 
+    type Room = ();
+
+    type Fault = ReadFault;
+
+    ghost refusal = { read_refusal };
+
     ghost read = { λ counts _. counted_group counts.lists.now };
 
     ghost needs = { λ _ _. Unit {0} };
@@ -189,7 +194,7 @@ impl Visit for Counts<'_> {
         k: usize,
         item: &GroupRow,
         number: u32,
-        _room: &mut Room,
+        _room: &mut (),
     ) -> Result<(Option<()>, u32), Halt<ReadFault>> {
         if is_variable(item) {
             return Ok((None, number));
@@ -229,13 +234,6 @@ pub fn counted_in<P: Span>(
     ensures size { P.size span.new ≡ P.size span.old }
     ensures cause { HaltCause true (P.faults span.old) (P.faults span.new) result }
 {
-    let (_, next) = gathered_in(
-        alloc,
-        &Counts { lists },
-        span,
-        groups,
-        number,
-        &mut Room::none(),
-    )?;
+    let (_, next) = every_in(alloc, &Counts { lists }, span, groups, number, &mut ())?;
     Ok(next)
 }

@@ -19,13 +19,6 @@ impl Room {
         }
     }
 
-    /// No room, for what keeps nothing of the file.
-    pub fn none() -> Room
-        ensures { result.left ≡ 0 }
-    {
-        Room { left: 0 }
-    }
-
     /// Takes room for so many bytes. After an error there is as much as before.
     ///
     /// # Errors

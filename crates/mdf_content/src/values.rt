@@ -7,13 +7,13 @@ ghost use Rattle.mdf_format.specs.Field.{covered_end, covered_size, field_number
 ghost use Rattle.mdf_bits.specs.Field.{spot_of};
 ghost use Rattle.mdf_num.specs.Halt.{HaltCause, StopCause};
 ghost use Rattle.mdf_block.specs.Refusal.{Gives, IsPlain};
+ghost use Rattle.mdf_block.specs.Every.{AllByNumber};
 ghost use Rattle.mdf_stream.specs.Parts.{stream_of, stream_size, ArePartsInside};
 ghost use Rattle.mdf_stream.specs.Range.{parts_between};
 ghost use Rattle.mdf_group.specs.Group.{is_variable};
 ghost use Rattle.mdf_layout.specs.Rule.{spot_in};
 ghost use Rattle.mdf_content.specs.Fault.{read_refusal};
 ghost use Rattle.mdf_content.specs.Layouts.{HasOffset, field_of};
-ghost use Rattle.mdf_content.specs.Visit.{Each};
 ghost use Rattle.mdf_content.specs.Values.{
   IsHeld,
   IsValuesTable,
@@ -34,10 +34,9 @@ ghost use Rattle.mdf_content.specs.Values.{
 
 use crate::layouts::is_variable;
 use crate::lower::view_of;
-use crate::visit::{Visit, gathered_in};
 use crate::{ReadFault, Room};
 use mdf_bits::{Field, get};
-use mdf_block::Kind;
+use mdf_block::{Kind, Visit, every_in};
 use mdf_data::{DataView, Places};
 use mdf_group::{ChannelRow, GroupRow};
 use mdf_num::{Bytes, Halt, Memory, Span, Stop};
@@ -477,6 +476,12 @@ impl Visit for Channels<'_> {
 
     type State = ();
 
+    type Room = Room;
+
+    type Fault = ReadFault;
+
+    ghost refusal = { read_refusal };
+
     ghost read = { λ channels file. channel_item file (held_of channels.held.now) (records_of channels.records.now) };
 
     ghost needs = { λ channels size. IsHeld size channels.held.now × AreWithin (stream_size channels.held.now.view.now) (records_of channels.records.now) };
@@ -522,13 +527,13 @@ pub fn streams_in<P: Span>(
 ) -> Result<Streams, Halt<ReadFault>>
     requires held { IsHeld (P.size span.old) held.now }
     requires within { AreWithin (stream_size held.now.view.now) (records_of records.now) }
-    requires placed { Each (λ _. HasOffset records.now.data_bytes) channels.now }
+    requires placed { AllByNumber (λ _. HasOffset records.now.data_bytes) channels.now }
     ensures found { (f : List ℕ) → P.bytes span.old ≡ Some f → Gives read_refusal result (streams f (held_of held.now) (records_of records.now) channels.now) }
     ensures plain { IfErr result (IsPlain read_refusal) }
     ensures same { P.bytes span.new ≡ P.bytes span.old }
     ensures size { P.size span.new ≡ P.size span.old }
     ensures cause { HaltCause true (P.faults span.old) (P.faults span.new) result }
 {
-    let (streams, _) = gathered_in(alloc, &Channels { held, records }, span, channels, (), room)?;
+    let (streams, _) = every_in(alloc, &Channels { held, records }, span, channels, (), room)?;
     Ok(streams)
 }

@@ -3,7 +3,7 @@ use Rattle.std.specs.Prelude.{ℕ, List, Option, Some, Ok}
 use Rattle.mdf_block.specs.Refusal.{Read, ◌>>=◌}
 use Rattle.mdf_group.specs.declared.row.DataRow.{DataRow}
 use Rattle.mdf_content.specs.declared.contents.DataContents.{DataContents}
-use Rattle.mdf_content.specs.Visit.{gathered}
+use Rattle.mdf_block.specs.Every.{every}
 use Rattle.mdf_content.specs.Contents.{data_of}
 use Rattle.mdf_model.specs.declared.whole.Whole.{Whole}
 use Rattle.mdf_model.specs.Tree.{finalized, tree}
@@ -14,7 +14,7 @@ data_item file k row number = data_of file row number >>= λ found. Ok (Some fou
 
 -- what the data groups hold, one after another
 unfoldable pub all_data : List ℕ → List DataRow → Read (List DataContents)
-all_data file rows = gathered (data_item file) 0 rows 0 >>= λ found. Ok found.0
+all_data file rows = every (data_item file) 0 rows 0 >>= λ found. Ok found.0
 
 -- the identification, the tree, and then the data groups
 unfoldable pub whole : List ℕ → Read Whole

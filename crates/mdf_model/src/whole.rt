@@ -9,7 +9,8 @@ ghost use Rattle.mdf_model.specs.Whole.{all_data, whole};
 use crate::Tree;
 use crate::identity::finalized_in;
 use crate::tree::tree_in;
-use mdf_content::{DataContents, ReadFault, Room, Visit, data_in, gathered_in};
+use mdf_block::{Visit, every_in};
+use mdf_content::{DataContents, ReadFault, Room, data_in};
 use mdf_group::DataRow;
 use mdf_head::Ident;
 use mdf_num::{Halt, Rows, Span};
@@ -38,6 +39,12 @@ impl Visit for DataGroups {
     type Found = DataContents;
 
     type State = u32;
+
+    type Room = Room;
+
+    type Fault = ReadFault;
+
+    ghost refusal = { read_refusal };
 
     ghost read = { λ _. data_item };
 
@@ -76,7 +83,7 @@ fn all_data_in<P: Span>(
     ensures cause { HaltCause true (P.faults span.old) (P.faults span.new) result }
 {
     let mut room = Room::of_file(span);
-    let (contents, _) = gathered_in(alloc, &DataGroups, span, rows, 0, &mut room)?;
+    let (contents, _) = every_in(alloc, &DataGroups, span, rows, 0, &mut room)?;
     Ok(contents)
 }
 

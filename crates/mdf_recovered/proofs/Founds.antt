@@ -30,7 +30,7 @@ use Rattle.mdf_content.specs.Layouts.{layout, layouts}
 use Rattle.mdf_content.specs.Records.{known_of, has_empty_records, places_of}
 use Rattle.mdf_content.specs.Values.{streams}
 use Rattle.mdf_content.specs.Contents.{records_at, contents}
-use Rattle.mdf_content.specs.Visit.{gathered}
+use Rattle.mdf_block.specs.Every.{every}
 use Rattle.mdf_model.specs.declared.tree.Tree.{Tree}
 use Rattle.mdf_model.specs.Tree.{tree}
 use Rattle.mdf_valid.specs.Bodies.{bodies}
@@ -147,7 +147,7 @@ module _ (f : List ℕ) (row : DataRow) (parts : List Part) (lists : List (List 
   unfolding all_streams
   all_hold found is =
       let item = group_streams f (held_by parts row lists) in
-      let first = bind_ok (gathered item 0 row.groups tt) (λ found. Ok (joined found.0)) found is in
+      let first = bind_ok (every item 0 row.groups tt) (λ found. Ok (joined found.0)) found is in
       let read = all_read item IsReadOf (λ k group left y. item_found k group left y) 0 row.groups tt first.0 first.1 in
       let all = read_with (λ n group. slice_get row.groups n ≡ Some group) IsReadOf (λ k group y. IsPicked is_of_samples HasStreams (k, group) y) turned
       0 row.groups first.0.0 (all_there row.groups) read in

@@ -9,7 +9,7 @@ use Rattle.mdf_group.specs.Group.{is_variable}
 use Rattle.mdf_content.specs.Contents.{records_at, taken}
 use Rattle.mdf_content.specs.Layouts.{layout}
 use Rattle.mdf_content.specs.Values.{DataStream, streams}
-use Rattle.mdf_content.specs.Visit.{gathered}
+use Rattle.mdf_block.specs.Every.{every}
 
 -- the list of places of a group, by its number
 abbrev pub places_by : List (List ℕ) → ℕ → List ℕ
@@ -26,7 +26,7 @@ joined {A} lists = flat_map (λ (list : List A). list) lists
 
 -- those of all groups, one for each channel of variable length, in order
 unfoldable pub all_streams : List ℕ → DataStream → Read (List (List ℕ))
-all_streams file held = gathered (group_streams file held) 0 held.groups tt >>= λ found. Ok (joined found.0)
+all_streams file held = every (group_streams file held) 0 held.groups tt >>= λ found. Ok (joined found.0)
 
 -- how many records each group has; the groups are counted from a number on
 unfoldable pub counts_from : List (List ℕ) → ℕ → List GroupRow → List ℕ

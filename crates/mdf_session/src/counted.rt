@@ -10,9 +10,10 @@ ghost use Rattle.mdf_content.specs.Records.{known_of, size_of};
 ghost use Rattle.mdf_data.specs.Record.{least_size};
 ghost use Rattle.mdf_session.specs.Counted.{all_streams, counts_from, joined, totals_from, total_of, values_total};
 
+use mdf_block::{Visit, every_in};
 use mdf_content::{
-    Held, ReadFault, Records, Room, Visit, count_at, gathered_in, is_variable, layout_in, place_at,
-    places_or, streams_in, values_table,
+    Held, ReadFault, Records, Room, count_at, is_variable, layout_in, place_at, places_or,
+    streams_in, values_table,
 };
 use mdf_data::Places;
 use mdf_group::GroupRow;
@@ -38,6 +39,12 @@ impl Visit for Groups<'_> {
     type Found = Streams;
 
     type State = ();
+
+    type Room = Room;
+
+    type Fault = ReadFault;
+
+    ghost refusal = { read_refusal };
 
     ghost read = { λ groups file. group_streams file (held_of groups.held.now) };
 
@@ -130,7 +137,7 @@ pub(crate) fn all_streams_in<P: Span>(
         table: &table,
     };
     let mut room = Room::of_file(span);
-    let (found, _) = gathered_in(alloc, &Groups { held: &held }, span, groups, (), &mut room)?;
+    let (found, _) = every_in(alloc, &Groups { held: &held }, span, groups, (), &mut room)?;
     let all = joined_of(alloc, found)?;
     Ok(all)
 }

@@ -1,17 +1,15 @@
 ghost use Rattle.std.specs.Prelude.{◌≡◌, ◌-◌, ◌≤◌, ◌++◌, ◌∷◌, [], ℕ, List, Some, length, true, IfOk, IfErr, IfSome, OnOk};
-ghost use Rattle.std.specs.List.{AllByRecursion};
-ghost use Rattle.mdf_format.specs.declared.kind.Kind.TheVariants.{Dl};
 ghost use Rattle.mdf_num.specs.Halt.{HaltCause};
 ghost use Rattle.mdf_block.specs.Refusal.{Gives, GivesOf, IsPlain};
 ghost use Rattle.mdf_block.specs.Block.{block, IsInside, IsFilled};
 ghost use Rattle.mdf_block.specs.Each.{each};
 ghost use Rattle.mdf_stream.specs.Parts.{IsPartInside, ArePartsInside, stream_of};
-ghost use Rattle.mdf_stream.specs.Link.{data_refusal, data_block, named_block, data_list, data_lists, listed_parts, one_part, data_parts, part_of, joined};
+ghost use Rattle.mdf_stream.specs.Link.{data_refusal, data_block, named_block, listed_parts, one_part, data_parts, part_of, joined};
 ghost use Rattle.mdf_stream.specs.Truth.{IsTrueOfLink, IfFault};
 ghost use Rattle.mdf_stream.specs.Stream.{IsStream};
 
 use crate::{DataFault, DataView, Part};
-use mdf_block::{BlockAt, BlockFault, Kind, block_in, is_named_in, link_in};
+use mdf_block::{BlockAt, BlockFault, Kind, Walk, block_in, chain_in, is_named_in, link_in};
 use mdf_num::{Halt, Memory, Rows, SliceSpan, Span};
 use std::alloc::Global;
 
@@ -108,61 +106,57 @@ fn named_in<P: Span>(
     Ok((parts, left))
 }
 
-/// The DLBLOCK at `at` with its blocks of data, the address of the next one, and how many more may come.
-#[tactic(auto, unfolding(crate::specs::Link::data_list, crate::specs::Link::one_less))]
-fn list_in<P: Span>(
-    alloc: Global,
-    span: &mut P,
+/// The DLBLOCKs of a data link, each with its blocks of data of the kind that is wanted.
+#[derive(Drop)]
+struct Lists {
     want: Kind,
-    at: u64,
-    left: u64,
-) -> Result<(Rows<Part>, u64, u64), Halt<DataFault>>
-    ensures found { (f : List ℕ) → P.bytes span.old ≡ Some f → Gives data_refusal result (data_list f want at left) }
-    ensures plain { IfErr result (IsPlain data_refusal) }
-    ensures inside { IfOk result (λ found. ArePartsInside (P.size span.old) found.0) }
-    ensures same { P.bytes span.new ≡ P.bytes span.old }
-    ensures size { P.size span.new ≡ P.size span.old }
-    ensures cause { HaltCause true (P.faults span.old) (P.faults span.new) result }
-{
-    let block = block_of(span, at, Kind::Dl)?;
-    if left == 0 {
-        return Err(Halt::Fault(DataFault::TooMany { at }));
-    }
-    let (parts, rest) = named_in(alloc, span, &block, want, left - 1)?;
-    let next = link_in(span, &block, 0)?;
-    Ok((parts, next, rest))
 }
 
-/// The DLBLOCKs from `first` on with their blocks of data, and how many of both may still come.
-fn lists_in<P: Span>(
-    alloc: Global,
-    span: &mut P,
-    want: Kind,
-    first: u64,
-) -> Result<(Rows<Rows<Part>>, u64, u64), Halt<DataFault>>
-    ensures found { (f : List ℕ) → P.bytes span.old ≡ Some f → Gives data_refusal result (data_lists f want first) }
-    ensures plain { IfErr result (IsPlain data_refusal) }
-    ensures inside { IfOk result (λ found. AllByRecursion (ArePartsInside (P.size span.old)) found.0) }
-    ensures same { P.bytes span.new ≡ P.bytes span.old }
-    ensures size { P.size span.new ≡ P.size span.old }
-    ensures cause { HaltCause true (P.faults span.old) (P.faults span.new) result }
-{
-    let mut lists = Rows::empty(alloc);
-    let mut at = first;
-    let mut left = MOST_BLOCKS;
-    let mut room = MOST_BLOCKS;
-    while at != 0 {
-        if room == 0 {
-            block_of(span, at, Kind::Dl)?;
+impl Walk for Lists {
+    ghost use Rattle.mdf_format.specs.declared.kind.Kind.TheVariants.{Dl};
+    ghost use Rattle.mdf_block.specs.declared.what.What.TheVariants as whats;
+    ghost use Rattle.mdf_block.specs.Chain.{full};
+    ghost use Rattle.mdf_stream.specs.Parts.{ArePartsInside};
+    ghost use Rattle.mdf_stream.specs.Link.{data_list};
+
+    type Item = Rows<Part>;
+
+    type State = u64;
+
+    type Fault = DataFault;
+
+    ghost refusal = { data_refusal };
+
+    ghost step = { λ lists file. data_list file lists.want };
+
+    ghost full = { λ _ file. full whats.Block Dl file };
+
+    ghost gives = { λ _. ArePartsInside };
+
+    #[tactic(auto, unfolding(crate::specs::Link::data_list, crate::specs::Link::one_less))]
+    fn step_in<P: Span>(
+        &self,
+        alloc: Global,
+        span: &mut P,
+        at: u64,
+        left: u64,
+    ) -> Result<(Rows<Part>, u64, u64), Halt<DataFault>> {
+        let block = block_of(span, at, Kind::Dl)?;
+        if left == 0 {
             return Err(Halt::Fault(DataFault::TooMany { at }));
         }
-        let (parts, next, rest) = list_in(alloc, span, want, at, left)?;
-        lists.push(parts)?;
-        at = next;
-        left = rest;
-        room -= 1;
+        let (parts, rest) = named_in(alloc, span, &block, self.want, left - 1)?;
+        let next = link_in(span, &block, 0)?;
+        Ok((parts, next, rest))
     }
-    Ok((lists, room, left))
+
+    #[tactic(auto, unfolding(mdf_block::specs::Chain::full))]
+    fn full_in<P: Span>(&self, span: &mut P, at: u64) -> Halt<DataFault> {
+        match block_of(span, at, Kind::Dl) {
+            Ok(_) => Halt::Fault(DataFault::TooMany { at }),
+            Err(halt) => halt,
+        }
+    }
 }
 
 /// Adds a part at the end of a view.
@@ -212,7 +206,7 @@ fn listed_in<P: Span>(
     ensures size { P.size span.new ≡ P.size span.old }
     ensures cause { HaltCause true (P.faults span.old) (P.faults span.new) result }
 {
-    let (lists, _, _) = lists_in(alloc, span, want, at)?;
+    let (lists, _, _) = chain_in(alloc, &Lists { want }, span, at, MOST_BLOCKS, MOST_BLOCKS)?;
     let view = view_of(alloc, lists.as_slice())?;
     Ok(view)
 }

@@ -30,7 +30,7 @@ use Rattle.mdf_group.specs.Recordable.{is_of_values}
 use Rattle.mdf_layout.specs.Rule.{spot_in}
 use Rattle.mdf_content.specs.Layouts.{field_of}
 use Rattle.mdf_content.specs.Records.{size_of}
-use Rattle.mdf_content.specs.Visit.{gathered}
+use Rattle.mdf_block.specs.Every.{every}
 use Rattle.mdf_content.specs.Values.{has_value, offset_met, offsets_met, DataStream, values_group, value_size, values_at, values_in, channel_values, GroupRecords, offset_in, channel_stream, channel_item, streams}
 use Rattle.mdf_valid.specs.Bodies.{bodies, joined}
 use Rattle.mdf_valid.specs.Contents.{IsValuesOf, MeetsValue, IsChannelStream}
@@ -244,7 +244,7 @@ module _ (f : List ℕ) (row : DataRow) (parts : List Part) (lists : List (List 
   streams_found group places own found own_is is =
       let records_at : GroupRecords = record { data_bytes = group.data_bytes; places = places; count = min group.cycles (length places) } in
       let item = channel_item f (held_by parts row lists) records_at in
-      let first = bind_ok (gathered item 0 group.channels tt) (λ found. Ok found.0) found is in
+      let first = bind_ok (every item 0 group.channels tt) (λ found. Ok found.0) found is in
       let read = all_read item (IsRead group own) (λ k channel left y. item_found group places own k channel left y own_is) 0 group.channels tt first.0 first.1 in
       subst (λ (ys : List (List ℕ)). AllZip (IsChannelStream f row records group.data_bytes own) (filter is_of_values group.channels) ys)
       (ok_injective first.0.0 found first.2)

@@ -26,7 +26,7 @@ use Rattle.mdf_group.specs.Recordable.{is_of_values}
 use Rattle.mdf_layout.specs.Rule.{spot_in}
 use Rattle.mdf_content.specs.Layouts.{field_of, layout}
 use Rattle.mdf_content.specs.Records.{size_of, counted_group, counted}
-use Rattle.mdf_content.specs.Visit.{gathered}
+use Rattle.mdf_block.specs.Every.{every}
 use Rattle.mdf_content.specs.Values.{has_value, offset_met, offsets_met, values_group, values_in, channel_values, GroupRecords, offset_in, channel_stream, channel_item, streams}
 use Rattle.mdf_content.specs.Contents.{contents, group_item, all_contents}
 use Rattle.mdf_model.specs.Measurement.{holds_samples}
@@ -37,7 +37,7 @@ use Rattle.mdf_valid.proofs.Bodies.{bodies_at}
 use Rattle.mdf_valid.proofs.Channels.{HoldBodies, held_by, values_of, take_less}
 use Rattle.mdf_valid.proofs.Stricts.{places_count}
 use Rattle.mdf_valid.proofs.Picks.{all_there}
-use Rattle.mdf_valid.proofs.Walks.{refusing_gathered}
+use Rattle.mdf_valid.proofs.Walks.{refusing_every}
 use Rattle.mdf_valid.proofs.Truths.{link_true, layout_true}
 use Rattle.mdf_valid.proofs.Cases.{ok_injective, two_ways}
 
@@ -122,14 +122,14 @@ first_or_not group groups =
     ]
 
 all_next : (lists : List (List ℕ)) (k : ℕ) (groups : List GroupRow) (number : ℕ) (found : List (Unit {0}) × ℕ)
-    → gathered (counted_group lists) k groups number ≡ Ok found → found.1 ≡ number + length (filter holds_samples groups)
-unfolding gathered
+    → every (counted_group lists) k groups number ≡ Ok found → found.1 ≡ number + length (filter holds_samples groups)
+unfolding every
 all_next lists k [] number found is =
     let same : number ≡ found.1 = ap (λ (y : List (Unit {0}) × ℕ). y.1) (ok_injective ([], number) found is) in omega (arith, same)
 all_next lists k (group ∷ groups) number found is =
     let first = bind_ok (counted_group lists k group number)
-    (λ found. gathered (counted_group lists) (k + 1) groups found.1 >>= λ rest. Ok (option_to_list found.0 ++ rest.0, rest.1)) found is in
-    let second = bind_ok (gathered (counted_group lists) (k + 1) groups first.0.1) (λ rest. Ok (option_to_list first.0.0 ++ rest.0, rest.1)) found first.2 in
+    (λ found. every (counted_group lists) (k + 1) groups found.1 >>= λ rest. Ok (option_to_list found.0 ++ rest.0, rest.1)) found is in
+    let second = bind_ok (every (counted_group lists) (k + 1) groups first.0.1) (λ rest. Ok (option_to_list first.0.0 ++ rest.0, rest.1)) found first.2 in
     let same : second.0.1 ≡ found.1 =
     ap (λ (y : List (Unit {0}) × ℕ). y.1) (ok_injective (option_to_list first.0.0 ++ second.0.0, second.0.1) found second.2) in
     let here = one_next lists k group number first.0 first.1 in
@@ -140,7 +140,7 @@ pub next_is : (lists : List (List ℕ)) (groups : List GroupRow) (number next : 
     → next ≡ number + length (filter holds_samples groups)
 unfolding counted
 next_is lists groups number next is =
-    let first = bind_ok (gathered (counted_group lists) 0 groups number) (λ found. Ok found.1) next is in
+    let first = bind_ok (every (counted_group lists) 0 groups number) (λ found. Ok found.1) next is in
     sym (ok_injective first.0.1 next first.2) ∙ all_next lists 0 groups number first.0 first.1
 
 module _ (f : List ℕ) (row : DataRow) (before : ℕ) (parts : List Part) (lists : List (List ℕ)) (records : List Record) (rest : List ℕ)
@@ -180,8 +180,8 @@ module _ (f : List ℕ) (row : DataRow) (before : ℕ) (parts : List Part) (list
   pub counts_true : Refusing (IsTrueOfData f row before) (counted lists row.groups before)
   unfolding counted
   counts_true =
-      refusing_then (IsTrueOfData f row before) (gathered (counted_group lists) 0 row.groups before) (λ found. Ok found.1)
-      (refusing_gathered (IsTrueOfData f row before) (counted_group lists) (λ k group. slice_get row.groups k ≡ Some group) Numbers count_true count_next
+      refusing_then (IsTrueOfData f row before) (every (counted_group lists) 0 row.groups before) (λ found. Ok found.1)
+      (refusing_every (IsTrueOfData f row before) (counted_group lists) (λ k group. slice_get row.groups k ≡ Some group) Numbers count_true count_next
       0 row.groups before (all_there row.groups) none_before)
       (λ found _. refusing_none (IsTrueOfData f row before) found.1)
 
@@ -263,8 +263,8 @@ module _ (f : List ℕ) (row : DataRow) (before : ℕ) (parts : List Part) (list
     streams_true : Refusing (IsTrueOfData f row before) (streams f (held_by parts row lists) own group.channels)
     unfolding streams
     streams_true =
-        refusing_then (IsTrueOfData f row before) (gathered (channel_item f (held_by parts row lists) own) 0 group.channels tt) (λ found. Ok found.0)
-        (refusing_gathered (IsTrueOfData f row before) (channel_item f (held_by parts row lists) own)
+        refusing_then (IsTrueOfData f row before) (every (channel_item f (held_by parts row lists) own) 0 group.channels tt) (λ found. Ok found.0)
+        (refusing_every (IsTrueOfData f row before) (channel_item f (held_by parts row lists) own)
         (λ c channel. slice_get group.channels c ≡ Some channel) (λ c left. Unit {0}) item_true (λ c channel left found there nothing is. tt)
         0 group.channels tt (all_there group.channels) tt)
         (λ found _. refusing_none (IsTrueOfData f row before) found.0)
@@ -287,8 +287,8 @@ module _ (f : List ℕ) (row : DataRow) (before : ℕ) (parts : List Part) (list
   pub all_true : Refusing (IsTrueOfData f row before) (all_contents f (held_by parts row lists) true)
   unfolding all_contents
   all_true =
-      refusing_then (IsTrueOfData f row before) (gathered (group_item f (held_by parts row lists) true) 0 row.groups tt) (λ found. Ok found.0)
-      (refusing_gathered (IsTrueOfData f row before) (group_item f (held_by parts row lists) true)
+      refusing_then (IsTrueOfData f row before) (every (group_item f (held_by parts row lists) true) 0 row.groups tt) (λ found. Ok found.0)
+      (refusing_every (IsTrueOfData f row before) (group_item f (held_by parts row lists) true)
       (λ k group. slice_get row.groups k ≡ Some group) (λ k left. Unit {0}) group_true (λ k group left found there nothing is. tt)
       0 row.groups tt (all_there row.groups) tt)
       (λ found _. refusing_none (IsTrueOfData f row before) found.0)

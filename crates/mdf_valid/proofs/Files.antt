@@ -32,7 +32,7 @@ use Rattle.mdf_group.proofs.Truths.{rows_true}
 use Rattle.mdf_content.specs.declared.contents.DataContents.{DataContents}
 use Rattle.mdf_content.specs.Layouts.{layouts}
 use Rattle.mdf_content.specs.Records.{places_of, counted}
-use Rattle.mdf_content.specs.Visit.{gathered}
+use Rattle.mdf_block.specs.Every.{every}
 use Rattle.mdf_content.specs.Contents.{found_of, all_contents, data_of}
 use Rattle.mdf_model.specs.declared.tree.Tree.{Tree}
 use Rattle.mdf_model.specs.Tree.{finalized_by, finalized, whole_budget, header_of, tree}
@@ -45,7 +45,7 @@ use Rattle.mdf_valid.proofs.Alone.{split_found}
 use Rattle.mdf_valid.proofs.Channels.{held_by}
 use Rattle.mdf_valid.proofs.Founds.{size_found, hold_by, data_found}
 use Rattle.mdf_valid.proofs.Picks.{all_there}
-use Rattle.mdf_valid.proofs.Walks.{refusing_gathered}
+use Rattle.mdf_valid.proofs.Walks.{refusing_every}
 use Rattle.mdf_valid.proofs.Truths.{link_true, layouts_true, places_true}
 use Rattle.mdf_valid.proofs.Counted.{next_is, counts_true, all_true}
 use Rattle.mdf_valid.proofs.Wholes.{identified, IsTree, tree_found}
@@ -201,8 +201,8 @@ module _ (f : List ℕ) (all : Tree) (stands : IsTree f all) where
   rows_data_true : Refusing (IsTrueOfFile f) (all_data f all.rows)
   unfolding all_data
   rows_data_true =
-      refusing_then (IsTrueOfFile f) (gathered (data_item f) 0 all.rows 0) (λ found. Ok found.0)
-      (refusing_gathered (IsTrueOfFile f) (data_item f) Known Numbers one_true one_next 0 all.rows 0 (all_there all.rows) refl)
+      refusing_then (IsTrueOfFile f) (every (data_item f) 0 all.rows 0) (λ found. Ok found.0)
+      (refusing_every (IsTrueOfFile f) (data_item f) Known Numbers one_true one_next 0 all.rows 0 (all_there all.rows) refl)
       (λ found _. refusing_none (IsTrueOfFile f) found.0)
 
 as_file : (f : List ℕ) (refusal : Refusal) → IsTrueOf f refusal → IsTrueOfFile f refusal

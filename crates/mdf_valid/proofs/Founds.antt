@@ -28,7 +28,7 @@ use Rattle.mdf_group.specs.Group.{is_variable}
 use Rattle.mdf_layout.specs.Layout.{Layout}
 use Rattle.mdf_content.specs.declared.contents.Contents.{Contents}
 use Rattle.mdf_content.specs.declared.contents.DataContents.{DataContents}
-use Rattle.mdf_content.specs.Visit.{gathered}
+use Rattle.mdf_block.specs.Every.{every}
 use Rattle.mdf_content.specs.Layouts.{layout, laid_group, has_id_size, layouts}
 use Rattle.mdf_content.specs.Records.{size_of, known_of, places_of, counted_group, counted}
 use Rattle.mdf_content.specs.Values.{streams}
@@ -48,7 +48,7 @@ use Rattle.mdf_valid.proofs.Cases.{ok_injective}
 pub size_found : (row : DataRow) (u : Unit {0}) → layouts row ≡ Ok u → HasIdSize row
 unfolding layouts
 size_found row u is =
-    elim (chosen (has_id_size row) (gathered laid_group 0 row.groups tt >>= λ _. Ok tt) (Err (refusals.Layout row.at)) (Ok u) is) [
+    elim (chosen (has_id_size row) (every laid_group 0 row.groups tt >>= λ _. Ok tt) (Err (refusals.Layout row.at)) (Ok u) is) [
       | inl has ↦ id_size_is row has.0
       | inr none ↦ let wrong : ◌≡◌ {A = Read (Unit {0})} (Err (refusals.Layout row.at)) (Ok u) = none.1 in cc
     ]
@@ -84,7 +84,7 @@ counts_found : (lists : List (List ℕ)) (groups : List GroupRow) (number next :
     → AreNumbered (λ n group. is_variable group ≡ false → group.cycles ≤ length (get_or lists n [])) 0 groups
 unfolding counted
 counts_found lists groups number next is =
-    let first = bind_ok (gathered (counted_group lists) 0 groups number) (λ found. Ok found.1) next is in
+    let first = bind_ok (every (counted_group lists) 0 groups number) (λ found. Ok found.1) next is in
     counts_each lists 0 groups first.0.0
     (all_read (counted_group lists) (HasEnough lists) (λ k group left found. count_found lists k group left found) 0 groups number first.0 first.1)
 
@@ -177,7 +177,7 @@ module _ (f : List ℕ) (row : DataRow) (parts : List Part) (lists : List (List 
   unfolding all_contents
   all_found found counts is =
       let item = group_item f (held_by parts row lists) true in
-      let first = bind_ok (gathered item 0 row.groups tt) (λ found. Ok found.0) found is in
+      let first = bind_ok (every item 0 row.groups tt) (λ found. Ok found.0) found is in
       let read = all_read item IsReadOf (λ k group left y. item_found k group left y) 0 row.groups tt first.0 first.1 in
       let known : AreNumbered IsKnown 0 row.groups = numbered_both
       (λ n group. slice_get row.groups n ≡ Some group) (λ n group. is_variable group ≡ false → group.cycles ≤ length (get_or lists n [])) IsKnown

@@ -6,7 +6,7 @@ use Rattle.std.proofs.lemmas.Bool.{cond-true, cond-false}
 use Rattle.mdf_block.specs.Refusal.{Read, ◌>>=◌}
 use Rattle.mdf_block.proofs.Refusals.{bind_ok}
 use Rattle.std.specs.Option.{option_to_list}
-use Rattle.mdf_content.specs.Visit.{gathered}
+use Rattle.mdf_block.specs.Every.{every}
 use Rattle.mdf_valid.proofs.Cases.{ok_injective}
 
 -- of each item nothing or one thing was read
@@ -16,12 +16,12 @@ AreRead {A} {B} R k (x ∷ xs) ys = (y : Option B) × (rest : List B) × (ys ≡
 
 pub all_read : {A B S : Type 0} (item : ℕ → A → S → Read (Option B × S)) (R : ℕ → A → Option B → Type 0)
     → ((k : ℕ) (x : A) (left : S) (found : Option B × S) → item k x left ≡ Ok found → R k x found.0)
-    → (k : ℕ) (xs : List A) (left : S) (found : List B × S) → gathered item k xs left ≡ Ok found → AreRead R k xs found.0
-unfolding gathered
+    → (k : ℕ) (xs : List A) (left : S) (found : List B × S) → every item k xs left ≡ Ok found → AreRead R k xs found.0
+unfolding every
 all_read {A} {B} {S} item R one k [] left found is = ap (λ (y : List B × S). y.0) (sym (ok_injective ([], left) found is))
 all_read {A} {B} {S} item R one k (x ∷ xs) left found is =
-    let first = bind_ok (item k x left) (λ found. gathered item (k + 1) xs found.1 >>= λ rest. Ok (option_to_list found.0 ++ rest.0, rest.1)) found is in
-    let second = bind_ok (gathered item (k + 1) xs first.0.1) (λ rest. Ok (option_to_list first.0.0 ++ rest.0, rest.1)) found first.2 in (
+    let first = bind_ok (item k x left) (λ found. every item (k + 1) xs found.1 >>= λ rest. Ok (option_to_list found.0 ++ rest.0, rest.1)) found is in
+    let second = bind_ok (every item (k + 1) xs first.0.1) (λ rest. Ok (option_to_list first.0.0 ++ rest.0, rest.1)) found first.2 in (
       first.0.0,
       second.0.0,
       ap (λ (y : List B × S). y.0) (sym (ok_injective (option_to_list first.0.0 ++ second.0.0, second.0.1) found second.2)),

@@ -29,12 +29,12 @@ use Rattle.mdf_layout.specs.Rule.{breaks_row_rule}
 use Rattle.mdf_layout.proofs.Rules.{breaks_law}
 use Rattle.mdf_content.specs.Layouts.{field_of, placed_channels, layout_of, first_unplaced, layout_unless, layout, laid_group, has_id_size, layouts}
 use Rattle.mdf_content.specs.Records.{known_of, has_empty_records, empties_of, places_of_one, places_without_ids, places_of}
-use Rattle.mdf_content.specs.Visit.{gathered}
+use Rattle.mdf_block.specs.Every.{every}
 use Rattle.mdf_valid.specs.Contents.{empties_in}
 use Rattle.mdf_valid.specs.Truth.{IsRestAt, IsUnknownAt, IsTrueOfData}
 use Rattle.mdf_valid.proofs.Alone.{id_size_from}
 use Rattle.mdf_valid.proofs.Picks.{all_there}
-use Rattle.mdf_valid.proofs.Walks.{refusing_both, refusing_gathered}
+use Rattle.mdf_valid.proofs.Walks.{refusing_both, refusing_every}
 use Rattle.mdf_valid.proofs.Rests.{refused_place, IsStop, IsUnknown, IsShort, piece_stop, some_left, unknown_is}
 use Rattle.mdf_valid.proofs.Cases.{some_injective, two_ways}
 
@@ -140,9 +140,9 @@ module _ (f : List ℕ) (row : DataRow) (before : ℕ) where
   pub layouts_true : Refusing IsTrue (layouts row)
   unfolding layouts
   layouts_true =
-      refusing_if IsTrue (has_id_size row) (gathered laid_group 0 row.groups tt >>= λ _. Ok tt) (Err (refusals.Layout row.at))
-      (λ _. refusing_then IsTrue (gathered laid_group 0 row.groups tt) (λ _. Ok tt)
-      (refusing_gathered IsTrue laid_group IsThere (λ k left. Unit {0}) laid_true (λ k group left found there nothing is. tt) 0 row.groups tt (all_there row.groups) tt)
+      refusing_if IsTrue (has_id_size row) (every laid_group 0 row.groups tt >>= λ _. Ok tt) (Err (refusals.Layout row.at))
+      (λ _. refusing_then IsTrue (every laid_group 0 row.groups tt) (λ _. Ok tt)
+      (refusing_every IsTrue laid_group IsThere (λ k left. Unit {0}) laid_true (λ k group left found there nothing is. tt) 0 row.groups tt (all_there row.groups) tt)
       (λ found _. refusing_none IsTrue tt))
       (λ none. refusing_one IsTrue (refusals.Layout row.at) (inl (refl, λ has. both_ways (has_id_size row) none (id_size_from row has))))
 

@@ -25,7 +25,7 @@ use Rattle.mdf_group.specs.Standing.{AreDataGroups}
 use Rattle.mdf_group.proofs.Stands.{all_found}
 use Rattle.mdf_content.specs.declared.contents.Contents.{Contents}
 use Rattle.mdf_content.specs.declared.contents.DataContents.{DataContents}
-use Rattle.mdf_content.specs.Visit.{gathered}
+use Rattle.mdf_block.specs.Every.{every}
 use Rattle.mdf_content.specs.Contents.{data_of}
 use Rattle.mdf_model.specs.declared.part.Measure.{Measure}
 use Rattle.mdf_model.specs.declared.tree.Tree.{Tree}
@@ -133,7 +133,7 @@ item_found f k row number found is =
 pub data_all_found : (f : List ℕ) (rows : List DataRow) (found : List DataContents) → all_data f rows ≡ Ok found → AllZip (IsDataFound f) rows found
 unfolding all_data
 data_all_found f rows found is =
-    let first = bind_ok (gathered (data_item f) 0 rows 0) (λ y. Ok y.0) found is in
+    let first = bind_ok (every (data_item f) 0 rows 0) (λ y. Ok y.0) found is in
     let read = all_read (data_item f) (IsItem f) (λ k row left y. item_found f k row left y) 0 rows 0 first.0 first.1 in
     subst (AllZip (IsDataFound f) rows) (ok_injective first.0.0 found first.2)
     (subst (λ (xs : List DataRow). AllZip (IsDataFound f) xs first.0.0) (all_pass rows)

@@ -1,6 +1,7 @@
-use Rattle.std.proofs.Common.{ℕ, List, sym, ◌∙◌, ap, arith}
+use Rattle.std.proofs.Common.{ℕ, Some, sym, ◌∙◌, subst, arith}
 use Rattle.std.proofs.lemmas.Result.{err_from_is_err_and}
-use Rattle.mdf_block.proofs.Chains.{with_front, is_done, goes_on, ends, ends_full}
+use Rattle.mdf_block.proofs.Chains.{is_done, goes_on, ends, ends_full}
+use Rattle.mdf_block.proofs.Everys.{all_and}
 use Rattle.mdf_block.proofs.walk.chain_in.Goals as goal
 
 pub returns-then-room-eq0-clause-found : goal.returns-then-room-eq0-clause-found
@@ -32,6 +33,10 @@ loop-at-preserved g c = record {
       sym (goes_on (g.W.Walk.step walk f) (g.W.Walk.full walk f) loop.rows loop.room loop.at loop.left c.in_ok-row.row c.in_ok-row.next
       c.in_ok-row.rest c.if-room-eq0.false c.loop-at-test.true found)
       ∙ loop.invariant.found f told
+      );
+  given = rw c.in_ok-push.ensures.ok (
+      all_and (g.W.Walk.gives c.args.walk.now (g.P.Span.size c.args.span.now)) c.loop-at.rows (Some c.in_ok-row.row) c.loop-at.invariant.given
+      (subst (λ (n : ℕ). g.W.Walk.gives c.args.walk.now n c.in_ok-row.row) c.loop-at.invariant.size c.in_ok-row.ensures.given)
       );
   same = c.in_ok-row.ensures.same ∙ c.loop-at.invariant.same;
   size = c.in_ok-row.ensures.size ∙ c.loop-at.invariant.size;

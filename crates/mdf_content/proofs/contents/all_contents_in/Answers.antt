@@ -2,5 +2,5 @@ use Rattle.mdf_stream.specs.Parts.{stream_size}
 use Rattle.mdf_content.proofs.Rooms.{rooms}
 use Rattle.mdf_content.proofs.contents.all_contents_in.Goals as goal
 
-pub gathered_in-requires-clause-admitted : goal.gathered_in-requires-clause-admitted
-gathered_in-requires-clause-admitted g c = rooms (stream_size c.args.view.now) c.args.groups.now c.args.lists.now c.requires.room
+pub every_in-requires-clause-admitted : goal.every_in-requires-clause-admitted
+every_in-requires-clause-admitted g c = rooms (stream_size c.args.view.now) c.args.groups.now c.args.lists.now c.requires.room

@@ -2,11 +2,9 @@ ghost use Rattle.std.specs.Prelude.{◌≡◌, ◌≤◌, ◌++◌, ℕ, List, O
 ghost use Rattle.std.specs.List.{AllByRecursion};
 ghost use Rattle.std.specs.Option.{option_to_list};
 ghost use Rattle.mdf_num.specs.Halt.{HaltCause};
-ghost use Rattle.mdf_block.specs.Refusal.{Read, Gives, IsPlain};
-ghost use Rattle.mdf_content.specs.Fault.{read_refusal};
-ghost use Rattle.mdf_content.specs.Visit.{gathered, Each};
+ghost use Rattle.mdf_block.specs.Refusal.{Refusal, Read, Gives, IsPlain};
+ghost use Rattle.mdf_block.specs.Every.{every, AllByNumber};
 
-use crate::{ReadFault, Room};
 use mdf_num::{Halt, Memory, Rows, Span};
 use std::alloc::Global;
 
@@ -22,6 +20,15 @@ pub trait Visit {
     /// What is carried from one item to the next.
     type State: Copy;
 
+    /// What is passed along for all items, as a bound on what is kept of the file.
+    type Room;
+
+    /// Why a file is refused.
+    type Fault: Drop;
+
+    /// What a fault says of the file.
+    ghost refusal: { Self.Fault → Option Refusal };
+
     /// What is read for an item, which has this number in the list.
     ghost read: { Self → List ℕ → ℕ → Self.Item → Self.State → Read (Option Self.Found × Self.State) };
 
@@ -34,7 +41,7 @@ pub trait Visit {
     /// What is known of what is read of a file that is told.
     ghost gives: { Self → Self.Found → Type 0 } = { λ _ _. Unit {0} };
 
-    /// What is read for item `k`, where something is, and what is carried on. What is kept of the file takes of the room.
+    /// What is read for item `k`, where something is, and what is carried on.
     fn item_in<P: Span>(
         &self,
         alloc: Global,
@@ -42,13 +49,13 @@ pub trait Visit {
         k: usize,
         item: &Self::Item,
         state: Self::State,
-        room: &mut Room,
-    ) -> Result<(Option<Self::Found>, Self::State), Halt<ReadFault>>
+        room: &mut Self::Room,
+    ) -> Result<(Option<Self::Found>, Self::State), Halt<Self::Fault>>
         requires needs { needs self.now (P.size span.old) }
         requires admitted { admits self.now k item.now }
-        ensures found { (f : List ℕ) → P.bytes span.old ≡ Some f → Gives read_refusal result (read self.now f k item.now state) }
+        ensures found { (f : List ℕ) → P.bytes span.old ≡ Some f → Gives refusal result (read self.now f k item.now state) }
         ensures given { (f : List ℕ) → P.bytes span.old ≡ Some f → IfOk result (λ found. IfSome found.0 (gives self.now)) }
-        ensures plain { IfErr result (IsPlain read_refusal) }
+        ensures plain { IfErr result (IsPlain refusal) }
         ensures same { P.bytes span.new ≡ P.bytes span.old }
         ensures size { P.size span.new ≡ P.size span.old }
         ensures cause { HaltCause true (P.faults span.old) (P.faults span.new) result };
@@ -68,19 +75,19 @@ fn push_some<T: Drop>(all: &mut Rows<T>, item: Option<T>) -> Result<(), Memory>
 ///
 /// # Errors
 /// The first refusal of an item; the span's own; and want of memory.
-pub fn gathered_in<V: Visit, P: Span>(
+pub fn every_in<V: Visit, P: Span>(
     alloc: Global,
     visit: &V,
     span: &mut P,
     items: &[V::Item],
     start: V::State,
-    room: &mut Room,
-) -> Result<(Rows<V::Found>, V::State), Halt<ReadFault>>
+    room: &mut V::Room,
+) -> Result<(Rows<V::Found>, V::State), Halt<V::Fault>>
     requires needs { V.needs visit.now (P.size span.old) }
-    requires admitted { Each (V.admits visit.now) items.now }
-    ensures found { (f : List ℕ) → P.bytes span.old ≡ Some f → Gives read_refusal result (gathered (V.read visit.now f) 0 items.now start) }
+    requires admitted { AllByNumber (V.admits visit.now) items.now }
+    ensures found { (f : List ℕ) → P.bytes span.old ≡ Some f → Gives V.refusal result (every (V.read visit.now f) 0 items.now start) }
     ensures given { (f : List ℕ) → P.bytes span.old ≡ Some f → IfOk result (λ found. AllByRecursion (V.gives visit.now) found.0) }
-    ensures plain { IfErr result (IsPlain read_refusal) }
+    ensures plain { IfErr result (IsPlain V.refusal) }
     ensures same { P.bytes span.new ≡ P.bytes span.old }
     ensures size { P.size span.new ≡ P.size span.old }
     ensures cause { HaltCause true (P.faults span.old) (P.faults span.new) result }

@@ -1,8 +1,7 @@
 use Rattle.std.proofs.Common.{sym, ◌∙◌, arith}
 use Rattle.std.proofs.lemmas.Result.{err_from_is_err_and}
-use Rattle.mdf_content.specs.Fault.{read_refusal}
-use Rattle.mdf_content.proofs.Gathered.{is_done, goes_on, ends, all_and}
-use Rattle.mdf_content.proofs.visit.gathered_in.Goals as goal
+use Rattle.mdf_block.proofs.Everys.{is_done, goes_on, ends, all_and}
+use Rattle.mdf_block.proofs.every.every_in.Goals as goal
 
 pub returns-in_err-found-clause-found : goal.returns-in_err-found-clause-found
 returns-in_err-found-clause-found g c = λ f told.
@@ -11,7 +10,7 @@ returns-in_err-found-clause-found g c = λ f told.
     let visit = c.args.visit.now in
     let one = c.index-items-k in
     rw (p.1, p.2) (
-    ends (g.V.Visit.read visit f) c.args.items.now read_refusal _ loop.all loop.k loop.state one.result c.loop-k-test.true one.is
+    ends (g.V.Visit.read visit f) c.args.items.now g.V.Visit.refusal _ loop.all loop.k loop.state one.result c.loop-k-test.true one.is
     (c.in_err-found.ensures.found f (loop.invariant.same ∙ told)) _ (loop.invariant.found f told)
     )
 
