@@ -11,7 +11,7 @@ use Rattle.book_shared.specs.Place.{Place, own_part}
 use Rattle.book_shared.specs.Told.{HasMark}
 use Rattle.book_shared.specs.declared.view.View.{View}
 use Rattle.acq_run.specs.Tasks.{flushes_of, samples_of, Feeds, IsTask, MayFeed}
-use Rattle.acq_run.specs.Works.{AreMarked, IsMarkedAt, IsLater, Does, Ends, HasDriven, HasHeard, IsSameSeat}
+use Rattle.acq_run.specs.Works.{AreMarked, IsMarkedAt, IsLater, Does, Ends, HasDriven, HasFed, HasHeard, IsSameSeat}
 use Rattle.acq_run.specs.declared.tasks.Fed.{Fed}
 use Rattle.acq_run.specs.declared.tasks.Fed.TheVariants as fed
 use Rattle.acq_run.specs.declared.work.Ended.{Ended}
@@ -125,6 +125,11 @@ pub nothing_left : (left later : List Fed) → Feeds left fed.End later → left
 nothing_left [] later feeds = refl
 nothing_left (next ∷ rest) later feeds = absurd (subst IsTask (sym feeds.0) feeds.1)
 
+-- and nothing behind it
+nothing_behind : (left later : List Fed) → Feeds left fed.End later → later ≡ []
+nothing_behind [] later feeds = feeds.1
+nothing_behind (next ∷ rest) later feeds = absurd (subst IsTask (sym feeds.0) feeds.1)
+
 first_may : (basis : Basis) (number : ℕ) (left : List Fed) (task : Fed) (later : List Fed) → left ≡ task ∷ later → All (MayFeed basis.owners basis.terms number) left → MayFeed basis.owners basis.terms number task
 first_may basis number left task later is all = subst (All (MayFeed basis.owners basis.terms number)) is all 0 task (omega arith)
 
@@ -185,6 +190,12 @@ module _ (old mid : Place) (feds left : List Fed) (n : ℕ) (has : HasDone old m
           };
         }
 
+    -- what is behind it is left of the feed
+    pub fed_stopped : (task : Fed) (later : List Fed) (how : Ended) → Feeds left task later → IsTask task → Does mid.know new.know mid.number [] 0
+        → ((rest : List Fed) → Ends new.know new.number (task ∷ rest) how) → HasFed old new feds n how later
+    unfolding stopped_at
+    fed_stopped task later how feeds is does ends = record { driven = stopped_at task later how feeds is does ends; left_is = refl }
+
   -- the feed has ended
   pub all_done : (later : List Fed) → Feeds left fed.End later → HasDriven old mid feds n Done
   all_done later feeds = record {
@@ -197,6 +208,11 @@ module _ (old mid : Place) (feds left : List Fed) (n : ℕ) (has : HasDone old m
       ends = refl;
     };
   }
+
+  -- and nothing is left of it
+  pub fed_all : (later : List Fed) → Feeds left fed.End later → HasFed old mid feds n Done later
+  unfolding all_done
+  fed_all later feeds = record { driven = all_done later feeds; left_is = nothing_behind left later feeds }
 
 -- what a source was driven to so far, and its follower was told of each flush
 pub record HasTold {L : Type 0} (hears : L → ℕ → L → Type 0) (old new : Place) (feds left : List Fed) (accepted : ℕ) (follower follower' : L) : Type 0 where

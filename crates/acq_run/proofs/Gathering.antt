@@ -13,7 +13,7 @@ use Rattle.book_shared.specs.Basis.{Basis}
 use Rattle.book_shared.specs.Place.{Place, own_part}
 use Rattle.book_shared.specs.Seats.{new_seat, new_seats, AreOf, HasNumber, Closed, Closes}
 use Rattle.acq_run.specs.Tasks.{MayFeed}
-use Rattle.acq_run.specs.Works.{AreMarked, HasDriven, IsOver}
+use Rattle.acq_run.specs.Works.{AreMarked, HasDriven, HasRoomNext, IsOver}
 use Rattle.acq_run.specs.Workers.{IsReady, driven_of}
 use Rattle.acq_run.specs.Ran.{AllMayFeed, AllRan, EndsIn, Ran}
 use Rattle.acq_run.specs.declared.tasks.Fed.{Fed}
@@ -52,31 +52,39 @@ module _ {D V : Type 0} (basis : Basis) (book : Account D V) (terms : book.terms
   ran_all : EndsIn book book.history driven.drives.rest how → Ran basis.owners book number feds (record { accepted = accepted; ended = how })
   ran_all ends = ran_with book.history (prefix_self book.history) refl ends
 
+  same_terms : seat.know.basis.terms ≡ book.terms
+  same_terms = ap (λ (b : Basis). b.terms) same_basis ∙ sym terms
+
+  -- it ended where all of its own had been seen
+  ran_seen : source_samples seat.know.basis.owners seat.know.seen number ≡ own_part seat.know.mine → EndsIn book seat.know.seen driven.drives.rest how
+      → Ran basis.owners book number feds (record { accepted = accepted; ended = how })
+  ran_seen all_own ends =
+      ran_with seat.know.seen closed.seen (ap (λ (b : Basis). source_samples b.owners seat.know.seen number) (sym same_basis) ∙ all_own ∙ of_book) ends
+
 pub ran_of : {D V : Type 0} (basis : Basis) (book : Account D V) → book.terms ≡ basis.terms → (table : TableId) (number : ℕ) (seat : Place) → Closed basis book seat
     → (feds : List Fed) (accepted : ℕ) (how : Ended) → HasDriven (new_seat table basis number) seat feds accepted how
     → Ran basis.owners book number feds (record { accepted = accepted; ended = how })
 ran_of basis book terms table number seat closed feds accepted Running driven = absurd driven.drives.ends
 ran_of basis book terms table number seat closed feds accepted Done driven = ran_all basis book terms table number seat closed feds accepted Done driven driven.drives.ends
 ran_of basis book terms table number seat closed feds accepted (SessionFull held size limit) driven =
-    let same = same_basis basis book terms table number seat closed feds accepted (SessionFull held size limit) driven in
-    let ends = driven.drives.ends in
-    ran_with basis book terms table number seat closed feds accepted (SessionFull held size limit) driven seat.know.seen closed.seen
-    (ap (λ (b : Basis). source_samples b.owners seat.know.seen number) (sym same) ∙ ends.1
-    ∙ of_book basis book terms table number seat closed feds accepted (SessionFull held size limit) driven)
-    (subst (λ (t : Terms). IsOver t seat.know.seen driven.drives.rest held size limit) (ap (λ (b : Basis). b.terms) same ∙ sym terms) ends.0)
+    ran_seen basis book terms table number seat closed feds accepted (SessionFull held size limit) driven driven.drives.ends.1
+    (subst (λ (t : Terms). IsOver t seat.know.seen driven.drives.rest held size limit)
+    (same_terms basis book terms table number seat closed feds accepted (SessionFull held size limit) driven) driven.drives.ends.0)
 ran_of basis book terms table number seat closed feds accepted (Stopped mark) driven =
     ran_all basis book terms table number seat closed feds accepted (Stopped mark) driven
     (closed.knows driven.drives.ends.1, (seat.know.kept, closed.kept, driven.drives.ends.0))
 ran_of basis book terms table number seat closed feds accepted (DiskFault before after) driven =
     ran_all basis book terms table number seat closed feds accepted (DiskFault before after) driven (closed.knows driven.drives.ends.1, driven.drives.ends.0)
 ran_of basis book terms table number seat closed feds accepted Memory driven =
-    ran_all basis book terms table number seat closed feds accepted Memory driven driven.drives.ends.1
+    ran_seen basis book terms table number seat closed feds accepted Memory driven driven.drives.ends.2
+    (subst (λ (t : Terms). HasRoomNext t seat.know.seen driven.drives.rest)
+    (same_terms basis book terms table number seat closed feds accepted Memory driven) driven.drives.ends.1)
 
 -- what is said to be done of a source is what its work did
 pub done_of : {D V : Type 0} (basis : Basis) (book : Account D V) (terms : book.terms ≡ basis.terms) (table : TableId) (number : ℕ) (seat : Place) (closed : Closed basis book seat)
     (feds : List Fed) (accepted : ℕ) (how : Ended) (driven : HasDriven (new_seat table basis number) seat feds accepted how)
     → (ran_of basis book terms table number seat closed feds accepted how driven).done ≡ driven.drives.done
-unfolding ran_of ran_all ran_with
+unfolding ran_of ran_all ran_seen ran_with
 done_of basis book terms table number seat closed feds accepted Running driven = absurd driven.drives.ends
 done_of basis book terms table number seat closed feds accepted Done driven = refl
 done_of basis book terms table number seat closed feds accepted (SessionFull held size limit) driven = refl

@@ -5,7 +5,7 @@ use Rattle.mdf_gate.proofs.Carrying.{prefix_trans}
 use Rattle.mdf_layout.specs.History.{source_samples}
 use Rattle.mdf_layout.specs.declared.sample.Sample.{Sample}
 use Rattle.book_owned.specs.Account.{Account, Steps, Terms}
-use Rattle.acq_run.specs.Works.{IsOver}
+use Rattle.acq_run.specs.Works.{HasRoomNext, IsOver}
 use Rattle.acq_run.specs.Ran.{AllRan, EndsIn, Ran}
 use Rattle.acq_run.specs.declared.tasks.Fed.{Fed}
 use Rattle.acq_run.specs.declared.work.Driven.{Driven}
@@ -24,7 +24,7 @@ module _ {D V : Type 0} (old new : Account D V) (steps : Steps old new []) where
   ends_later before rest (Stopped mark) ends =
       (steps.stopped ends.0, (ends.1.0, prefix_trans ends.1.0 old.marks new.marks ends.1.1 steps.marks, ends.1.2))
   ends_later before rest (DiskFault less more) ends = (steps.stopped ends.0, ends.1)
-  ends_later before rest Memory ends = ends
+  ends_later before rest Memory ends = subst (λ (t : Terms). HasRoomNext t before rest) (sym steps.terms) ends
 
   ran_later : (owners : List ℕ) (source : ℕ) (feds : List Fed) (driven : Driven) → Ran owners old source feds driven → Ran owners new source feds driven
   ran_later owners source feds driven ran = record {

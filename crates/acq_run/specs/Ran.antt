@@ -8,7 +8,7 @@ use Rattle.book_owned.specs.Account.{Account, Terms}
 use Rattle.book_owned.specs.Marks.{last_mark}
 use Rattle.book_owned.specs.declared.mark.Mark.{Mark}
 use Rattle.acq_run.specs.Tasks.{flushes_of, samples_of, MayFeed}
-use Rattle.acq_run.specs.Works.{AreMarked, IsNext, IsOver}
+use Rattle.acq_run.specs.Works.{AreMarked, HasRoomNext, IsOver}
 use Rattle.acq_run.specs.declared.tasks.Fed.{Fed}
 use Rattle.acq_run.specs.declared.work.Driven.{Driven}
 use Rattle.acq_run.specs.declared.work.Ended.{Ended}
@@ -25,7 +25,7 @@ EndsIn book before rest Done = rest ≡ []
 EndsIn book before rest (SessionFull held size limit) = IsOver book.terms before rest held size limit
 EndsIn book before rest (Stopped mark) = (book.stopped ≡ true) × WasLast book.marks mark
 EndsIn book before rest (DiskFault less more) = (book.stopped ≡ true) × Rose less more
-EndsIn book before rest Memory = (sample : Sample) × IsNext rest sample
+EndsIn book before rest Memory = HasRoomNext book.terms before rest
 
 -- A source has worked: some of what its feed had was done, and just those samples are its own in the history. It ended behind
 -- a beginning of the history that has all of them.

@@ -1,15 +1,17 @@
 -- What the work of a source does to its seat.
-use Rattle.std.specs.Prelude.{ℕ, ◌≡◌, ◌+◌, ◌≤◌, ◌<◌, Bool, true, false, List, [], ◌∷◌, ◌++◌, length, take}
+use Rattle.std.specs.Prelude.{ℕ, ◌≡◌, ◌+◌, ◌≤◌, ◌<◌, Bool, true, false, List, [], ◌∷◌, ◌++◌, length, take, drop}
 use mathlib.Core.List.{IsPrefix}
 use Rattle.mdf_format.specs.Cause.{Rose}
+use Rattle.mdf_disk.specs.declared.disk.Disk.{Ghosts as DiskOf}
 use Rattle.mdf_layout.specs.History.{source_samples}
 use Rattle.mdf_layout.specs.Record.{cost_of, history_cost}
 use Rattle.mdf_layout.specs.declared.sample.Sample.{Sample}
-use Rattle.book_owned.specs.Account.{Terms}
+use Rattle.book_owned.specs.Account.{Account, Terms}
 use Rattle.book_owned.specs.Marks.{last_mark}
 use Rattle.book_owned.specs.declared.mark.Mark.{Mark}
+use Rattle.book_owned.specs.declared.view.Shown.{Ghosts as ViewOf}
 use Rattle.book_shared.specs.Basis.{holding}
-use Rattle.book_shared.specs.Told.{HasMark}
+use Rattle.book_shared.specs.Told.{HasMark, Turned}
 use Rattle.book_shared.specs.Place.{Place, own_part}
 use Rattle.book_shared.specs.declared.view.View.{View}
 use Rattle.acq_run.specs.Tasks.{flushes_of, samples_of}
@@ -48,6 +50,12 @@ pub record IsOver (terms : Terms) (history : List Sample) (rest : List Fed) (hel
   pub limit_is : limit ≡ terms.session_limit
   pub over : limit < held + size
 
+-- behind this history the session has room for the next sample
+pub record HasRoomNext (terms : Terms) (history : List Sample) (rest : List Fed) : Type 0 where
+  pub sample : Sample
+  pub next : IsNext rest sample
+  pub room : history_cost terms.layouts history + cost_of terms.layouts sample ≤ terms.session_limit
+
 -- the seat's last turn found the book stopped, or not
 abbrev pub Found : View → Bool → Type 0
 Found u stopped = (history : List Sample) × (marks : List Mark) × (u.last ≡ holding history marks stopped)
@@ -61,7 +69,19 @@ Ends u source rest (SessionFull held size limit) =
     IsOver u.basis.terms u.seen rest held size limit × (source_samples u.basis.owners u.seen source ≡ own_part u.mine)
 Ends u source rest (Stopped mark) = (mark ≡ last_mark u.kept) × (u.knows ≡ true) × Found u true
 Ends u source rest (DiskFault before after) = Rose before after × (u.knows ≡ true) × Found u false
-Ends u source rest Memory = (u.knows ≡ false) × ((sample : Sample) × IsNext rest sample)
+Ends u source rest Memory =
+    (u.knows ≡ false) × HasRoomNext u.basis.terms u.seen rest × (source_samples u.basis.owners u.seen source ≡ own_part u.mine)
+
+-- Where a source's work ended by a fault of the disk, the two numbers say how often the disk had failed before the seat's
+-- last turn, and after it.
+abbrev pub CountsFaults : {D V N : Type 0} → DiskOf D → ViewOf V N → View → Ended → Type 0
+CountsFaults disk view u Running = Unit {0}
+CountsFaults disk view u Done = Unit {0}
+CountsFaults disk view u (SessionFull held size limit) = Unit {0}
+CountsFaults disk view u (Stopped mark) = Unit {0}
+CountsFaults {D} {V} disk view u (DiskFault before after) =
+    (old new : Account D V) × Turned u old new × (before ≡ disk.faults old.disk) × (after ≡ disk.faults new.disk)
+CountsFaults disk view u Memory = Unit {0}
 
 -- the seat has seen and kept what it had, and more, knows of a stop where it knew, and is at the same book
 pub record IsLater (v u : View) : Type 0 where
@@ -94,6 +114,11 @@ pub record IsSameSeat (old new : Place) : Type 0 where
 pub record HasDriven (old new : Place) (feds : List Fed) (accepted : ℕ) (how : Ended) : Type 0 where
   pub seat : IsSameSeat old new
   pub drives : Drives old.know new.know old.number feds accepted how
+
+-- So did a source's work, and its feed has then left what comes behind the first that was not done.
+pub record HasFed (old new : Place) (feds : List Fed) (accepted : ℕ) (how : Ended) (left : List Fed) : Type 0 where
+  pub driven : HasDriven old new feds accepted how
+  pub left_is : left ≡ drop 1 driven.drives.rest
 
 -- So did a source's work, and from the one follower to the other just so many flushes were told as were done.
 pub record HasHeard {L : Type 0} (hears : L → ℕ → L → Type 0) (old new : Place) (feds : List Fed) (accepted : ℕ) (how : Ended) (follower follower' : L) : Type 0 where

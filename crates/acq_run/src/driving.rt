@@ -1,7 +1,7 @@
 //! How a source works.
 ghost use Rattle.std.specs.Prelude.{◌≡◌, List, [], ◌∷◌, IfOk, IfErr};
 ghost use Rattle.acq_run.specs.Tasks.{IsTask, MayFeed, flushes_of};
-ghost use Rattle.acq_run.specs.Works.{Does, Drives, Ends, HasDriven, HasHeard, IsSameSeat};
+ghost use Rattle.acq_run.specs.Works.{CountsFaults, Does, Drives, Ends, HasDriven, HasFed, HasHeard, IsSameSeat};
 ghost use Rattle.acq_run.specs.Workers.{IsReady};
 ghost use Rattle.acq_run.specs.declared.tasks.Fed.{Fed};
 
@@ -30,6 +30,7 @@ fn perform<R: Threads + Wait + Sync, D: Disk, V: Shown, L: Follower<V>>(
     ensures done { IfOk result (λ accepted. Does seat.old.know seat.new.know seat.old.number (task ∷ []) accepted) }
     ensures ended { IfErr result (λ ended. Does seat.old.know seat.new.know seat.old.number [] 0
         × ((later : List Fed) → Ends seat.new.know seat.new.number (task ∷ later) ended)) }
+    ensures counted { IfErr result (CountsFaults D.Disk V.Shown seat.new.know) }
     ensures follows { L.follows follower.new seat.new.know.basis.terms.which seat.new.know.seen }
     ensures heard { IfOk result (λ _. L.hears follower.old (flushes_of (task ∷ [])) follower.new) }
     ensures unheard { IfErr result (λ _. follower.new ≡ follower.old) }
@@ -74,6 +75,8 @@ pub fn drive_with<R: Threads + Wait + Sync, D: Disk, V: Shown, F: Feed, L: Follo
     ensures driven { HasDriven seat.old seat.new (F.left feed.old) result.accepted result.ended }
     ensures follows { L.follows follower.new seat.new.know.basis.terms.which seat.new.know.seen }
     ensures heard { HasHeard L.hears seat.old seat.new (F.left feed.old) result.accepted result.ended follower.old follower.new }
+    ensures fed { HasFed seat.old seat.new (F.left feed.old) result.accepted result.ended (F.left feed.new) }
+    ensures counted { CountsFaults D.Disk V.Shown seat.new.know result.ended }
 {
     let mut accepted = 0;
     for _ in rt.forever() {
@@ -106,6 +109,8 @@ pub fn drive<R: Threads + Wait + Sync, D: Disk, V: Shown, F: Feed, L: Follower<V
     ensures follows { L.follows worker.new.follower worker.new.seat.know.basis.terms.which worker.new.seat.know.seen }
     ensures heard { HasHeard L.hears worker.old.seat worker.new.seat (F.left worker.old.feed) worker.new.accepted worker.new.ended
         worker.old.follower worker.new.follower }
+    ensures fed { HasFed worker.old.seat worker.new.seat (F.left worker.old.feed) worker.new.accepted worker.new.ended (F.left worker.new.feed) }
+    ensures counted { CountsFaults D.Disk V.Shown worker.new.seat.know worker.new.ended }
 {
     let Driven { accepted, ended } = drive_with(
         rt,

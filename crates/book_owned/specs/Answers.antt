@@ -84,6 +84,14 @@ AppendAnswers disk view old new sample (DiskFault before after) =
     × (new.view ≡ old.view)
 AppendAnswers disk view old new sample Memory = (old.stopped ≡ false) × (new ≡ old) × HasRoom old sample
 
+-- an answer that is given before room for a sample is looked for: the book is stopped, or the session has no room for it
+abbrev pub IsRefusal : Append → Type 0
+IsRefusal (Accepted place) = ⊥
+IsRefusal (SessionFull held size limit) = Unit {0}
+IsRefusal (Stopped mark) = Unit {0}
+IsRefusal (DiskFault before after) = ⊥
+IsRefusal Memory = ⊥
+
 -- what a flush did to the marks: nothing where all was durable, or it added one through the whole history
 abbrev pub MarksAll : {D V : Type 0} → DiskOf D → Account D V → Account D V → Type 0
 MarksAll disk old new =

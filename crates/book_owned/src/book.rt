@@ -63,7 +63,7 @@ impl<D: Disk, V: Shown> Book<D, V> {
     ghost use Rattle.book_owned.specs.Account.{Account, Steps};
     ghost use Rattle.book_owned.specs.Kept.{HoldsDurable, IsKept, IsShowing};
     ghost use Rattle.book_owned.specs.Begun.{IsNewFile, IsAdmissible, HasBegun};
-    ghost use Rattle.book_owned.specs.Answers.{AppendAnswers, FlushAnswers, HasRoom, PassesBlock, FitsBlock, accepted_by};
+    ghost use Rattle.book_owned.specs.Answers.{AppendAnswers, FlushAnswers, HasRoom, PassesBlock, FitsBlock, IsRefusal, accepted_by};
     ghost use Rattle.book_owned.specs.Events.{AppendEvents, PutEvents, FlushEvents};
 
     /// Begins a book over a file that was just created. It makes the first mark, with no sample.
@@ -168,6 +168,7 @@ impl<D: Disk, V: Shown> Book<D, V> {
         requires size { encoded_size self.now.terms.layouts sample.now ≤ self.now.terms.block_limit }
         ensures none { IfNone result ((self.now.stopped ≡ false) × HasRoom self.now sample.now) }
         ensures refused { IfSome result (λ answer. AppendAnswers D.Disk V.Shown self.now self.now sample.now answer × (accepted_by answer sample.now ≡ [])) }
+        ensures before_memory { IfSome result IsRefusal }
     {
         let size = self.front.shapes.encoded_size(sample);
         refusal(&self.front, self.file.failed(), sample, size)

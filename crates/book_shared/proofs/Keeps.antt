@@ -15,7 +15,7 @@ use Rattle.mdf_layout.specs.declared.sample.Sample.{Sample}
 use Rattle.book_owned.specs.Account.{Account}
 use Rattle.book_owned.specs.declared.mark.Mark.{Mark}
 use Rattle.book_shared.specs.Basis.{Basis, Turn, idle, holding}
-use Rattle.book_shared.specs.Rule.{World, total, times_in, has, holds_turn, AreOwn, AreOfSources, Names, Knows, TurnsCount, SeatsKnow, Has, AtHome, Runs}
+use Rattle.book_shared.specs.Rule.{World, total, has, holds_turn, AreOwn, AreOfSources, Names, Knows, TurnsCount, SeatsKnow, Has, AtHome, Runs}
 use Rattle.book_shared.specs.Plays.{recount, looked, taking, given, Meets, AreFrom, Returns, Holds, Looks, Wins, Takes, Gives}
 use Rattle.book_shared.specs.declared.view.View.{View}
 use Rattle.book_shared.proofs.Sums.{total-set, term_le, terms_le}

@@ -25,7 +25,7 @@ use Rattle.book_shared.specs.Rule.{times_in, AreOwn}
 use Rattle.book_shared.specs.Plays.{recount, looked, given, AreFrom, Holds, Wins, Takes}
 use Rattle.book_shared.specs.Place.{own_part, IsSingle}
 use Rattle.book_shared.specs.Turns.{Took, Served, Waited, Rests, MayTake, Works}
-use Rattle.book_shared.specs.Told.{Told, Appends, Tries, tried_by, Puts, HasMark, FlushTold, Flushes, FlushesAll, IsNoted, Turned, TriesBook}
+use Rattle.book_shared.specs.Told.{Told, Appends, Tries, tried_by, IsNoFault, NeedsNoDisk, Puts, HasMark, FlushTold, Flushes, FlushesAll, IsNoted, Turned, TriesBook}
 use Rattle.book_shared.specs.declared.answer.Try.{Try}
 use Rattle.book_shared.specs.declared.answer.Try.TheVariants.{Busy, NeedsFlush, Answered}
 use Rattle.book_shared.specs.declared.view.View.{View}
@@ -208,7 +208,11 @@ module _ {D V : Type 0} where
   )
   told_append disk view v u word old new sample (Stopped mark) terms is = (is.mark_is, ap (λ (a : Account D V). a.stopped) is.same ∙ is.stopped)
   told_append disk view v u word old new sample (DiskFault before after) terms is = (is.1.rose, is.1.stopped)
-  told_append disk view v u word old new sample Memory terms is = ap (λ (a : Account D V). a.stopped) is.1 ∙ is.0
+  told_append disk view v u word old new sample Memory terms is = (
+    ap (λ (a : Account D V). a.stopped) is.1 ∙ is.0,
+    subst (λ (a : Account D V). history_cost v.basis.terms.layouts a.history + cost_of v.basis.terms.layouts sample ≤ v.basis.terms.session_limit) (sym is.1)
+        (subst (λ (t : Terms). history_cost t.layouts old.history + cost_of t.layouts sample ≤ t.session_limit) terms is.2),
+  )
 
   pub appends_now : {N : Type 0} (disk : DiskOf D) (view : ViewOf V N) (v u x : View) (word : ℕ) (old new : Account D V) (sample : Sample) (answer : Append) → Took v u old
       → Steps old new (accepted_by answer sample) → IsSingle v (slice_index v.basis.owners sample.group) → AppendAnswers disk view old new sample answer
@@ -226,6 +230,14 @@ adds_try : (owners : List ℕ) (mine : List (ℕ × List Sample)) (sample : Samp
 adds_try owners mine sample (Busy word back) single = adds_none owners mine (slice_index owners sample.group)
 adds_try owners mine sample (NeedsFlush held size limit back) single = adds_none owners mine (slice_index owners sample.group)
 adds_try owners mine sample (Answered answer) single = adds_by owners mine sample answer single
+
+-- an answer that no call of the disk led to is no fault of it
+no_fault : {D V : Type 0} (old : Account D V) (sample : Sample) (answer : Append) → NeedsNoDisk old sample answer → IsNoFault answer
+no_fault old sample (Accepted place) needs = tt
+no_fault old sample (SessionFull held size limit) needs = tt
+no_fault old sample (Stopped mark) needs = tt
+no_fault old sample (DiskFault before after) needs = absurd needs
+no_fault old sample Memory needs = tt
 
 -- the sizes of a full block, by the terms that the seat knows
 full_sizes : (first second : Terms) (sample : Sample) (behind history : List Sample) (held size limit : ℕ) → first ≡ second
@@ -269,7 +281,7 @@ module _ {D V N : Type 0} (disk : DiskOf D) (view : ViewOf V N) where
       served_given v u word old new (accepted_by answer sample) (slice_index v.basis.owners sample.group) took steps single (adds_by v.basis.owners v.mine sample answer single),
       told_append disk view v u word old new sample answer took.meets.terms puts.0,
     ),
-    puts.1,
+    no_fault old sample answer puts.1,
   )
 
   pub tries_now : (v u x : View) (word : ℕ) (old new : Account D V) (sample : Sample) (answer : Try) → Took v u old → Steps old new (tried_by answer sample)

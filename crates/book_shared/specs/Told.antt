@@ -6,7 +6,7 @@ use Rattle.mdf_layout.specs.Record.{cost_of, encoded_size, history_cost, history
 use Rattle.mdf_layout.specs.declared.sample.Sample.{Sample}
 use Rattle.book_owned.specs.Marks.{last_mark, durable}
 use Rattle.book_owned.specs.Account.{Account}
-use Rattle.book_owned.specs.Answers.{AppendAnswers, FlushAnswers, HasRoom, PassesBlock, accepted_by}
+use Rattle.book_owned.specs.Answers.{AppendAnswers, FlushAnswers, HasRoom, PassesBlock, FitsBlock, accepted_by}
 use Rattle.book_owned.specs.declared.view.Shown.{Ghosts as ViewOf}
 use Rattle.book_owned.specs.declared.mark.Mark.{Mark}
 use Rattle.book_owned.specs.declared.answer.Append.{Append}
@@ -28,7 +28,9 @@ Told u history sample (SessionFull held size limit) =
     × (limit ≡ u.basis.terms.session_limit) × (limit < held + size) × (u.knows ≡ false)
 Told u history sample (Stopped mark) = (mark ≡ last_mark u.kept) × (u.knows ≡ true)
 Told u history sample (DiskFault before after) = Rose before after × (u.knows ≡ true)
-Told u history sample Memory = u.knows ≡ false
+Told u history sample Memory =
+    (u.knows ≡ false)
+    × (history_cost u.basis.terms.layouts u.seen + cost_of u.basis.terms.layouts sample ≤ u.basis.terms.session_limit)
 
 -- an append: one turn, in which the sample was accepted just where the answer says so
 abbrev pub Appends : View → View → Sample → Append → Type 0
@@ -70,6 +72,15 @@ tried_by (Busy word back) sample = []
 tried_by (NeedsFlush held size limit back) sample = []
 tried_by (Answered answer) sample = accepted_by answer sample
 
+-- an answer that no call of the disk led to: where the sample was accepted, or memory was wanted for it, its record and the
+-- pending ones are within the block limit
+abbrev pub NeedsNoDisk : {D V : Type 0} → Account D V → Sample → Append → Type 0
+NeedsNoDisk old sample (Accepted place) = FitsBlock old sample
+NeedsNoDisk old sample (SessionFull held size limit) = Unit {0}
+NeedsNoDisk old sample (Stopped mark) = Unit {0}
+NeedsNoDisk old sample (DiskFault before after) = ⊥
+NeedsNoDisk old sample Memory = FitsBlock old sample
+
 -- what a try does to the book, once the seat has the turn
 abbrev pub Puts : {D V N : Type 0} → DiskOf D → ViewOf V N → Account D V → Account D V → Sample → Try → Type 0
 Puts disk view old new sample (Busy word back) = ⊥
@@ -77,7 +88,7 @@ Puts disk view old new sample (NeedsFlush held size limit back) =
     (old.stopped ≡ false) × HasRoom old sample × (new ≡ old)
     × (held ≡ history_size old.terms.layouts (drop (durable old.marks) old.history))
     × (size ≡ encoded_size old.terms.layouts sample) × (limit ≡ old.terms.block_limit) × PassesBlock old sample × (back ≡ sample)
-Puts disk view old new sample (Answered answer) = AppendAnswers disk view old new sample answer × IsNoFault answer
+Puts disk view old new sample (Answered answer) = AppendAnswers disk view old new sample answer × NeedsNoDisk old sample answer
 
 -- these marks have one with so many samples
 pub record HasMark (marks : List Mark) (through : ℕ) : Type 0 where

@@ -1,5 +1,5 @@
 use Rattle.std.proofs.Common.{◌∙◌, arith}
-use Rattle.acq_run.proofs.Doing.{few_more, heard_all, heard_stopped, next_may, task_of, told_first, told_on}
+use Rattle.acq_run.proofs.Doing.{few_more, fed_all, fed_stopped, heard_all, heard_stopped, next_may, task_of, told_first, told_on}
 use Rattle.acq_run.proofs.driving.drive_with.Goals as goal
 
 pub loop-init : goal.loop-init
@@ -12,7 +12,14 @@ pub returns-in-End : goal.returns-in-End
 returns-in-End g c =
     let all = heard_all g.L.Follower.hears g.met.L.Follower.hears_more c.args.seat.now c.loop.seat (g.F.Feed.left c.args.feed.now) (g.F.Feed.left c.loop.feed) c.loop.accepted
     c.args.follower.now c.loop.follower c.loop.invariant.told (g.F.Feed.left c.next-in-loop.new.self) c.in-End.ensures in
-    record { driven = all.driven; follows = c.loop.invariant.follows; heard = all }
+    record {
+      driven = all.driven;
+      follows = c.loop.invariant.follows;
+      heard = all;
+      fed = fed_all c.args.seat.now c.loop.seat (g.F.Feed.left c.args.feed.now) (g.F.Feed.left c.loop.feed) c.loop.accepted
+          c.loop.invariant.told.done (g.F.Feed.left c.next-in-loop.new.self) c.in-End.ensures;
+      counted = tt;
+    }
 
 pub perform-requires-clause-table : goal.perform-requires-clause-table
 perform-requires-clause-table g c κs within = c.loop.invariant.told.done.seat.table_is ∙ c.requires.ready.table_is
@@ -61,4 +68,12 @@ returns-in-Err g c =
     c.args.follower.now c.loop.follower c.loop.invariant.told c.perform.new.seat c.in-Err.ensures.seat c.perform.new.follower
     task later c.in-Err.ended c.next-in-loop.ensures (task_of left task later c.next-in-loop.ensures c.in_default.not-End) c.in-Err.ensures.ended.0 c.in-Err.ensures.ended.1
     c.in-Err.ensures.unheard in
-    record { driven = stopped.driven; follows = c.in-Err.ensures.follows; heard = stopped }
+    record {
+      driven = stopped.driven;
+      follows = c.in-Err.ensures.follows;
+      heard = stopped;
+      fed = fed_stopped c.args.seat.now c.loop.seat (g.F.Feed.left c.args.feed.now) left c.loop.accepted c.loop.invariant.told.done c.perform.new.seat
+          c.in-Err.ensures.seat task later c.in-Err.ended c.next-in-loop.ensures (task_of left task later c.next-in-loop.ensures c.in_default.not-End)
+          c.in-Err.ensures.ended.0 c.in-Err.ensures.ended.1;
+      counted = c.in-Err.ensures.counted;
+    }
