@@ -6,7 +6,8 @@ use mathlib.Core.List.{IsPrefix}
 use Rattle.mdf_layout.specs.declared.sample.Sample.{Sample}
 use Rattle.mdf_gate.proofs.Carrying.{prefix_take, prefix_trans}
 use Rattle.book_view.specs.Known.{Known, Note}
-use Rattle.acq_live.specs.Watching.{AnyLooks, IsFresh, IsOf, Looks, Watches}
+use Rattle.acq_live.specs.Audience.{tells_of}
+use Rattle.acq_live.specs.Watching.{AnyLooked, AnyLooks, HasLooked, IsFresh, IsOf, Looks, Watches}
 use Rattle.acq_live.specs.declared.watcher.Watcher.{Watcher}
 
 -- so many samples of the history are the note's
@@ -59,7 +60,7 @@ pub watches_counted : (watcher : Watcher) (which : ℕ) (seen : List Sample) (fl
 watches_counted watcher which seen flushes is = record { within = is.within; of_view = is.of_view; knows = is.knows }
 
 -- readers that know nothing, when nothing was seen
-pub watch_first : (which : ℕ) (readers : List Known) → All (λ reader. reader ≡ record { samples = []; which = which; refusals = 0 }) readers
+pub watch_first : (which : ℕ) (readers : List Known) → All (λ reader. reader ≡ record { samples = []; which = which; refusals = 0; views = 0 }) readers
     → All (λ (watcher : Watcher). Watches watcher (suc which) []) (map (λ (reader : Known). record { reader = Some reader; told = 0; flushes = 0 }) readers)
 watch_first which [] each k d within = absurd (omega (arith, within))
 watch_first which (reader ∷ readers) each zero d within = record {
@@ -69,8 +70,36 @@ watch_first which (reader ∷ readers) each zero d within = record {
 }
 watch_first which (reader ∷ readers) each (suc k) d within = watch_first which readers (λ j e less. each (suc j) e (omega (arith, less))) k d (omega (arith, within))
 
--- no flush has told anything to the watchers of readers that were just made
-pub fresh_readers : (readers : List Known) → All IsFresh (map (λ (reader : Known). record { reader = Some reader; told = 0; flushes = 0 }) readers)
-fresh_readers [] k d within = absurd (omega (arith, within))
-fresh_readers (reader ∷ readers) zero d within = record { told = refl; flushes = refl }
-fresh_readers (reader ∷ readers) (suc k) d within = fresh_readers readers k d (omega (arith, within))
+-- no flush has told anything to the watchers of readers that were just made, and these have not looked
+pub fresh_readers : (which : ℕ) (readers : List Known) → All (λ reader. reader ≡ record { samples = []; which = which; refusals = 0; views = 0 }) readers
+    → All IsFresh (map (λ (reader : Known). record { reader = Some reader; told = 0; flushes = 0 }) readers)
+fresh_readers which [] each k d within = absurd (omega (arith, within))
+fresh_readers which (reader ∷ readers) each zero d within = record {
+  told = refl;
+  flushes = refl;
+  looks = λ other is.
+      let first : reader ≡ record { samples = []; which = which; refusals = 0; views = 0 } = each 0 reader (omega arith) in
+      let same : other ≡ record { samples = []; which = which; refusals = 0; views = 0 } = cc (first, is) in
+      (ap (λ (r : Known). r.views) same, ap (λ (r : Known). r.refusals) same);
+}
+fresh_readers which (reader ∷ readers) each (suc k) d within = fresh_readers which readers (λ j e less. each (suc j) e (omega (arith, less))) k d (omega (arith, within))
+
+-- a reader that learnt a note looked once
+has_looked : (before : Known) (note : Note) (now : Known) → Looks before note now → HasLooked before 1 now
+has_looked before note now looks =
+    ⊎_elim
+    (λ took. (omega (arith, took.0, took.1), (λ less. omega (arith, took.0, took.1, less))))
+    (λ refused. (omega (arith, refused.0, refused.1), (λ less. omega (arith, refused.0, refused.1, less))))
+    looks.looked
+
+pub any_looked : (before now : Option Known) (note : Note) → AnyLooks before note now → AnyLooked before 1 now
+any_looked None now note looks = looks
+any_looked (Some before) None note looks = absurd looks
+any_looked (Some before) (Some now) note looks = has_looked before note now looks
+
+-- nobody looks where there is no note
+pub nobody_looked : (reader : Option Known) (which : ℕ) (note : Option Note) (samples : List Sample) → IsOf reader which → tells_of note which samples
+    → ((told : Note) → note ≡ Some told → ⊥) → AnyLooked reader 1 reader
+nobody_looked reader which (Some note) samples of_view tells not = absurd (not note refl)
+nobody_looked None which None samples of_view tells not = refl
+nobody_looked (Some reader) which None samples of_view tells not = absurd (omega (arith, of_view, tells))

@@ -29,3 +29,8 @@ which_in (Readers view) = suc view.which
 abbrev pub tells_of : Option Note → ℕ → List Sample → Type 0
 tells_of None which samples = which ≡ 0
 tells_of (Some note) which samples = (note.samples ≡ samples) × (suc note.which ≡ which)
+
+-- what was shown to readers; nothing where nobody looks
+abbrev pub shown_to : Audience → Option (List Sample)
+shown_to (Nobody view) = None
+shown_to (Readers view) = Some view.shown

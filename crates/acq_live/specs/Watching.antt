@@ -18,24 +18,40 @@ pub record Watches (watcher : Watcher) (which : ℕ) (seen : List Sample) : Type
   pub of_view : IsOf watcher.reader which
   pub knows : ForSome watcher.reader (λ reader. IsPrefix (take watcher.told seen) reader.samples)
 
+-- how often a reader looked: each time it took a view, or was refused one
+abbrev pub looks_of : Known → ℕ
+looks_of reader = reader.views + reader.refusals
+
+-- from the one to the other a reader looked just so many times, unless its looks have come to the last value
+abbrev pub HasLooked : Known → ℕ → Known → Type 0
+HasLooked before times now =
+    (looks_of now ≤ looks_of before + times) × (looks_of now + 1 < 2 ^ 64 → looks_of now ≡ looks_of before + times)
+
+-- so of a source's reader, where it has one
+abbrev pub AnyLooked : Option Known → ℕ → Option Known → Type 0
+AnyLooked None times now = now ≡ None
+AnyLooked (Some before) times now = IsSomeAnd now (HasLooked before times)
+
 -- From the one to the other just so many flushes were told, unless the count stands at the last value, and the number of
--- samples that were shown at one of them did not fall.
+-- samples that were shown at one of them did not fall. The reader looked once for each.
 abbrev pub Hears : Watcher → ℕ → Watcher → Type 0
 Hears before flushes now =
     (now.flushes ≤ before.flushes + flushes) × (now.flushes + 1 < 2 ^ 64 → now.flushes ≡ before.flushes + flushes)
-    × (before.told ≤ now.told)
+    × (before.told ≤ now.told) × AnyLooked before.reader flushes now.reader
 
--- no flush has told it anything
+-- no flush has told it anything, and its reader has not looked
 pub record IsFresh (watcher : Watcher) : Type 0 where
   pub told : watcher.told ≡ 0
   pub flushes : watcher.flushes ≡ 0
+  pub looks : ForSome watcher.reader (λ reader. (reader.views ≡ 0) × (reader.refusals ≡ 0))
 
--- a reader has learnt a note, and knows all that it knew; it was refused once more at most
+-- a reader has learnt a note, and knows all that it knew; it took one view, or was refused one
 pub record Looks (before : Known) (note : Note) (now : Known) : Type 0 where
   pub told : IsPrefix note.samples now.samples
   pub seen : IsPrefix before.samples now.samples
   pub which : now.which ≡ before.which
-  pub refused : (now.refusals ≡ before.refusals) ⊎ (now.refusals ≡ min (before.refusals + 1) (2 ^ 64 - 1))
+  pub looked : ((now.views ≡ min (before.views + 1) (2 ^ 64 - 1)) × (now.refusals ≡ before.refusals))
+      ⊎ ((now.views ≡ before.views) × (now.refusals ≡ min (before.refusals + 1) (2 ^ 64 - 1)))
 
 -- so many samples were shown at one of the flushes that were told, where the last one has this note
 abbrev pub told_with : ℕ → Option Note → ℕ

@@ -1,13 +1,15 @@
-ghost use Rattle.std.specs.Prelude.{◌≡◌, ◌≤◌, ◌<◌, List, [], length, map, All, IfOk, MatchBool, Some, None};
+ghost use Rattle.std.specs.Prelude.{◌≡◌, ◌≤◌, ◌<◌, ◌+◌, ◌^◌, List, [], ◌++◌, true, length, map, All, IfOk, IsOk, OnOk, OnErr, MatchBool, Some, None};
+ghost use mathlib.Core.List.{IsPrefix};
+ghost use Rattle.mdf_num.specs.Halt.{Wants};
 ghost use Rattle.mdf_layout.specs.declared.sample.Sample.{Sample};
-ghost use Rattle.acq_live.specs.Audience.{shows_in, hands_in, count_in, which_in};
+ghost use Rattle.acq_live.specs.Audience.{shows_in, hands_in, count_in, which_in, shown_to};
 ghost use Rattle.acq_live.specs.Watching.{IsFresh, Watches};
 
 use crate::Watcher;
 use book_owned::{NoView, Shown};
 use book_view::{LiveReader, LiveView, Told};
 use mdf_layout::Sample;
-use mdf_num::Memory;
+use mdf_num::{Memory, Rows};
 use std::alloc::Global;
 use std::sync::Wait;
 use std::thread::Threads;
@@ -71,17 +73,20 @@ impl Audience {
         match with_readers(alloc, readers) {
             Ok(watchers) => Ok((Audience::Readers(view), watchers)),
             Err(memory) => {
-                view.end(rt);
+                drop(view.end(rt));
                 Err(memory)
             }
         }
     }
 
-    /// Ends the view that readers look at. It waits for those who still look.
-    pub fn end<R: Wait>(self, rt: &R) {
+    /// Ends the view that readers look at, and hands back the samples that were shown. It waits for those who still look. None
+    /// exactly where nobody looks.
+    pub fn end<R: Wait>(self, rt: &R) -> Option<Rows<Sample>>
+        ensures { result ≡ shown_to self }
+    {
         match self {
-            Audience::Nobody(_view) => {}
-            Audience::Readers(view) => view.end(rt),
+            Audience::Nobody(_view) => None,
+            Audience::Readers(view) => Some(view.end(rt)),
         }
     }
 }
@@ -105,7 +110,21 @@ impl Shown for Audience {
         &mut self,
         rt: &R,
         samples: &[Sample],
-    ) -> Result<(), Memory> {
+    ) -> Result<(), Memory>
+        requires room { count_in self.old + length samples.now < 2 ^ 64 }
+        requires handed { (shown : List Sample) × shows_in self.old shown
+            × ((handed : List Sample) → hands_in self.old handed → IsPrefix handed (shown ++ samples.now)) }
+        ensures ok { OnOk result ((shown : List Sample) → shows_in self.old shown → shows_in self.new (shown ++ samples.now)) }
+        ensures counted { OnOk result (count_in self.new ≡ count_in self.old + length samples.now) }
+        ensures err { OnErr result ((shown : List Sample) → shows_in self.old shown → shows_in self.new shown) }
+        ensures as_before { OnErr result (count_in self.new ≡ count_in self.old) }
+        ensures handed { (shown : List Sample) → shows_in self.old shown
+            → ((handed : List Sample) → hands_in self.old handed → IsPrefix handed (shown ++ samples.now))
+            → (handed : List Sample) → hands_in self.new handed → IsPrefix handed (shown ++ samples.now) }
+        ensures same { which_in self.new ≡ which_in self.old }
+        ensures wants { OnErr result (Wants true) }
+        ensures nobody { which_in self.old ≡ 0 → IsOk result }
+    {
         match self {
             Audience::Nobody(view) => view.publish(rt, samples),
             Audience::Readers(view) => view.publish(rt, samples),

@@ -45,13 +45,13 @@ fn reader_of(writer: &mut StoreWriter, front: &Front) -> Result<LiveReader, Memo
     requires named { knows writer.old.desk.place ≡ name_of front.now.seen.book }
     ensures kept { (writer.new.desk.shown ≡ writer.old.desk.shown) × (writer.new.log ≡ writer.old.log) × (writer.new.behind ≡ writer.old.behind) }
     ensures named { knows writer.new.desk.place ≡ knows writer.old.desk.place }
-    ensures made { IfOk result (λ reader. reader ≡ record { samples = front.now.seen.log; which = code_of front.now.seen.book; refusals = 0 }) }
+    ensures made { IfOk result (λ reader. reader ≡ record { samples = front.now.seen.log; which = code_of front.now.seen.book; refusals = 0; views = 0 }) }
 {
     let Ok(mut reader) = writer.factory().reader() else {
         return Err(Memory);
     };
     reader.learn::<Names>(writer.tell::<Names>());
-    Ok(LiveReader::knowing(reader, front.again(), 0))
+    Ok(LiveReader::knowing(reader, front.again(), 0, 0))
 }
 
 /// So many readers.
@@ -65,7 +65,7 @@ fn readers_of(
     ensures kept { (writer.new.desk.shown ≡ writer.old.desk.shown) × (writer.new.log ≡ writer.old.log) × (writer.new.behind ≡ writer.old.behind) }
     ensures named { knows writer.new.desk.place ≡ knows writer.old.desk.place }
     ensures count { IfOk result (λ made. length made.items ≡ count) }
-    ensures made { IfOk result (λ made. All (λ reader. reader ≡ record { samples = front.now.seen.log; which = code_of front.now.seen.book; refusals = 0 }) made.items) }
+    ensures made { IfOk result (λ made. All (λ reader. reader ≡ record { samples = front.now.seen.log; which = code_of front.now.seen.book; refusals = 0; views = 0 }) made.items) }
 {
     let mut made = Vec::new(alloc);
     for _ in 0..count {
@@ -126,7 +126,7 @@ impl LiveView {
         requires { (1 ≤ readers) × (readers ≤ 16) }
         ensures shown { IfOk result (λ made. (made.0.shown ≡ []) × (made.0.handed ≡ [])) }
         ensures count { IfOk result (λ made. length made.1.items ≡ readers) }
-        ensures each { IfOk result (λ made. All (λ reader. reader ≡ record { samples = []; which = made.0.which; refusals = 0 }) made.1.items) }
+        ensures each { IfOk result (λ made. All (λ reader. reader ≡ record { samples = []; which = made.0.which; refusals = 0; views = 0 }) made.1.items) }
     {
         let (head, front) = Front::open();
         let mut writer = writer_of(rt, alloc, &front, readers)?;
@@ -152,8 +152,10 @@ impl LiveView {
         }
     }
 
-    /// Ends the view. It waits for the readers that still look, and each later view of its readers is refused.
-    pub fn end<R: Wait>(self, rt: &R) {
+    /// Ends the view, and hands back the samples that were shown. It waits for the readers that still look.
+    pub fn end<R: Wait>(self, rt: &R) -> Rows<Sample>
+        ensures { result ≡ self.shown }
+    {
         let LiveView {
             alloc: _,
             writer,
@@ -161,8 +163,8 @@ impl LiveView {
             fronts: _,
         } = self;
         match writer {
-            Some(writer) => drop(writer.take(rt)),
-            None => {}
+            Some(writer) => Box::into_inner(writer.take(rt)).samples,
+            None => unreachable!(),
         }
     }
 }

@@ -14,6 +14,7 @@ pub struct LiveReader {
     reader: StoreReader,
     front: Front,
     refusals: u64,
+    views: u64,
 }
 
 impl Model for LiveReader {
@@ -24,7 +25,7 @@ impl Model for LiveReader {
 
     ghost Value = { Known };
 
-    ghost view = { λ r. record { samples = r.front.seen.log; which = code_of r.front.seen.book; refusals = r.refusals } };
+    ghost view = { λ r. record { samples = r.front.seen.log; which = code_of r.front.seen.book; refusals = r.refusals; views = r.views } };
 
     ghost invariant = { λ r. knows r.reader.place ≡ name_of r.front.seen.book };
 }
@@ -33,15 +34,21 @@ impl LiveReader {
     ghost use Rattle.left_right.specs.Sides.{view as knows};
     ghost use Rattle.book_view.specs.Names.{code_of, name_of};
 
-    /// A reader that knows these samples and was refused so often.
-    pub(crate) fn knowing(reader: StoreReader, front: Front, refusals: u64) -> LiveReader
+    /// A reader that knows these samples, was refused so often and took so many views.
+    pub(crate) fn knowing(
+        reader: StoreReader,
+        front: Front,
+        refusals: u64,
+        views: u64,
+    ) -> LiveReader
         requires { knows reader.place ≡ name_of front.seen.book }
-        ensures { result ≡ record { samples = front.seen.log; which = code_of front.seen.book; refusals = refusals } }
+        ensures { result ≡ record { samples = front.seen.log; which = code_of front.seen.book; refusals = refusals; views = views } }
     {
         LiveReader {
             reader,
             front,
             refusals,
+            views,
         }
     }
 
@@ -52,6 +59,7 @@ impl LiveReader {
         ensures told { IsPrefix note.samples self.new.samples }
         ensures either { (self.new.samples ≡ self.old.samples) ⊎ (self.new.samples ≡ note.samples) }
         ensures same { (self.new.which ≡ self.old.which) × (self.new.refusals ≡ self.old.refusals) }
+        ensures views { self.new.views ≡ self.old.views }
     {
         if note.front.is_begun_by(&self.front) {
             self.front = note.front.again();
@@ -63,6 +71,13 @@ impl LiveReader {
         ensures { result ≡ self.now.refusals }
     {
         self.refusals
+    }
+
+    /// How many views it took, up to the last value of the type.
+    pub fn views(&self) -> u64
+        ensures { result ≡ self.now.views }
+    {
+        self.views
     }
 
     /// Takes a view of what is shown now. It begins with all that the reader has seen in earlier views, and with what each
@@ -78,17 +93,23 @@ impl LiveReader {
             reader,
             front,
             refusals,
+            views,
         } = self;
         match reader.enter_as::<Sees>() {
             Ok(reading) => {
                 let shown = reading.get().front.again();
                 if shown.is_begun_by(&front) {
-                    return Ok(View::of(reading, shown, refusals));
+                    return Ok(View::of(reading, shown, refusals, views.saturating_add(1)));
                 }
                 let reader = reading.leave();
-                Err(LiveReader::knowing(reader, front, refusals.saturating_add(1)))
+                Err(LiveReader::knowing(reader, front, refusals.saturating_add(1), views))
             }
-            Err(reader) => Err(LiveReader::knowing(reader, front, refusals.saturating_add(1))),
+            Err(reader) => Err(LiveReader::knowing(
+                reader,
+                front,
+                refusals.saturating_add(1),
+                views,
+            )),
         }
     }
 }

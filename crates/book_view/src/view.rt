@@ -14,6 +14,7 @@ pub struct View {
     reading: StoreReading,
     front: Front,
     refusals: u64,
+    views: u64,
 }
 
 impl Model for View {
@@ -24,7 +25,7 @@ impl Model for View {
 
     ghost Value = { Known };
 
-    ghost view = { λ v. record { samples = v.front.seen.log; which = code_of v.front.seen.book; refusals = v.refusals } };
+    ghost view = { λ v. record { samples = v.front.seen.log; which = code_of v.front.seen.book; refusals = v.refusals; views = v.views } };
 
     ghost invariant = { λ v. (knows v.reading.place ≡ name_of v.front.seen.book) × (v.reading.part.value.samples ≡ v.front.seen.log) };
 }
@@ -34,15 +35,16 @@ impl View {
     ghost use Rattle.book_view.specs.Names.{code_of, name_of};
 
     /// The view of an entered copy, which is this beginning of the log.
-    pub(crate) fn of(reading: StoreReading, front: Front, refusals: u64) -> View
+    pub(crate) fn of(reading: StoreReading, front: Front, refusals: u64, views: u64) -> View
         requires named { knows reading.place ≡ name_of front.seen.book }
         requires whole { reading.part.value.samples ≡ front.seen.log }
-        ensures { result ≡ record { samples = front.seen.log; which = code_of front.seen.book; refusals = refusals } }
+        ensures { result ≡ record { samples = front.seen.log; which = code_of front.seen.book; refusals = refusals; views = views } }
     {
         View {
             reading,
             front,
             refusals,
+            views,
         }
     }
 
@@ -54,8 +56,9 @@ impl View {
             reading,
             front,
             refusals,
+            views,
         } = self;
-        LiveReader::knowing(reading.leave(), front, refusals)
+        LiveReader::knowing(reading.leave(), front, refusals, views)
     }
 
     /// How many samples are shown.

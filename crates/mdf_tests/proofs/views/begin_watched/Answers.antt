@@ -17,7 +17,7 @@ begin-requires-2-clause-admissible g c =
 
 pub invariant_of-result : goal.invariant_of-result
 invariant_of-result g c =
-    let P : Known → Type 0 = λ reader. reader ≡ record { samples = []; which = c.in-Ok.begun.0.which; refusals = 0 } in
-    let new : c.in-Some.reader ≡ record { samples = []; which = c.in-Ok.begun.0.which; refusals = 0 } =
+    let P : Known → Type 0 = λ reader. reader ≡ record { samples = []; which = c.in-Ok.begun.0.which; refusals = 0; views = 0 } in
+    let new : c.in-Some.reader ≡ record { samples = []; which = c.in-Ok.begun.0.which; refusals = 0; views = 0 } =
     last_is P c.in-Ok.begun.1.items c.pop.new.self.items c.in-Some.reader c.in-Some.ensures.items c.in-Ok.ensures.each in
     record { same = ap (λ r. r.which) new ∙ sym (ap (λ t. t.which) c.in-Ok-begin.ensures.begun.terms) }

@@ -9,4 +9,5 @@ returns-in-Ok-clause-watch g c =
     (watch_first c.in_ok-view.view.which c.in_ok-view.readers.items c.in_ok-view.ensures.each)
 
 pub returns-in-Ok-clause-fresh : goal.returns-in-Ok-clause-fresh
-returns-in-Ok-clause-fresh g c = subst (All IsFresh) (sym c.in-Ok.ensures) (fresh_readers c.in_ok-view.readers.items)
+returns-in-Ok-clause-fresh g c = subst (All IsFresh) (sym c.in-Ok.ensures)
+    (fresh_readers c.in_ok-view.view.which c.in_ok-view.readers.items c.in_ok-view.ensures.each)

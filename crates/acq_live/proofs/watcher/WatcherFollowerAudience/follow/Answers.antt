@@ -1,6 +1,7 @@
 use Rattle.std.proofs.Common.{max, take, sym, ◌∙◌, ap, subst, arith}
 use Rattle.acq_live.specs.Audience.{tells_of}
-use Rattle.acq_live.proofs.Later.{watches_counted, watches_noted}
+use Rattle.acq_live.specs.Watching.{AnyLooked}
+use Rattle.acq_live.proofs.Later.{any_looked, nobody_looked, watches_counted, watches_noted}
 use Rattle.acq_live.proofs.watcher.WatcherFollowerAudience.follow.Goals as goal
 
 pub returns-in-Some-clause-follows : goal.returns-in-Some-clause-follows
@@ -11,3 +12,20 @@ returns-in-Some-clause-follows c which seen is tells =
 
 pub returns-in_default-clause-follows : goal.returns-in_default-clause-follows
 returns-in_default-clause-follows c which seen is tells = watches_counted c.args.self.now which seen c.saturating_add-self.result is
+
+pub returns-in-Some-clause-heard : goal.returns-in-Some-clause-heard
+returns-in-Some-clause-heard c =
+    let looked = any_looked c.take.result c.any_looks.result c.in-Some.note c.any_looks.ensures in (
+      omega (arith, c.saturating_add-self.ensures),
+      (λ less. omega (arith, c.saturating_add-self.ensures, less)),
+      omega (arith, c.max-self.ensures),
+      subst (λ before. AnyLooked before 1 c.any_looks.result) c.take.ensures.value looked,
+    )
+
+pub returns-in_default-clause-heard : goal.returns-in_default-clause-heard
+returns-in_default-clause-heard c = (
+  omega (arith, c.saturating_add-self.ensures),
+  (λ less. omega (arith, c.saturating_add-self.ensures, less)),
+  omega arith,
+  nobody_looked c.args.self.now.reader c.requires.0 c.args.note _ c.requires.2.of_view c.requires.3 c.in_default.not-Some,
+)
