@@ -1,9 +1,9 @@
 -- What a script says, or its first line that no rule admits.
-use Rattle.std.specs.Prelude.{ℕ, ◌≡◌, ◌+◌, List, [], ◌∷◌, Result, Ok, Err, None, false}
+use Rattle.std.specs.Prelude.{ℕ, ◌≡◌, ◌+◌, ◌⊎◌, List, [], ◌∷◌, Result, Ok, Err, None, IsSomeAnd, false}
 use Rattle.std.specs.Option.{option_and_then, ok_or}
 use Rattle.script_line.specs.Text.{lines_of}
 use Rattle.script_line.specs.Line.{line_of}
-use Rattle.acq_script.specs.Stage.{step}
+use Rattle.acq_script.specs.Stage.{MayWant, step}
 use Rattle.acq_script.specs.declared.fault.ScriptFault.{ScriptFault}
 use Rattle.acq_script.specs.declared.fault.ScriptFault.TheVariants as faults
 use Rattle.acq_script.specs.declared.script.Script.{Script}
@@ -38,7 +38,28 @@ read_from stage line (text ∷ next ∷ more) = do
 abbrev pub script_of : List ℕ → Result Script ℕ
 script_of bytes = read_from (Empty None None false) 1 (lines_of bytes)
 
--- an answer is what is found, or the first line that is not admitted; want of memory says nothing of the script
+-- memory may be wanted for a line that is spelled so
+abbrev pub MayWantFor : Stage → List ℕ → Type 0
+MayWantFor stage text = IsSomeAnd (line_of text) (MayWant stage)
+
+-- Memory may be wanted for one of these lines, where those before them make a stage: for the first, or, if that is admitted,
+-- for one behind it. What stands behind the last LF is none of them.
+unfoldable pub WantsFrom : Stage → List (List ℕ) → Type 0
+WantsFrom stage [] = ⊥
+WantsFrom stage (rest ∷ []) = ⊥
+WantsFrom stage (text ∷ next ∷ more) =
+    MayWantFor stage text ⊎ IsSomeAnd (option_and_then (step stage) (line_of text)) (λ changed. WantsFrom changed (next ∷ more))
+
+-- Memory may be wanted for a line of these bytes before which each line is admitted.
+abbrev pub WantsIn : List ℕ → Type 0
+WantsIn bytes = WantsFrom (Empty None None false) (lines_of bytes)
+
+-- where the fault is want of memory, this holds
+abbrev pub WantComes : Type 0 → ScriptFault → Type 0
+WantComes wants (faults.Line line) = Unit {0}
+WantComes wants faults.Memory = wants
+
+-- an answer is what is found, or the first line that is not admitted; when memory is wanted stands in a clause of its own
 abbrev pub FaultIs : {A : Type 0} → ScriptFault → Result A ℕ → Type 0
 FaultIs (faults.Line line) found = found ≡ Err line
 FaultIs faults.Memory found = Unit {0}

@@ -1,5 +1,5 @@
 -- The rules of a script: which line may stand behind which.
-use Rattle.std.specs.Prelude.{ℕ, ◌≡◌, ◌≤◌, ◌<◌, Bool, true, ◌&&◌, nat_le, nat_lt, if◌then◌else◌, List, [], ◌∷◌, ◌++◌, length, All, slice_get, slice_index, slice_set, Option, Some, None, is_none}
+use Rattle.std.specs.Prelude.{ℕ, ◌≡◌, ◌≤◌, ◌<◌, Bool, true, ◌&&◌, nat_le, nat_lt, if◌then◌else◌, List, [], ◌∷◌, ◌++◌, length, All, slice_get, slice_index, slice_set, Option, Some, None, is_none, IsSome}
 use Rattle.std.specs.List.{slice_index_or}
 use Rattle.std.specs.Option.{option_map, option_and_then}
 use Rattle.mdf_layout.specs.Layout.{Layout}
@@ -83,6 +83,22 @@ step (Empty block session live) line = empty block session live line
 step (Planned sketch) line = planned sketch line
 step (Running script) line = running script line
 step (Ended script) _ = None
+
+-- the group of this number is one of a script that has begun
+abbrev pub HasGroup : Stage → ℕ → Type 0
+HasGroup (Running script) group = group < length script.plan.shapes
+HasGroup _ group = ⊥
+
+-- Memory may be wanted for a line behind the lines before it: it is one that is admitted there and says a group, a channel, a
+-- unit, the end of the plan or a flush; or it is a sample of a group that there is, whatever its values are.
+abbrev pub MayWant : Stage → said.Line → Type 0
+MayWant stage (said.Group source name) = IsSome (step stage (said.Group source name))
+MayWant stage (said.Channel name form) = IsSome (step stage (said.Channel name form))
+MayWant stage (said.Measured unit) = IsSome (step stage (said.Measured unit))
+MayWant stage said.Begin = IsSome (step stage said.Begin)
+MayWant stage (said.Sample group words) = HasGroup stage group
+MayWant stage (said.Flush source) = IsSome (step stage (said.Flush source))
+MayWant stage _ = ⊥
 
 -- what holds of a script: a list for each source, of tasks that fit the plan and are the source's
 pub record IsScript (script : Script) : Type 0 where

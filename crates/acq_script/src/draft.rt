@@ -1,5 +1,5 @@
 // A group whose channels are being named.
-ghost use Rattle.std.specs.Prelude.{◌≡◌, ◌≤◌, ◌*◌, ◌+◌, ◌<◌, ◌^◌, length, IfOk};
+ghost use Rattle.std.specs.Prelude.{◌≡◌, ◌≤◌, ◌*◌, ◌+◌, ◌<◌, ◌^◌, length, IfOk, IsSome, OnErr};
 ghost use Rattle.acq_script.specs.Done.{done_as};
 ghost use Rattle.acq_script.specs.Draft.{whole, start_of, free_behind, channel_kind, channel_row, group_row, new_draft, with_channel, with_unit, measured, set_unit};
 
@@ -119,7 +119,8 @@ pub(crate) fn add_channel(
     requires free { draft.old.free ≤ 2048 * length draft.old.channels }
     requires positions { draft.old.positions ≤ length draft.old.channels }
     requires bits { form.kind.bits ≤ 2040 }
-    ensures { IfOk result (λ done. with_channel draft.old name.now form ≡ done_as done draft.new) }
+    ensures found { IfOk result (λ done. with_channel draft.old name.now form ≡ done_as done draft.new) }
+    ensures wanted { OnErr result (IsSome (with_channel draft.old name.now form)) }
 {
     if draft.channels.len() >= MOST_CHANNELS || (draft.master && form.master) {
         return Ok(false);
@@ -164,7 +165,8 @@ fn set_unit(channels: Rows<ChannelRow>, unit: Bytes) -> Result<Rows<ChannelRow>,
 
 /// Gives the last channel of the group this unit, and answers whether the last line was that of the channel.
 pub(crate) fn add_unit(alloc: Global, draft: &mut Draft, unit: &[u8]) -> Result<bool, Memory>
-    ensures { IfOk result (λ done. with_unit draft.old unit.now ≡ done_as done draft.new) }
+    ensures found { IfOk result (λ done. with_unit draft.old unit.now ≡ done_as done draft.new) }
+    ensures wanted { OnErr result (IsSome (with_unit draft.old unit.now)) }
 {
     if !draft.unit {
         return Ok(false);

@@ -1,7 +1,7 @@
 ghost use Rattle.std.specs.Prelude.{◌≡◌, length, All, Ok, IfOk, IfErr, IfSome, OnOk};
 ghost use Rattle.acq_script.specs.Plan.{IsPlan, TaskFits};
 ghost use Rattle.acq_script.specs.Stage.{IsScript, Sound};
-ghost use Rattle.acq_script.specs.Script.{GivesScript, FaultIs, after, ended, script_of};
+ghost use Rattle.acq_script.specs.Script.{GivesScript, FaultIs, MayWantFor, WantComes, WantsIn, after, ended, script_of};
 
 use crate::ScriptFault;
 use crate::script::Script;
@@ -12,12 +12,14 @@ use std::alloc::Global;
 /// Makes of a stage what a line makes of it.
 ///
 /// # Errors
-/// `Line` exactly where no rule admits it there, with the number handed in; `Memory`.
+/// `Line` exactly where no rule admits it there, with the number handed in; `Memory`, only for a line for which it may be
+/// wanted there.
 fn after(alloc: Global, stage: &mut Stage, line: u64, text: &[u8]) -> Result<(), ScriptFault>
     requires { Sound stage.old }
     ensures found { OnOk result (after stage.old line text.now ≡ Ok stage.new) }
     ensures sound { OnOk result (Sound stage.new) }
     ensures fault { IfErr result (λ fault. FaultIs fault (after stage.old line text.now)) }
+    ensures wanted { IfErr result (WantComes (MayWantFor stage.old text.now)) }
 {
     let Some(said) = line_of(text) else {
         return Err(ScriptFault::Line { line });
@@ -37,6 +39,7 @@ fn ended(stage: Stage, line: u64, rest: &[u8]) -> Result<Script, ScriptFault>
     requires { Sound stage }
     ensures found { GivesScript result (ended stage line rest.now) }
     ensures sound { IfOk result IsScript }
+    ensures wanted { IfErr result (WantComes ⊥) }
 {
     match stage {
         Stage::Ended { script } if rest.is_empty() => Ok(script),
@@ -48,6 +51,7 @@ fn ended(stage: Stage, line: u64, rest: &[u8]) -> Result<Script, ScriptFault>
 fn script_of(alloc: Global, bytes: &[u8]) -> Result<Script, ScriptFault>
     ensures found { GivesScript result (script_of bytes.now) }
     ensures sound { IfOk result IsScript }
+    ensures wanted { IfErr result (WantComes (WantsIn bytes.now)) }
 {
     let mut stage = Stage::Empty {
         block: None,
@@ -68,7 +72,8 @@ fn script_of(alloc: Global, bytes: &[u8]) -> Result<Script, ScriptFault>
 ///
 /// # Errors
 /// `Line` exactly where that line, counted from 1, is the first that no rule admits after the lines before it, a
-/// missing `end` being the line after the last one; `Memory`.
+/// missing `end` being the line after the last one; `Memory`, only for a line before which each line is admitted, and which
+/// is admitted too or a sample of a group that there is.
 pub fn read_script(alloc: Global, bytes: &[u8]) -> Result<Script, ScriptFault>
     // What is read is the script that the bytes are, and a line that is refused is the first that no rule admits.
     ensures found { GivesScript result (script_of bytes.now) }
@@ -79,6 +84,8 @@ pub fn read_script(alloc: Global, bytes: &[u8]) -> Result<Script, ScriptFault>
     // There is a list for each source, and its samples are of the source's groups.
     ensures lists { IfOk result (λ script. length script.lists ≡ script.plan.sources) }
     ensures script { IfOk result IsScript }
+    // Want of memory stands for no fault of an earlier line, for no line of no form, and for no end that is missing.
+    ensures wanted { IfErr result (WantComes (WantsIn bytes.now)) }
 {
     script_of(alloc, bytes)
 }

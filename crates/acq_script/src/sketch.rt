@@ -1,5 +1,5 @@
 // A plan whose groups are being named.
-ghost use Rattle.std.specs.Prelude.{◌≡◌, ◌≤◌, ◌<◌, All, length, map, replicate, [], IfOk};
+ghost use Rattle.std.specs.Prelude.{◌≡◌, ◌≤◌, ◌<◌, All, length, map, replicate, [], IfOk, IsSome, OnErr};
 ghost use Rattle.mdf_group.specs.Recordable.{numbers_of};
 ghost use Rattle.mdf_layout.specs.Row.{field_row};
 ghost use Rattle.acq_script.specs.Done.{done_as};
@@ -88,7 +88,8 @@ pub(crate) fn first_sketch(
     source: u64,
     name: &[u8],
 ) -> Result<Option<Sketch>, Memory>
-    ensures { IfOk result (λ found. found ≡ first_sketch opening source name.now) }
+    ensures found { IfOk result (λ found. found ≡ first_sketch opening source name.now) }
+    ensures wanted { OnErr result (IsSome (first_sketch opening source name.now)) }
 {
     if source >= MOST_SOURCES {
         return Ok(None);
@@ -129,7 +130,8 @@ pub(crate) fn add_group(
     name: &[u8],
 ) -> Result<bool, Memory>
     requires { IsSketch sketch.old }
-    ensures { IfOk result (λ done. with_group sketch.old source name.now ≡ done_as done sketch.new) }
+    ensures found { IfOk result (λ done. with_group sketch.old source name.now ≡ done_as done sketch.new) }
+    ensures wanted { OnErr result (IsSome (with_group sketch.old source name.now)) }
 {
     if source >= MOST_SOURCES
         || sketch.draft.channels.len() == 0
@@ -178,7 +180,8 @@ pub(crate) fn add_channel(
 ) -> Result<bool, Memory>
     requires sketch { IsSketch sketch.old }
     requires form { IsForm form }
-    ensures { IfOk result (λ done. channel_in sketch.old name.now form ≡ done_as done sketch.new) }
+    ensures found { IfOk result (λ done. channel_in sketch.old name.now form ≡ done_as done sketch.new) }
+    ensures wanted { OnErr result (IsSome (channel_in sketch.old name.now form)) }
 {
     if !has_room(sketch.counts, form) {
         return Ok(false);
@@ -189,7 +192,8 @@ pub(crate) fn add_channel(
 
 /// Gives the last channel this unit, and answers whether it is admitted.
 pub(crate) fn add_unit(alloc: Global, sketch: &mut Sketch, unit: &[u8]) -> Result<bool, Memory>
-    ensures { IfOk result (λ done. unit_in sketch.old unit.now ≡ done_as done sketch.new) }
+    ensures found { IfOk result (λ done. unit_in sketch.old unit.now ≡ done_as done sketch.new) }
+    ensures wanted { OnErr result (IsSome (unit_in sketch.old unit.now)) }
 {
     draft::add_unit(alloc, &mut sketch.draft, unit)
 }
@@ -287,7 +291,8 @@ fn plan_of(alloc: Global, sketch: Sketch) -> Result<Plan, Memory>
 /// The script of a plan that has ended, without tasks yet, if its last group has a channel.
 pub(crate) fn begun(alloc: Global, sketch: Sketch) -> Result<Option<Script>, Memory>
     requires { IsSketch sketch }
-    ensures { IfOk result (λ found. found ≡ begun sketch) }
+    ensures found { IfOk result (λ found. found ≡ begun sketch) }
+    ensures wanted { OnErr result (IsSome (begun sketch)) }
 {
     if sketch.draft.channels.len() == 0 {
         return Ok(None);

@@ -1,5 +1,5 @@
 // The rules of a script: which line may stand behind which.
-ghost use Rattle.std.specs.Prelude.{◌≡◌, IfOk};
+ghost use Rattle.std.specs.Prelude.{◌≡◌, IfOk, IsSome, OnErr};
 ghost use Rattle.std.specs.Option.{option_map};
 ghost use Rattle.script_line.specs.Text.{words_left};
 ghost use Rattle.script_line.specs.Line as said;
@@ -7,7 +7,7 @@ ghost use Rattle.script_line.specs.Line.{IsSaid, IsForm};
 ghost use Rattle.script_line.specs.View.{seen};
 ghost use Rattle.acq_script.specs.declared.stage.Stage.TheVariants.{Planned, Running};
 ghost use Rattle.acq_script.specs.Done.{done_as};
-ghost use Rattle.acq_script.specs.Stage.{Sound, with_block, with_session, with_live, step};
+ghost use Rattle.acq_script.specs.Stage.{HasGroup, MayWant, Sound, with_block, with_session, with_live, step};
 
 use crate::script::Script;
 use crate::sketch::{Sketch, add_channel, add_group, add_unit, begun, first_sketch, opening_of};
@@ -196,7 +196,8 @@ fn show_live(stage: &mut Stage) -> bool
 /// Makes of a stage what the line of a group makes of it.
 fn begin_group(alloc: Global, stage: &mut Stage, source: u64, name: &[u8]) -> Result<bool, Memory>
     requires { Sound stage.old }
-    ensures { IfOk result (λ done. step stage.old (said.Group source name.now) ≡ done_as done stage.new) }
+    ensures found { IfOk result (λ done. step stage.old (said.Group source name.now) ≡ done_as done stage.new) }
+    ensures wanted { OnErr result (IsSome (step stage.old (said.Group source name.now))) }
 {
     match stage {
         Stage::Empty {
@@ -222,7 +223,8 @@ fn name_channel(
 ) -> Result<bool, Memory>
     requires stage { Sound stage.old }
     requires form { IsForm form }
-    ensures { IfOk result (λ done. step stage.old (said.Channel name.now form) ≡ done_as done stage.new) }
+    ensures found { IfOk result (λ done. step stage.old (said.Channel name.now form) ≡ done_as done stage.new) }
+    ensures wanted { OnErr result (IsSome (step stage.old (said.Channel name.now form))) }
 {
     match stage {
         Stage::Planned { sketch } => add_channel(alloc, sketch, name, form),
@@ -232,7 +234,8 @@ fn name_channel(
 
 /// Makes of a stage what the line of a unit makes of it.
 fn name_unit(alloc: Global, stage: &mut Stage, unit: &[u8]) -> Result<bool, Memory>
-    ensures { IfOk result (λ done. step stage.old (said.Measured unit.now) ≡ done_as done stage.new) }
+    ensures found { IfOk result (λ done. step stage.old (said.Measured unit.now) ≡ done_as done stage.new) }
+    ensures wanted { OnErr result (IsSome (step stage.old (said.Measured unit.now))) }
 {
     match stage {
         Stage::Planned { sketch } => add_unit(alloc, sketch, unit),
@@ -243,7 +246,8 @@ fn name_unit(alloc: Global, stage: &mut Stage, unit: &[u8]) -> Result<bool, Memo
 /// Makes of a stage what the line `begin` makes of it.
 fn begin(alloc: Global, stage: &mut Stage) -> Result<bool, Memory>
     requires { Sound stage.old }
-    ensures { IfOk result (λ done. step stage.old said.Begin ≡ done_as done stage.new) }
+    ensures found { IfOk result (λ done. step stage.old said.Begin ≡ done_as done stage.new) }
+    ensures wanted { OnErr result (IsSome (step stage.old said.Begin)) }
 {
     match taken(stage) {
         Stage::Planned { sketch } => {
@@ -262,7 +266,8 @@ fn hand_in(
     values: Option<&[u8]>,
 ) -> Result<bool, Memory>
     requires { Sound stage.old }
-    ensures { IfOk result (λ done. step stage.old (said.Sample group (words_left values.entry)) ≡ done_as done stage.new) }
+    ensures found { IfOk result (λ done. step stage.old (said.Sample group (words_left values.entry)) ≡ done_as done stage.new) }
+    ensures wanted { OnErr result (HasGroup stage.old group) }
 {
     match stage {
         Stage::Running { script } => add_sample(alloc, script, group, values),
@@ -273,7 +278,8 @@ fn hand_in(
 /// Makes of a stage what the line of a flush makes of it.
 fn flush(alloc: Global, stage: &mut Stage, source: u64) -> Result<bool, Memory>
     requires { Sound stage.old }
-    ensures { IfOk result (λ done. step stage.old (said.Flush source) ≡ done_as done stage.new) }
+    ensures found { IfOk result (λ done. step stage.old (said.Flush source) ≡ done_as done stage.new) }
+    ensures wanted { OnErr result (IsSome (step stage.old (said.Flush source))) }
 {
     match stage {
         Stage::Running { script } => add_flush(alloc, script, source),
@@ -301,10 +307,14 @@ fn end(stage: &mut Stage) -> bool
 
 /// Makes of the lines before it, of which this stage was made, what the line makes of them, and answers whether a rule
 /// admits it there. A stage that a line is not admitted behind is of no further use.
+///
+/// # Errors
+/// `Memory`, only for a line that is admitted there, or for a sample of a group that there is.
 pub(crate) fn step(alloc: Global, stage: &mut Stage, line: Line<'_>) -> Result<bool, Memory>
     requires stage { Sound stage.old }
     requires line { IsSaid (seen line) }
-    ensures { IfOk result (λ done. step stage.old (seen line.entry) ≡ done_as done stage.new) }
+    ensures found { IfOk result (λ done. step stage.old (seen line.entry) ≡ done_as done stage.new) }
+    ensures wanted { OnErr result (MayWant stage.old (seen line.entry)) }
 {
     match line {
         Line::Sample { group, values } => hand_in(alloc, stage, group, values),

@@ -1,5 +1,5 @@
 // What the sources do.
-ghost use Rattle.std.specs.Prelude.{◌≡◌, ◌≤◌, ◌<◌, length, IfOk, IfSome, OnOk};
+ghost use Rattle.std.specs.Prelude.{◌≡◌, ◌≤◌, ◌<◌, length, IfOk, IfSome, IsSome, OnErr, OnOk};
 ghost use Rattle.mdf_layout.specs.Record.{SampleFits};
 ghost use Rattle.script_line.specs.Text.{words_left};
 ghost use Rattle.acq_script.specs.Done.{done_as};
@@ -22,6 +22,7 @@ fn sample_of(
     requires { length shapes.now ≤ 64 }
     ensures found { IfOk result (λ found. found ≡ sample_of shapes.now group (words_left values.entry)) }
     ensures fits { IfOk result (λ found. IfSome found (SampleFits shapes.now)) }
+    ensures wanted { OnErr result (group < length shapes.now) }
 {
     let Some(shape) = shapes.get(group) else {
         return Ok(None);
@@ -68,7 +69,8 @@ pub(crate) fn add_sample(
     values: Option<&[u8]>,
 ) -> Result<bool, Memory>
     requires { IsScript script.old }
-    ensures { IfOk result (λ done. with_sample script.old group (words_left values.entry) ≡ done_as done script.new) }
+    ensures found { IfOk result (λ done. with_sample script.old group (words_left values.entry) ≡ done_as done script.new) }
+    ensures wanted { OnErr result (group < length script.old.plan.shapes) }
 {
     let Some(sample) = sample_of(alloc, &script.plan.shapes, group, values)? else {
         return Ok(false);
@@ -84,7 +86,8 @@ pub(crate) fn add_sample(
 /// Adds a flush of this source to the script, and answers whether there is such a source.
 pub(crate) fn add_flush(alloc: Global, script: &mut Script, source: u64) -> Result<bool, Memory>
     requires { IsScript script.old }
-    ensures { IfOk result (λ done. with_flush script.old source ≡ done_as done script.new) }
+    ensures found { IfOk result (λ done. with_flush script.old source ≡ done_as done script.new) }
+    ensures wanted { OnErr result (IsSome (with_flush script.old source)) }
 {
     if source >= script.plan.sources as u64 {
         return Ok(false);

@@ -1,9 +1,9 @@
 use Rattle.std.proofs.Common.{arith, sym, ap, subst, ◌≡◌, ◌∙◌, ◌+◌, ◌∷◌, false}
 use Rattle.std.proofs.lemmas.Result.{err_from_is_err_and}
 use Rattle.script_line.specs.Text.{parts_of, parts_left, bytes_left, is_end}
-use Rattle.acq_script.specs.Script.{GivesScript, FaultIs, ended, read_from}
+use Rattle.acq_script.specs.Script.{GivesScript, FaultIs, MayWantFor, WantsFrom, WantsIn, ended, read_from}
 use Rattle.script_line.proofs.Parts.{some_part}
-use Rattle.acq_script.proofs.Steps.{refused, taken, at_end}
+use Rattle.acq_script.proofs.Steps.{refused, taken, at_end, wants_here, wants_behind, wants_as}
 use Rattle.acq_script.proofs.read.script_of.Goals as goal
 
 pub returns-in_err-after-clause-found : goal.returns-in_err-after-clause-found
@@ -16,6 +16,16 @@ returns-in_err-after-clause-found c =
     subst (FaultIs c.in_err-after.field-0.0) loop.invariant.told
     (refused c.in_err-after.field-0.0 loop.stage loop.line loop.text.now (parts_left 10 loop.rest) some c.in_err-after.ensures.fault)
     )
+
+pub returns-in_err-after-clause-wanted : goal.returns-in_err-after-clause-wanted
+returns-in_err-after-clause-wanted c =
+    let p = err_from_is_err_and c.from_residual.result c.from_residual.ensures.1 in
+    let loop = c.loop-rest in
+    let parts : parts_left 10 loop.rest ≡ parts_of 10 c.in-Some.behind.now = ap (parts_left 10) c.in-Some.is in
+    let some : is_end (parts_left 10 loop.rest) ≡ false = ap is_end parts ∙ some_part 10 c.in-Some.behind.now in
+    rw (p.1, p.2)
+    (wants_as (MayWantFor loop.stage loop.text.now) (WantsIn c.args.bytes.now) c.in_err-after.field-0.0
+    (λ may. loop.invariant.wants (wants_here loop.stage loop.text.now (parts_left 10 loop.rest) some may)) c.in_err-after.ensures.wanted)
 
 pub loop-rest-preserved : goal.loop-rest-preserved
 loop-rest-preserved c =
@@ -30,6 +40,8 @@ loop-rest-preserved c =
           ∙ loop.invariant.told;
       sound = c.in_ok-after.ensures.sound;
       line = omega (arith, ap bytes_left c.in-Some.is, c.cut-in-Some.ensures.shorter, loop.invariant.line);
+      wants = λ behind. loop.invariant.wants (wants_behind loop.stage loop.line loop.text.now (parts_left 10 loop.rest) changed some c.in_ok-after.ensures.found
+          (subst (WantsFrom changed) (sym parts) behind));
     }
 
 pub returns-clause-found : goal.returns-clause-found
