@@ -1,5 +1,5 @@
 -- A book that was driven, flushed and closed says how the recording ended.
-use Rattle.std.proofs.Common.{◌≡◌, ◌≢◌, ◌≤◌, map, Bool, true, false, inl, inr, ⊎_elim, ℕ, List, [], ◌∷◌, ◌++◌, length, Option, Some, None, Result, Ok, Err, true≢false, get_or, take, refl, sym, ◌∙◌, ap, subst, arith, length-append}
+use Rattle.std.proofs.Common.{◌≡◌, ◌≢◌, ◌≤◌, ◌+◌, map, Bool, true, false, inl, inr, ⊎_elim, ℕ, List, [], ◌∷◌, ◌++◌, length, Option, Some, None, Result, Ok, Err, true≢false, get_or, take, refl, sym, ◌∙◌, ap, subst, arith, length-append}
 use Rattle.std.specs.Prelude.{◌<◌, ◌⊎◌, slice_get, slice_index, is_some, IsOk, IfSome, IfOk, IfErr, MatchBool, cond, ◌==◌}
 use Rattle.std.proofs.lemmas.Bool.{cases_eq, cond-true, cond-false, eq-eqb, ne_eqb}
 use Rattle.std.proofs.lemmas.Option.{slice_get_cases}
@@ -40,8 +40,8 @@ use Rattle.acq_run.specs.declared.work.Ended.{Ended}
 use Rattle.acq_run.specs.declared.work.Ended.TheVariants as work
 use Rattle.acq_run.proofs.Later.{all_later}
 use Rattle.mdf_record.specs.Sources.{RanAll, ends_of, feds_of, told_of}
-use Rattle.mdf_record.specs.Finish.{FileFaultComes, Finishes, FinishEnds, IsAllDurable, IsMade, IsUnmade, NoteComes}
-use Rattle.mdf_record.specs.Record.{AreAccepted, AreEnds, CloseComes, IsComplete, IsFull, IsNext, IsRecorded, IsSaved, IsShort, IsUnshown, Outcome, SourceComes, live_of, outcome}
+use Rattle.mdf_record.specs.Finish.{FileFaultComes, Finishes, FinishEnds, IsAllDurable, IsMade, IsUnmade, NoteComes, WantsToShow}
+use Rattle.mdf_record.specs.Record.{AreAccepted, AreEnds, CloseComes, EndedAt, IsComplete, IsFull, IsNext, IsRecorded, IsSaved, IsShort, IsUnshown, Outcome, SourceComes, live_of, outcome}
 use Rattle.mdf_record.specs.Head.{script_head}
 use Rattle.mdf_record.specs.Recorded.{Closes, HasRun, RunComes, RecordComes}
 use Rattle.mdf_record.specs.declared.sources.End.{End}
@@ -195,17 +195,25 @@ module _ {D N : Type 0} (tells : DiskOf D) (shows : ViewOf Audience N)
       (ap samples_of (sym r.parts) ∙ samples_of-append r.done r.rest ∙ ap (λ ts. samples_of r.done ++ samples_of ts) next_is.1)
       ∙ at_seam (samples_of r.done) sample (samples_of next_is.0)
 
+  -- its work ended there
+  ended_at : (s : ℕ) (tasks : List Task) (driven : Driven) (r : RanTasks owners flushed s tasks driven) (sample : Sample) → Fed.IsNext (feds_of r.rest) sample
+      → EndedAt script left s tasks
+  ended_at s tasks driven r sample next = record {
+    sample = sample;
+    next = next_there s tasks driven r sample next;
+    before = r.before;
+    begins = r.begins;
+    all_own = r.all_own;
+  }
+
   source_comes : IsAllDurable flushed → (s : ℕ) (tasks : List Task) (n : ℕ) (how : Ended) → RanTasks owners flushed s tasks (record { accepted = n; ended = how })
       → SourceComes script left s tasks (told_of how)
+  unfolding ended_at
   source_comes durable_all s tasks n work.Running r = absurd r.ends
   source_comes durable_all s tasks n work.Done r =
       let whole = whole_ran owners flushed s tasks (record { accepted = n; ended = work.Done }) tt r in record { history_is = whole.0; flush_lines = whole.1 }
   source_comes durable_all s tasks n (work.SessionFull held size limit) r = record {
-    sample = r.ends.sample;
-    next = next_there s tasks (record { accepted = n; ended = work.SessionFull held size limit }) r r.ends.sample r.ends.next;
-    before = r.before;
-    begins = r.begins;
-    all_own = r.all_own;
+    at = ended_at s tasks (record { accepted = n; ended = work.SessionFull held size limit }) r r.ends.sample r.ends.next;
     held_is = r.ends.held_is ∙ ap (λ (t : Terms). history_cost t.layouts r.before) terms_are;
     size_is = r.ends.size_is ∙ ap (λ (t : Terms). cost_of t.layouts r.ends.sample) terms_are;
     limit_is = r.ends.limit_is ∙ ap (λ (t : Terms). t.session_limit) terms_are;
@@ -213,7 +221,10 @@ module _ {D N : Type 0} (tells : DiskOf D) (shows : ViewOf Audience N)
   }
   source_comes durable_all s tasks n (work.Stopped mark) r = absurd (true≢false (sym r.ends.0 ∙ durable_all.0))
   source_comes durable_all s tasks n (work.DiskFault before after) r = absurd (true≢false (sym r.ends.0 ∙ durable_all.0))
-  source_comes durable_all s tasks n work.Memory r = (r.ends.0, next_there s tasks (record { accepted = n; ended = work.Memory }) r r.ends.0 r.ends.1)
+  source_comes durable_all s tasks n work.Memory r = record {
+    at = ended_at s tasks (record { accepted = n; ended = work.Memory }) r r.ends.sample r.ends.next;
+    room = subst (λ (t : Terms). history_cost t.layouts r.before + cost_of t.layouts r.ends.sample ≤ t.session_limit) terms_are r.ends.room;
+  }
 
   ends_are : IsAllDurable flushed → AreEnds script left (ends_of ran.all)
   ends_are durable_all = record {
@@ -236,9 +247,9 @@ module _ {D N : Type 0} (tells : DiskOf D) (shows : ViewOf Audience N)
       record { ends = (ends_of ran.all); are = ends_are durable_all; source = found.0; wanted = found.1; room = all_room (ends_of ran.all) (sym ran.told ∙ is) }
 
   -- memory was wanted for a sample, or for the view
-  short : IsAllDurable flushed → (result ≡ Err end_.Memory) ⊎ (IsOk result × (script.plan.live ≡ true)) → IsShort script left ⊎ IsUnshown script left
+  short : IsAllDurable flushed → (result ≡ Err end_.Memory) ⊎ WantsToShow flushed script.plan.live result → IsShort script left ⊎ IsUnshown script left
   short durable_all (inl is) = inl (wants is durable_all)
-  short durable_all (inr unshown) = inr (unshown.1, completes result refl unshown.0 durable_all)
+  short durable_all (inr unshown) = inr (unshown.1, completes result refl unshown.0 durable_all, omega (arith, unshown.2))
 
   ended : (problem' : Option Fault) → FinishEnds flushed script.plan.live result problem' → CloseComes script file.faults left problem'
   ended None ends = completes result refl ends.0 ends.1

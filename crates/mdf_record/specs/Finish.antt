@@ -1,11 +1,12 @@
 -- How a recording is begun and finished.
-use Rattle.std.specs.Prelude.{ℕ, ◌≡◌, ◌≤◌, ◌⊎◌, Bool, true, false, List, [], ◌∷◌, ◌++◌, length, take, Option, Some, None, Result, Err, IfSome, IsOk}
+use Rattle.std.specs.Prelude.{ℕ, ◌≡◌, ◌≤◌, ◌<◌, ◌⊎◌, Bool, true, false, List, [], ◌∷◌, ◌++◌, length, take, Option, Some, None, Result, Err, IfSome, IsOk}
 use Rattle.mdf_format.specs.Cause.{Rose}
 use Rattle.mdf_disk.specs.State.{DiskState}
 use Rattle.mdf_disk.specs.Crash.{HoldsSince}
 use Rattle.mdf_layout.specs.declared.sample.Sample.{Sample}
 use Rattle.book_view.specs.Known.{Note}
-use Rattle.acq_live.specs.Audience.{tells_of}
+use Rattle.acq_live.specs.Audience.{count_in, tells_of}
+use Rattle.acq_live.specs.declared.audience.Audience.{Audience}
 use Rattle.mdf_disk.specs.declared.role.Role.TheVariants.{Create}
 use Rattle.mdf_gate.specs.Images.{IsBegun}
 use Rattle.book_owned.specs.Marks.{durable}
@@ -37,13 +38,17 @@ pub record IsUnmade (name head : List ℕ) (old new : DiskState) (fault : Fault)
 abbrev pub IsAllDurable : {D V : Type 0} → Account D V → Type 0
 IsAllDurable book = (book.stopped ≡ false) × (durable book.marks ≡ length book.history)
 
+-- all tasks were done, and who looks live is shown fewer samples than there are
+abbrev pub WantsToShow : {D : Type 0} → Account D Audience → Bool → Result Unit End → Type 0
+WantsToShow book live driven = IsOk driven × (live ≡ true) × (count_in book.view < length book.history)
+
 -- What the last flush says, and what the tasks ended with: a fault of the disk before a full session, and that before want
 -- of memory, be it for a sample or for a view that is looked at live. All is durable but where the disk failed.
-abbrev pub FinishEnds : {D V : Type 0} → Account D V → Bool → Result Unit End → Option Fault → Type 0
+abbrev pub FinishEnds : {D : Type 0} → Account D Audience → Bool → Result Unit End → Option Fault → Type 0
 FinishEnds book live driven None = IsOk driven × IsAllDurable book
 FinishEnds book live driven (Some fault.Device) = book.stopped ≡ true
 FinishEnds book live driven (Some (fault.SessionFull held size limit)) = (driven ≡ Err (end_.SessionFull held size limit)) × IsAllDurable book
-FinishEnds book live driven (Some fault.Memory) = ((driven ≡ Err end_.Memory) ⊎ (IsOk driven × (live ≡ true))) × IsAllDurable book
+FinishEnds book live driven (Some fault.Memory) = ((driven ≡ Err end_.Memory) ⊎ WantsToShow book live driven) × IsAllDurable book
 FinishEnds book live driven (Some _) = ⊥
 
 -- Where nothing went wrong, the note of the last flush tells of what is shown: live, that is all of the history.
@@ -52,7 +57,7 @@ NoteComes None live which history note =
     (shown : ℕ) × tells_of note which (take shown history) × (live ≡ true → length history ≤ shown)
 NoteComes (Some fault) live which history note = note ≡ None
 
-pub record Finishes {D V : Type 0} (old new : Account D V) (live : Bool) (driven : Result Unit End) (fault : Option Fault) (note : Option Note) : Type 0 where
+pub record Finishes {D : Type 0} (old new : Account D Audience) (live : Bool) (driven : Result Unit End) (fault : Option Fault) (note : Option Note) : Type 0 where
   pub steps : Steps old new []
   pub ends : FinishEnds new live driven fault
   pub noted : NoteComes fault live new.terms.which new.history note

@@ -106,25 +106,33 @@ abbrev pub IsNext : Script → Outcome → ℕ → List Task → Sample → Type
 IsNext script left source tasks sample =
     slice_get (samples_of tasks) (length (source_samples script.plan.owners left.history source)) ≡ Some sample
 
--- The next sample of a source would have passed the session limit, behind a beginning of the history that has all of the
--- source's own samples.
-pub record LackedRoom (script : Script) (left : Outcome) (source : ℕ) (tasks : List Task) (held size limit : ℕ) : Type 0 where
+-- The work of a source ended at its next sample, behind a beginning of the history that has all of the source's own samples.
+pub record EndedAt (script : Script) (left : Outcome) (source : ℕ) (tasks : List Task) : Type 0 where
   pub sample : Sample
   pub next : IsNext script left source tasks sample
   pub before : List Sample
   pub begins : IsPrefix before left.history
   pub all_own : source_samples script.plan.owners before source ≡ source_samples script.plan.owners left.history source
-  pub held_is : held ≡ history_cost script.plan.shapes before
-  pub size_is : size ≡ cost_of script.plan.shapes sample
+
+-- that sample would have passed the session limit
+pub record LackedRoom (script : Script) (left : Outcome) (source : ℕ) (tasks : List Task) (held size limit : ℕ) : Type 0 where
+  pub at : EndedAt script left source tasks
+  pub held_is : held ≡ history_cost script.plan.shapes at.before
+  pub size_is : size ≡ cost_of script.plan.shapes at.sample
   pub limit_is : limit ≡ script.plan.session
   pub over : limit < held + size
+
+-- the session had room for that sample, but memory was wanted for it
+pub record LackedMemory (script : Script) (left : Outcome) (source : ℕ) (tasks : List Task) : Type 0 where
+  pub at : EndedAt script left source tasks
+  pub room : history_cost script.plan.shapes at.before + cost_of script.plan.shapes at.sample ≤ script.plan.session
 
 -- How a source ends where the disk did not fail: all was done, its next sample had no room, or memory was wanted for it.
 abbrev pub SourceComes : Script → Outcome → ℕ → List Task → Result Unit End → Type 0
 SourceComes script left source tasks (Ok done) = IsWhole script left source tasks
 SourceComes script left source tasks (Err (end_.SessionFull held size limit)) = LackedRoom script left source tasks held size limit
 SourceComes script left source tasks (Err end_.Stopped) = ⊥
-SourceComes script left source tasks (Err end_.Memory) = (sample : Sample) × IsNext script left source tasks sample
+SourceComes script left source tasks (Err end_.Memory) = LackedMemory script left source tasks
 
 -- these are the ends of the sources, in the order of their numbers, and all that was accepted is saved
 pub record AreEnds (script : Script) (left : Outcome) (ends : List (Result Unit End)) : Type 0 where
@@ -148,9 +156,9 @@ pub record IsShort (script : Script) (left : Outcome) : Type 0 where
   pub wanted : slice_get ends source ≡ Some (Err end_.Memory)
   pub room : All HadRoom ends
 
--- All was recorded and saved, but memory was wanted to show all of it to those who look.
+-- All was recorded and saved, and there are samples, but memory was wanted to show all of them to those who look.
 abbrev pub IsUnshown : Script → Outcome → Type 0
-IsUnshown script left = (script.plan.live ≡ true) × IsComplete script left
+IsUnshown script left = (script.plan.live ≡ true) × IsComplete script left × (0 < length left.history)
 
 -- How a recording that was begun ends, where the disk's count of faults was `faults` before: all was done, the disk failed,
 -- the session is full, or memory was wanted for a sample or a view. All that was accepted is saved but where the disk failed.

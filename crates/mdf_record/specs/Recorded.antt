@@ -75,9 +75,9 @@ EndsRecording Says Refuses name now disk left sink sink' status =
     (end : RecordEnd) × RecordComes Says Refuses name now disk left end
     × Prints (record_text end) (record_status end) sink sink' status
 
--- `record OUT`: the script is that of the source.
+-- `record OUT`: the script is that of the source, which is taken whole.
 abbrev pub EndsRecord : SourceState → SourceState → List ℕ → ℕ → DiskState → Outcome → SinkState → SinkState → ℕ → Type 0
-EndsRecord source source' = EndsRecording (SaysScript source) (ScriptFaultComes source source')
+EndsRecord source source' = EndsRecording (SaysScript source source') (ScriptFaultComes source source')
 
 -- `gen N OUT`: it is the generated one, for which memory may be wanted.
 abbrev pub EndsGenerated : ℕ → List ℕ → ℕ → DiskState → Outcome → SinkState → SinkState → ℕ → Type 0

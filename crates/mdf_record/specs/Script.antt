@@ -1,6 +1,8 @@
 -- The script that a source has, and why it is refused.
 use Rattle.std.specs.Prelude.{ℕ, ◌≡◌, ◌≤◌, ◌<◌, length, IfSome, Ok, Err}
+use Rattle.std.specs.Io.KnownBytes.{IsAtEnd}
 use Rattle.mdf_format.specs.Cause.{Rose}
+use Rattle.mdf_port.specs.Source.{TakesFront}
 use Rattle.mdf_port.specs.State.{SourceState}
 use Rattle.acq_script.specs.Script.{script_of}
 use Rattle.acq_script.specs.declared.script.Script.{Script}
@@ -11,14 +13,27 @@ use Rattle.mdf_command.specs.declared.fault.Fault.TheVariants as fault
 abbrev pub SCRIPT_LIMIT : ℕ
 SCRIPT_LIMIT = 67108864
 
--- the source, where it tells its bytes, has this script
-abbrev pub SaysScript : SourceState → Script → Type 0
-SaysScript source script = IfSome source.left (λ text. (script_of text ≡ Ok script) × (length text ≤ SCRIPT_LIMIT))
+-- a beginning of what the source had was taken, be it all or nothing, and its count of faults did not fall
+pub record IsTaken (old new : SourceState) : Type 0 where
+  pub front : TakesFront old.left new.left
+  pub later : old.faults ≤ new.faults
+
+-- the source, where it tells its bytes, had this script, and nothing of it is left
+pub record SaysScript (old new : SourceState) (script : Script) : Type 0 where
+  pub text : IfSome old.left (λ text. (script_of text ≡ Ok script) × (length text ≤ SCRIPT_LIMIT))
+  pub end : IsAtEnd new.left
+  pub taken : IsTaken old new
+
+-- why a script is refused, by the source before and after
+abbrev pub ScriptFaultCause : SourceState → SourceState → Fault → Type 0
+ScriptFaultCause old new fault.Source = Rose old.faults new.faults
+ScriptFaultCause old new (fault.ScriptOver limit) = (limit ≡ SCRIPT_LIMIT) × IfSome old.left (λ text. limit < length text)
+ScriptFaultCause old new fault.Memory = Unit {0}
+ScriptFaultCause old new (fault.Script number) =
+    IfSome old.left (λ text. (script_of text ≡ Err number) × (length text ≤ SCRIPT_LIMIT)) × IsAtEnd new.left
+ScriptFaultCause old new _ = ⊥
 
 -- The script is refused only where this holds of the source before and after.
-abbrev pub ScriptFaultComes : SourceState → SourceState → Fault → Type 0
-ScriptFaultComes old new fault.Source = Rose old.faults new.faults
-ScriptFaultComes old new (fault.ScriptOver limit) = (limit ≡ SCRIPT_LIMIT) × IfSome old.left (λ text. limit < length text)
-ScriptFaultComes old new fault.Memory = Unit {0}
-ScriptFaultComes old new (fault.Script number) = IfSome old.left (λ text. (script_of text ≡ Err number) × (length text ≤ SCRIPT_LIMIT))
-ScriptFaultComes old new _ = ⊥
+pub record ScriptFaultComes (old new : SourceState) (fault : Fault) : Type 0 where
+  pub cause : ScriptFaultCause old new fault
+  pub taken : IsTaken old new

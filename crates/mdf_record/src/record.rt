@@ -84,7 +84,7 @@ fn refused<C>(alloc: Global, fault: Fault, out: C) -> Recorded<C>
 
 /// Reads the script of a source.
 fn read<S: Source>(alloc: Global, source: &mut S) -> Result<Script, Fault>
-    ensures says { IfOk result (SaysScript (source_state S.Source source.old)) }
+    ensures says { IfOk result (SaysScript (source_state S.Source source.old) (source_state S.Source source.new)) }
     ensures script { IfOk result IsScript }
     ensures fault { IfErr result (ScriptFaultComes (source_state S.Source source.old) (source_state S.Source source.new)) }
 {
@@ -415,7 +415,8 @@ where
     C: Disk + Send,
     G: Gate + Sync,
     requires { C.asked out ≡ None }
-    ensures comes { RecordComes (SaysScript (source_state S.Source source.old)) (ScriptFaultComes (source_state S.Source source.old) (source_state S.Source source.new))
+    ensures comes { RecordComes (SaysScript (source_state S.Source source.old) (source_state S.Source source.new))
+        (ScriptFaultComes (source_state S.Source source.old) (source_state S.Source source.new))
         output.now now_ns (state_of C.Disk out) (outcome C.Disk result.1.out result.1.history.items result.1.marks.items) result.1.end }
     ensures untouched { C.asked result.1.out ≡ None → result.1.out ≡ out }
     ensures recovered { AreRecovered (C.moment out) (outcome C.Disk result.1.out result.1.history.items result.1.marks.items) }

@@ -16,6 +16,6 @@ returns-clause-keeps g c = λ text told script means.
     let r = c.run_record-status in
     let before = source_state g.S.Source c.args.source.now in
     let after = source_state g.S.Source r.new.source in
-    rw (w.status, w.out, w.history, w.marks) (recording_keeps (SaysScript before) (ScriptFaultComes before after) _ c.args.now_ns (state_of g.C.Disk c.args.out)
-    (state_of g.C.Disk r.result.1.out) _ _ (sink_state g.K.Sink c.args.sink.now) (sink_state g.K.Sink r.new.sink) r.result.0 script (λ other says. source_says before.left text script other told means says)
+    rw (w.status, w.out, w.history, w.marks) (recording_keeps (SaysScript before after) (ScriptFaultComes before after) _ c.args.now_ns (state_of g.C.Disk c.args.out)
+    (state_of g.C.Disk r.result.1.out) _ _ (sink_state g.K.Sink c.args.sink.now) (sink_state g.K.Sink r.new.sink) r.result.0 script (λ other says. source_says before.left text script other told means says.text)
     r.result.1.end r.ensures.comes r.ensures.printed)
