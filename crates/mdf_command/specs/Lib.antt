@@ -2,4 +2,5 @@ pub mod Words
 pub mod Commands
 pub mod Texts
 pub mod Faults
+pub mod Parts
 pub mod Load

@@ -39,6 +39,15 @@ Names word name = word ≡ name_text name
 abbrev pub NamesNothing : List ℕ → Type 0
 NamesNothing word = (name : Name) → ¬ Names word name
 
+-- the word is that of no command that makes a file, and of no other
+abbrev pub NamesNoMaking : List ℕ → Type 0
+NamesNoMaking word =
+    ¬ Names word name.Record × ¬ Names word name.Finalize × ¬ Names word name.Sort × ¬ Names word name.Cut × ¬ Names word name.Concat
+    × ¬ Names word name.Gen
+
+abbrev pub NamesNoTelling : List ℕ → Type 0
+NamesNoTelling word = ¬ Names word name.Opened × ¬ Names word name.Check × ¬ Names word name.Info × ¬ Names word name.Export
+
 -- a word is this number, below 2 ^ 64, in decimal without a sign and without leading zeros; and it is none
 abbrev pub IsNumber : List ℕ → ℕ → Type 0
 IsNumber word number = (word ≡ decimal number) × (number < 2 ^ 64)

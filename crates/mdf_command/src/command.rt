@@ -1,5 +1,5 @@
-ghost use Rattle.std.specs.Prelude.{MatchOption};
-ghost use Rattle.mdf_command.specs.Words.{Asks, IsCount, IsNoCount, IsUsage, Names, NamesNothing};
+ghost use Rattle.std.specs.Prelude.{◌≡◌, ◌↔◌, ◌∷◌, [], true, MatchOption};
+ghost use Rattle.mdf_command.specs.Words.{Asks, IsCount, IsNoCount, IsUsage, Names, NamesNoMaking, NamesNoTelling, NamesNothing, name_text};
 ghost use Rattle.mdf_command.specs.Commands.{request_of};
 
 use crate::bound::bound_of;
@@ -24,40 +24,64 @@ pub enum Name {
     Gen,
 }
 
+/// Whether a word is this text.
+fn is(word: &[u8], text: &[u8]) -> bool
+    ensures { (result ≡ true) ↔ (word.now ≡ text.now) }
+{
+    word == text
+}
+
 impl Name {
     /// The command that this word names, if any.
     fn of(word: &[u8]) -> Option<Name>
         ensures { MatchOption result (NamesNothing word.now) (Names word.now) }
     {
-        if word == b"opened".as_slice() {
-            return Some(Name::Opened);
+        match Name::making(word) {
+            Some(name) => Some(name),
+            None => Name::telling(word),
         }
-        if word == b"record".as_slice() {
+    }
+
+    /// The command that this word names, if it is one that makes a file.
+    fn making(word: &[u8]) -> Option<Name>
+        ensures { MatchOption result (NamesNoMaking word.now) (Names word.now) }
+    {
+        if is(word, b"record") {
             return Some(Name::Record);
         }
-        if word == b"finalize".as_slice() {
+        if is(word, b"finalize") {
             return Some(Name::Finalize);
         }
-        if word == b"check".as_slice() {
-            return Some(Name::Check);
-        }
-        if word == b"info".as_slice() {
-            return Some(Name::Info);
-        }
-        if word == b"sort".as_slice() {
+        if is(word, b"sort") {
             return Some(Name::Sort);
         }
-        if word == b"cut".as_slice() {
+        if is(word, b"cut") {
             return Some(Name::Cut);
         }
-        if word == b"export".as_slice() {
-            return Some(Name::Export);
-        }
-        if word == b"concat".as_slice() {
+        if is(word, b"concat") {
             return Some(Name::Concat);
         }
-        if word == b"gen".as_slice() {
+        if is(word, b"gen") {
             return Some(Name::Gen);
+        }
+        None
+    }
+
+    /// The command that this word names, if it is one that makes no file.
+    fn telling(word: &[u8]) -> Option<Name>
+        ensures { MatchOption result (NamesNoTelling word.now) (Names word.now) }
+    {
+        if is(word, b"opened") {
+            return Some(Name::Opened);
+        }
+        if is(word, b"check") {
+            return Some(Name::Check);
+        }
+        if is(word, b"info") {
+            return Some(Name::Info);
+        }
+        if is(word, b"export") {
+            return Some(Name::Export);
         }
         None
     }
@@ -128,6 +152,84 @@ fn samples_of(word: &[u8]) -> Option<u64>
     Some(samples)
 }
 
+/// The command of this name with one argument, if it takes one.
+fn with_one(name: Name, only: &Bytes) -> Option<Command<'_>>
+    ensures { MatchOption result (IsUsage (name_text name ∷ only.now ∷ [])) (λ command. Asks (name_text name ∷ only.now ∷ []) (request_of command)) }
+{
+    match name {
+        Name::Opened => Some(Command::Opened { input: only }),
+        Name::Record => Some(Command::Record { output: only }),
+        Name::Check => Some(Command::Check { input: only }),
+        Name::Info => Some(Command::Info { input: only }),
+        _ => None,
+    }
+}
+
+/// The command of this name with two arguments, if it takes two.
+fn with_two<'a>(name: Name, first: &'a Bytes, second: &'a Bytes) -> Option<Command<'a>>
+    ensures { MatchOption result (IsUsage (name_text name ∷ first.now ∷ second.now ∷ [])) (λ command. Asks (name_text name ∷ first.now ∷ second.now ∷ []) (request_of command)) }
+{
+    match name {
+        Name::Finalize => Some(Command::Finalize {
+            input: first,
+            output: second,
+        }),
+        Name::Sort => Some(Command::Sort {
+            input: first,
+            output: second,
+        }),
+        Name::Export => Some(Command::Export {
+            input: first,
+            group: number_of(second.as_slice())?,
+        }),
+        Name::Gen => Some(Command::Gen {
+            samples: samples_of(first.as_slice())?,
+            output: second,
+        }),
+        _ => None,
+    }
+}
+
+/// The command of this name with three arguments, if it takes three.
+fn with_three<'a>(
+    name: Name,
+    input: &'a Bytes,
+    second: &'a Bytes,
+    output: &'a Bytes,
+) -> Option<Command<'a>>
+    ensures { MatchOption result (IsUsage (name_text name ∷ input.now ∷ second.now ∷ output.now ∷ [])) (λ command. Asks (name_text name ∷ input.now ∷ second.now ∷ output.now ∷ []) (request_of command)) }
+{
+    match name {
+        Name::Concat => Some(Command::Concat {
+            input,
+            second,
+            output,
+        }),
+        _ => None,
+    }
+}
+
+/// The command of this name with four arguments, if it takes four.
+fn with_four<'a>(
+    name: Name,
+    input: &'a Bytes,
+    output: &'a Bytes,
+    from: &Bytes,
+    to: &Bytes,
+) -> Option<Command<'a>>
+    ensures { MatchOption result (IsUsage (name_text name ∷ input.now ∷ output.now ∷ from.now ∷ to.now ∷ [])) (λ command. Asks (name_text name ∷ input.now ∷ output.now ∷ from.now ∷ to.now ∷ []) (request_of command)) }
+{
+    match name {
+        Name::Cut => Some(Command::Cut {
+            input,
+            output,
+            from: bound_of(from.as_slice())?,
+            to: bound_of(to.as_slice())?,
+        }),
+        _ => None,
+    }
+}
+
 /// The command that the words name, if any.
 pub fn command_of(words: &Rows<Bytes>) -> Option<Command<'_>>
     ensures { MatchOption result (IsUsage words.now) (λ command. Asks words.now (request_of command)) }
@@ -135,32 +237,12 @@ pub fn command_of(words: &Rows<Bytes>) -> Option<Command<'_>>
     let [first, arguments @ ..] = words.as_slice() else {
         return None;
     };
-    match (Name::of(first.as_slice())?, arguments) {
-        (Name::Opened, [input]) => Some(Command::Opened { input }),
-        (Name::Record, [output]) => Some(Command::Record { output }),
-        (Name::Finalize, [input, output]) => Some(Command::Finalize { input, output }),
-        (Name::Check, [input]) => Some(Command::Check { input }),
-        (Name::Info, [input]) => Some(Command::Info { input }),
-        (Name::Sort, [input, output]) => Some(Command::Sort { input, output }),
-        (Name::Cut, [input, output, from, to]) => Some(Command::Cut {
-            input,
-            output,
-            from: bound_of(from.as_slice())?,
-            to: bound_of(to.as_slice())?,
-        }),
-        (Name::Export, [input, group]) => Some(Command::Export {
-            input,
-            group: number_of(group.as_slice())?,
-        }),
-        (Name::Concat, [input, second, output]) => Some(Command::Concat {
-            input,
-            second,
-            output,
-        }),
-        (Name::Gen, [samples, output]) => Some(Command::Gen {
-            samples: samples_of(samples.as_slice())?,
-            output,
-        }),
+    let name = Name::of(first.as_slice())?;
+    match arguments {
+        [only] => with_one(name, only),
+        [first, second] => with_two(name, first, second),
+        [input, second, output] => with_three(name, input, second, output),
+        [input, output, from, to] => with_four(name, input, output, from, to),
         _ => None,
     }
 }

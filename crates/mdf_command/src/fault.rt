@@ -1,26 +1,23 @@
 ghost use Rattle.std.specs.Prelude.{◌≡◌};
 ghost use Rattle.mdf_command.specs.declared.fault.Fault.TheVariants.{Gate, Device, Read, Memory as NoMemory};
-ghost use Rattle.mdf_command.specs.Faults.{fault_of_load, fault_of_script, fault_of_take, fault_of_tool, gate_line, read_line, refusal_line, text_line, texts_line, what_text};
+ghost use Rattle.mdf_command.specs.Faults.{fault_of_load, fault_of_script, fault_of_take, fault_of_tool, gate_line, read_line, refusal_line};
+ghost use Rattle.mdf_command.specs.Parts.{parts_line};
 ghost use Rattle.mdf_content.specs.Fault.{read_refusal};
-ghost use Rattle.mdf_block.specs.Refusal.{Bad, Cycles, Offset, TooMany};
-ghost use Rattle.mdf_format.specs.Block.{name_of};
+ghost use Rattle.mdf_block.specs.Refusal.{Cycles, Offset};
 ghost use Rattle.mdf_port.specs.State.{sink_state};
 ghost use Rattle.mdf_command.specs.Texts.{Gives};
 
-use crate::report::Piece::{Number, Text};
-use crate::report::give_line;
+use crate::parts::{Parts, give_parts};
 use acq_script::ScriptFault;
-use mdf_block::What;
 use mdf_content::ReadFault;
 use mdf_disk::LoadFault;
-use mdf_format::Kind;
 use mdf_gate::GateFault;
 use mdf_num::{Failed, Memory};
 use mdf_port::{Sink, TakeFault};
 use mdf_tool::ToolFault;
 
 /// Why a command ends with a status other than 0.
-#[derive(Clone, Copy, Debug, PartialEq, Eq)]
+#[derive(Clone, Copy, Debug)]
 pub enum Fault {
     /// The input has no opened blocks.
     Gate(GateFault),
@@ -72,85 +69,36 @@ impl Fault {
     pub fn give<K: Sink>(&self, sink: &mut K) -> Result<(), Failed>
         ensures { Gives (fault_line self.now) (sink_state K.Sink sink.old) (sink_state K.Sink sink.new) result }
     {
-        match self {
-            Fault::Gate(fault) => give_gate_line(sink, *fault),
-            Fault::Device => give_line(sink, &[Text(b"device fault")]),
-            Fault::InputOver { size, limit } => give_line(
-                sink,
-                &[
-                    Text(b"input over "),
-                    Number(*size),
-                    Text(b" "),
-                    Number(*limit),
-                ],
-            ),
-            Fault::Source => give_line(sink, &[Text(b"source fault")]),
-            Fault::ScriptOver { limit } => {
-                give_line(sink, &[Text(b"script over "), Number(*limit)])
+        give_parts(sink, self.parts())
+    }
+
+    /// The parts of the line.
+    fn parts(&self) -> Parts
+        ensures { parts_line result ≡ fault_line self.now }
+    {
+        match *self {
+            Fault::Gate(fault) => read_parts(read_fault_of(fault)),
+            Fault::Device => Parts::Words(b"device fault"),
+            Fault::InputOver { size, limit } => Parts::Two(b"input over ", size, b" ", limit),
+            Fault::Source => Parts::Words(b"source fault"),
+            Fault::ScriptOver { limit } => Parts::One(b"script over ", limit),
+            Fault::SessionFull { held, size, limit } => {
+                Parts::Three(b"session full ", held, b" ", size, b" ", limit)
             }
-            Fault::SessionFull { held, size, limit } => give_line(
-                sink,
-                &[
-                    Text(b"session full "),
-                    Number(*held),
-                    Text(b" "),
-                    Number(*size),
-                    Text(b" "),
-                    Number(*limit),
-                ],
-            ),
-            Fault::Memory => give_line(sink, &[Text(b"want of memory")]),
-            Fault::Script { line } => give_line(sink, &[Text(b"script line "), Number(*line)]),
-            Fault::Read(fault) => give_read_line(sink, *fault),
+            Fault::Memory => Parts::Words(b"want of memory"),
+            Fault::Script { line } => Parts::One(b"script line ", line),
+            Fault::Read(fault) => read_parts(fault),
             Fault::NoGroup { said, groups } => {
-                give_texts(sink, b"no group ", *said, b" of ", u64::from(*groups))
+                Parts::Two(b"no group ", said, b" of ", u64::from(groups))
             }
-            Fault::Differs { group } => give_text(sink, b"differs group ", u64::from(*group)),
-            Fault::Wide { group, channel } => give_texts(
-                sink,
+            Fault::Differs { group } => Parts::One(b"differs group ", u64::from(group)),
+            Fault::Wide { group, channel } => Parts::Two(
                 b"wide group ",
-                u64::from(*group),
+                u64::from(group),
                 b" channel ",
-                u64::from(*channel),
+                u64::from(channel),
             ),
         }
-    }
-}
-
-/// The four bytes that name a kind of block.
-fn name_of(kind: Kind) -> &'static [u8]
-    ensures { result.now ≡ name_of kind }
-{
-    match kind {
-        Kind::Hd => b"##HD",
-        Kind::Fh => b"##FH",
-        Kind::Dg => b"##DG",
-        Kind::Cg => b"##CG",
-        Kind::Cn => b"##CN",
-        Kind::Cc => b"##CC",
-        Kind::Si => b"##SI",
-        Kind::Tx => b"##TX",
-        Kind::Md => b"##MD",
-        Kind::Dt => b"##DT",
-        Kind::Dl => b"##DL",
-        Kind::Sd => b"##SD",
-        Kind::At => b"##AT",
-    }
-}
-
-/// The word for what there is too many of.
-fn what_text(what: What) -> &'static [u8]
-    ensures { result.now ≡ what_text what }
-{
-    match what {
-        What::Fh => b"FH",
-        What::Dg => b"DG",
-        What::Cg => b"CG",
-        What::Cn => b"CN",
-        What::Cc => b"CC",
-        What::Text => b"text",
-        What::Block => b"block",
-        What::Sample => b"sample",
     }
 }
 
@@ -166,151 +114,54 @@ fn read_fault_of(fault: GateFault) -> ReadFault
     }
 }
 
-/// Gives a line of a text and a number.
-fn give_text<K: Sink>(sink: &mut K, text: &[u8], number: u64) -> Result<(), Failed>
-    ensures { Gives (text_line text.now number) (sink_state K.Sink sink.old) (sink_state K.Sink sink.new) result }
+/// The parts of the line of a group that has fewer records than it says.
+fn cycles_parts(group: u64, said: u64, found: u64) -> Parts
+    ensures { parts_line result ≡ refusal_line (Cycles group said found) }
 {
-    give_line(sink, &[Text(text), Number(number)])
+    Parts::Three(b"cycles group ", group, b" said ", said, b" found ", found)
 }
 
-/// Gives a line of two texts with a number each.
-fn give_texts<'x, K: Sink>(
-    sink: &mut K,
-    text: &'x [u8],
-    number: u64,
-    more: &'x [u8],
-    next: u64,
-) -> Result<(), Failed>
-    ensures { Gives (texts_line text.now number more.now next) (sink_state K.Sink sink.old) (sink_state K.Sink sink.new) result }
+/// The parts of the line of an offset that meets no value.
+fn offset_parts(channel: u64, row: u64, offset: u64) -> Parts
+    ensures { parts_line result ≡ refusal_line (Offset channel row offset) }
 {
-    give_line(
-        sink,
-        &[Text(text), Number(number), Text(more), Number(next)],
-    )
+    Parts::Three(b"offset ", offset, b" channel ", channel, b" row ", row)
 }
 
-/// Gives the line of a block that does not stand at an address.
-fn give_block<K: Sink>(sink: &mut K, at: u64, want: Kind) -> Result<(), Failed>
-    ensures { Gives (refusal_line (Bad at want)) (sink_state K.Sink sink.old) (sink_state K.Sink sink.new) result }
-{
-    give_line(
-        sink,
-        &[
-            Text(b"block at "),
-            Number(at),
-            Text(b" is not "),
-            Text(name_of(want)),
-        ],
-    )
-}
-
-/// Gives the line of what there is too many of.
-fn give_many<K: Sink>(sink: &mut K, what: What, at: u64) -> Result<(), Failed>
-    ensures { Gives (refusal_line (TooMany what at)) (sink_state K.Sink sink.old) (sink_state K.Sink sink.new) result }
-{
-    give_line(
-        sink,
-        &[
-            Text(b"too many "),
-            Text(what_text(what)),
-            Text(b" at "),
-            Number(at),
-        ],
-    )
-}
-
-/// Gives the line of a group that has fewer records than it says.
-fn give_cycles<K: Sink>(sink: &mut K, group: u64, said: u64, found: u64) -> Result<(), Failed>
-    ensures { Gives (refusal_line (Cycles group said found)) (sink_state K.Sink sink.old) (sink_state K.Sink sink.new) result }
-{
-    give_line(
-        sink,
-        &[
-            Text(b"cycles group "),
-            Number(group),
-            Text(b" said "),
-            Number(said),
-            Text(b" found "),
-            Number(found),
-        ],
-    )
-}
-
-/// Gives the line of an offset that meets no value.
-fn give_offset<K: Sink>(sink: &mut K, channel: u64, row: u64, offset: u64) -> Result<(), Failed>
-    ensures { Gives (refusal_line (Offset channel row offset)) (sink_state K.Sink sink.old) (sink_state K.Sink sink.new) result }
-{
-    give_line(
-        sink,
-        &[
-            Text(b"offset "),
-            Number(offset),
-            Text(b" channel "),
-            Number(channel),
-            Text(b" row "),
-            Number(row),
-        ],
-    )
-}
-
-/// Gives the line of an input that could not be read.
-fn give_read_line<K: Sink>(sink: &mut K, fault: ReadFault) -> Result<(), Failed>
-    ensures { Gives (read_line (read_refusal fault)) (sink_state K.Sink sink.old) (sink_state K.Sink sink.new) result }
+/// The parts of the line of an input that could not be read.
+fn read_parts(fault: ReadFault) -> Parts
+    ensures { parts_line result ≡ read_line (read_refusal fault) }
 {
     match fault {
-        ReadFault::NotMdf => give_line(sink, &[Text(b"not MDF")]),
+        ReadFault::NotMdf => Parts::Words(b"not MDF"),
         ReadFault::Unfinalized { std, custom } => {
-            give_texts(
-                sink,
-                b"unfinalized ",
-                u64::from(std),
-                b" ",
-                u64::from(custom),
-            )
+            Parts::Two(b"unfinalized ", u64::from(std), b" ", u64::from(custom))
         }
         ReadFault::NotRecording { std, custom } => {
-            give_texts(
-                sink,
-                b"not a recording ",
-                u64::from(std),
-                b" ",
-                u64::from(custom),
-            )
+            Parts::Two(b"not a recording ", u64::from(std), b" ", u64::from(custom))
         }
-        ReadFault::Version { ver } => give_text(sink, b"version ", u64::from(ver)),
-        ReadFault::Block { at, want } => give_block(sink, at, want),
-        ReadFault::Compressed { at } => give_text(sink, b"compressed at ", at),
-        ReadFault::TooMany { what, at } => give_many(sink, what, at),
-        ReadFault::Deep { at } => give_text(sink, b"deep at ", at),
+        ReadFault::Version { ver } => Parts::One(b"version ", u64::from(ver)),
+        ReadFault::Block { at, want } => Parts::Block(at, want),
+        ReadFault::Compressed { at } => Parts::One(b"compressed at ", at),
+        ReadFault::TooMany { what, at } => Parts::Many(what, at),
+        ReadFault::Deep { at } => Parts::One(b"deep at ", at),
         ReadFault::ChannelKind { at, kind } => {
-            give_texts(sink, b"channel kind ", u64::from(kind), b" at ", at)
+            Parts::Two(b"channel kind ", u64::from(kind), b" at ", at)
         }
         ReadFault::ChannelType { at, value } => {
-            give_texts(sink, b"channel type ", u64::from(value), b" at ", at)
+            Parts::Two(b"channel type ", u64::from(value), b" at ", at)
         }
-        ReadFault::Layout { at } => give_text(sink, b"layout at ", at),
-        ReadFault::UnknownId { id, at } => give_texts(sink, b"unknown id ", id, b" at ", at),
-        ReadFault::Cut { at } => give_text(sink, b"cut at ", at),
-        ReadFault::Cycles { group, said, found } => give_cycles(
-            sink,
-            u64::from(group),
-            said,
-            found,
-        ),
+        ReadFault::Layout { at } => Parts::One(b"layout at ", at),
+        ReadFault::UnknownId { id, at } => Parts::Two(b"unknown id ", id, b" at ", at),
+        ReadFault::Cut { at } => Parts::One(b"cut at ", at),
+        ReadFault::Cycles { group, said, found } => cycles_parts(u64::from(group), said, found),
         ReadFault::Offset {
             channel,
             row,
             offset,
-        } => give_offset(sink, u64::from(channel), row, offset),
-        ReadFault::Memory => give_line(sink, &[Text(b"want of memory")]),
+        } => offset_parts(u64::from(channel), row, offset),
+        ReadFault::Memory => Parts::Words(b"want of memory"),
     }
-}
-
-/// Gives the line of an input that is no recording.
-fn give_gate_line<K: Sink>(sink: &mut K, fault: GateFault) -> Result<(), Failed>
-    ensures { Gives (gate_line fault) (sink_state K.Sink sink.old) (sink_state K.Sink sink.new) result }
-{
-    give_read_line(sink, read_fault_of(fault))
 }
 
 impl From<GateFault> for Fault {

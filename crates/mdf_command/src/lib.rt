@@ -7,6 +7,7 @@ mod command;
 mod fault;
 mod input;
 mod number;
+mod parts;
 mod report;
 
 pub use command::{Command, command_of};

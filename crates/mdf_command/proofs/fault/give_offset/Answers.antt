@@ -1,4 +1,0 @@
-use Rattle.mdf_command.proofs.fault.give_offset.Goals as goal
-
-pub returns : goal.returns
-returns g c = c.give_line.ensures
