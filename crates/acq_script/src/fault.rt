@@ -2,7 +2,7 @@ use mdf_num::Memory;
 use thiserror::Error;
 
 /// Why a script is refused.
-#[derive(Clone, Copy, Debug, PartialEq, Eq, Error)]
+#[derive(Clone, Copy, Debug, Error)]
 pub enum ScriptFault {
     /// The first line, counted from 1, that no rule admits after the lines before it. Where the script ends too early
     /// it is the line after the last one.

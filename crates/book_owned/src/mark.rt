@@ -1,7 +1,7 @@
 use mdf_layout::Reserved;
 
 /// From this moment of the disk on, each crash leaves a file that carries at least so many samples of the history.
-#[derive(Clone, Copy, Debug, PartialEq, Eq)]
+#[derive(Clone, Copy, Debug)]
 pub struct Mark {
     /// The disk's moment.
     pub moment: u64,

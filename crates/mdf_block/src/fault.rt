@@ -2,7 +2,7 @@ use mdf_format::Kind;
 use thiserror::Error;
 
 /// Why a block is refused.
-#[derive(Clone, Copy, Debug, PartialEq, Eq, Error)]
+#[derive(Clone, Copy, Debug, Error)]
 pub enum BlockFault {
     /// No block of that kind stands whole at the address.
     #[error("no whole block of the kind that is wanted at {at}")]
@@ -13,7 +13,7 @@ pub enum BlockFault {
 }
 
 /// Why a text is refused.
-#[derive(Clone, Copy, Debug, PartialEq, Eq, Error)]
+#[derive(Clone, Copy, Debug, Error)]
 pub enum NoteFault {
     /// Neither a TXBLOCK nor an MDBLOCK stands whole at the address.
     #[error("no whole text at {at}")]

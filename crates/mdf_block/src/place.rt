@@ -1,7 +1,7 @@
 use mdf_format::Kind;
 
 /// Where a block stands in a file: a header of 24 bytes, the links, and then the body.
-#[derive(Clone, Copy, Debug, PartialEq, Eq)]
+#[derive(Clone, Copy, Debug)]
 pub struct BlockAt {
     /// The address of its first byte.
     pub at: u64,

@@ -1,5 +1,5 @@
 /// What there is too many of.
-#[derive(Clone, Copy, Debug, PartialEq, Eq)]
+#[derive(Clone, Copy, Debug)]
 pub enum What {
     /// FHBLOCKs: entries of the file history.
     Fh,

@@ -1,58 +1,75 @@
 use mdf_block::{Kind, What};
-use thiserror::Error;
+use std::error::Error;
+use std::fmt;
 
 /// Why a file has no measurement. Addresses and places are in bytes.
-#[derive(Clone, Copy, Debug, PartialEq, Eq, Error)]
+#[derive(Clone, Copy, Debug)]
 pub enum ReadFault {
     /// The first 64 bytes are no identification of an MDF file.
-    #[error("no MDF file")]
     NotMdf,
     /// The file says that it is not finalized; these are its flags.
-    #[error("an unfinalized file")]
     Unfinalized { std: u16, custom: u16 },
     /// The version is not one of 4.00 to 4.19.
-    #[error("a version that is not read")]
     Version { ver: u16 },
     /// No block of that kind stands whole at the address. For a text the kind is Tx; for a reference of a conversion it is
     /// Cc where `##CC` stands there, else Tx; for a data link it is Dl where `##DL` stands there, else Dt or Sd.
-    #[error("no whole block of the kind that is wanted")]
     Block { at: u64, want: Kind },
     /// A DZBLOCK or an HLBLOCK stands where plain data is wanted.
-    #[error("compressed data")]
     Compressed { at: u64 },
     /// The block or the text at the address is one too many; for samples it is their CGBLOCK.
-    #[error("too many blocks, texts or samples")]
     TooMany { what: What, at: u64 },
     /// The channel at the address is of a kind that is not read: 4, 5 or over 6.
-    #[error("a kind of channel that is not read")]
     ChannelKind { at: u64, kind: u8 },
     /// The channel at the address has a data type that is not read: over 14.
-    #[error("a data type that is not read")]
     ChannelType { at: u64, value: u8 },
     /// The channel (CNBLOCK) at the address has no place in its record; or the data group (DGBLOCK) at the address has an
     /// id size that is none of 0, 1, 2, 4 and 8, or 0 with more than one channel group.
-    #[error("no layout of records")]
     Layout { at: u64 },
     /// A whole record id stands at the place of the stream, and no group has it.
-    #[error("an unknown record id")]
     UnknownId { id: u64, at: u64 },
     /// No whole record begins at the place of the stream, and something is left there.
-    #[error("no whole record")]
     Cut { at: u64 },
     /// The group, counted over the file among those that hold no values of variable length, says to have more records
     /// than are found.
-    #[error("fewer records than a group says")]
     Cycles { group: u32, said: u64, found: u64 },
     /// The offset of a record meets no value in the stream of the channel.
-    #[error("an offset that meets no value")]
     Offset { channel: u32, row: u64, offset: u64 },
     /// The conversion at the address is the fifth that is open at once.
-    #[error("a conversion too deep")]
     Deep { at: u64 },
     /// The file is no recording; these are its flags.
-    #[error("no recording")]
     NotRecording { std: u16, custom: u16 },
     /// Want of memory. A reader over a span never has it in a fault.
-    #[error("want of memory")]
     Memory,
 }
+
+impl ReadFault {
+    /// What is told of it.
+    fn text(&self) -> &'static str {
+        match self {
+            ReadFault::NotMdf => "no MDF file",
+            ReadFault::Unfinalized { .. } => "an unfinalized file",
+            ReadFault::Version { .. } => "a version that is not read",
+            ReadFault::Block { .. } => "no whole block of the kind that is wanted",
+            ReadFault::Compressed { .. } => "compressed data",
+            ReadFault::TooMany { .. } => "too many blocks, texts or samples",
+            ReadFault::ChannelKind { .. } => "a kind of channel that is not read",
+            ReadFault::ChannelType { .. } => "a data type that is not read",
+            ReadFault::Layout { .. } => "no layout of records",
+            ReadFault::UnknownId { .. } => "an unknown record id",
+            ReadFault::Cut { .. } => "no whole record",
+            ReadFault::Cycles { .. } => "fewer records than a group says",
+            ReadFault::Offset { .. } => "an offset that meets no value",
+            ReadFault::Deep { .. } => "a conversion too deep",
+            ReadFault::NotRecording { .. } => "no recording",
+            ReadFault::Memory => "want of memory",
+        }
+    }
+}
+
+impl fmt::Display for ReadFault {
+    fn fmt<W: fmt::Write>(&self, f: &mut fmt::Formatter<W>) -> fmt::Result {
+        f.write_str(self.text())
+    }
+}
+
+impl Error for ReadFault {}

@@ -1,7 +1,7 @@
 use thiserror::Error;
 
 /// Why a stream has no further record.
-#[derive(Clone, Copy, Debug, PartialEq, Eq, Error)]
+#[derive(Clone, Copy, Debug, Error)]
 pub enum SplitFault {
     /// A whole id stands at the place, and no group has it.
     #[error("unknown record id {id} at {at}")]

@@ -3,7 +3,7 @@ use mdf_head::IdentFault;
 use thiserror::Error;
 
 /// What is opened of a recording.
-#[derive(Clone, Copy, Debug, PartialEq, Eq)]
+#[derive(Clone, Copy, Debug)]
 pub struct Opened {
     /// How many blocks are opened.
     pub blocks: u64,
@@ -16,7 +16,7 @@ pub struct Opened {
 }
 
 /// Why a file has no opened blocks.
-#[derive(Clone, Copy, Debug, PartialEq, Eq, Error)]
+#[derive(Clone, Copy, Debug, Error)]
 pub enum GateFault {
     /// It does not begin with an identification (IDBLOCK).
     #[error("not MDF")]

@@ -2,7 +2,7 @@ use mdf_block::{Kind, What};
 use thiserror::Error;
 
 /// Why the groups of a file are refused.
-#[derive(Clone, Copy, Debug, PartialEq, Eq, Error)]
+#[derive(Clone, Copy, Debug, Error)]
 pub enum GroupFault {
     /// No block of that kind stands whole at the address; for a text the kind is Tx.
     #[error("no whole block of the kind that is wanted at {at}")]

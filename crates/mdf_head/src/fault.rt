@@ -2,7 +2,7 @@ use mdf_block::{Kind, What};
 use thiserror::Error;
 
 /// Why the first 64 bytes of a file are refused.
-#[derive(Clone, Copy, Debug, PartialEq, Eq, Error)]
+#[derive(Clone, Copy, Debug, Error)]
 pub enum IdentFault {
     /// They are no identification of an MDF file.
     #[error("no MDF file")]
@@ -13,7 +13,7 @@ pub enum IdentFault {
 }
 
 /// Why the header or the file history is refused.
-#[derive(Clone, Copy, Debug, PartialEq, Eq, Error)]
+#[derive(Clone, Copy, Debug, Error)]
 pub enum HeadFault {
     /// No block of that kind stands whole at the address; for a text the kind is Tx.
     #[error("no whole block of the kind that is wanted at {at}")]

@@ -1,5 +1,5 @@
 /// The identification (IDBLOCK): what the first 64 bytes of a file say.
-#[derive(Clone, Copy, Debug, PartialEq, Eq)]
+#[derive(Clone, Copy, Debug)]
 pub struct Ident {
     /// Whether the file says that it is finalized.
     pub finalized: bool,

@@ -17,7 +17,7 @@ use std::alloc::Global;
 use thiserror::Error;
 
 /// Why a record has no sample.
-#[derive(Clone, Copy, Debug, PartialEq, Eq, Error)]
+#[derive(Clone, Copy, Debug, Error)]
 pub enum DecodeFault {
     /// The offset in the field of this channel meets no value in its stream; each earlier channel has its value.
     #[error("offset {offset} of channel {channel} meets no value")]

@@ -42,7 +42,7 @@ impl Model for Shape {
 }
 
 /// Why rows are no layout.
-#[derive(Clone, Copy, Debug, PartialEq, Eq, Error)]
+#[derive(Clone, Copy, Debug, Error)]
 pub enum ShapeFault {
     /// This channel breaks a rule; no earlier one does.
     #[error("channel {channel} has no place in the record")]

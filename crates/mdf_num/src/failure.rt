@@ -2,7 +2,7 @@ use std::alloc::{AllocError, AllocFailed};
 use thiserror::Error;
 
 /// Want of memory.
-#[derive(Clone, Copy, Debug, PartialEq, Eq, Error)]
+#[derive(Clone, Copy, Debug, Error)]
 #[error("want of memory")]
 pub struct Memory;
 
@@ -19,6 +19,6 @@ impl<T: Drop> From<AllocFailed<T>> for Memory {
 }
 
 /// A call on an outside object failed. The object's own count of faults says that it did.
-#[derive(Clone, Copy, Debug, PartialEq, Eq, Error)]
+#[derive(Clone, Copy, Debug, Error)]
 #[error("a device or a stream failed")]
 pub struct Failed;

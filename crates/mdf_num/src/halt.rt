@@ -4,7 +4,7 @@ use crate::Memory;
 use thiserror::Error;
 
 /// Why a span did not fill a buffer.
-#[derive(Clone, Copy, Debug, PartialEq, Eq, Error)]
+#[derive(Clone, Copy, Debug, Error)]
 pub enum Stop {
     /// The device below failed. The span's count of faults says that it did.
     #[error("a device failed")]
@@ -15,7 +15,7 @@ pub enum Stop {
 }
 
 /// Why a reader over a span stopped. Want of memory is never inside the fault.
-#[derive(Debug, PartialEq, Eq, Drop)]
+#[derive(Debug, Drop)]
 pub enum Halt<E> {
     /// What the bytes themselves are refused for.
     Fault(E),

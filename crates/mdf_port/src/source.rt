@@ -34,7 +34,7 @@ pub trait Source {
 }
 
 /// Why a source could not be taken whole.
-#[derive(Clone, Copy, Debug, PartialEq, Eq, Error)]
+#[derive(Clone, Copy, Debug, Error)]
 pub enum TakeFault {
     /// The source failed.
     #[error("the source failed")]

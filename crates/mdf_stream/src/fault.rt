@@ -2,7 +2,7 @@ use mdf_format::Kind;
 use thiserror::Error;
 
 /// Why a data link is refused.
-#[derive(Clone, Copy, Debug, PartialEq, Eq, Error)]
+#[derive(Clone, Copy, Debug, Error)]
 pub enum DataFault {
     /// No block of that kind stands whole at the address.
     #[error("no whole block of the kind that is wanted at {at}")]

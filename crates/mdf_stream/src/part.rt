@@ -1,5 +1,5 @@
 /// A part of a file: bytes that stand one behind the other.
-#[derive(Clone, Copy, Debug, PartialEq, Eq)]
+#[derive(Clone, Copy, Debug)]
 pub struct Part {
     /// The address of its first byte.
     pub at: u64,

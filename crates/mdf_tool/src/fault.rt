@@ -7,7 +7,7 @@ use mdf_num::{Failed, Memory};
 use thiserror::Error;
 
 /// Why a tool made no file.
-#[derive(Clone, Copy, Debug, PartialEq, Eq, Error)]
+#[derive(Clone, Copy, Debug, Error)]
 pub enum ToolFault {
     /// The input is refused. Want of memory is never in it.
     #[error("the input is refused")]

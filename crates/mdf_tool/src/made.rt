@@ -1,7 +1,7 @@
 use mdf_num::Pieces;
 
 /// What is told of a file that was made.
-#[derive(Clone, Copy, Debug, PartialEq, Eq)]
+#[derive(Clone, Copy, Debug)]
 pub struct Report {
     /// How many groups it has, without those of values of variable length.
     pub groups: u32,

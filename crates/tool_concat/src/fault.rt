@@ -6,7 +6,7 @@ use mdf_num::Memory;
 use thiserror::Error;
 
 /// Why two files were not joined.
-#[derive(Clone, Copy, Debug, PartialEq, Eq, Error)]
+#[derive(Clone, Copy, Debug, Error)]
 pub enum ConcatFault {
     /// The first file is refused. Want of memory is never in it.
     #[error("the first file is refused")]

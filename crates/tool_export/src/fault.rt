@@ -6,7 +6,7 @@ use mdf_num::Stop;
 use thiserror::Error;
 
 /// Why no table, or not all of it, was given.
-#[derive(Clone, Copy, Debug, PartialEq, Eq, Error)]
+#[derive(Clone, Copy, Debug, Error)]
 pub enum ExportFault {
     /// The file is refused. Want of memory is never in it.
     #[error("the file is refused")]
