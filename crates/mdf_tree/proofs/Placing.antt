@@ -1,11 +1,10 @@
 -- Blocks that are placed one behind the other are the blocks of a whole.
-use Rattle.std.proofs.Common.{◌≡◌, ◌+◌, ◌-◌, ◌<◌, ◌≤◌, ℕ, zero, suc, Bool, true, false, not, List, [], ◌∷◌, ◌++◌, length, get_or, take, drop, refl, sym, ◌∙◌, ap, subst, inl, inr, arith, add-one, append-nil, append_assoc, length-append, length-drop, take-suc}
-use Rattle.std.proofs.lemmas.Bool.{ltb-true, ltb-false, or_cases, or_parts}
+use Rattle.std.proofs.Common.{◌≡◌, ◌+◌, ◌<◌, ◌≤◌, ℕ, zero, suc, Bool, true, false, not, List, [], ◌∷◌, ◌++◌, length, get_or, take, drop, refl, sym, ◌∙◌, ap, subst, arith, add-one, append-nil, append_assoc, length-append, take-suc}
+use Rattle.std.proofs.lemmas.Bool.{ltb-true, ltb-false}
 use Rattle.std.proofs.lemmas.List.{drop_all}
-use Rattle.std.specs.Prelude.{◌||◌, ◌↔◌, IsTrue, nat_lt}
+use Rattle.std.specs.Prelude.{◌↔◌, IsTrue, nat_lt}
 use Rattle.std.specs.List.{AllByRecursion}
 use Rattle.mdf_format.specs.declared.kind.Kind.{Kind}
-use Rattle.mdf_format.specs.declared.kind.Kind.TheVariants.{Cc, Cg}
 use Rattle.mdf_block.specs.declared.link.Link.{Link}
 use Rattle.mdf_block.specs.declared.link.Link.TheVariants as links
 use Rattle.mdf_block.specs.Draft.{Placed, linked}
@@ -16,9 +15,9 @@ use Rattle.mdf_group.specs.declared.row.GroupRow.{GroupRow}
 use Rattle.mdf_tree.specs.declared.places.ChannelPlaces.{ChannelPlaces}
 use Rattle.mdf_tree.specs.declared.places.GroupPlaces.{GroupPlaces}
 use Rattle.mdf_tree.specs.Text.{note_blocks, note_link}
-use Rattle.mdf_tree.specs.Conv.{conv_body, ref_blocks, ref_link, refs_blocks, refs_links, conv_first, conv_head_links, conv_blocks_by, conv_blocks}
+use Rattle.mdf_tree.specs.Conv.{ref_blocks, ref_link, refs_blocks, refs_links, conv_first, conv_own, conv_blocks_by, conv_blocks}
 use Rattle.mdf_tree.specs.Count.{ref_count, conv_count}
-use Rattle.mdf_tree.specs.Group.{source_part, source_link, conv_link, next_link, next_if, past_channel, channel_links, channel_own, channel_parts, channel_blocks, value_link, values_behind, channels_blocks, past_group, past_channels, group_body, group_values, group_values_behind, group_own, group_blocks, groups_blocks}
+use Rattle.mdf_tree.specs.Group.{source_part, source_link, conv_link, next_link, next_if, past_channel, channel_links, channel_own, channel_parts, channel_blocks, value_link, values_behind, channels_blocks, past_group, group_values, group_values_behind, group_own, group_blocks, groups_blocks}
 use Rattle.mdf_tree.specs.Places.{AreChannelPlaces, AreGroupPlaces}
 use Rattle.mdf_tree.proofs.Channels.{channel_long}
 use Rattle.mdf_tree.proofs.Groups.{group_long}
@@ -108,23 +107,24 @@ links_done inner n all refs k past =
     sym (ap (λ (left : List Ref). all ++ refs_links inner n left) (drop_all k refs past) ∙ append-nil all)
 
 -- a conversion
-pub conv_placed : (inner : ℕ → Conversion → List Placed) (conv : Conversion) (n : ℕ) (w0 w1 w2 w3 w4 w5 : List Placed) → n ≡ length w0
-    → w1 ≡ w0 ++ linked Cc (conv_head_links n conv ++ refs_links inner (conv_first n conv) conv.refs) (conv_body conv) ∷ []
-    → w2 ≡ w1 ++ note_blocks conv.name → w3 ≡ w2 ++ note_blocks conv.unit → w4 ≡ w3 ++ note_blocks conv.comment
-    → w5 ≡ w4 ++ refs_blocks inner (length w4) conv.refs → w5 ≡ w0 ++ conv_blocks_by inner (length w0) conv
+pub conv_placed : (inner : ℕ → Conversion → List Placed) (conv : Conversion) (w0 w1 w2 w3 : List Placed) → w1 ≡ w0 ++ conv_own inner (length w0) conv ∷ []
+    → w2 ≡ w1 ++ (note_blocks conv.name ++ (note_blocks conv.unit ++ note_blocks conv.comment)) → w3 ≡ w2 ++ refs_blocks inner (length w2) conv.refs
+    → w3 ≡ w0 ++ conv_blocks_by inner (length w0) conv
 unfolding conv_blocks_by
-conv_placed inner conv n w0 w1 w2 w3 w4 w5 same own first second third last =
+conv_placed inner conv w0 w1 w2 w3 own texts last =
     let name = note_blocks conv.name in
     let unit = note_blocks conv.unit in
     let comment = note_blocks conv.comment in
-    let block : ℕ → Placed = λ m. linked Cc (conv_head_links m conv ++ refs_links inner (conv_first m conv) conv.refs) (conv_body conv) in
+    let block = conv_own inner (length w0) conv ∷ [] in
     let rest : ℕ → List Placed = λ m. refs_blocks inner m conv.refs in
+    let refs = rest (conv_first (length w0) conv) in
+    let one = ap (λ (xs : List Placed). length xs) own ∙ length-append w0 block in
     last
-    ∙ placed_step w3 comment rest w4 (length w3 + length comment) third refl
-    ∙ placed_step w2 unit (λ m. comment ++ rest (m + length comment)) w3 (length w2 + length unit) second refl
-    ∙ placed_step w1 name (λ m. unit ++ (comment ++ rest (m + length unit + length comment))) w2 (length w1 + length name) first refl
-    ∙ placed_step w0 (block (length w0) ∷ []) (λ m. name ++ (unit ++ (comment ++ rest (m + length name + length unit + length comment)))) w1
-    (length w0 + 1) (own ∙ ap (λ (m : ℕ). w0 ++ block m ∷ []) same) refl
+    ∙ placed_step w1 (name ++ (unit ++ comment)) rest w2 (conv_first (length w0) conv) texts
+    (omega (arith, one, length-append name (unit ++ comment), length-append unit comment))
+    ∙ ap (λ (xs : List Placed). w1 ++ xs) (append_assoc name (unit ++ comment) refs ∙ ap (λ (xs : List Placed). name ++ xs) (append_assoc unit comment refs))
+    ∙ ap (λ (xs : List Placed). xs ++ (name ++ (unit ++ (comment ++ refs)))) own
+    ∙ append_assoc w0 block (name ++ (unit ++ (comment ++ refs)))
 
 -- a channel
 pub own_links : (m n : ℕ) (more : Bool) (values : Link) (row : ChannelRow) (at : ChannelPlaces) → n ≡ m → AreChannelPlaces n row at

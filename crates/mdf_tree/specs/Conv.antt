@@ -19,16 +19,26 @@ use Rattle.mdf_tree.specs.Text.{note_blocks, note_link, IsText, IsWritable}
 abbrev pub source_body : SourceInfo → List ℕ
 source_body source = source.kind ∷ source.bus ∷ source.flags ∷ replicate 5 0
 
+-- where its path and its comment stand
+abbrev pub source_path : ℕ → SourceInfo → ℕ
+source_path n source = n + 1 + length (note_blocks source.name)
+
+abbrev pub source_comment : ℕ → SourceInfo → ℕ
+source_comment n source = source_path n source + length (note_blocks source.path)
+
+-- its links: name, path and comment
+abbrev pub source_head_links : ℕ → SourceInfo → List Link
+source_head_links n source =
+    note_link (n + 1) source.name ∷ note_link (source_path n source) source.path ∷ note_link (source_comment n source) source.comment ∷ []
+
+-- SI alone
+abbrev pub source_own : ℕ → SourceInfo → Placed
+source_own n source = record { kind = Si; links = source_head_links n source; body = source_body source }
+
 -- a source from block n on: SI, its name, its path and its comment
 unfoldable pub source_blocks : ℕ → SourceInfo → List Placed
 source_blocks n source =
-    let path = n + 1 + length (note_blocks source.name) in
-    let comment = path + length (note_blocks source.path) in
-    record {
-      kind = Si;
-      links = note_link (n + 1) source.name ∷ note_link path source.path ∷ note_link comment source.comment ∷ [];
-      body = source_body source;
-    }
+    source_own n source
     ∷ (note_blocks source.name ++ (note_blocks source.path ++ note_blocks source.comment))
 
 -- its texts are read back
@@ -95,14 +105,18 @@ abbrev pub conv_head_links : ℕ → Conversion → List Link
 conv_head_links n conv =
     note_link (n + 1) conv.name ∷ note_link (conv_unit n conv) conv.unit ∷ note_link (conv_comment n conv) conv.comment ∷ links.Nothing ∷ []
 
+-- all its links
+abbrev pub conv_links : (ℕ → Conversion → List Placed) → ℕ → Conversion → List Link
+conv_links inner n conv = conv_head_links n conv ++ refs_links inner (conv_first n conv) conv.refs
+
+-- CC alone
+abbrev pub conv_own : (ℕ → Conversion → List Placed) → ℕ → Conversion → Placed
+conv_own inner n conv = record { kind = Cc; links = conv_links inner n conv; body = conv_body conv }
+
 -- a conversion from block n on: CC, its name, its unit, its comment, and its references; no inverse conversion is named
 unfoldable pub conv_blocks_by : (ℕ → Conversion → List Placed) → ℕ → Conversion → List Placed
 conv_blocks_by inner n conv =
-    record {
-      kind = Cc;
-      links = conv_head_links n conv ++ refs_links inner (conv_first n conv) conv.refs;
-      body = conv_body conv;
-    }
+    conv_own inner n conv
     ∷ (note_blocks conv.name ++ (note_blocks conv.unit ++ (note_blocks conv.comment ++ refs_blocks inner (conv_first n conv) conv.refs)))
 
 -- the same where at most so many conversions lie in one another, as they are read

@@ -54,11 +54,11 @@ pub(crate) fn channel_places(n: u32, row: &ChannelRow) -> Result<ChannelPlaces, 
     ensures { IfOk result (λ places. AreChannelPlaces n row.now places) }
 {
     let name = plus(n, 1)?;
-    let source = plus(name, note_count(&row.name))?;
-    let conv = plus(source, source_count(&row.source))?;
+    let source = name + note_count(&row.name);
+    let conv = source + source_count(&row.source);
     let unit = plus(conv, conv_part_count(&row.conv)?)?;
-    let comment = plus(unit, note_count(&row.unit))?;
-    let past = plus(comment, note_count(&row.comment))?;
+    let comment = unit + note_count(&row.unit);
+    let past = comment + note_count(&row.comment);
     Ok(ChannelPlaces {
         source,
         conv,

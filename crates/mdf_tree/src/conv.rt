@@ -1,10 +1,10 @@
-ghost use Rattle.std.specs.Prelude.{◌≡◌, ◌+◌, ◌++◌, length, IfOk, OnOk};
-ghost use Rattle.mdf_tree.specs.Conv.{conv_body, ref_blocks, ref_link, refs_blocks, refs_links, conv_first, conv_head_links, conv_blocks_by, conv_blocks};
+ghost use Rattle.std.specs.Prelude.{◌≡◌, ◌+◌, ◌^◌, ◌≤◌, [], ◌∷◌, ◌++◌, length, IfOk, OnOk};
+ghost use Rattle.mdf_tree.specs.Conv.{conv_body, ref_blocks, ref_link, refs_blocks, refs_links, conv_first, conv_head_links, conv_links, conv_own, conv_blocks_by, conv_blocks};
 ghost use Rattle.mdf_tree.specs.Group.{conv_part, conv_link};
 
 use crate::count::{LEVELS, ref_count};
 use crate::number::{next_number, plus, push_words};
-use crate::text::{note_count, note_link, place_note};
+use crate::text::{note_count, note_link, place_note, place_notes};
 use mdf_block::{Draft, Kind, Link};
 use mdf_conv::{Conversion, Ref};
 use mdf_num::{Bytes, Memory};
@@ -57,12 +57,13 @@ fn push_ref_links(
 
 /// The links of the conversion at block n.
 fn conv_links(alloc: Global, n: u32, conv: &Conversion, levels: u64) -> Result<Vec<Link>, Memory>
-    ensures { IfOk result (λ links. links.items ≡ conv_head_links n conv.now ++ refs_links (conv_blocks levels) (conv_first n conv.now) conv.now.refs) }
+    requires { n ≤ 2 ^ 30 }
+    ensures { IfOk result (λ links. links.items ≡ conv_links (conv_blocks levels) n conv.now) }
 {
-    let name = plus(n, 1)?;
-    let unit = plus(name, note_count(&conv.name))?;
-    let comment = plus(unit, note_count(&conv.unit))?;
-    let first = plus(comment, note_count(&conv.comment))?;
+    let name = n + 1;
+    let unit = name + note_count(&conv.name);
+    let comment = unit + note_count(&conv.unit);
+    let first = comment + note_count(&conv.comment);
     let mut links = vec![in alloc;
         note_link(name, &conv.name),
         note_link(unit, &conv.unit),
@@ -71,6 +72,15 @@ fn conv_links(alloc: Global, n: u32, conv: &Conversion, levels: u64) -> Result<V
     ]?;
     push_ref_links(&mut links, first, conv.refs.as_slice(), levels)?;
     Ok(links)
+}
+
+/// Places the block of a conversion alone, with its links to texts and references that come behind it.
+fn place_own(alloc: Global, draft: &mut Draft, conv: &Conversion, levels: u64) -> Result<(), Memory>
+    ensures { OnOk result (draft.new ≡ draft.old ++ conv_own (conv_blocks levels) (length draft.old) conv.now ∷ []) }
+{
+    let links = conv_links(alloc, next_number(draft)?, conv, levels)?;
+    let body = conv_body(alloc, conv)?;
+    draft.place_linked(Kind::Cc, links, body)
 }
 
 /// Places what a reference leads to, with so many levels of conversions.
@@ -107,12 +117,8 @@ fn place_whole(
 ) -> Result<(), Memory>
     ensures { OnOk result (draft.new ≡ draft.old ++ conv_blocks_by (conv_blocks levels) (length draft.old) conv.now) }
 {
-    let links = conv_links(alloc, next_number(draft)?, conv, levels)?;
-    let body = conv_body(alloc, conv)?;
-    draft.place_linked(Kind::Cc, links, body)?;
-    place_note(alloc, draft, &conv.name)?;
-    place_note(alloc, draft, &conv.unit)?;
-    place_note(alloc, draft, &conv.comment)?;
+    place_own(alloc, draft, conv, levels)?;
+    place_notes(alloc, draft, &conv.name, &conv.unit, &conv.comment)?;
     place_refs(alloc, draft, conv.refs.as_slice(), levels)
 }
 

@@ -36,9 +36,9 @@ pub fn group_places(n: u32, row: &GroupRow) -> Result<GroupPlaces, Memory>
     ensures { IfOk result (λ places. AreGroupPlaces n row.now places) }
 {
     let name = plus(n, 1)?;
-    let source = plus(name, note_count(&row.name))?;
-    let comment = plus(source, source_count(&row.source))?;
-    let channels = plus(comment, note_count(&row.comment))?;
+    let source = name + note_count(&row.name);
+    let comment = source + source_count(&row.source);
+    let channels = comment + note_count(&row.comment);
     let past = past_channels(channels, row.channels.as_slice())?;
     Ok(GroupPlaces {
         source,

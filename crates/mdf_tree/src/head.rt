@@ -3,7 +3,7 @@ ghost use Rattle.mdf_tree.specs.Text.{note_blocks};
 ghost use Rattle.mdf_tree.specs.Group.{next_if};
 ghost use Rattle.mdf_tree.specs.Head.{entry_body, entry_block, past_entry, head_body, header_block};
 
-use crate::number::{next_number, plus};
+use crate::number::next_number;
 use crate::text::{note_count, note_link, place_note};
 use crate::value::next_if;
 use mdf_block::{Draft, Kind, Link};
@@ -22,6 +22,18 @@ fn entry_body(alloc: Global, entry: &History) -> Result<Bytes, Memory>
     Ok(body)
 }
 
+/// Places the block of an entry of the history alone, with its links to the next one and to its comment behind it.
+fn place_own(alloc: Global, draft: &mut Draft, entry: &History, more: bool) -> Result<(), Memory>
+    ensures ok { OnOk result (draft.new ≡ draft.old ++ entry_block (length draft.old) (next_if more (past_entry (length draft.old) entry.now)) entry.now ∷ []) }
+    ensures err { OnErr result (draft.new ≡ draft.old) }
+{
+    let n = next_number(draft)?;
+    let past = n + 1 + note_count(&entry.comment);
+    let links = vec![in alloc; next_if(more, past), note_link(n + 1, &entry.comment)]?;
+    let body = entry_body(alloc, entry)?;
+    draft.place_linked(Kind::Fh, links, body)
+}
+
 /// Places an entry of the history: FH, and then its comment. Where one more follows it is linked.
 ///
 /// # Errors
@@ -36,11 +48,7 @@ pub fn place_entry(
     ensures err { OnErr result ((draft.new ≡ draft.old)
         ⊎ (draft.new ≡ draft.old ++ entry_block (length draft.old) (next_if more (past_entry (length draft.old) entry.now)) entry.now ∷ [])) }
 {
-    let comment = plus(next_number(draft)?, 1)?;
-    let past = plus(comment, note_count(&entry.comment))?;
-    let links = vec![in alloc; next_if(more, past), note_link(comment, &entry.comment)]?;
-    let body = entry_body(alloc, entry)?;
-    draft.place_linked(Kind::Fh, links, body)?;
+    place_own(alloc, draft, entry, more)?;
     place_note(alloc, draft, &entry.comment)
 }
 

@@ -1,9 +1,9 @@
-ghost use Rattle.std.specs.Prelude.{ℕ, ◌≡◌, ◌≤◌, ◌++◌, length, IfOk, OnOk};
-ghost use Rattle.mdf_tree.specs.Conv.{source_body, source_blocks};
+ghost use Rattle.std.specs.Prelude.{ℕ, ◌≡◌, ◌^◌, ◌≤◌, [], ◌∷◌, ◌++◌, length, IfOk, OnOk};
+ghost use Rattle.mdf_tree.specs.Conv.{source_body, source_head_links, source_own, source_blocks};
 ghost use Rattle.mdf_tree.specs.Group.{source_part, source_link};
 
-use crate::number::{next_number, plus};
-use crate::text::{note_count, note_link, place_note};
+use crate::number::next_number;
+use crate::text::{note_count, note_link, place_notes};
 use mdf_block::{Draft, Kind, Link};
 use mdf_conv::SourceInfo;
 use mdf_num::{Bytes, Memory};
@@ -19,6 +19,31 @@ fn source_body(alloc: Global, source: &SourceInfo) -> Result<Bytes, Memory>
     )
 }
 
+/// The links of the source at block n.
+fn source_links(alloc: Global, n: u32, source: &SourceInfo) -> Result<Vec<Link>, Memory>
+    requires { n ≤ 2 ^ 30 }
+    ensures { IfOk result (λ links. links.items ≡ source_head_links n source.now) }
+{
+    let name = n + 1;
+    let path = name + note_count(&source.name);
+    let comment = path + note_count(&source.path);
+    let links = vec![in alloc;
+        note_link(name, &source.name),
+        note_link(path, &source.path),
+        note_link(comment, &source.comment),
+    ]?;
+    Ok(links)
+}
+
+/// Places the block of a source alone, with its links to texts that come behind it.
+fn place_own(alloc: Global, draft: &mut Draft, source: &SourceInfo) -> Result<(), Memory>
+    ensures { OnOk result (draft.new ≡ draft.old ++ source_own (length draft.old) source.now ∷ []) }
+{
+    let links = source_links(alloc, next_number(draft)?, source)?;
+    let body = source_body(alloc, source)?;
+    draft.place_linked(Kind::Si, links, body)
+}
+
 /// Places a source: SI, its name, its path and its comment.
 #[tactic(auto, unfolding(crate::specs::Conv::source_blocks))]
 pub(crate) fn place_source(
@@ -28,19 +53,8 @@ pub(crate) fn place_source(
 ) -> Result<(), Memory>
     ensures { OnOk result (draft.new ≡ draft.old ++ source_blocks (length draft.old) source.now) }
 {
-    let name = plus(next_number(draft)?, 1)?;
-    let path = plus(name, note_count(&source.name))?;
-    let comment = plus(path, note_count(&source.path))?;
-    let links = vec![in alloc;
-        note_link(name, &source.name),
-        note_link(path, &source.path),
-        note_link(comment, &source.comment),
-    ]?;
-    let body = source_body(alloc, source)?;
-    draft.place_linked(Kind::Si, links, body)?;
-    place_note(alloc, draft, &source.name)?;
-    place_note(alloc, draft, &source.path)?;
-    place_note(alloc, draft, &source.comment)
+    place_own(alloc, draft, source)?;
+    place_notes(alloc, draft, &source.name, &source.path, &source.comment)
 }
 
 /// Places the source of a channel or a channel group, if there is one.

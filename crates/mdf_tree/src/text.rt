@@ -38,6 +38,21 @@ pub fn place_note(alloc: Global, draft: &mut Draft, note: &Note) -> Result<(), M
     }
 }
 
+/// Places the blocks of three texts, one behind the other.
+pub(crate) fn place_notes(
+    alloc: Global,
+    draft: &mut Draft,
+    first: &Note,
+    second: &Note,
+    third: &Note,
+) -> Result<(), Memory>
+    ensures { OnOk result (draft.new ≡ draft.old ++ (note_blocks first.now ++ (note_blocks second.now ++ note_blocks third.now))) }
+{
+    place_note(alloc, draft, first)?;
+    place_note(alloc, draft, second)?;
+    place_note(alloc, draft, third)
+}
+
 /// How many blocks a text has.
 #[tactic(auto, unfolding(crate::specs::Text::note_blocks))]
 pub fn note_count(note: &Note) -> u32
