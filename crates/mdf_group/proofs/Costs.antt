@@ -22,7 +22,9 @@ use Rattle.mdf_conv.specs.Link.{source_of_link, conv_of_link}
 use Rattle.mdf_conv.specs.Cost.{Cost, nothing, both, total, dropped_links, note_cost, conv_cost}
 use Rattle.mdf_conv.proofs.Founds.{ok_injective}
 use Rattle.mdf_conv.proofs.Costs.{Falls, falls_not, falls_both, falls_as, falls_dropped, words_falls, source_falls, conv_falls}
+use Rattle.mdf_group.specs.declared.room.Label.{Label}
 use Rattle.mdf_group.specs.declared.room.ChannelOrigin.{ChannelOrigin}
+use Rattle.mdf_group.specs.declared.room.ChannelTexts.{ChannelTexts}
 use Rattle.mdf_group.specs.declared.room.ChannelLinks.{ChannelLinks}
 use Rattle.mdf_group.specs.declared.room.GroupLinks.{GroupLinks}
 use Rattle.mdf_group.specs.declared.room.GroupContents.{GroupContents}
@@ -32,7 +34,7 @@ use Rattle.mdf_group.specs.declared.room.DataRoom.{DataRoom}
 use Rattle.mdf_group.specs.declared.row.ChannelRow.{ChannelRow}
 use Rattle.mdf_group.specs.declared.row.GroupRow.{GroupRow}
 use Rattle.mdf_group.specs.declared.row.DataRow.{DataRow}
-use Rattle.mdf_group.specs.Link.{channel_origin, channel_links, group_links}
+use Rattle.mdf_group.specs.Link.{label, channel_origin, channel_texts, channel_links, group_links}
 use Rattle.mdf_group.specs.Channel.{accepted, passed_of, channel_of_block, channel, channels_from}
 use Rattle.mdf_group.specs.Group.{unnamed_count, group_contents, group, groups_from, data_contents, data_group, data_groups_from}
 use Rattle.mdf_group.specs.Cost.{source_link_cost, conv_link_cost, channel_cost, group_cost, data_cost, rows_cost, channels_of, AreFew}
@@ -95,39 +97,57 @@ conv_link_falls f at left found is =
     ]
 
 -- three costs one after another
-three_fall : (left : Budget) (a b c : Cost) (one two rest : Budget) → Falls left a one → Falls one b two → Falls two c rest
-    → Falls left (both (both a b) c) rest
-three_fall left a b c one two rest first second third = falls_both left (both a b) two c rest (falls_both left a one b two first second) third
+-- a name and a source
+abbrev label_cost : Label → Cost
+label_cost first = both (note_cost first.name) (source_link_cost first.source)
+
+label_falls : (f : List ℕ) (at : ℕ) (left : Budget) (found : Label × Budget) → label f at left ≡ Ok found
+    → Falls left (label_cost found.0) found.1
+unfolding label
+label_falls f at left found is =
+    let name = bind_ok (words f (link_at f at 2) left) _ found is in
+    let source = bind_ok (source_of_link f (link_at f at 3) name.0.1) _ found name.2 in
+    subst (λ (y : Label × Budget). Falls left (label_cost y.0) y.1) (ok_injective _ _ source.2)
+    (falls_both left _ name.0.1 _ source.0.1 (words_falls f _ left name.0 name.1) (source_link_falls f _ name.0.1 source.0 source.1))
 
 -- what the links of a channel lead to
 abbrev origin_cost : List ℕ → ℕ → ChannelOrigin → Cost
-origin_cost f at origin = both (both (note_cost origin.name) (source_link_cost origin.source)) (conv_link_cost f (link_at f at 4))
+origin_cost f at origin = both (label_cost (record { name = origin.name; source = origin.source })) (conv_link_cost f (link_at f at 4))
 
 origin_falls : (f : List ℕ) (at : ℕ) (left : Budget) (found : ChannelOrigin × Budget) → channel_origin f at left ≡ Ok found
     → Falls left (origin_cost f at found.0) found.1
 unfolding channel_origin
 origin_falls f at left found is =
-    let name = bind_ok (words f (link_at f at 2) left) _ found is in
-    let source = bind_ok (source_of_link f (link_at f at 3) name.0.1) _ found name.2 in
-    let conv = bind_ok (conv_of_link f (link_at f at 4) source.0.1) _ found source.2 in
+    let first = bind_ok (label f at left) _ found is in
+    let conv = bind_ok (conv_of_link f (link_at f at 4) first.0.1) _ found first.2 in
     subst (λ (y : ChannelOrigin × Budget). Falls left (origin_cost f at y.0) y.1) (ok_injective _ _ conv.2)
-    (three_fall left _ _ _ name.0.1 source.0.1 conv.0.1 (words_falls f _ left name.0 name.1) (source_link_falls f _ name.0.1 source.0 source.1)
-    (conv_link_falls f _ source.0.1 conv.0 conv.1))
+    (falls_both left _ first.0.1 _ conv.0.1 (label_falls f at left first.0 first.1) (conv_link_falls f _ first.0.1 conv.0 conv.1))
+
+abbrev texts_cost : ChannelTexts → Cost
+texts_cost texts = both (note_cost texts.unit) (note_cost texts.comment)
+
+texts_fall : (f : List ℕ) (at : ℕ) (left : Budget) (found : ChannelTexts × Budget) → channel_texts f at left ≡ Ok found
+    → Falls left (texts_cost found.0) found.1
+unfolding channel_texts
+texts_fall f at left found is =
+    let unit = bind_ok (words f (link_at f at 6) left) _ found is in
+    let comment = bind_ok (words f (link_at f at 7) unit.0.1) _ found unit.2 in
+    subst (λ (y : ChannelTexts × Budget). Falls left (texts_cost y.0) y.1) (ok_injective _ _ comment.2)
+    (falls_both left _ unit.0.1 _ comment.0.1 (words_falls f _ left unit.0 unit.1) (words_falls f _ unit.0.1 comment.0 comment.1))
 
 abbrev links_cost : List ℕ → ℕ → ChannelLinks → Cost
 links_cost f at links =
-    both (both (origin_cost f at (record { name = links.name; source = links.source; conv = links.conv })) (note_cost links.unit)) (note_cost links.comment)
+    both (origin_cost f at (record { name = links.name; source = links.source; conv = links.conv }))
+    (texts_cost (record { unit = links.unit; comment = links.comment }))
 
 links_fall : (f : List ℕ) (at : ℕ) (left : Budget) (found : ChannelLinks × Budget) → channel_links f at left ≡ Ok found
     → Falls left (links_cost f at found.0) found.1
 unfolding channel_links
 links_fall f at left found is =
     let origin = bind_ok (channel_origin f at left) _ found is in
-    let unit = bind_ok (words f (link_at f at 6) origin.0.1) _ found origin.2 in
-    let comment = bind_ok (words f (link_at f at 7) unit.0.1) _ found unit.2 in
-    subst (λ (y : ChannelLinks × Budget). Falls left (links_cost f at y.0) y.1) (ok_injective _ _ comment.2)
-    (three_fall left _ _ _ origin.0.1 unit.0.1 comment.0.1 (origin_falls f at left origin.0 origin.1) (words_falls f _ origin.0.1 unit.0 unit.1)
-    (words_falls f _ unit.0.1 comment.0 comment.1))
+    let texts = bind_ok (channel_texts f at origin.0.1) _ found origin.2 in
+    subst (λ (y : ChannelLinks × Budget). Falls left (links_cost f at y.0) y.1) (ok_injective _ _ texts.2)
+    (falls_both left _ origin.0.1 _ texts.0.1 (origin_falls f at left origin.0 origin.1) (texts_fall f at origin.0.1 texts.0 texts.1))
 
 -- a channel
 channel_falls : (f : List ℕ) (at : ℕ) (left : Budget) (found : ChannelRow × ℕ × Budget) → channel f at left ≡ Ok found
@@ -163,18 +183,16 @@ record GroupTakes (cost : Cost) (count : ℕ) (left rest : Room) : Type 0 where
   channels : rest.channels + count ≡ left.channels
 
 abbrev group_links_cost : GroupLinks → Cost
-group_links_cost links = both (both (note_cost links.name) (source_link_cost links.source)) (note_cost links.comment)
+group_links_cost links = both (label_cost (record { name = links.name; source = links.source })) (note_cost links.comment)
 
 group_links_fall : (f : List ℕ) (at : ℕ) (left : Budget) (found : GroupLinks × Budget) → group_links f at left ≡ Ok found
     → Falls left (group_links_cost found.0) found.1
 unfolding group_links
 group_links_fall f at left found is =
-    let name = bind_ok (words f (link_at f at 2) left) _ found is in
-    let source = bind_ok (source_of_link f (link_at f at 3) name.0.1) _ found name.2 in
-    let comment = bind_ok (words f (link_at f at 5) source.0.1) _ found source.2 in
+    let first = bind_ok (label f at left) _ found is in
+    let comment = bind_ok (words f (link_at f at 5) first.0.1) _ found first.2 in
     subst (λ (y : GroupLinks × Budget). Falls left (group_links_cost y.0) y.1) (ok_injective _ _ comment.2)
-    (three_fall left _ _ _ name.0.1 source.0.1 comment.0.1 (words_falls f _ left name.0 name.1) (source_link_falls f _ name.0.1 source.0 source.1)
-    (words_falls f _ source.0.1 comment.0 comment.1))
+    (falls_both left _ first.0.1 _ comment.0.1 (label_falls f at left first.0 first.1) (words_falls f _ first.0.1 comment.0 comment.1))
 
 contents_take : (f : List ℕ) (b : BlockAt) (left : Room) (found : GroupContents × Room) → group_contents f b left ≡ Ok found
     → GroupTakes (both (group_links_cost found.0.links) (total (map (channel_cost f) found.0.rows))) (length found.0.rows) left found.1

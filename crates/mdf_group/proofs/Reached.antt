@@ -24,7 +24,7 @@ use Rattle.mdf_group.specs.declared.room.DataRoom.{DataRoom}
 use Rattle.mdf_group.specs.declared.row.ChannelRow.{ChannelRow}
 use Rattle.mdf_group.specs.declared.row.GroupRow.{GroupRow}
 use Rattle.mdf_group.specs.declared.row.DataRow.{DataRow}
-use Rattle.mdf_group.specs.Link.{channel_origin, channel_links, group_links, links_named}
+use Rattle.mdf_group.specs.Link.{label, channel_origin, channel_texts, channel_links, group_links, links_named}
 use Rattle.mdf_group.specs.Channel.{is_refused_kind, accepted, channel_of_block, channel, channels_from}
 use Rattle.mdf_group.specs.Group.{group_contents, group, groups_from, unnamed_count, data_contents, data_group, groups}
 use Rattle.mdf_group.specs.Standing.{IsSourceLink, IsConvLink, IsChannel, AreChannels, IsGroup, AreGroups, IsDataGroup, AreDataGroups}
@@ -78,7 +78,7 @@ behind_links links left = less_text (note_size links.comment) (less_text (note_s
 channel_links_reached : (f : List ℕ) (at : ℕ) (left : Budget) (links : ChannelLinks) → AreChannelLinks f at links
     → links.source ≡ None → links.conv ≡ None → note_size links.name + (note_size links.unit + note_size links.comment) ≤ left.text
     → channel_links f at left ≡ Ok (links, behind_links links left)
-unfolding channel_links channel_origin
+unfolding channel_links channel_texts channel_origin label
 channel_links_reached f at left links are no_source no_conv short =
     let one = less_text (note_size links.name) left in
     let two = less_text (note_size links.unit) one in
@@ -154,7 +154,7 @@ channels_reached f after most at left rows none are plain few short =
 group_reached : (f : List ℕ) (channels after : ℕ) (row : GroupRow) (left : Room) → (IsBlock f 0 Cn → ⊥) → IsBlock f row.at Cg → IsGroup f row
     → IsPlainGroup row → group_size row + channels ≤ left.channels → group_text row + after ≤ left.budget.text
     → (rest : Room) × (group f row.at left ≡ Ok (row, link_at f row.at 0, rest)) × ((channels ≤ rest.channels) × (after ≤ rest.budget.text))
-unfolding group group_contents group_links
+unfolding group group_contents group_links label
 group_reached f channels after row left none here is plain few short =
     let links = is.links in
     let name = ap (λ (r : GroupRow). note_size r.name) is.fields in

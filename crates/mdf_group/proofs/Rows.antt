@@ -4,10 +4,8 @@ use Rattle.mdf_format.specs.Number.{le_number, bytes_at}
 use Rattle.mdf_conv.specs.Conv.{numbers_at}
 use Rattle.mdf_block.proofs.Parts.{part_same, byte_same}
 use Rattle.mdf_conv.proofs.Fronts.{numbers_same}
-use Rattle.mdf_group.specs.declared.room.GroupLinks.{GroupLinks}
-use Rattle.mdf_group.specs.declared.row.ChannelRow.{ChannelRow}
 use Rattle.mdf_group.specs.Channel.{channel_front}
-use Rattle.mdf_group.specs.Group.{the_group}
+use Rattle.mdf_group.specs.Group.{group_front}
 
 module _ (f : List ℕ) (place front len : ℕ) (least : front ≤ len) where
   -- numbers of the front, of any width
@@ -29,9 +27,8 @@ module _ (f : List ℕ) (place front len : ℕ) (least : front ≤ len) where
       sym (numbers_same f place front 24 6 (omega (arith, room))) ∙ numbers_same f place len 24 6 (omega (arith, room, least)) in
       rw (kind, sync, data_type, bit, byte, bits, flags, inval, precision, ranges)
 
-  pub the_group-front : (at : ℕ) (links : GroupLinks) (channels : List ChannelRow) → 32 ≤ front
-      → the_group at (bytes_at front f place) links channels ≡ the_group at (bytes_at len f place) links channels
-  the_group-front at links channels room =
+  pub group_front-same : 32 ≤ front → group_front (bytes_at front f place) ≡ group_front (bytes_at len f place)
+  group_front-same room =
       let id = number_same 8 0 (omega (arith, room)) in
       let cycles = number_same 8 8 (omega (arith, room)) in
       let flags = number_same 2 16 (omega (arith, room)) in

@@ -22,7 +22,9 @@ use Rattle.mdf_conv.specs.declared.row.Conversion.{Conversion}
 use Rattle.mdf_conv.specs.Conv.{words, source, conversion}
 use Rattle.mdf_conv.specs.Link.{source_of_link, conv_of_link}
 use Rattle.mdf_conv.proofs.Founds.{ok_injective, words_found, source_found, conv_found}
+use Rattle.mdf_group.specs.declared.room.Label.{Label}
 use Rattle.mdf_group.specs.declared.room.ChannelOrigin.{ChannelOrigin}
+use Rattle.mdf_group.specs.declared.room.ChannelTexts.{ChannelTexts}
 use Rattle.mdf_group.specs.declared.room.ChannelLinks.{ChannelLinks}
 use Rattle.mdf_group.specs.declared.room.GroupLinks.{GroupLinks}
 use Rattle.mdf_group.specs.declared.room.GroupContents.{GroupContents}
@@ -32,7 +34,7 @@ use Rattle.mdf_group.specs.declared.room.DataRoom.{DataRoom}
 use Rattle.mdf_group.specs.declared.row.ChannelRow.{ChannelRow}
 use Rattle.mdf_group.specs.declared.row.GroupRow.{GroupRow}
 use Rattle.mdf_group.specs.declared.row.DataRow.{DataRow}
-use Rattle.mdf_group.specs.Link.{channel_origin, channel_links, group_links, links_named}
+use Rattle.mdf_group.specs.Link.{label, channel_origin, channel_texts, channel_links, group_links, links_named}
 use Rattle.mdf_group.specs.Channel.{is_refused_kind, accepted, the_channel, channel_of_block, channel, channels_from}
 use Rattle.mdf_group.specs.Group.{the_group, group_contents, group, groups_from, the_data_group, data_contents, data_group, data_groups_from, groups}
 use Rattle.mdf_group.specs.Standing.{IsSourceLink, IsConvLink, AreDistinct, IsChannel, AreChannels, IsGroup, AreGroups, IsDataGroup, AreDataGroups}
@@ -91,6 +93,22 @@ conv_link_found f at left found is =
           (eqb-false at 0 some.0, conv_found 4 f at left parts.0 parts.1)
     ]
 
+-- a name and a source
+record AreLabels (f : List ℕ) (at : ℕ) (first : Label) : Type 0 where
+  name : IsNote f (link_at f at 2) first.name
+  source : IsSourceLink f (link_at f at 3) first.source
+
+label_found : (f : List ℕ) (at : ℕ) (left : Budget) (found : Label × Budget) → label f at left ≡ Ok found → AreLabels f at found.0
+unfolding label
+label_found f at left found is =
+    let name = bind_ok (words f (link_at f at 2) left) _ found is in
+    let source = bind_ok (source_of_link f (link_at f at 3) name.0.1) _ found name.2 in
+    let whole : AreLabels f at (record { name = name.0.0; source = source.0.0 }) = record {
+      name = words_found f _ left name.0 name.1;
+      source = source_link_found f _ name.0.1 source.0 source.1;
+    } in
+    subst (λ (y : Label × Budget). AreLabels f at y.0) (ok_injective _ _ source.2) whole
+
 -- what the links of a channel lead to
 pub record AreChannelLinks (f : List ℕ) (at : ℕ) (links : ChannelLinks) : Type 0 where
   pub name : IsNote f (link_at f at 2) links.name
@@ -109,15 +127,32 @@ origin_found : (f : List ℕ) (at : ℕ) (left : Budget) (found : ChannelOrigin 
     → AreOrigins f at found.0
 unfolding channel_origin
 origin_found f at left found is =
-    let name = bind_ok (words f (link_at f at 2) left) _ found is in
-    let source = bind_ok (source_of_link f (link_at f at 3) name.0.1) _ found name.2 in
-    let conv = bind_ok (conv_of_link f (link_at f at 4) source.0.1) _ found source.2 in
-    let whole : AreOrigins f at (record { name = name.0.0; source = source.0.0; conv = conv.0.0 }) = record {
-      name = words_found f _ left name.0 name.1;
-      source = source_link_found f _ name.0.1 source.0 source.1;
-      conv = conv_link_found f _ source.0.1 conv.0 conv.1;
+    let first = bind_ok (label f at left) _ found is in
+    let there = label_found f at left first.0 first.1 in
+    let conv = bind_ok (conv_of_link f (link_at f at 4) first.0.1) _ found first.2 in
+    let whole : AreOrigins f at (record { name = first.0.0.name; source = first.0.0.source; conv = conv.0.0 }) = record {
+      name = there.name;
+      source = there.source;
+      conv = conv_link_found f _ first.0.1 conv.0 conv.1;
     } in
     subst (λ (y : ChannelOrigin × Budget). AreOrigins f at y.0) (ok_injective _ _ conv.2) whole
+
+-- and the last
+record AreTexts (f : List ℕ) (at : ℕ) (texts : ChannelTexts) : Type 0 where
+  unit : IsNote f (link_at f at 6) texts.unit
+  comment : IsNote f (link_at f at 7) texts.comment
+
+texts_found : (f : List ℕ) (at : ℕ) (left : Budget) (found : ChannelTexts × Budget) → channel_texts f at left ≡ Ok found
+    → AreTexts f at found.0
+unfolding channel_texts
+texts_found f at left found is =
+    let unit = bind_ok (words f (link_at f at 6) left) _ found is in
+    let comment = bind_ok (words f (link_at f at 7) unit.0.1) _ found unit.2 in
+    let whole : AreTexts f at (record { unit = unit.0.0; comment = comment.0.0 }) = record {
+      unit = words_found f _ left unit.0 unit.1;
+      comment = words_found f _ unit.0.1 comment.0 comment.1;
+    } in
+    subst (λ (y : ChannelTexts × Budget). AreTexts f at y.0) (ok_injective _ _ comment.2) whole
 
 channel_links_found : (f : List ℕ) (at : ℕ) (left : Budget) (found : ChannelLinks × Budget) → channel_links f at left ≡ Ok found
     → AreChannelLinks f at found.0
@@ -125,23 +160,23 @@ unfolding channel_links
 channel_links_found f at left found is =
     let origin = bind_ok (channel_origin f at left) _ found is in
     let there = origin_found f at left origin.0 origin.1 in
-    let unit = bind_ok (words f (link_at f at 6) origin.0.1) _ found origin.2 in
-    let comment = bind_ok (words f (link_at f at 7) unit.0.1) _ found unit.2 in
+    let texts = bind_ok (channel_texts f at origin.0.1) _ found origin.2 in
+    let last = texts_found f at origin.0.1 texts.0 texts.1 in
     let links : ChannelLinks = record {
       name = origin.0.0.name;
       source = origin.0.0.source;
       conv = origin.0.0.conv;
-      unit = unit.0.0;
-      comment = comment.0.0;
+      unit = texts.0.0.unit;
+      comment = texts.0.0.comment;
     } in
     let whole : AreChannelLinks f at links = record {
       name = there.name;
       source = there.source;
       conv = there.conv;
-      unit = words_found f _ origin.0.1 unit.0 unit.1;
-      comment = words_found f _ unit.0.1 comment.0 comment.1;
+      unit = last.unit;
+      comment = last.comment;
     } in
-    subst (λ (y : ChannelLinks × Budget). AreChannelLinks f at y.0) (ok_injective _ _ comment.2) whole
+    subst (λ (y : ChannelLinks × Budget). AreChannelLinks f at y.0) (ok_injective _ _ texts.2) whole
 
 -- and those of a channel group
 pub record AreGroupLinks (f : List ℕ) (at : ℕ) (links : GroupLinks) : Type 0 where
@@ -153,13 +188,13 @@ group_links_found : (f : List ℕ) (at : ℕ) (left : Budget) (found : GroupLink
     → AreGroupLinks f at found.0
 unfolding group_links
 group_links_found f at left found is =
-    let name = bind_ok (words f (link_at f at 2) left) _ found is in
-    let source = bind_ok (source_of_link f (link_at f at 3) name.0.1) _ found name.2 in
-    let comment = bind_ok (words f (link_at f at 5) source.0.1) _ found source.2 in
-    let whole : AreGroupLinks f at (record { name = name.0.0; source = source.0.0; comment = comment.0.0 }) = record {
-      name = words_found f _ left name.0 name.1;
-      source = source_link_found f _ name.0.1 source.0 source.1;
-      comment = words_found f _ source.0.1 comment.0 comment.1;
+    let first = bind_ok (label f at left) _ found is in
+    let there = label_found f at left first.0 first.1 in
+    let comment = bind_ok (words f (link_at f at 5) first.0.1) _ found first.2 in
+    let whole : AreGroupLinks f at (record { name = first.0.0.name; source = first.0.0.source; comment = comment.0.0 }) = record {
+      name = there.name;
+      source = there.source;
+      comment = words_found f _ first.0.1 comment.0 comment.1;
     } in
     subst (λ (y : GroupLinks × Budget). AreGroupLinks f at y.0) (ok_injective _ _ comment.2) whole
 

@@ -18,7 +18,7 @@ use Rattle.mdf_conv.specs.Link.{source_of_link, conv_of_link}
 use Rattle.mdf_conv.proofs.Truths.{Honest, words_true, source_true, conv_true}
 use Rattle.mdf_group.specs.declared.room.Room.{Room}
 use Rattle.mdf_group.specs.declared.room.DataRoom.{DataRoom}
-use Rattle.mdf_group.specs.Link.{channel_origin, channel_links, group_links}
+use Rattle.mdf_group.specs.Link.{label, channel_origin, channel_texts, channel_links, group_links}
 use Rattle.mdf_group.specs.Channel.{is_refused_kind, accepted, channel_of_block, channel, channels_from}
 use Rattle.mdf_group.specs.Group.{group_contents, group, groups_from, data_contents, data_group, data_groups_from, groups}
 
@@ -34,21 +34,33 @@ conv_link_true f at left =
     refusing_if (IsTrueOf f) (nat_eq at 0) _ _ (λ _. refusing_none (IsTrueOf f) _)
     (λ _. refusing_then (IsTrueOf f) (conversion f at left) _ (conv_true 4 f at left) (λ found _. refusing_none (IsTrueOf f) _))
 
+label_true : (f : List ℕ) (at : ℕ) (left : Budget) → Honest f (label f at left)
+unfolding label
+label_true f at left =
+    refusing_then (IsTrueOf f) (words f (link_at f at 2) left) _ (words_true f _ left) (λ name _.
+    refusing_then (IsTrueOf f) (source_of_link f (link_at f at 3) name.1) _ (source_link_true f _ name.1) (λ source _.
+    refusing_none (IsTrueOf f) _))
+
 origin_true : (f : List ℕ) (at : ℕ) (left : Budget) → Honest f (channel_origin f at left)
 unfolding channel_origin
 origin_true f at left =
-    refusing_then (IsTrueOf f) (words f (link_at f at 2) left) _ (words_true f _ left) (λ name _.
-    refusing_then (IsTrueOf f) (source_of_link f (link_at f at 3) name.1) _ (source_link_true f _ name.1) (λ source _.
-    refusing_then (IsTrueOf f) (conv_of_link f (link_at f at 4) source.1) _ (conv_link_true f _ source.1) (λ conv _.
-    refusing_none (IsTrueOf f) _)))
+    refusing_then (IsTrueOf f) (label f at left) _ (label_true f at left) (λ first _.
+    refusing_then (IsTrueOf f) (conv_of_link f (link_at f at 4) first.1) _ (conv_link_true f _ first.1) (λ conv _.
+    refusing_none (IsTrueOf f) _))
+
+texts_true : (f : List ℕ) (at : ℕ) (left : Budget) → Honest f (channel_texts f at left)
+unfolding channel_texts
+texts_true f at left =
+    refusing_then (IsTrueOf f) (words f (link_at f at 6) left) _ (words_true f _ left) (λ unit _.
+    refusing_then (IsTrueOf f) (words f (link_at f at 7) unit.1) _ (words_true f _ unit.1) (λ comment _.
+    refusing_none (IsTrueOf f) _))
 
 links_true : (f : List ℕ) (at : ℕ) (left : Budget) → Honest f (channel_links f at left)
 unfolding channel_links
 links_true f at left =
     refusing_then (IsTrueOf f) (channel_origin f at left) _ (origin_true f at left) (λ origin _.
-    refusing_then (IsTrueOf f) (words f (link_at f at 6) origin.1) _ (words_true f _ origin.1) (λ unit _.
-    refusing_then (IsTrueOf f) (words f (link_at f at 7) unit.1) _ (words_true f _ unit.1) (λ comment _.
-    refusing_none (IsTrueOf f) _)))
+    refusing_then (IsTrueOf f) (channel_texts f at origin.1) _ (texts_true f at origin.1) (λ texts _.
+    refusing_none (IsTrueOf f) _))
 
 either_true : (one other : Bool) → (one || other) ≡ true → (one ≡ true) ⊎ (other ≡ true)
 either_true true other is = inl refl
@@ -100,10 +112,9 @@ channels_true f most at left =
 group_links_true : (f : List ℕ) (at : ℕ) (left : Budget) → Honest f (group_links f at left)
 unfolding group_links
 group_links_true f at left =
-    refusing_then (IsTrueOf f) (words f (link_at f at 2) left) _ (words_true f _ left) (λ name _.
-    refusing_then (IsTrueOf f) (source_of_link f (link_at f at 3) name.1) _ (source_link_true f _ name.1) (λ source _.
-    refusing_then (IsTrueOf f) (words f (link_at f at 5) source.1) _ (words_true f _ source.1) (λ comment _.
-    refusing_none (IsTrueOf f) _)))
+    refusing_then (IsTrueOf f) (label f at left) _ (label_true f at left) (λ first _.
+    refusing_then (IsTrueOf f) (words f (link_at f at 5) first.1) _ (words_true f _ first.1) (λ comment _.
+    refusing_none (IsTrueOf f) _))
 
 contents_true : (f : List ℕ) (b : BlockAt) (left : Room) → Honest f (group_contents f b left)
 unfolding group_contents

@@ -42,6 +42,29 @@ channel_front body = record {
   ranges = numbers_at body 24 6;
 }
 
+-- a channel, from the numbers in its body
+abbrev pub channel_row : ℕ → ChannelFront → ChannelLinks → ℕ → ℕ → ChannelRow
+channel_row at front links values extra = record {
+  at = at;
+  kind = front.kind;
+  sync = front.sync;
+  data_type = front.data_type;
+  bit = front.bit;
+  byte = front.byte;
+  bits = front.bits;
+  flags = front.flags;
+  inval = front.inval;
+  precision = front.precision;
+  ranges = front.ranges;
+  name = links.name;
+  source = links.source;
+  conv = links.conv;
+  unit = links.unit;
+  comment = links.comment;
+  values = values;
+  extra = extra;
+}
+
 -- a channel, from its body
 abbrev pub the_channel : ℕ → List ℕ → ChannelLinks → ℕ → ℕ → ChannelRow
 the_channel at body links values extra = record {

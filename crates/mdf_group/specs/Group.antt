@@ -15,6 +15,9 @@ use Rattle.mdf_conv.specs.Left.{with_dropped, link_count}
 use Rattle.mdf_conv.specs.Conv.{words}
 use Rattle.mdf_group.specs.declared.room.Room.{Room}
 use Rattle.mdf_group.specs.declared.room.DataRoom.{DataRoom}
+use Rattle.mdf_group.specs.declared.room.GroupFront.{GroupFront}
+use Rattle.mdf_group.specs.declared.room.GroupNumbers.{GroupNumbers}
+use Rattle.mdf_group.specs.declared.room.DataNumbers.{DataNumbers}
 use Rattle.mdf_group.specs.declared.room.GroupLinks.{GroupLinks}
 use Rattle.mdf_group.specs.declared.room.GroupContents.{GroupContents}
 use Rattle.mdf_group.specs.declared.room.DataContents.{DataContents}
@@ -23,6 +26,42 @@ use Rattle.mdf_group.specs.declared.row.GroupRow.{GroupRow}
 use Rattle.mdf_group.specs.declared.row.DataRow.{DataRow}
 use Rattle.mdf_group.specs.Link.{group_links}
 use Rattle.mdf_group.specs.Channel.{channels_from}
+
+-- the numbers in the body of a channel group
+abbrev pub group_front : List ℕ → GroupFront
+group_front body = record {
+  id = le_number (bytes_at 8 body 0);
+  cycles = le_number (bytes_at 8 body 8);
+  flags = le_number (bytes_at 2 body 16);
+  separator = le_number (bytes_at 2 body 18);
+  data_bytes = le_number (bytes_at 4 body 24);
+  inval_bytes = le_number (bytes_at 4 body 28);
+}
+
+-- the numbers of the channel group of a block, in its links and in its body; the link to its first sample reduction is
+-- passed over
+abbrev pub group_numbers : List ℕ → BlockAt → GroupNumbers
+group_numbers file b = record {
+  next = link_at file b.at 0;
+  reduced = link_count (link_at file b.at 4);
+  front = group_front (body_of file b);
+}
+
+-- a channel group, from the numbers in its body
+abbrev pub group_row : ℕ → GroupFront → GroupLinks → List ChannelRow → GroupRow
+group_row at front links channels = record {
+  at = at;
+  id = front.id;
+  cycles = front.cycles;
+  flags = front.flags;
+  separator = front.separator;
+  data_bytes = front.data_bytes;
+  inval_bytes = front.inval_bytes;
+  name = links.name;
+  source = links.source;
+  comment = links.comment;
+  channels = channels;
+}
 
 -- a channel group, from its body
 abbrev pub the_group : ℕ → List ℕ → GroupLinks → List ChannelRow → GroupRow
@@ -46,6 +85,14 @@ group_contents file b left = do
   links ← group_links file b.at left.budget
   channels ← channels_from file left.channels (link_at file b.at 1) links.1
   Ok (record { links = links.0; rows = channels.0 }, record { channels = channels.1; budget = channels.2 })
+
+-- the channel group at an address with these numbers and contents
+abbrev pub group_finished : ℕ → GroupNumbers → GroupContents → Room → GroupRow × ℕ × Room
+group_finished at numbers contents left = (
+  group_row at numbers.front contents.links contents.rows,
+  numbers.next,
+  record { channels = left.channels; budget = with_dropped numbers.reduced left.budget },
+)
 
 -- the channel group of a block with these contents; the link to its first sample reduction is passed over
 abbrev pub finished_group : List ℕ → BlockAt → GroupContents → Room → GroupRow × ℕ × Room
@@ -84,6 +131,14 @@ is_unnamed rows row = is_variable row && not (list_any (names_values row.at) row
 
 abbrev pub unnamed_count : List GroupRow → ℕ
 unnamed_count rows = length (filter (is_unnamed rows) rows)
+
+-- the numbers of the data group of a block, in its links and in its body
+abbrev pub data_numbers : List ℕ → BlockAt → DataNumbers
+data_numbers file b = record {
+  next = link_at file b.at 0;
+  content = link_at file b.at 2;
+  id_size = slice_index (body_of file b) 0;
+}
 
 -- a data group, from its body
 abbrev pub the_data_group : ℕ → List ℕ → Note → ℕ → List GroupRow → DataRow

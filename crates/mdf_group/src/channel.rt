@@ -3,13 +3,13 @@ ghost use Rattle.mdf_format.specs.declared.kind.Kind.TheVariants.{Cn};
 ghost use Rattle.mdf_num.specs.Halt.{StopCause, HaltCause};
 ghost use Rattle.mdf_block.specs.Refusal.{Gives, IsPlain};
 ghost use Rattle.mdf_block.specs.Block.{body_of, IsInside, IsFilled};
-ghost use Rattle.mdf_group.specs.Link.{channel_origin, channel_links, group_refusal};
+ghost use Rattle.mdf_group.specs.Link.{channel_origin, channel_texts, channel_links, group_refusal};
 ghost use Rattle.mdf_group.specs.Channel.{accepted, passed_of, channel_of_block, channel, channels_from};
 
 use crate::extra::extra_in;
-use crate::field::{channel_of, kinds_in};
-use crate::lower::{block_of, conv_of, source_of, words_of};
-use crate::room::{ChannelLinks, ChannelOrigin, Passed};
+use crate::field::{channel_front_in, channel_of, kinds_in};
+use crate::lower::{block_of, conv_of, label_in, words_of};
+use crate::room::{ChannelLinks, ChannelOrigin, ChannelTexts, Passed};
 use crate::{ChannelRow, GroupFault};
 use mdf_block::{BlockAt, Kind, Walk, What, chain_in, link_in};
 use mdf_conv::{Budget, link_count};
@@ -32,11 +32,35 @@ fn channel_origin_in<P: Span>(
     ensures size { P.size span.new ≡ P.size span.old }
     ensures cause { HaltCause true (P.faults span.old) (P.faults span.new) result }
 {
-    let (name, left) = words_of(alloc, span, block, 2, budget)?;
-    let (source, left) = source_of(alloc, span, block, 3, left)?;
+    let (label, left) = label_in(alloc, span, block, budget)?;
     let (conv, left) = conv_of(alloc, span, block, 4, left)?;
-    let origin = ChannelOrigin { name, source, conv };
+    let origin = ChannelOrigin {
+        name: label.name,
+        source: label.source,
+        conv,
+    };
     Ok((origin, left))
+}
+
+/// What the last links of a channel lead to, and what may still come.
+#[tactic(auto, unfolding(crate::specs::Link::channel_texts))]
+fn channel_texts_in<P: Span>(
+    alloc: Global,
+    span: &mut P,
+    block: &BlockAt,
+    budget: Budget,
+) -> Result<(ChannelTexts, Budget), Halt<GroupFault>>
+    requires inside { IsInside (P.size span.old) block.now }
+    requires linked { 8 ≤ block.now.links }
+    ensures found { (f : List ℕ) → P.bytes span.old ≡ Some f → Gives group_refusal result (channel_texts f block.now.at budget) }
+    ensures plain { IfErr result (IsPlain group_refusal) }
+    ensures same { P.bytes span.new ≡ P.bytes span.old }
+    ensures size { P.size span.new ≡ P.size span.old }
+    ensures cause { HaltCause true (P.faults span.old) (P.faults span.new) result }
+{
+    let (unit, left) = words_of(alloc, span, block, 6, budget)?;
+    let (comment, left) = words_of(alloc, span, block, 7, left)?;
+    Ok((ChannelTexts { unit, comment }, left))
 }
 
 /// What the links of a channel lead to, and what may still come.
@@ -56,14 +80,13 @@ fn channel_links_in<P: Span>(
     ensures cause { HaltCause true (P.faults span.old) (P.faults span.new) result }
 {
     let (origin, left) = channel_origin_in(alloc, span, block, budget)?;
-    let (unit, left) = words_of(alloc, span, block, 6, left)?;
-    let (comment, left) = words_of(alloc, span, block, 7, left)?;
+    let (texts, left) = channel_texts_in(alloc, span, block, left)?;
     let links = ChannelLinks {
         name: origin.name,
         source: origin.source,
         conv: origin.conv,
-        unit,
-        comment,
+        unit: texts.unit,
+        comment: texts.comment,
     };
     Ok((links, left))
 }
@@ -133,8 +156,9 @@ fn channel_of_block<P: Span>(
     ensures cause { HaltCause true (P.faults span.old) (P.faults span.new) result }
 {
     let passed = passed_in(span, block)?;
+    let front = channel_front_in(span, block)?;
     let (links, left) = channel_links_in(alloc, span, block, budget)?;
-    let row = channel_of(span, block, links, passed.values, passed.extra)?;
+    let row = channel_of(block.at, front, links, passed.values, passed.extra);
     let dropped = passed.composed + passed.extra;
     Ok((row, passed.next, left.with_dropped(dropped)))
 }

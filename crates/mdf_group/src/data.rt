@@ -1,20 +1,20 @@
-ghost use Rattle.std.specs.Prelude.{◌≡◌, ◌≤◌, ℕ, List, Some, Ok, true, IfErr};
+ghost use Rattle.std.specs.Prelude.{◌≡◌, ◌≤◌, ℕ, List, Some, Ok, true, IfOk, IfErr};
 ghost use Rattle.mdf_format.specs.declared.kind.Kind.TheVariants.{Dg};
-ghost use Rattle.mdf_num.specs.Halt.{HaltCause};
+ghost use Rattle.mdf_num.specs.Halt.{StopCause, HaltCause};
 ghost use Rattle.mdf_block.specs.Refusal.{Gives, IsPlain};
 ghost use Rattle.mdf_block.specs.Block.{IsInside, IsFilled};
 ghost use Rattle.mdf_group.specs.Link.{group_refusal};
-ghost use Rattle.mdf_group.specs.Group.{data_contents, finished_data_group, data_group, data_groups_from};
+ghost use Rattle.mdf_group.specs.Group.{data_numbers, data_contents, finished_data_group, data_group, data_groups_from};
 
-use crate::field::data_of;
+use crate::field::id_size_in;
 use crate::group::groups_in;
 use crate::lower::{block_of, words_of};
 use crate::named::unnamed_count;
-use crate::room::{DataContents, DataRoom, Room};
+use crate::room::{DataContents, DataNumbers, DataRoom, Room};
 use crate::{DataRow, GroupFault};
 use mdf_block::{BlockAt, Kind, Walk, What, chain_in, link_in};
 use mdf_conv::Budget;
-use mdf_num::{Halt, Rows, Span};
+use mdf_num::{Halt, Rows, Span, Stop};
 use std::alloc::Global;
 
 /// How many data groups a file may have, and how many channel groups and channels in all.
@@ -50,6 +50,25 @@ fn data_contents_in<P: Span>(
     Ok((DataContents { comment, rows }, DataRoom { groups, room }))
 }
 
+/// The numbers of a data group, in its links and in its body.
+fn data_numbers_in<P: Span>(span: &mut P, block: &BlockAt) -> Result<DataNumbers, Stop>
+    requires inside { IsInside (P.size span.old) block.now }
+    requires filled { IsFilled Dg block.now }
+    ensures numbers { IfOk result (λ numbers. (f : List ℕ) → P.bytes span.old ≡ Some f → numbers ≡ data_numbers f block.now) }
+    ensures same { P.bytes span.new ≡ P.bytes span.old }
+    ensures size { P.size span.new ≡ P.size span.old }
+    ensures cause { StopCause P.may_want (P.faults span.old) (P.faults span.new) result }
+{
+    let next = link_in(span, block, 0)?;
+    let content = link_in(span, block, 2)?;
+    let id_size = id_size_in(span, block)?;
+    Ok(DataNumbers {
+        next,
+        content,
+        id_size,
+    })
+}
+
 /// The data group of a block with these contents, the address of the next one, and what may still come.
 fn finished_in<P: Span>(
     alloc: Global,
@@ -66,16 +85,21 @@ fn finished_in<P: Span>(
     ensures size { P.size span.new ≡ P.size span.old }
     ensures cause { HaltCause true (P.faults span.old) (P.faults span.new) result }
 {
-    let next = link_in(span, block, 0)?;
-    let content = link_in(span, block, 2)?;
+    let numbers = data_numbers_in(span, block)?;
     let unnamed = unnamed_count(alloc, contents.rows.as_slice())?;
-    let row = data_of(span, block, contents.comment, content, contents.rows)?;
+    let row = DataRow {
+        at: block.at,
+        id_size: numbers.id_size,
+        comment: contents.comment,
+        content: numbers.content,
+        groups: contents.rows,
+    };
     let room = Room {
         channels: left.room.channels,
         budget: left.room.budget.with_dropped(unnamed),
     };
     let groups = left.groups;
-    Ok((row, next, DataRoom { groups, room }))
+    Ok((row, numbers.next, DataRoom { groups, room }))
 }
 
 /// The data groups of a file, along their first links.

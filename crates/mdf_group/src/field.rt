@@ -4,12 +4,12 @@ ghost use Rattle.mdf_format.specs.declared.kind.Kind.TheVariants.{Dg, Cg, Cn};
 ghost use Rattle.mdf_num.specs.Halt.{StopCause};
 ghost use Rattle.mdf_block.specs.Block.{body_of, IsInside, IsFilled};
 ghost use Rattle.mdf_conv.specs.Conv.{numbers_at};
-ghost use Rattle.mdf_group.specs.Channel.{channel_front, the_channel};
-ghost use Rattle.mdf_group.specs.Group.{the_group, the_data_group};
+ghost use Rattle.mdf_group.specs.Channel.{channel_front, channel_row};
+ghost use Rattle.mdf_group.specs.Group.{group_front, group_row};
 
-use crate::room::{ChannelFront, ChannelLinks, GroupLinks};
-use crate::{ChannelRow, DataRow, GroupRow};
-use mdf_block::{BlockAt, Note, body_in, u16_field, u32_field, u64_field};
+use crate::room::{ChannelFront, ChannelLinks, GroupFront, GroupLinks};
+use crate::{ChannelRow, GroupRow};
+use mdf_block::{BlockAt, body_in, u16_field, u32_field, u64_field};
 use mdf_num::{Rows, Span, Stop};
 
 /// The kind and the data type of a channel.
@@ -43,7 +43,7 @@ fn ranges_of(body: &[u8]) -> [u64; 6]
 }
 
 /// The numbers in the body of a channel.
-fn channel_front_in<P: Span>(span: &mut P, block: &BlockAt) -> Result<ChannelFront, Stop>
+pub(crate) fn channel_front_in<P: Span>(span: &mut P, block: &BlockAt) -> Result<ChannelFront, Stop>
     requires inside { IsInside (P.size span.old) block.now }
     requires filled { IsFilled Cn block.now }
     ensures front { IfOk result (λ front. (f : List ℕ) → P.bytes span.old ≡ Some f → front ≡ channel_front (body_of f block.now)) }
@@ -67,26 +67,19 @@ fn channel_front_in<P: Span>(span: &mut P, block: &BlockAt) -> Result<ChannelFro
     })
 }
 
-/// The channel of a block, with what its links lead to.
-pub(crate) fn channel_of<P: Span>(
-    span: &mut P,
-    block: &BlockAt,
+/// The channel at an address, from the numbers in its body and what its links lead to.
+pub(crate) fn channel_of(
+    at: u64,
+    front: ChannelFront,
     links: ChannelLinks,
     values: u64,
     extra: u64,
-) -> Result<ChannelRow, Stop>
-    requires inside { IsInside (P.size span.old) block.now }
-    requires filled { IsFilled Cn block.now }
-    ensures fields { IfOk result (λ row. (f : List ℕ) → P.bytes span.old ≡ Some f →
-        row ≡ the_channel block.now.at (body_of f block.now) links values extra) }
-    ensures same { P.bytes span.new ≡ P.bytes span.old }
-    ensures size { P.size span.new ≡ P.size span.old }
-    ensures cause { StopCause P.may_want (P.faults span.old) (P.faults span.new) result }
+) -> ChannelRow
+    ensures { result ≡ channel_row at front links values extra }
 {
-    let front = channel_front_in(span, block)?;
     let ranges = front.ranges;
-    Ok(ChannelRow {
-        at: block.at,
+    ChannelRow {
+        at,
         kind: front.kind,
         sync: front.sync,
         data_type: front.data_type,
@@ -104,64 +97,64 @@ pub(crate) fn channel_of<P: Span>(
         comment: links.comment,
         values,
         extra,
-    })
+    }
 }
 
-/// The channel group of a block, with what its links lead to.
-pub(crate) fn group_of<P: Span>(
-    span: &mut P,
-    block: &BlockAt,
-    links: GroupLinks,
-    channels: Rows<ChannelRow>,
-) -> Result<GroupRow, Stop>
+/// The numbers in the body of a channel group.
+pub(crate) fn group_front_in<P: Span>(span: &mut P, block: &BlockAt) -> Result<GroupFront, Stop>
     requires inside { IsInside (P.size span.old) block.now }
     requires filled { IsFilled Cg block.now }
-    ensures fields { IfOk result (λ row. (f : List ℕ) → P.bytes span.old ≡ Some f →
-        row ≡ the_group block.now.at (body_of f block.now) links channels) }
+    ensures front { IfOk result (λ front. (f : List ℕ) → P.bytes span.old ≡ Some f → front ≡ group_front (body_of f block.now)) }
     ensures same { P.bytes span.new ≡ P.bytes span.old }
     ensures size { P.size span.new ≡ P.size span.old }
     ensures cause { StopCause P.may_want (P.faults span.old) (P.faults span.new) result }
 {
     let mut body = [0u8; 32];
     body_in(span, block, &mut body)?;
-    Ok(GroupRow {
-        at: block.at,
+    Ok(GroupFront {
         id: u64_field(&body, 0),
         cycles: u64_field(&body, 8),
         flags: u16_field(&body, 16),
         separator: u16_field(&body, 18),
         data_bytes: u32_field(&body, 24),
         inval_bytes: u32_field(&body, 28),
+    })
+}
+
+/// The channel group at an address, from the numbers in its body, what its links lead to, and its channels.
+pub(crate) fn group_of(
+    at: u64,
+    front: GroupFront,
+    links: GroupLinks,
+    channels: Rows<ChannelRow>,
+) -> GroupRow
+    ensures { result ≡ group_row at front links channels }
+{
+    GroupRow {
+        at,
+        id: front.id,
+        cycles: front.cycles,
+        flags: front.flags,
+        separator: front.separator,
+        data_bytes: front.data_bytes,
+        inval_bytes: front.inval_bytes,
         name: links.name,
         source: links.source,
         comment: links.comment,
         channels,
-    })
+    }
 }
 
-/// The data group of a block, with its comment, the address of its data, and its channel groups.
-pub(crate) fn data_of<P: Span>(
-    span: &mut P,
-    block: &BlockAt,
-    comment: Note,
-    content: u64,
-    groups: Rows<GroupRow>,
-) -> Result<DataRow, Stop>
+/// How many bytes the id before each record of a data group has.
+pub(crate) fn id_size_in<P: Span>(span: &mut P, block: &BlockAt) -> Result<u8, Stop>
     requires inside { IsInside (P.size span.old) block.now }
     requires filled { IsFilled Dg block.now }
-    ensures fields { IfOk result (λ row. (f : List ℕ) → P.bytes span.old ≡ Some f →
-        row ≡ the_data_group block.now.at (body_of f block.now) comment content groups) }
+    ensures size_of_id { IfOk result (λ size. (f : List ℕ) → P.bytes span.old ≡ Some f → size ≡ slice_index (body_of f block.now) 0) }
     ensures same { P.bytes span.new ≡ P.bytes span.old }
     ensures size { P.size span.new ≡ P.size span.old }
     ensures cause { StopCause P.may_want (P.faults span.old) (P.faults span.new) result }
 {
     let mut body = [0u8; 8];
     body_in(span, block, &mut body)?;
-    Ok(DataRow {
-        at: block.at,
-        id_size: body[0],
-        comment,
-        content,
-        groups,
-    })
+    Ok(body[0])
 }

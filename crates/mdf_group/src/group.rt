@@ -4,12 +4,12 @@ ghost use Rattle.mdf_num.specs.Halt.{StopCause, HaltCause};
 ghost use Rattle.mdf_block.specs.Refusal.{Gives, IsPlain};
 ghost use Rattle.mdf_block.specs.Block.{IsInside, IsFilled};
 ghost use Rattle.mdf_group.specs.Link.{group_links, group_refusal};
-ghost use Rattle.mdf_group.specs.Group.{group_contents, finished_group, group, groups_from};
+ghost use Rattle.mdf_group.specs.Group.{group_numbers, group_contents, group_finished, group, groups_from};
 
 use crate::channel::channels_in;
-use crate::field::group_of;
-use crate::lower::{block_of, source_of, words_of};
-use crate::room::{GroupContents, GroupLinks, Room};
+use crate::field::{group_front_in, group_of};
+use crate::lower::{block_of, label_in, words_of};
+use crate::room::{GroupContents, GroupLinks, GroupNumbers, Room};
 use crate::{GroupFault, GroupRow};
 use mdf_block::{BlockAt, Kind, Walk, What, chain_in, link_in};
 use mdf_conv::{Budget, link_count};
@@ -32,12 +32,11 @@ fn group_links_in<P: Span>(
     ensures size { P.size span.new ≡ P.size span.old }
     ensures cause { HaltCause true (P.faults span.old) (P.faults span.new) result }
 {
-    let (name, left) = words_of(alloc, span, block, 2, budget)?;
-    let (source, left) = source_of(alloc, span, block, 3, left)?;
+    let (label, left) = label_in(alloc, span, block, budget)?;
     let (comment, left) = words_of(alloc, span, block, 5, left)?;
     let links = GroupLinks {
-        name,
-        source,
+        name: label.name,
+        source: label.source,
         comment,
     };
     Ok((links, left))
@@ -65,28 +64,41 @@ fn group_contents_in<P: Span>(
     Ok((GroupContents { links, rows }, Room { channels, budget }))
 }
 
-/// The channel group of a block with these contents, the address of the next one, and what may still come.
-fn finished_in<P: Span>(
-    span: &mut P,
-    block: &BlockAt,
-    contents: GroupContents,
-    room: Room,
-) -> Result<(GroupRow, u64, Room), Stop>
+/// The numbers of a channel group, in its links and in its body.
+fn group_numbers_in<P: Span>(span: &mut P, block: &BlockAt) -> Result<GroupNumbers, Stop>
     requires inside { IsInside (P.size span.old) block.now }
     requires filled { IsFilled Cg block.now }
-    ensures finished { IfOk result (λ found. (f : List ℕ) → P.bytes span.old ≡ Some f → found ≡ finished_group f block.now contents room) }
+    ensures numbers { IfOk result (λ numbers. (f : List ℕ) → P.bytes span.old ≡ Some f → numbers ≡ group_numbers f block.now) }
     ensures same { P.bytes span.new ≡ P.bytes span.old }
     ensures size { P.size span.new ≡ P.size span.old }
     ensures cause { StopCause P.may_want (P.faults span.old) (P.faults span.new) result }
 {
     let next = link_in(span, block, 0)?;
     let reduction = link_in(span, block, 4)?;
-    let row = group_of(span, block, contents.links, contents.rows)?;
+    let front = group_front_in(span, block)?;
+    Ok(GroupNumbers {
+        next,
+        reduced: link_count(reduction),
+        front,
+    })
+}
+
+/// The channel group at an address with these numbers and contents, the address of the next one, and what may still
+/// come.
+fn finished(
+    at: u64,
+    numbers: GroupNumbers,
+    contents: GroupContents,
+    room: Room,
+) -> (GroupRow, u64, Room)
+    ensures { result ≡ group_finished at numbers contents room }
+{
+    let row = group_of(at, numbers.front, contents.links, contents.rows);
     let left = Room {
         channels: room.channels,
-        budget: room.budget.with_dropped(link_count(reduction)),
+        budget: room.budget.with_dropped(numbers.reduced),
     };
-    Ok((row, next, left))
+    (row, numbers.next, left)
 }
 
 /// The channel groups of a data group, along their first links.
@@ -118,8 +130,9 @@ impl Walk for Groups {
         room: Room,
     ) -> Result<(GroupRow, u64, Room), Halt<GroupFault>> {
         let block = block_of(span, at, Kind::Cg)?;
+        let numbers = group_numbers_in(span, &block)?;
         let (contents, left) = group_contents_in(alloc, span, &block, room)?;
-        Ok(finished_in(span, &block, contents, left)?)
+        Ok(finished(block.at, numbers, contents, left))
     }
 
     #[tactic(auto, unfolding(mdf_block::specs::Chain::full))]

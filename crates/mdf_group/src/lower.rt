@@ -1,14 +1,15 @@
-ghost use Rattle.std.specs.Prelude.{◌≡◌, ◌<◌, ℕ, List, Some, false, true, IfOk, IfErr};
+ghost use Rattle.std.specs.Prelude.{◌≡◌, ◌≤◌, ◌<◌, ℕ, List, Some, false, true, IfOk, IfErr};
 ghost use Rattle.mdf_format.specs.Block.{link_at};
 ghost use Rattle.mdf_num.specs.Halt.{HaltCause};
 ghost use Rattle.mdf_block.specs.Refusal.{Gives, IsPlain};
 ghost use Rattle.mdf_block.specs.Block.{block, is_data, IsInside, IsFilled};
 ghost use Rattle.mdf_conv.specs.Conv.{words};
 ghost use Rattle.mdf_conv.specs.Link.{source_of_link, conv_of_link};
-ghost use Rattle.mdf_group.specs.Link.{group_refusal};
+ghost use Rattle.mdf_group.specs.Link.{label, group_refusal};
 ghost use Rattle.mdf_group.specs.Lift.{lifted};
 
 use crate::GroupFault;
+use crate::room::Label;
 use mdf_block::{BlockAt, Kind, Note};
 use mdf_conv::{
     Budget, ConvFault, Conversion, SourceInfo, block_with, conv_at, source_at, words_at,
@@ -110,4 +111,25 @@ pub(crate) fn conv_of<P: Span>(
     ensures cause { HaltCause true (P.faults span.old) (P.faults span.new) result }
 {
     lifted(conv_at(alloc, span, block, k, budget))
+}
+
+/// The name and the source of a channel or of a channel group, and what may still come.
+#[tactic(auto, unfolding(crate::specs::Link::label))]
+pub(crate) fn label_in<P: Span>(
+    alloc: Global,
+    span: &mut P,
+    block: &BlockAt,
+    budget: Budget,
+) -> Result<(Label, Budget), Halt<GroupFault>>
+    requires inside { IsInside (P.size span.old) block.now }
+    requires linked { 4 ≤ block.now.links }
+    ensures found { (f : List ℕ) → P.bytes span.old ≡ Some f → Gives group_refusal result (label f block.now.at budget) }
+    ensures plain { IfErr result (IsPlain group_refusal) }
+    ensures same { P.bytes span.new ≡ P.bytes span.old }
+    ensures size { P.size span.new ≡ P.size span.old }
+    ensures cause { HaltCause true (P.faults span.old) (P.faults span.new) result }
+{
+    let (name, left) = words_of(alloc, span, block, 2, budget)?;
+    let (source, left) = source_of(alloc, span, block, 3, left)?;
+    Ok((Label { name, source }, left))
 }

@@ -4,7 +4,7 @@ use mdf_conv::{Budget, Conversion, SourceInfo};
 use mdf_num::Rows;
 
 /// What may still come inside a channel group.
-#[derive(Clone, Copy, Debug)]
+#[derive(Clone, Copy)]
 pub(crate) struct Room {
     /// How many channels.
     pub(crate) channels: u64,
@@ -13,7 +13,7 @@ pub(crate) struct Room {
 }
 
 /// What may still come inside a data group.
-#[derive(Clone, Copy, Debug)]
+#[derive(Clone, Copy)]
 pub(crate) struct DataRoom {
     /// How many channel groups.
     pub(crate) groups: u64,
@@ -22,7 +22,7 @@ pub(crate) struct DataRoom {
 }
 
 /// The numbers in the body of a channel.
-#[derive(Clone, Copy, Debug)]
+#[derive(Clone, Copy)]
 pub(crate) struct ChannelFront {
     pub(crate) kind: u8,
     pub(crate) sync: u8,
@@ -37,7 +37,7 @@ pub(crate) struct ChannelFront {
 }
 
 /// The links of a channel that are not followed inside it.
-#[derive(Clone, Copy, Debug)]
+#[derive(Clone, Copy)]
 pub(crate) struct Passed {
     /// The address of the next channel.
     pub(crate) next: u64,
@@ -49,12 +49,59 @@ pub(crate) struct Passed {
     pub(crate) extra: u64,
 }
 
+/// The numbers in the body of a channel group.
+#[derive(Clone, Copy)]
+pub(crate) struct GroupFront {
+    pub(crate) id: u64,
+    pub(crate) cycles: u64,
+    pub(crate) flags: u16,
+    pub(crate) separator: u16,
+    pub(crate) data_bytes: u32,
+    pub(crate) inval_bytes: u32,
+}
+
+/// The numbers of a channel group, in its links and in its body.
+#[derive(Clone, Copy)]
+pub(crate) struct GroupNumbers {
+    /// The address of the next channel group.
+    pub(crate) next: u64,
+    /// How many sample reductions it names, one at most.
+    pub(crate) reduced: u64,
+    /// Those in its body.
+    pub(crate) front: GroupFront,
+}
+
+/// The numbers of a data group, in its links and in its body.
+#[derive(Clone, Copy)]
+pub(crate) struct DataNumbers {
+    /// The address of the next data group.
+    pub(crate) next: u64,
+    /// The address of its data.
+    pub(crate) content: u64,
+    /// How many bytes the id before each record has.
+    pub(crate) id_size: u8,
+}
+
+/// What the links to a name and to a source lead to, which a channel and a channel group have alike.
+#[derive(Drop)]
+pub(crate) struct Label {
+    pub(crate) name: Note,
+    pub(crate) source: Option<SourceInfo>,
+}
+
 /// What the first links of a channel lead to.
-#[derive(Debug, Drop)]
+#[derive(Drop)]
 pub(crate) struct ChannelOrigin {
     pub(crate) name: Note,
     pub(crate) source: Option<SourceInfo>,
     pub(crate) conv: Option<Conversion>,
+}
+
+/// What the last links of a channel lead to.
+#[derive(Drop)]
+pub(crate) struct ChannelTexts {
+    pub(crate) unit: Note,
+    pub(crate) comment: Note,
 }
 
 /// What the links of a channel (CNBLOCK) lead to: its name, its source, its conversion, its unit and its comment.
@@ -84,14 +131,14 @@ pub struct GroupLinks {
 }
 
 /// What a channel group holds.
-#[derive(Debug, Drop)]
+#[derive(Drop)]
 pub(crate) struct GroupContents {
     pub(crate) links: GroupLinks,
     pub(crate) rows: Rows<ChannelRow>,
 }
 
 /// What a data group holds.
-#[derive(Debug, Drop)]
+#[derive(Drop)]
 pub(crate) struct DataContents {
     pub(crate) comment: Note,
     pub(crate) rows: Rows<GroupRow>,
