@@ -77,7 +77,7 @@ fn recording<R: AllocGlobal + Abort>(rt: &R, gate: Arc<Gate>) -> Result<GatedFil
 }
 
 /// A channel of 64-bit unsigned numbers.
-pub fn word(alloc: Global) -> Result<Rows<FieldRow>, Memory>
+fn word(alloc: Global) -> Result<Rows<FieldRow>, Memory>
     ensures stored { IfOk result (λ rows. All IsStored rows) }
     ensures few { IfOk result (λ rows. length rows ≤ 64) }
 {
@@ -106,7 +106,7 @@ fn shape<R: AllocGlobal + Abort>(rt: &R, rows: &Rows<FieldRow>) -> Result<Shape,
 }
 
 /// The list of this layout, once for each of two groups.
-pub fn shapes<R: AllocGlobal + Abort>(rt: &R, rows: &Rows<FieldRow>) -> Result<Shapes, Fail>
+fn shapes<R: AllocGlobal + Abort>(rt: &R, rows: &Rows<FieldRow>) -> Result<Shapes, Fail>
     requires stored { All IsStored rows.now }
     requires few { length rows.now ≤ 64 }
     ensures is { IfOk result (λ shapes. shapes ≡ word_layouts rows.now) }
@@ -116,6 +116,24 @@ pub fn shapes<R: AllocGlobal + Abort>(rt: &R, rows: &Rows<FieldRow>) -> Result<S
     shapes.push(shape(rt, rows)?)?;
     shapes.push(shape(rt, rows)?)?;
     Ok(shapes)
+}
+
+/// The list of the layouts of the two groups.
+pub fn listed<R: AllocGlobal + Abort>(rt: &R) -> Result<Shapes, Fail>
+    ensures { IfOk result AreGroups }
+{
+    let rows = word(rt.alloc())?;
+    shapes(rt, &rows)
+}
+
+/// That list twice: once to check samples by, and once for a book.
+fn listed_twice<R: AllocGlobal + Abort>(rt: &R) -> Result<(Shapes, Shapes), Fail>
+    ensures same { IfOk result (λ both. both.1 ≡ both.0) }
+    ensures groups { IfOk result (λ both. AreGroups both.1) }
+{
+    let rows = word(rt.alloc())?;
+    let checked_by = shapes(rt, &rows)?;
+    Ok((checked_by, shapes(rt, &rows)?))
 }
 
 /// The book of the tests.
@@ -140,6 +158,20 @@ pub fn book<R: AllocGlobal + Abort>(
             Err(memory.into())
         }
     }
+}
+
+/// A book over a new file, on such a disk, and the layouts that its samples are checked by.
+pub fn checked_book<R: AllocGlobal + Abort>(
+    rt: &R,
+    gate: Arc<Gate>,
+) -> Result<(Shapes, TestBook), Fail>
+    ensures layouts { IfOk result (λ both. both.1.terms.layouts ≡ both.0) }
+    ensures limit { IfOk result (λ both. both.1.terms.block_limit ≡ 9) }
+    ensures empty { IfOk result (λ both. both.1.history ≡ []) }
+{
+    let (checked_by, listed) = listed_twice(rt)?;
+    let book = book(rt, listed, gate)?;
+    Ok((checked_by, book))
 }
 
 /// A sample of this group and number.

@@ -10,6 +10,8 @@ mod seats;
 #[cfg(test)]
 mod tasks;
 #[cfg(test)]
+mod told;
+#[cfg(test)]
 mod turns;
 #[cfg(test)]
 mod workers;

@@ -2,13 +2,17 @@
 ghost use Rattle.std.specs.Prelude.{◌≡◌, ◌≤◌, [], IfOk};
 ghost use Rattle.std.specs.Vec.{vec_capacity};
 ghost use Rattle.book_shared.specs.Seats.{new_seat, new_seats};
-ghost use Rattle.book_shared_tests.specs.Seated.{AreSeated};
+ghost use Rattle.book_shared_tests.specs.Seated.{AreReady, AreSeated};
 
-use crate::books::{TestBook, TestDisk};
+use crate::books::{TestBook, TestDisk, checked_book};
+use crate::gates::Gate;
 use book_owned::{Marks, NoView};
 use book_shared::{SharedBook, SourceSeat};
+use mdf_layout::Shapes;
 use mdf_num::Memory;
 use std::alloc::{AllocError, Global};
+use std::process::Abort;
+use std::sync::Arc;
 use std::test::Fail;
 
 pub type Shared = SharedBook<TestDisk, NoView>;
@@ -37,7 +41,7 @@ fn pair(book: &Shared, mut seats: Vec<SourceSeat>) -> (SourceSeat, SourceSeat)
 }
 
 /// Shares a book, of which each source owns the group of its number.
-pub fn share(alloc: Global, book: TestBook) -> Result<(Shared, Seats), Fail>
+fn share(alloc: Global, book: TestBook) -> Result<(Shared, Seats), Fail>
     requires { book.history ≡ [] }
     ensures seated { IfOk result (λ begun. AreSeated book.terms begun.0 begun.1.first begun.1.second) }
     ensures room { IfOk result (λ begun. (begun.1.back.items ≡ []) × (2 ≤ vec_capacity begun.1.back)) }
@@ -63,24 +67,48 @@ pub fn share(alloc: Global, book: TestBook) -> Result<(Shared, Seats), Fail>
 
 /// A book that is not shared, for want of memory.
 pub fn given_up(book: TestBook) -> Fail {
-    drop(book.close());
+    let (_disk, _history, _marks, _view) = book.close();
     AllocError.into()
 }
 
-/// The numbers of samples that the marks go through.
-pub fn told(alloc: Global, count: u64, marks: &Marks) -> Result<String, Memory> {
-    let mut told = format!(in alloc; "accepted {count} marks")?;
-    for i in 0..marks.len() {
-        if let Some(mark) = marks.get(i) {
-            let through = format!(in alloc; " {}", mark.through)?;
-            told.push_str(through.as_str())?;
-        }
+/// A book that two sources share, their seats, and the layouts that their samples are checked by.
+pub struct Begun {
+    pub checked_by: Shapes,
+    pub shared: Shared,
+    pub seats: Seats,
+}
+
+/// Shares a new book, over a disk whose syncs wait at the gate.
+pub fn begin<R: AllocGlobal + Abort>(rt: &R, gate: Arc<Gate>) -> Result<Begun, Fail>
+    ensures ready { IfOk result (λ begun. AreReady begun.checked_by begun.shared begun.seats.first begun.seats.second) }
+    ensures room { IfOk result (λ begun. (begun.seats.back.items ≡ []) × (2 ≤ vec_capacity begun.seats.back)) }
+{
+    let (checked_by, book) = checked_book(rt, gate)?;
+    let (shared, seats) = share(rt.alloc(), book)?;
+    Ok(Begun {
+        checked_by,
+        shared,
+        seats,
+    })
+}
+
+/// Tells how many samples were accepted, and the numbers of samples that the marks go through.
+fn tell(told: &mut String, count: u64, marks: &Marks) -> Result<(), Memory> {
+    write!(told, "accepted {count} marks")?;
+    for mark in marks.rest(0) {
+        write!(told, " {}", mark.through)?;
     }
-    Ok(told)
+    Ok(())
+}
+
+/// Closes a book that is shared no more, and tells what it comes to.
+fn close_book(told: &mut String, book: TestBook) -> Result<(), Memory> {
+    let (_, history, marks, _) = book.close();
+    tell(told, history.len(), &marks)
 }
 
 /// Closes the book, and tells how many samples were accepted, and through how many each mark goes.
-pub fn close(alloc: Global, book: Shared, seats: Seats) -> Result<String, Memory>
+pub fn close(told: &mut String, book: Shared, seats: Seats) -> Result<(), Memory>
     requires sources { book.basis.sources ≡ 2 }
     requires tables { (seats.first.table ≡ book.table) × (seats.second.table ≡ book.table) }
     requires numbers { (seats.first.number ≡ 0) × (seats.second.number ≡ 1) }
@@ -93,6 +121,5 @@ pub fn close(alloc: Global, book: Shared, seats: Seats) -> Result<String, Memory
     } = seats;
     back.push_reserved(first);
     back.push_reserved(second);
-    let (_, history, marks, _) = book.close(back).close();
-    told(alloc, history.len(), &marks)
+    close_book(told, book.close(back))
 }

@@ -1,12 +1,13 @@
 //! What the first of the two seats does.
-ghost use Rattle.std.specs.Prelude.{◌≡◌};
+ghost use Rattle.std.specs.Prelude.{◌≡◌, ◌≤◌, slice_index};
+ghost use Rattle.mdf_layout.specs.Record.{SampleFits, encoded_size};
 
 use crate::books::{fits, sample};
 use crate::seats::Shared;
 use book_shared::{SourceSeat, Try};
 use mdf_layout::{Sample, Shapes};
 use mdf_num::Memory;
-use std::alloc::Global;
+use std::alloc::AllocError;
 use std::process::Abort;
 use std::sync::Wait;
 use std::thread::Threads;
@@ -19,21 +20,34 @@ pub enum Task {
     Flush,
 }
 
-/// The answer of a try.
-pub fn told_try(alloc: Global, answer: &Try) -> Result<String, Memory> {
-    Ok(match answer {
-        Try::Busy { word, sample: _ } => format!(in alloc; "busy {word}")?,
+/// Tells the answer of a try.
+pub fn tell_try(told: &mut String, answer: &Try) -> Result<(), AllocError> {
+    match answer {
+        Try::Busy { word, sample: _ } => write!(told, "busy {word}"),
         Try::NeedsFlush {
             held,
             size,
             limit,
             sample: _,
-        } => format!(in alloc; "flush {held} {size} {limit}")?,
-        Try::Answered(answer) => format!(in alloc; "{answer:?}")?,
-    })
+        } => write!(told, "flush {held} {size} {limit}"),
+        Try::Answered(answer) => write!(told, "{answer:?}"),
+    }
 }
 
-/// Tries or appends a sample.
+/// Asserts that the sample is one of these layouts, which are those of the seat, that its record has room in an empty block,
+/// and that the seat owns its group.
+pub fn assert_admitted<R: Abort>(rt: &R, shapes: &Shapes, seat: &SourceSeat, sample: &Sample)
+    requires layouts { seat.now.know.basis.terms.layouts ≡ shapes.now }
+    requires limit { seat.now.know.basis.terms.block_limit ≡ 9 }
+    ensures owns { slice_index seat.now.know.basis.owners sample.now.group ≡ seat.now.number }
+    ensures fits { SampleFits seat.now.know.basis.terms.layouts sample.now }
+    ensures size { encoded_size seat.now.know.basis.terms.layouts sample.now ≤ seat.now.know.basis.terms.block_limit }
+{
+    assert!(rt; fits(shapes, sample));
+    assert!(rt; seat.owns(sample.group));
+}
+
+/// Tries or appends a sample, and tells the answer.
 fn put<R>(
     rt: &R,
     shapes: &Shapes,
@@ -41,7 +55,8 @@ fn put<R>(
     seat: &mut SourceSeat,
     sample: Sample,
     waits: bool,
-) -> Result<String, Memory>
+    told: &mut String,
+) -> Result<(), AllocError>
 where
     R: AllocGlobal + Abort + Threads + Wait + Sync,
     requires table { seat.old.table ≡ shared.now.table }
@@ -51,14 +66,31 @@ where
     ensures number { seat.new.number ≡ seat.old.number }
     ensures basis { seat.new.know.basis ≡ seat.old.know.basis }
 {
-    assert!(rt; fits(shapes, &sample));
-    assert!(rt; seat.owns(sample.group));
+    assert_admitted(rt, shapes, seat, &sample);
     if waits {
         let answer = shared.append(rt, seat, sample);
-        return Ok(format!(in rt.alloc(); "{answer:?}")?);
+        return write!(told, "{answer:?}");
     }
     let answer = shared.try_append(seat, sample);
-    told_try(rt.alloc(), &answer)
+    tell_try(told, &answer)
+}
+
+/// Flushes, and tells the answer.
+fn flush<R>(
+    rt: &R,
+    shared: &Shared,
+    seat: &mut SourceSeat,
+    told: &mut String,
+) -> Result<(), AllocError>
+where
+    R: AllocGlobal + Abort + Threads + Wait + Sync,
+    requires table { seat.old.table ≡ shared.now.table }
+    ensures table { seat.new.table ≡ seat.old.table }
+    ensures number { seat.new.number ≡ seat.old.number }
+    ensures basis { seat.new.know.basis ≡ seat.old.know.basis }
+{
+    let answer = shared.flush(rt, seat);
+    write!(told, "{answer:?}")
 }
 
 /// Does a task, and tells the answer.
@@ -68,7 +100,8 @@ pub fn step<R>(
     shared: &Shared,
     seat: &mut SourceSeat,
     task: Task,
-) -> Result<String, Memory>
+    told: &mut String,
+) -> Result<(), Memory>
 where
     R: AllocGlobal + Abort + Threads + Wait + Sync,
     requires table { seat.old.table ≡ shared.now.table }
@@ -78,28 +111,13 @@ where
     ensures number { seat.new.number ≡ seat.old.number }
     ensures basis { seat.new.know.basis ≡ seat.old.know.basis }
 {
-    match task {
-        Task::Flush => {
-            let answer = shared.flush(rt, seat);
-            Ok(format!(in rt.alloc(); "{answer:?}")?)
-        }
-        Task::Try(number) => put(
-            rt,
-            shapes,
-            shared,
-            seat,
-            sample(rt.alloc(), 0, number)?,
-            false,
-        ),
-        Task::Append(number) => put(
-            rt,
-            shapes,
-            shared,
-            seat,
-            sample(rt.alloc(), 0, number)?,
-            true,
-        ),
-    }
+    let (number, waits) = match task {
+        Task::Flush => return Ok(flush(rt, shared, seat, told)?),
+        Task::Try(number) => (number, false),
+        Task::Append(number) => (number, true),
+    };
+    let sample = sample(rt.alloc(), 0, number)?;
+    Ok(put(rt, shapes, shared, seat, sample, waits, told)?)
 }
 
 /// Does these tasks, and tells the answers, each on a line of its own.
@@ -109,7 +127,8 @@ pub fn feed<R>(
     shared: &Shared,
     seat: &mut SourceSeat,
     tasks: &[Task],
-) -> Result<String, Memory>
+    told: &mut String,
+) -> Result<(), Memory>
 where
     R: AllocGlobal + Abort + Threads + Wait + Sync,
     requires table { seat.old.table ≡ shared.now.table }
@@ -119,11 +138,9 @@ where
     ensures number { seat.new.number ≡ seat.old.number }
     ensures basis { seat.new.know.basis ≡ seat.old.know.basis }
 {
-    let mut told = String::new(rt.alloc());
     for task in tasks {
-        let answer = step(rt, shapes, shared, seat, *task)?;
-        told.push_str(answer.as_str())?;
+        step(rt, shapes, shared, seat, *task, told)?;
         told.push('\n')?;
     }
-    Ok(told)
+    Ok(())
 }

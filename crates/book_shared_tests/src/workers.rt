@@ -1,10 +1,12 @@
 //! Two sources at work at once.
-ghost use Rattle.std.specs.Prelude.{◌≡◌, ◌≤◌, [], ◌∷◌, length, All, IfOk};
+ghost use Rattle.std.specs.Prelude.{◌≡◌, ◌≤◌, ◌<◌, ◌^◌, [], ◌∷◌, length, All, IfOk};
 ghost use Rattle.book_shared_tests.specs.Lists.{IsOf};
+ghost use Rattle.book_shared_tests.specs.Words.{AreGroups};
 
-use crate::books::{book, fits, sample, shapes, word};
+use crate::books::{TestBook, book, fits, listed, sample};
 use crate::gates::{Gate, LOOKS, wait_for};
 use crate::seats::given_up;
+use crate::told::is_told;
 use acq_run::{Driven, Fed, Feed, ScriptFeed, record_all};
 use mdf_layout::{Samples, Shapes};
 use mdf_num::{Memory, Rows};
@@ -138,18 +140,57 @@ fn pair(alloc: Global, first: Meets, second: Meets) -> Result<Vec<Meets>, Fail>
     Ok(feeds)
 }
 
-/// What each source did, each on a line of its own, and then the groups of the samples, in order.
-fn told(alloc: Global, all: &[Driven], history: &Samples) -> Result<String, Memory> {
+/// What each source did, each on a line of its own, then the groups of the samples, in order, and whether one waited in vain.
+fn told(alloc: Global, all: &[Driven], history: &Samples, in_vain: bool) -> Result<String, Memory> {
     let mut told = String::new(alloc);
     for driven in all {
-        let line = format!(in alloc; "{driven:?}\n")?;
-        told.push_str(line.as_str())?;
+        write!(told, "{driven:?}\n")?;
     }
     for sample in history.rest(0) {
-        let group = format!(in alloc; "{} ", sample.group)?;
-        told.push_str(group.as_str())?;
+        write!(told, "{} ", sample.group)?;
     }
+    write!(told, "in vain {in_vain}")?;
     Ok(told)
+}
+
+/// Closes the book of the sources that did all this, and tells it.
+fn worked(
+    alloc: Global,
+    book: TestBook,
+    all: Vec<Driven>,
+    meeting: &Meeting,
+) -> Result<String, Memory> {
+    let (_, history, _, _) = book.close();
+    told(
+        alloc,
+        all.as_slice(),
+        &history,
+        meeting.in_vain.load(SeqCst),
+    )
+}
+
+/// Two sources at work over a book of these layouts, with these feeds. Tells what they did.
+fn recorded<R>(
+    rt: &R,
+    listed: Shapes,
+    first: Meets,
+    second: Meets,
+    meeting: &Meeting,
+) -> Result<String, Fail>
+where
+    R: AllocGlobal + Abort + Threads + Wait + Sync,
+    requires groups { AreGroups listed }
+    requires first { All (IsOf listed 0) first.list }
+    requires second { All (IsOf listed 1) second.list }
+    requires few { (length first.list < 2 ^ 64) × (length second.list < 2 ^ 64) }
+{
+    let feeds = pair(rt.alloc(), first, second)?;
+    let gate = Gate::new(rt.alloc(), LOOKS)?;
+    let book = book(rt, listed, gate)?;
+    match record_all(rt, rt.alloc(), book, &[0, 1], feeds) {
+        Ok((book, all)) => Ok(worked(rt.alloc(), book, all, meeting)?),
+        Err((_, book)) => Err(given_up(book)),
+    }
 }
 
 /// Two sources at work, the first with these and the second with those. Tells what they did, and whether one waited in vain.
@@ -157,32 +198,20 @@ fn met<R>(rt: &R, first: &[Option<u64>], second: &[Option<u64>]) -> Result<Strin
 where
     R: AllocGlobal + Abort + Threads + Wait + Sync,
 {
-    let rows = word(rt.alloc())?;
-    let checked_by = shapes(rt, &rows)?;
     let meeting = Meeting::new(rt.alloc())?;
-    let first = feed(rt, &checked_by, 0, first, &meeting)?;
-    let second = feed(rt, &checked_by, 1, second, &meeting)?;
-    let feeds = pair(rt.alloc(), first, second)?;
-    let gate = Gate::new(rt.alloc(), LOOKS)?;
-    let book = book(rt, shapes(rt, &rows)?, gate)?;
-    match record_all(rt, rt.alloc(), book, &[0, 1], feeds) {
-        Ok((book, all)) => {
-            let (_, history, _, _) = book.close();
-            let told = told(rt.alloc(), all.as_slice(), &history)?;
-            let in_vain = meeting.in_vain.load(SeqCst);
-            Ok(format!(in rt.alloc(); "{told}in vain {in_vain}")?)
-        }
-        Err((_, book)) => Err(given_up(book)),
-    }
+    let listed = listed(rt)?;
+    let first = feed(rt, &listed, 0, first, &meeting)?;
+    let second = feed(rt, &listed, 1, second, &meeting)?;
+    recorded(rt, listed, first, second, &meeting)
 }
 
 // The first source waits until the second one's sample was accepted, and that until the first has begun: one after the other,
 // in either order, would wait in vain.
 #[test]
 fn two_workers_at_once(rt: HostRuntime) -> Result<(), Fail> {
-    assert_eq!(rt;
-        met(&rt, &[Some(1), None, Some(3)], &[Some(2), None])?.as_str(),
-        "Driven { accepted: 2, ended: Done }\nDriven { accepted: 1, ended: Done }\n1 0 0 in vain false"
-    );
-    Ok(())
+    is_told(
+        &rt,
+        met(&rt, &[Some(1), None, Some(3)], &[Some(2), None]),
+        "Driven { accepted: 2, ended: Done }\nDriven { accepted: 1, ended: Done }\n1 0 0 in vain false",
+    )
 }

@@ -1,10 +1,10 @@
 use crate::files::{Piece, file_of, put, put_number};
 use crate::span::span_over;
-use crate::told::{Stopped, Told, all_are_told, is_told, stops_are_told};
-use mdf_block::{
-    BlockAt, BlockFault, Draft, Kind, Note, NoteFault, block_at, kind_at, note_at, note_in,
+use crate::told::{
+    Stopped, Told, all_are_told, both_shown, is_told, shown, stops_are_told, three_shown,
 };
-use mdf_num::{Bytes, Halt, Memory, Span, Stop};
+use mdf_block::{Draft, Kind, block_at, kind_at, note_at, note_in};
+use mdf_num::{Bytes, Memory, Span, Stop};
 use std::alloc::Global;
 use std::test::Fail;
 
@@ -141,14 +141,10 @@ fn said(alloc: Global, block: &Said) -> Result<Vec<u8>, Memory> {
     Ok(file)
 }
 
-fn line(alloc: Global, answer: &Result<BlockAt, BlockFault>) -> Result<String, Memory> {
-    Ok(format!(in alloc; "{answer:?}")?)
-}
-
 impl Told for Looked {
     fn told(&self, alloc: Global) -> Result<String, Memory> {
         let file = said(alloc, &self.0)?;
-        line(alloc, &block_at(file.as_slice(), self.1, self.2))
+        shown(alloc, &block_at(file.as_slice(), self.1, self.2))
     }
 }
 
@@ -170,7 +166,7 @@ fn a_block_stands_on_a_multiple_of_8(rt: HostRuntime) -> Result<(), Memory> {
     assert!(rt; kind_at(&bytes, 4) == Some(Kind::Dt));
     is_told(
         &rt,
-        line(rt.alloc(), &block_at(&bytes, 4, Kind::Dt)),
+        shown(rt.alloc(), &block_at(&bytes, 4, Kind::Dt)),
         "Err(Bad { at: 4, want: Dt })",
     )
 }
@@ -208,10 +204,6 @@ const NOTES: &[(Noted, &str)] = &[
     ),
 ];
 
-fn note_line(alloc: Global, answer: &Result<Note, NoteFault>, left: u64) -> Result<String, Memory> {
-    Ok(format!(in alloc; "{answer:?} {left}")?)
-}
-
 /// A file of one block, the address of a text, and the bytes that texts may have.
 struct Noted(Piece, u64, u64);
 
@@ -220,22 +212,13 @@ impl Told for Noted {
         let file = file_of(alloc, 160, &[self.0])?;
         let mut left = self.2;
         let answer = note_at(alloc, file.as_slice(), self.1, &mut left);
-        note_line(alloc, &answer, left)
+        both_shown(alloc, &answer, &left)
     }
 }
 
 #[test]
 fn texts_are_told(rt: HostRuntime) -> Result<(), Memory> {
     all_are_told(&rt, NOTES)
-}
-
-fn line_over(
-    alloc: Global,
-    answer: &Result<Note, Halt<NoteFault>>,
-    left: u64,
-    faults: u64,
-) -> Result<String, Memory> {
-    Ok(format!(in alloc; "{answer:?} {left} {faults}")?)
 }
 
 /// The reader of a text.
@@ -247,7 +230,7 @@ impl Stopped for TextReader {
         let mut span = span_over(file.as_slice(), calls, stop);
         let mut left = 10;
         let answer = note_in(alloc, &mut span, 64, &mut left);
-        line_over(alloc, &answer, left, span.faults())
+        three_shown(alloc, &answer, &left, &span.faults())
     }
 }
 

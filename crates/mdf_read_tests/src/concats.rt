@@ -1,11 +1,10 @@
+use crate::exports::table_told;
 use crate::measurements::changed;
 use crate::told::{Told, all_are_told};
 use mdf_disk::{Disk, MemoryDisk, Role};
-use mdf_num::{Bytes, Memory, Rows};
-use mdf_port::MemorySink;
+use mdf_num::{Bytes, Memory};
 use std::alloc::Global;
-use tool_concat::{ConcatFault, Report, concat};
-use tool_export::export;
+use tool_concat::concat;
 
 // The numbers of 8 bytes that are changed in a file of two groups, of both files and of the second alone, a group, and what is
 // answered and the table of that group in what was made. The stream of the second group has 11 bytes, and its offsets are 0
@@ -111,15 +110,6 @@ const REFUSED: &[(Refused, &str)] = &[
     (Refused(&[], &[(192, 0)]), "Err(Differs { group: 1 }) "),
 ];
 
-fn line(
-    alloc: Global,
-    answer: &Result<Report, ConcatFault>,
-    given: &[u8],
-) -> Result<String, Memory> {
-    let text = std::str::from_utf8(given).unwrap_or("no text");
-    Ok(format!(in alloc; "{answer:?} {text}")?)
-}
-
 // The file with the numbers that are changed of both, and with those of it alone.
 fn file_with(alloc: Global, both: &[(usize, u64)], own: &[(usize, u64)]) -> Result<Bytes, Memory> {
     let mut changes = Vec::from_slice(alloc, both)?;
@@ -129,19 +119,6 @@ fn file_with(alloc: Global, both: &[(usize, u64)], own: &[(usize, u64)]) -> Resu
 
 /// The numbers that are changed of both files and of the second alone, and a group.
 struct Joined(&'static [(usize, u64)], &'static [(usize, u64)], u64);
-
-/// The table of a group in a file, given behind an answer.
-fn table_told(
-    alloc: Global,
-    answer: &Result<Report, ConcatFault>,
-    file: &[u8],
-    group: u64,
-) -> Result<String, Memory> {
-    let file = Bytes::from_slice(alloc, file)?;
-    let mut sink = MemorySink::new(alloc, Rows::empty(alloc));
-    let _table = export(alloc, file, group, &mut sink);
-    line(alloc, answer, sink.bytes())
-}
 
 /// What is answered of two files, and the table of the group in what was made.
 fn concat_told(

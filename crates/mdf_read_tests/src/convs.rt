@@ -1,6 +1,6 @@
 use crate::files::{Piece, file_of, put, put_number};
 use crate::span::span_over;
-use crate::told::{Stopped, Told, all_are_told, is_told, stops_are_told};
+use crate::told::{Stopped, Told, all_are_told, both_shown, is_told, stops_are_told, three_shown};
 use mdf_conv::{Budget, read_conv, read_conv_in, read_source, read_source_in};
 use mdf_num::{Memory, Span, Stop};
 use std::alloc::Global;
@@ -166,7 +166,7 @@ impl Told for Converted {
         let bytes = file_of(alloc, self.0.0, self.0.1)?;
         let mut budget = budget_of(self.2, self.3);
         let answer = read_conv(alloc, bytes.as_slice(), self.1, &mut budget);
-        Ok(format!(in alloc; "{answer:?} {budget:?}")?)
+        both_shown(alloc, &answer, &budget)
     }
 }
 
@@ -187,8 +187,7 @@ impl Told for Roomed {
             ..Budget::of_file()
         };
         let fault = read_conv(alloc, bytes.as_slice(), 64, &mut budget).err();
-        let left = budget.conversion_bytes;
-        Ok(format!(in alloc; "{fault:?} {left}")?)
+        both_shown(alloc, &fault, &budget.conversion_bytes)
     }
 }
 
@@ -254,7 +253,7 @@ impl Told for Sourced {
         let bytes = file_of(alloc, self.0.0, self.0.1)?;
         let mut budget = budget_of(self.2, self.3);
         let answer = read_source(alloc, bytes.as_slice(), self.1, &mut budget);
-        Ok(format!(in alloc; "{answer:?} {budget:?}")?)
+        both_shown(alloc, &answer, &budget)
     }
 }
 
@@ -280,7 +279,7 @@ impl Told for Hostile {
         let bytes = claiming(self.0);
         let conv = read_conv(alloc, &bytes, 64, &mut Budget::of_file()).err();
         let source = read_source(alloc, &bytes, self.1, &mut Budget::of_file()).err();
-        Ok(format!(in alloc; "{conv:?} {source:?}")?)
+        both_shown(alloc, &conv, &source)
     }
 }
 
@@ -333,8 +332,7 @@ fn unlinked_told(alloc: Global, links: u32) -> Result<String, Memory> {
         Ok(conv) => conv.refs.as_slice(),
         Err(_) => &[],
     };
-    let (count, last) = (refs.len(), refs.last());
-    Ok(format!(in alloc; "{count} {last:?} {}", budget.conversions)?)
+    three_shown(alloc, &refs.len(), &refs.last(), &budget.conversions)
 }
 
 #[test]
@@ -357,7 +355,7 @@ impl Stopped for ConvReader {
         let mut span = span_over(bytes.as_slice(), calls, stop);
         let fault = read_conv_in(alloc, &mut span, 64, &mut budget).err();
         let left = (budget == Budget::of_file(), span.faults());
-        Ok(format!(in alloc; "{fault:?} {left:?}")?)
+        both_shown(alloc, &fault, &left)
     }
 }
 
@@ -371,7 +369,7 @@ impl Stopped for SourceReader {
         let mut span = span_over(bytes.as_slice(), calls, stop);
         let fault = read_source_in(alloc, &mut span, 64, &mut budget).err();
         let left = (budget == Budget::of_file(), span.faults());
-        Ok(format!(in alloc; "{fault:?} {left:?}")?)
+        both_shown(alloc, &fault, &left)
     }
 }
 

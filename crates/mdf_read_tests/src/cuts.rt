@@ -1,11 +1,10 @@
+use crate::exports::table_told;
 use crate::measurements::changed;
 use crate::told::{Told, all_are_told};
 use mdf_disk::{Disk, MemoryDisk, Role};
-use mdf_num::{Bytes, Memory, Rows};
-use mdf_port::MemorySink;
+use mdf_num::{Bytes, Memory};
 use std::alloc::Global;
-use tool_cut::{Report, ToolFault, cut};
-use tool_export::export;
+use tool_cut::cut;
 
 // The numbers of 8 bytes that are changed in a file of two groups, the range of the master, a group, and what is answered and
 // the table of that group in what was made. The second group has no master.
@@ -47,26 +46,8 @@ const CUTS: &[(Cut, &str)] = &[
     (Cut(&[(0, 0)], 0, 9, 0), "Err(Read(NotMdf)) "),
 ];
 
-fn line(alloc: Global, answer: &Result<Report, ToolFault>, given: &[u8]) -> Result<String, Memory> {
-    let text = std::str::from_utf8(given).unwrap_or("no text");
-    Ok(format!(in alloc; "{answer:?} {text}")?)
-}
-
 /// The numbers that are changed, the range of the master, and a group.
 struct Cut(&'static [(usize, u64)], i128, i128, u64);
-
-/// The table of a group in a file, given behind an answer.
-fn table_told(
-    alloc: Global,
-    answer: &Result<Report, ToolFault>,
-    file: &[u8],
-    group: u64,
-) -> Result<String, Memory> {
-    let file = Bytes::from_slice(alloc, file)?;
-    let mut sink = MemorySink::new(alloc, Rows::empty(alloc));
-    let _table = export(alloc, file, group, &mut sink);
-    line(alloc, answer, sink.bytes())
-}
 
 /// What is answered, and the table of the group in what was made.
 fn cut_told(alloc: Global, file: Bytes, name: Bytes, row: &Cut) -> Result<String, Memory> {

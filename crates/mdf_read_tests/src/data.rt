@@ -3,7 +3,9 @@ ghost use Rattle.mdf_stream.specs.Parts.{stream_size, ArePartsInside};
 
 use crate::files::{Piece, file_of, put_number, set_link};
 use crate::span::span_over;
-use crate::told::{Stopped, Told, all_are_told, is_told, stops_are_told};
+use crate::told::{
+    Stopped, Told, all_are_told, both_shown, is_told, shown, stops_are_told, three_shown,
+};
 use mdf_block::Kind;
 use mdf_data::{
     DataView, Known, Places, Size, Splitter, places_alone, places_in, view_data, view_data_in,
@@ -115,7 +117,7 @@ impl Told for Viewed {
     fn told(&self, alloc: Global) -> Result<String, Memory> {
         let file = file_of(alloc, 352, self.0)?;
         let answer = view_data(alloc, file.as_slice(), self.1, self.2);
-        Ok(format!(in alloc; "{answer:?}")?)
+        shown(alloc, &answer)
     }
 }
 
@@ -204,7 +206,7 @@ impl Told for Split {
         let mut view = DataView::empty(alloc);
         view.add(0, body.len() as u64)?;
         let answer = places_in(alloc, &mut SliceSpan::new(body), &view, id_size, known);
-        Ok(format!(in alloc; "{answer:?}")?)
+        shown(alloc, &answer)
     }
 }
 
@@ -224,7 +226,7 @@ impl Stopped for ViewReader {
         let file = file_of(alloc, 160, ONE_PART)?;
         let mut span = span_over(file.as_slice(), calls, stop);
         let answer = view_data_in(alloc, &mut span, 64, Kind::Dt);
-        Ok(format!(in alloc; "{answer:?}")?)
+        shown(alloc, &answer)
     }
 }
 
@@ -257,7 +259,7 @@ impl Told for Changed {
         let mut file = file_of(alloc, 160, ONE_PART)?;
         put_number(file.as_mut_slice(), self.0, self.1);
         let answer = view_data(alloc, file.as_slice(), 64, Kind::Dt);
-        Ok(format!(in alloc; "{answer:?}")?)
+        shown(alloc, &answer)
     }
 }
 
@@ -304,7 +306,7 @@ fn bytes_told(
     }
     let mut buf = vec![in alloc; 0u8; len]?;
     view.read(bytes, at, buf.as_mut_slice());
-    Ok(format!(in alloc; "{buf:?}")?)
+    shown(alloc, &buf)
 }
 
 /// A place of their stream, and how many bytes are read there.
@@ -338,7 +340,7 @@ impl Told for Added {
         view.add(0, 2)?;
         let bytes = [4, 5, 9, 9, 1, 2, 3, 9];
         let number = view.u32_in(&mut SliceSpan::new(&bytes), self.0);
-        Ok(format!(in alloc; "{number:?} {view:?}")?)
+        both_shown(alloc, &number, &view)
     }
 }
 
@@ -404,7 +406,7 @@ impl Told for Ranged {
         let mut range = DataView::empty(alloc);
         range.add(1, 2)?;
         range.add_part(&view, self.0, self.1)?;
-        Ok(format!(in alloc; "{range:?}")?)
+        shown(alloc, &range)
     }
 }
 
@@ -441,7 +443,7 @@ impl Told for Crowd {
             Ok(view) => Ok(view.len()),
             Err(fault) => Err(fault),
         };
-        Ok(format!(in alloc; "{size:?}")?)
+        shown(alloc, &size)
     }
 }
 
@@ -589,7 +591,7 @@ fn answers_told(
     let first = splitter.next(bytes, view);
     let second = splitter.next(bytes, view);
     let third = splitter.next(bytes, view);
-    Ok(format!(in alloc; "{first:?} {second:?} {third:?}")?)
+    three_shown(alloc, &first, &second, &third)
 }
 
 /// How many bytes an id has, the groups, and the bodies of two blocks of data.
@@ -612,14 +614,19 @@ fn two_blocks(
     )
 }
 
+// The first three answers about the file of two blocks.
+fn split_told(alloc: Global, file: &[u8], id_size: u8, known: &[Known]) -> Result<String, Memory> {
+    let mut splitter = splitter_of(alloc, id_size, known)?;
+    match view_data(alloc, file, 64, Kind::Dt) {
+        Ok(view) => answers_told(alloc, file, &view, &mut splitter),
+        Err(_) => Err(Memory),
+    }
+}
+
 impl Told for Answered {
     fn told(&self, alloc: Global) -> Result<String, Memory> {
-        let mut splitter = splitter_of(alloc, self.0, self.1)?;
         let file = two_blocks(alloc, self.2, self.3)?;
-        match view_data(alloc, file.as_slice(), 64, Kind::Dt) {
-            Ok(view) => answers_told(alloc, file.as_slice(), &view, &mut splitter),
-            Err(_) => Err(Memory),
-        }
+        split_told(alloc, file.as_slice(), self.0, self.1)
     }
 }
 
@@ -641,7 +648,7 @@ impl Stopped for PlaceReader {
         let mut view = DataView::empty(alloc);
         view.add(0, len)?;
         let answer = places_in(alloc, &mut span, &view, 1, &[EIGHT, TWO]);
-        Ok(format!(in alloc; "{answer:?}")?)
+        shown(alloc, &answer)
     }
 }
 
@@ -683,16 +690,26 @@ const ALONE: &[(Alone, &str)] = &[
 /// How many bytes a stream without ids has, the size of its records, and how many empty ones it has.
 struct Alone(u64, Size, u64);
 
+// The places, with one more at the end.
+fn alone_and_one(alloc: Global, row: &Alone) -> Result<Places, Memory> {
+    if row.0 > 1000 || row.2 > 1000 {
+        return Err(Memory);
+    }
+    let mut places = places_alone(alloc, row.0, row.1, row.2);
+    places.push(77)?;
+    Ok(places)
+}
+
+fn places_told(alloc: Global, places: &Places) -> Result<String, Memory> {
+    let count = places.len();
+    let found = (count, places.get(0), places.get(1), places.get(count));
+    both_shown(alloc, places, &found)
+}
+
 impl Told for Alone {
     fn told(&self, alloc: Global) -> Result<String, Memory> {
-        if self.0 > 1000 || self.2 > 1000 {
-            return Err(Memory);
-        }
-        let mut places = places_alone(alloc, self.0, self.1, self.2);
-        places.push(77)?;
-        let count = places.len();
-        let found = (count, places.get(0), places.get(1), places.get(count));
-        Ok(format!(in alloc; "{places:?} {found:?}")?)
+        let places = alone_and_one(alloc, self)?;
+        places_told(alloc, &places)
     }
 }
 
@@ -716,7 +733,7 @@ fn far_told(alloc: Global) -> Result<String, Memory> {
         Places::empty(alloc).step(),
         places_alone(alloc, 20, Size::Fixed(9), 0).step(),
     );
-    Ok(format!(in alloc; "{} {found:?} {steps:?}", places.len())?)
+    three_shown(alloc, &places.len(), &found, &steps)
 }
 
 #[test]

@@ -1,9 +1,10 @@
 use crate::measurements::changed;
 use crate::told::{Told, all_are_told};
-use mdf_num::{Bytes, Memory, Numbers};
+use mdf_num::{Bytes, Memory, Numbers, Rows};
 use mdf_port::MemorySink;
 use std::alloc::Global;
-use tool_export::{ExportFault, export};
+use std::fmt::Debug;
+use tool_export::export;
 
 // The numbers of 8 bytes that are changed in a file of two groups, the number of the group, which call of the sink fails,
 // and what is answered and given. No channel has a name, so the second field of the first line is empty.
@@ -40,9 +41,23 @@ const TABLES: &[(Table, &str)] = &[
     (Table(&[], 0, 1), "Err(Failed) index,\n"),
 ];
 
-fn line(alloc: Global, answer: &Result<u64, ExportFault>, given: &[u8]) -> Result<String, Memory> {
+/// An answer, and the text that was given.
+fn line<A: Debug>(alloc: Global, answer: &A, given: &[u8]) -> Result<String, Memory> {
     let text = std::str::from_utf8(given).unwrap_or("no text");
     Ok(format!(in alloc; "{answer:?} {text}")?)
+}
+
+/// The table of a group in a file, given behind an answer.
+pub(crate) fn table_told<A: Debug>(
+    alloc: Global,
+    answer: &A,
+    file: &[u8],
+    group: u64,
+) -> Result<String, Memory> {
+    let file = Bytes::from_slice(alloc, file)?;
+    let mut sink = MemorySink::new(alloc, Rows::empty(alloc));
+    let _table = export(alloc, file, group, &mut sink);
+    line(alloc, answer, sink.bytes())
 }
 
 /// The numbers that are changed, the number of the group, and which call of the sink fails.

@@ -19,6 +19,13 @@ pub(crate) fn put_number(file: &mut [u8], at: usize, number: u64) {
     put(file, at, &number.to_le_bytes());
 }
 
+/// Copies numbers of 8 bytes to their places.
+pub(crate) fn put_numbers(file: &mut [u8], numbers: &[(usize, u64)]) {
+    for (at, number) in numbers {
+        put_number(file, *at, *number);
+    }
+}
+
 /// Copies a block to its place, with its size and the number of its links.
 pub(crate) fn put_block(file: &mut [u8], piece: &Piece) {
     let (at, name, links, body) = *piece;
@@ -40,6 +47,23 @@ pub(crate) fn file_of(alloc: Global, size: usize, pieces: &[Piece]) -> Result<Ve
     let mut file = vec![in alloc; 0u8; size]?;
     for piece in pieces {
         put_block(file.as_mut_slice(), piece);
+    }
+    Ok(file)
+}
+
+/// A file of so many bytes: its identification, and the blocks of these tables.
+pub(crate) fn marked_file(
+    alloc: Global,
+    size: usize,
+    ident: &[u8],
+    tables: &[&[Piece]],
+) -> Result<Vec<u8>, Memory> {
+    let mut file = file_of(alloc, size, &[])?;
+    put(file.as_mut_slice(), 0, ident);
+    for pieces in tables {
+        for piece in *pieces {
+            put_block(file.as_mut_slice(), piece);
+        }
     }
     Ok(file)
 }

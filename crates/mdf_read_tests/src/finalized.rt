@@ -180,6 +180,21 @@ fn first_written(
     }
 }
 
+// That of the data groups that the header names.
+fn groups_written(
+    alloc: Global,
+    file: &[u8],
+    head: &Head,
+    history: &Rows<History>,
+    budget: &mut Budget,
+    data: Data,
+) -> Result<Option<Bytes>, Memory> {
+    match read_groups(alloc, file, head.first_dg, budget) {
+        Ok(rows) => first_written(alloc, head, history, &rows, data),
+        Err(_) => Ok(None),
+    }
+}
+
 // The finalized file of a recording with this head and these data.
 pub(crate) fn finalized(
     alloc: Global,
@@ -191,10 +206,7 @@ pub(crate) fn finalized(
     let Ok((head, history)) = read_head(alloc, file.as_slice(), &mut budget.text) else {
         return Ok(None);
     };
-    match read_groups(alloc, file.as_slice(), head.first_dg, &mut budget) {
-        Ok(rows) => first_written(alloc, &head, &history, &rows, data),
-        Err(_) => Ok(None),
-    }
+    groups_written(alloc, file.as_slice(), &head, &history, &mut budget, data)
 }
 
 // The bytes of it, worked out from the tables of the blocks.

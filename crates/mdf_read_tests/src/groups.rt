@@ -1,6 +1,6 @@
-use crate::files::{Piece, file_of, put_number};
+use crate::files::{Piece, file_of, put_number, put_numbers};
 use crate::span::span_over;
-use crate::told::{Stopped, Told, all_are_told, stops_are_told};
+use crate::told::{Stopped, Told, all_are_told, both_shown, shown, stops_are_told};
 use mdf_conv::Budget;
 use mdf_group::{read_groups, read_groups_in};
 use mdf_num::{Memory, Span, Stop};
@@ -208,9 +208,7 @@ struct Grouped(File, &'static [(usize, u64)], u64, u64);
 // The file with its numbers set.
 fn bytes_of(alloc: Global, row: &Grouped) -> Result<Vec<u8>, Memory> {
     let mut bytes = file_of(alloc, row.0.0, row.0.1)?;
-    for (at, number) in row.1 {
-        put_number(bytes.as_mut_slice(), *at, *number);
-    }
+    put_numbers(bytes.as_mut_slice(), row.1);
     Ok(bytes)
 }
 
@@ -223,7 +221,7 @@ impl Told for Grouped {
             ..Budget::of_file()
         };
         let answer = read_groups(alloc, bytes.as_slice(), 64, &mut budget);
-        Ok(format!(in alloc; "{answer:?} {budget:?}")?)
+        both_shown(alloc, &answer, &budget)
     }
 }
 
@@ -250,7 +248,7 @@ impl Told for Counted {
             ..Budget::of_file()
         };
         let fault = read_groups(alloc, bytes.as_slice(), 64, &mut budget).err();
-        Ok(format!(in alloc; "{fault:?}")?)
+        shown(alloc, &fault)
     }
 }
 
@@ -272,7 +270,7 @@ impl Stopped for GroupReader {
         let mut span = span_over(bytes.as_slice(), calls, stop);
         let fault = read_groups_in(alloc, &mut span, 64, &mut budget).err();
         let left = (budget == Budget::of_file(), span.faults());
-        Ok(format!(in alloc; "{fault:?} {left:?}")?)
+        both_shown(alloc, &fault, &left)
     }
 }
 

@@ -1,8 +1,8 @@
 use crate::files::{Piece, file_of};
 use crate::span::span_over;
-use crate::told::{Stopped, Told, all_are_told, stops_are_told};
-use mdf_head::{Head, HeadFault, History, ident, read_head, read_head_in};
-use mdf_num::{Halt, Memory, Rows, Span, Stop};
+use crate::told::{Stopped, Told, all_are_told, both_shown, shown, stops_are_told, three_shown};
+use mdf_head::{ident, read_head, read_head_in};
+use mdf_num::{Memory, Span, Stop};
 use std::alloc::Global;
 
 // The body of a header, and that of an entry of the history.
@@ -65,14 +65,6 @@ const TOLD: &[(Headed, &str)] = &[
     ),
 ];
 
-fn line(
-    alloc: Global,
-    answer: &Result<(Head, Rows<History>), HeadFault>,
-    left: u64,
-) -> Result<String, Memory> {
-    Ok(format!(in alloc; "{answer:?} {left}")?)
-}
-
 /// The blocks of a file, and the bytes that texts may have.
 struct Headed(&'static [Piece], u64);
 
@@ -81,22 +73,13 @@ impl Told for Headed {
         let file = file_of(alloc, 352, self.0)?;
         let mut left = self.1;
         let answer = read_head(alloc, file.as_slice(), &mut left);
-        line(alloc, &answer, left)
+        both_shown(alloc, &answer, &left)
     }
 }
 
 #[test]
 fn headers_are_told(rt: HostRuntime) -> Result<(), Memory> {
     all_are_told(&rt, TOLD)
-}
-
-fn line_over(
-    alloc: Global,
-    answer: &Result<(Head, Rows<History>), Halt<HeadFault>>,
-    left: u64,
-    faults: u64,
-) -> Result<String, Memory> {
-    Ok(format!(in alloc; "{answer:?} {left} {faults}")?)
 }
 
 /// The reader of the head and its history.
@@ -109,7 +92,7 @@ impl Stopped for HeadReader {
         let mut span = span_over(file.as_slice(), calls, stop);
         let mut left = 100;
         let answer = read_head_in(alloc, &mut span, &mut left);
-        line_over(alloc, &answer, left, span.faults())
+        three_shown(alloc, &answer, &left, &span.faults())
     }
 }
 
@@ -164,8 +147,7 @@ struct Named(&'static [u8; 8], u16, usize);
 impl Told for Named {
     fn told(&self, alloc: Global) -> Result<String, Memory> {
         let bytes = first(self.0, self.1);
-        let answer = ident(&bytes[..bytes.len().min(self.2)]);
-        Ok(format!(in alloc; "{answer:?}")?)
+        shown(alloc, &ident(&bytes[..bytes.len().min(self.2)]))
     }
 }
 

@@ -1,5 +1,5 @@
-use crate::files::{Piece, file_of, put, put_number};
-use crate::told::{Told, all_are_told};
+use crate::files::{Piece, file_of, put, put_numbers};
+use crate::told::{Told, all_are_told, shown};
 use mdf_model::Measurement;
 use mdf_num::{Bytes, Memory, Rows};
 use mdf_valid::read_file;
@@ -135,9 +135,7 @@ fn parts_told(alloc: Global, m: &Measurement) -> Result<String, Memory> {
 pub(crate) fn changed(alloc: Global, changes: &[(usize, u64)]) -> Result<Vec<u8>, Memory> {
     let mut file = file_of(alloc, 1048, &FILE)?;
     put(file.as_mut_slice(), 0, &IDENT);
-    for (at, number) in changes {
-        put_number(file.as_mut_slice(), *at, *number);
-    }
+    put_numbers(file.as_mut_slice(), changes);
     Ok(file)
 }
 
@@ -149,7 +147,7 @@ impl Told for FileWith {
         let file = changed(alloc, self.0)?;
         match read_file(alloc, file.as_slice()) {
             Ok(m) => parts_told(alloc, &m),
-            Err(fault) => Ok(format!(in alloc; "{fault:?}")?),
+            Err(fault) => shown(alloc, &fault),
         }
     }
 }
@@ -185,8 +183,7 @@ fn sample_told(alloc: Global, m: &Measurement, group: u32, i: u64) -> Result<Str
         return Ok(format!(in alloc; "no sample")?);
     }
     let entries = m.sample(alloc, group, i)?;
-    let entries = entries.as_slice();
-    Ok(format!(in alloc; "{entries:?}")?)
+    shown(alloc, &entries.as_slice())
 }
 
 /// A group, and a sample of it.
@@ -197,7 +194,7 @@ impl Told for SampleOf {
         let file = changed(alloc, &[])?;
         match read_file(alloc, file.as_slice()) {
             Ok(m) => sample_told(alloc, &m, self.0, self.1),
-            Err(fault) => Ok(format!(in alloc; "{fault:?}")?),
+            Err(fault) => shown(alloc, &fault),
         }
     }
 }
@@ -233,7 +230,7 @@ impl Told for WithoutRecords {
         let file = changed(alloc, &[])?;
         match read_file(alloc, file.as_slice()) {
             Ok(m) => emptied(alloc, m, self.0),
-            Err(fault) => Ok(format!(in alloc; "{fault:?}")?),
+            Err(fault) => shown(alloc, &fault),
         }
     }
 }

@@ -2,7 +2,7 @@ ghost use Rattle.std.specs.Prelude.{◌≡◌, [], ◌∷◌, IfOk};
 ghost use Rattle.mdf_group.specs.Recordable.{AreRecordable};
 ghost use Rattle.mdf_read_tests.specs.Recorded.{master, group};
 
-use crate::files::{Piece, file_of, put};
+use crate::files::{Piece, marked_file};
 use mdf_block::Note;
 use mdf_group::{ChannelRow, GroupRow};
 use mdf_num::{Bytes, Memory, Rows};
@@ -63,13 +63,6 @@ const CHANNEL_NAME: Piece = (736, b"##TX", &[], b"t\0\0\0\0\0\0\0");
 
 /// The blocks of the head of a recording of one group of one master.
 pub(crate) const BLOCKS: &[Piece] = &[HD, FH, MD, DG, CG, GROUP_NAME, CN, CHANNEL_NAME];
-
-// The bytes of the head, worked out from the tables of the blocks.
-fn expected(alloc: Global) -> Result<Vec<u8>, Memory> {
-    let mut file = file_of(alloc, 768, BLOCKS)?;
-    put(file.as_mut_slice(), 0, &IDENT);
-    Ok(file)
-}
 
 fn text(alloc: Global, bytes: &[u8]) -> Result<Note, Memory>
     ensures { IfOk result (λ note. note ≡ Note.Plain bytes.now) }
@@ -132,10 +125,11 @@ fn recordable(alloc: Global) -> Result<Rows<GroupRow>, Memory>
     groups(alloc)
 }
 
+// Whether the head is the one of the tables of the blocks.
 fn is_expected(alloc: Global) -> Result<bool, Memory> {
     let rows = recordable(alloc)?;
     let head = recording_head(alloc, 0x0807_0605_0403_0201, &rows)?;
-    let want = expected(alloc)?;
+    let want = marked_file(alloc, 768, &IDENT, &[BLOCKS])?;
     Ok(head.as_slice() == want.as_slice())
 }
 

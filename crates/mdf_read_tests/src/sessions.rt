@@ -1,7 +1,7 @@
-use crate::files::{Piece, file_of, put, put_block};
+use crate::files::{Piece, marked_file};
 use crate::finalized::{IDENT as FINALIZED, VARIABLE};
 use crate::recorded::{BLOCKS, FH, IDENT, MD};
-use crate::told::{Told, all_are_told};
+use crate::told::{Told, all_are_told, shown};
 use mdf_num::{Bytes, Memory};
 use mdf_session::{Session, read_session, session_of};
 use std::alloc::Global;
@@ -81,12 +81,7 @@ struct Recorded(&'static [u8; 64], &'static [Piece], &'static [Piece], usize);
 // The bytes of the file.
 fn bytes_of(alloc: Global, row: &Recorded) -> Result<Vec<u8>, Memory> {
     let Recorded(ident, head, blocks, size) = *row;
-    let mut file = file_of(alloc, size, head)?;
-    put(file.as_mut_slice(), 0, ident);
-    for block in blocks {
-        put_block(file.as_mut_slice(), block);
-    }
-    Ok(file)
+    marked_file(alloc, size, ident, &[head, blocks])
 }
 
 impl Told for Recorded {
@@ -94,7 +89,7 @@ impl Told for Recorded {
         let file = bytes_of(alloc, self)?;
         match read_session(alloc, file.as_slice()) {
             Ok(session) => parts_told(alloc, &session),
-            Err(fault) => Ok(format!(in alloc; "{fault:?}")?),
+            Err(fault) => shown(alloc, &fault),
         }
     }
 }
@@ -118,7 +113,7 @@ impl Told for Taken {
         let file = bytes_of(alloc, &self.0)?;
         match session_of(alloc, Bytes::from_vec(file)) {
             Ok(session) => parts_told(alloc, &session),
-            Err(fault) => Ok(format!(in alloc; "{fault:?}")?),
+            Err(fault) => shown(alloc, &fault),
         }
     }
 }

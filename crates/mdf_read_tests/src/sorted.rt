@@ -1,4 +1,4 @@
-use crate::files::{Piece, file_of, put, put_block};
+use crate::files::{Piece, marked_file};
 use crate::finalized::{
     COUNTED, FINALIZED, FRONT, IDENT, MASTER, RECORDED, START, STARTED, TIME, finalized,
 };
@@ -91,18 +91,6 @@ const FILES: [Row; 2] = [
     ),
 ];
 
-// A file of these blocks, with the identification of a finalized one.
-fn made(alloc: Global, size: usize, tables: &[&[Piece]]) -> Result<Vec<u8>, Memory> {
-    let mut file = file_of(alloc, size, &[])?;
-    put(file.as_mut_slice(), 0, IDENT);
-    for pieces in tables {
-        for piece in *pieces {
-            put_block(file.as_mut_slice(), piece);
-        }
-    }
-    Ok(file)
-}
-
 // The sorted file of it.
 fn spelled(alloc: Global, measurement: &Measurement, done: Done) -> Result<Bytes, Memory> {
     let now = 0x1112_1314_1516_1718;
@@ -121,7 +109,7 @@ fn is_sorted(
     size: usize,
     pieces: &[Piece],
 ) -> Result<bool, Memory> {
-    let want = made(alloc, size, &[pieces])?;
+    let want = marked_file(alloc, size, IDENT, &[pieces])?;
     let Ok(measurement) = read_measurement(alloc, file) else {
         return Ok(false);
     };
@@ -131,7 +119,7 @@ fn is_sorted(
 #[test]
 fn measurements_are_sorted(rt: HostRuntime) -> Result<(), Memory> {
     for (size, tables, done, long, pieces) in &FILES {
-        let file = made(rt.alloc(), *size, *tables)?;
+        let file = marked_file(rt.alloc(), *size, IDENT, *tables)?;
         assert!(rt; is_sorted(rt.alloc(), file.as_slice(), *done, *long, *pieces)?);
     }
     Ok(())

@@ -2,6 +2,7 @@
 
 use mdf_num::{Memory, Stop};
 use std::alloc::Global;
+use std::fmt::Debug;
 use std::process::Abort;
 
 /// A row of a table, which tells as text what comes of it.
@@ -15,14 +16,48 @@ pub(crate) trait Stopped {
     fn told(&self, alloc: Global, calls: u64, stop: Stop) -> Result<String, Memory>;
 }
 
+/// A value as text.
+pub(crate) fn shown<A: Debug>(alloc: Global, value: &A) -> Result<String, Memory> {
+    Ok(format!(in alloc; "{value:?}")?)
+}
+
+/// Two values as text.
+pub(crate) fn both_shown<A: Debug, B: Debug>(
+    alloc: Global,
+    first: &A,
+    second: &B,
+) -> Result<String, Memory> {
+    Ok(format!(in alloc; "{first:?} {second:?}")?)
+}
+
+/// Three values as text.
+pub(crate) fn three_shown<A: Debug, B: Debug, C: Debug>(
+    alloc: Global,
+    first: &A,
+    second: &B,
+    third: &C,
+) -> Result<String, Memory> {
+    Ok(format!(in alloc; "{first:?} {second:?} {third:?}")?)
+}
+
+fn text_is<R: Abort>(rt: &R, told: &str, want: &str) {
+    assert_eq!(rt; told, want);
+}
+
 /// Asserts that this is told.
 pub(crate) fn is_told<R: Abort>(
     rt: &R,
     told: Result<String, Memory>,
     want: &str,
 ) -> Result<(), Memory> {
-    assert_eq!(rt; told?.as_str(), want);
+    let told = told?;
+    text_is(rt, told.as_str(), want);
     Ok(())
+}
+
+// Asserts that a row tells this text.
+fn row_is_told<R: Abort>(rt: &R, i: usize, told: &str, want: &str) {
+    assert_eq!(rt; told, want, "row {i}");
 }
 
 /// Asserts of each row that it tells the text beside it.
@@ -32,7 +67,7 @@ where
 {
     for (i, (row, want)) in rows.iter().enumerate() {
         let told = row.told(rt.alloc())?;
-        assert_eq!(rt; told.as_str(), *want, "row {i}");
+        row_is_told(rt, i, told.as_str(), *want);
     }
     Ok(())
 }

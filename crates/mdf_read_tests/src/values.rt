@@ -1,4 +1,4 @@
-use crate::told::{Told, all_are_told, is_told};
+use crate::told::{Told, all_are_told, is_told, shown, three_shown};
 use mdf_num::{Bytes, Memory};
 use mdf_vlsd::{Streams, ValueStream};
 use std::alloc::Global;
@@ -28,7 +28,7 @@ fn offsets_told(alloc: Global, stream: &ValueStream, offsets: [u64; 3]) -> Resul
         stream.value_at(offsets[1]),
         stream.value_at(offsets[2]),
     ];
-    Ok(format!(in alloc; "{offsets:?} {:?} {values:?}", stream.bytes())?)
+    three_shown(alloc, &offsets, &stream.bytes(), &values)
 }
 
 #[test]
@@ -46,7 +46,7 @@ struct Offset(&'static [u8], u64);
 impl Told for Offset {
     fn told(&self, alloc: Global) -> Result<String, Memory> {
         let stream = ValueStream::from_bytes(Bytes::from_slice(alloc, self.0)?);
-        Ok(format!(in alloc; "{:?}", stream.value_at(self.1))?)
+        shown(alloc, &stream.value_at(self.1))
     }
 }
 

@@ -1,5 +1,5 @@
 //! Every fault and every stop: each test goes up to the first call that a run does not make.
-ghost use Rattle.std.specs.Prelude.{◌≡◌, None};
+ghost use Rattle.std.specs.Prelude.{◌≡◌, None, IfOk};
 
 use crate::cuts::CUT;
 use crate::finalizing::{FINALIZE, SORT, finalized};
@@ -11,6 +11,7 @@ use crate::told::is_status;
 use book_owned::Marks;
 use mdf_disk::{Disk, Fuse, MemoryDisk};
 use mdf_num::Bytes;
+use std::alloc::Global;
 use std::process::Abort;
 use std::sync::Wait;
 use std::test::Fail;
@@ -237,15 +238,23 @@ where
     Ok(file)
 }
 
+/// A disk with this file that fails at these calls.
+fn disk_of(alloc: Global, file: &Bytes, faults: &[u64]) -> Result<MemoryDisk, Fail>
+    ensures { IfOk result (λ disk. ⟦<MemoryDisk as Disk>⟧.asked disk ≡ None) }
+{
+    let calls = numbers(alloc, faults)?;
+    let mut disk = MemoryDisk::holding(alloc, file.copy()?);
+    disk.fail_at(calls);
+    Ok(disk)
+}
+
 /// The status of a command over a disk with this file that fails at these calls.
 fn status_of<R>(rt: &R, given: Given<'_>, file: &Bytes, faults: &[u64]) -> Result<u8, Fail>
 where
     R: AllocGlobal + Threads + Wait + Sync,
 {
     let alloc = rt.alloc();
-    let calls = numbers(alloc, faults)?;
-    let mut first = MemoryDisk::holding(alloc, file.copy()?);
-    first.fail_at(calls);
+    let first = disk_of(alloc, file, faults)?;
     let ended = ran(rt, given, first, MemoryDisk::new(alloc))?;
     Ok(ended.finished.status)
 }

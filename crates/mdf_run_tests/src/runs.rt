@@ -2,6 +2,7 @@ ghost use Rattle.std.specs.Prelude.{◌≡◌, None, IfOk};
 
 use crate::recordings::{Part, recording};
 use crate::told::is_told;
+use book_owned::Marks;
 use mdf_disk::{Disk, MemoryDisk, Role};
 use mdf_num::{Bytes, Failed, FaultCount, Memory, Numbers, Rows};
 use mdf_port::{MemorySink, MemorySource};
@@ -134,20 +135,23 @@ pub fn line<A, C>(alloc: Global, ended: &Ended<A, C>) -> Result<String, Fail> {
     Ok(format!(in alloc; "{status} {text}")?)
 }
 
+/// How many samples each mark has.
+fn marked(alloc: Global, marks: &Marks) -> Result<Vec<u64>, Fail> {
+    let mut counts = Vec::new(alloc);
+    for mark in marks.rest(0) {
+        counts.push(mark.through)?;
+    }
+    Ok(counts)
+}
+
 /// That line; how many bytes the file that was made has, and how many samples were accepted; and how many samples each
 /// mark has.
 fn record_line<A>(alloc: Global, ended: &Ended<A, MemoryDisk>) -> Result<String, Fail> {
-    let mut line = line(alloc, ended)?;
+    let line = line(alloc, ended)?;
+    let marks = marked(alloc, &ended.finished.marks)?;
     let length = ended.finished.out.bytes().len();
     let accepted = ended.finished.history.len();
-    write!(line, "file {length} history {accepted} marks [")?;
-    let mut between = "";
-    for mark in ended.finished.marks.rest(0) {
-        write!(line, "{between}{}", mark.through)?;
-        between = ", ";
-    }
-    line.push(']')?;
-    Ok(line)
+    Ok(format!(in alloc; "{line}file {length} history {accepted} marks {marks:?}")?)
 }
 
 pub fn told<R, A>(rt: &R, given: Given<'_>, first: A) -> Result<String, Fail>
