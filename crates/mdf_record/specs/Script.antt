@@ -18,11 +18,12 @@ pub record IsTaken (old new : SourceState) : Type 0 where
   pub front : TakesFront old.left new.left
   pub later : old.faults ≤ new.faults
 
--- the source, where it tells its bytes, had this script, and nothing of it is left
+-- the source, where it tells its bytes, had this script; nothing of it is left, and it has not failed meanwhile
 pub record SaysScript (old new : SourceState) (script : Script) : Type 0 where
   pub text : IfSome old.left (λ text. (script_of text ≡ Ok script) × (length text ≤ SCRIPT_LIMIT))
   pub end : IsAtEnd new.left
   pub taken : IsTaken old new
+  pub calm : new.faults ≡ old.faults
 
 -- why a script is refused, by the source before and after
 abbrev pub ScriptFaultCause : SourceState → SourceState → Fault → Type 0
@@ -30,7 +31,7 @@ ScriptFaultCause old new fault.Source = Rose old.faults new.faults
 ScriptFaultCause old new (fault.ScriptOver limit) = (limit ≡ SCRIPT_LIMIT) × IfSome old.left (λ text. limit < length text)
 ScriptFaultCause old new fault.Memory = Unit {0}
 ScriptFaultCause old new (fault.Script number) =
-    IfSome old.left (λ text. (script_of text ≡ Err number) × (length text ≤ SCRIPT_LIMIT)) × IsAtEnd new.left
+    IfSome old.left (λ text. (script_of text ≡ Err number) × (length text ≤ SCRIPT_LIMIT)) × IsAtEnd new.left × (new.faults ≡ old.faults)
 ScriptFaultCause old new _ = ⊥
 
 -- The script is refused only where this holds of the source before and after.
