@@ -1,9 +1,9 @@
 #!/usr/bin/env bash
 # Times `record` of a script of 200,000 samples of one source, and of two of as many samples of four sources, each of which has a
-# thread of its own: in the one the lines of the sources come in runs of 1,000, in the other they alternate. Prints the best times in
-# microseconds and their ratios: four sources are to be no slower than one. Then
-# records the last script once more, and prints how often a source met the turn of another and slept, for each thousand appends;
-# only a flush wakes who sleeps, and how often that was is printed too.
+# thread of its own: in the one the lines of the sources come in runs of 1,000, in the other they alternate. The three are run in turn,
+# with the settings of the C library that ./mdf4rec makes. Prints of each the best time and the median in microseconds, and the ratio of the medians: four
+# sources are to be no slower than one. Then records the last script once more, and prints how often a source met the turn of another and
+# slept, for each thousand appends; only a flush wakes who sleeps, and how often that was is printed too.
 #
 # usage: bench/record/sources.sh [RUNS]
 #
@@ -14,29 +14,24 @@ set -euo pipefail
 
 here="$(cd "$(dirname "$0")" && pwd)"
 top="$(cd "$here/../.." && pwd)"
-runs="${1:-9}"
+runs="${1:-21}"
 mkdir -p "$top/out"
 work="$(mktemp -d "$top/out/bench.XXXXXX")"
 trap 'rm -rf "$work"' EXIT
-. "$here/../cost.sh"
-
-before() { rm -f "$work/made.mf4"; }
 
 "$top/mdf4rec" opened "$top/examples/two_blocks.mf4" > "$work/said" # builds the program where it is stale
 recorder="$top/crates/mdf_cli/out/mdf_cli"
+export GLIBC_TUNABLES=glibc.malloc.hugetlb=1 # as mdf4rec does
 
 python3 "$here/sources.py" 1 > "$work/one.txt"
-one="$(best "$work/one.txt" "$recorder" record "$work/made.mf4")"
-for turn in 1000 1; do
-    python3 "$here/sources.py" 4 "$turn" > "$work/four.txt"
-    four="$(best "$work/four.txt" "$recorder" record "$work/made.mf4")"
-    tail -n 1 "$work/said"
-    awk -v turn="$turn" -v one="$one" -v four="$four" \
-        'BEGIN { printf "runs of %d: one source %d us, four sources %d us, ratio %.2f\n", turn, one, four, four / one }'
-done
+python3 "$here/sources.py" 4 1000 > "$work/runs.txt"
+python3 "$here/sources.py" 4 1 > "$work/four.txt"
+record() { echo "'$recorder' record '$work/made.mf4' < '$work/$1.txt'"; }
+python3 "$here/../paired.py" "$runs" "$work/made.mf4" 'one source' "$(record one)" \
+    'four sources, in runs of 1,000 lines' "$(record runs)" 'four sources, line by line' "$(record four)"
 
 "${CC:-cc}" -O2 -shared -fPIC -o "$work/turns.so" "$here/turns.c" -ldl
-before
+rm "$work/made.mf4"
 TURNS_SAID="$work/turns" LD_PRELOAD="$work/turns.so" "$recorder" record "$work/made.mf4" < "$work/four.txt" > "$work/said"
 read -r sleeps wakes < "$work/turns"
 awk -v sleeps="$sleeps" -v wakes="$wakes" \
