@@ -1,10 +1,7 @@
 -- The program's faults: the status of each, its line, and when it may come.
-use Rattle.std.specs.Prelude.{ℕ, ◌≡◌, ◌<◌, ◌≤◌, List, [], ◌∷◌, length, codes, Option, Some, None, IfSome}
+use Rattle.std.specs.Prelude.{ℕ, List, [], ◌∷◌, codes, Option, Some, None}
 use Rattle.std.specs.Fmt.{decimal}
-use Rattle.mdf_format.specs.Cause.{Rose}
 use Rattle.mdf_format.specs.Block.{name_of}
-use Rattle.mdf_gate.specs.Recording.{HasNoOpened}
-use Rattle.mdf_gate.specs.Fault.{HasFault}
 use Rattle.mdf_gate.specs.declared.answer.GateFault.{GateFault}
 use Rattle.mdf_gate.specs.declared.answer.GateFault.TheVariants as gates
 use Rattle.mdf_block.specs.declared.what.What.{What}
@@ -12,7 +9,6 @@ use Rattle.mdf_block.specs.declared.what.What.TheVariants.{Fh, Dg, Cg, Cn, Cc, T
 use Rattle.mdf_block.specs.Refusal as refusals
 use Rattle.mdf_block.specs.Refusal.{Refusal}
 use Rattle.mdf_content.specs.Fault.{read_refusal}
-use Rattle.mdf_disk.specs.State.{DiskState}
 use Rattle.mdf_disk.specs.declared.load.LoadFault.{LoadFault}
 use Rattle.mdf_disk.specs.declared.load.LoadFault.TheVariants as load
 use Rattle.mdf_port.specs.declared.source.TakeFault.{TakeFault}
@@ -114,16 +110,6 @@ fault_line (Wide group channel) = texts_line (codes "wide group ") group (codes 
 -- how many bytes an input file has at most
 abbrev pub INPUT_LIMIT : ℕ
 INPUT_LIMIT = 536870912
-
--- The fault comes only where this holds of the disk of the input before and after.
-abbrev pub InputFaultComes : DiskState → DiskState → Fault → Type 0
-InputFaultComes old new (Gate fault) =
-    IfSome old.content (λ file. HasFault file fault × HasNoOpened file × (length file ≤ INPUT_LIMIT))
-InputFaultComes old new Device = Rose old.faults new.faults
-InputFaultComes old new (InputOver size limit) =
-    (limit ≡ INPUT_LIMIT) × (limit < size) × IfSome old.content (λ file. size ≡ length file)
-InputFaultComes old new Memory = Unit {0}
-InputFaultComes old new _ = ⊥
 
 -- the fault of a file that could not be read whole
 abbrev pub fault_of_load : LoadFault → Fault

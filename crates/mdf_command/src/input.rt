@@ -1,4 +1,4 @@
-ghost use Rattle.std.specs.Prelude.{◌≡◌, ◌⊎◌, Some, None};
+ghost use Rattle.std.specs.Prelude.{◌≡◌, ◌⊎◌, Some, None, true, IsOk};
 ghost use Rattle.mdf_disk.specs.State.{state_of};
 ghost use Rattle.mdf_disk.specs.declared.role.Role.TheVariants.{Read};
 ghost use Rattle.mdf_command.specs.Load.{LoadComes};
@@ -19,6 +19,7 @@ const INPUT_LIMIT: u64 = 536_870_912;
 pub fn load<A: Disk>(alloc: Global, input: &Bytes, first: &mut A) -> Result<Bytes, Fault>
     requires { A.asked first.old ≡ None }
     ensures comes { LoadComes (state_of A.Disk first.old) (state_of A.Disk first.new) result }
+    ensures attached { IsOk result → A.attached first.new ≡ true }
     ensures asked { (A.asked first.new ≡ None) ⊎ (A.asked first.new ≡ Some (input.now, Read)) }
     ensures content { A.content first.new ≡ A.content first.old }
     ensures untouched { A.asked first.new ≡ None → first.new ≡ first.old }

@@ -4,20 +4,31 @@ use Rattle.std.specs.Fmt.{decimal}
 use Rattle.mdf_disk.specs.State.{DiskState}
 use Rattle.mdf_port.specs.State.{SinkState}
 use Rattle.mdf_gate.specs.Opened.{IsCountOf}
+use Rattle.mdf_gate.specs.Recording.{HasNoOpened}
+use Rattle.mdf_gate.specs.Fault.{HasFault}
 use Rattle.mdf_gate.specs.declared.answer.Opened.{Opened}
 use Rattle.mdf_command.specs.Texts.{line, Prints}
-use Rattle.mdf_command.specs.Faults.{INPUT_LIMIT, InputFaultComes, fault_line, fault_status}
+use Rattle.mdf_command.specs.Faults.{INPUT_LIMIT, fault_line, fault_status}
+use Rattle.mdf_command.specs.Load.{LoadFaultComes}
 use Rattle.mdf_command.specs.declared.fault.Fault.{Fault}
+use Rattle.mdf_command.specs.declared.fault.Fault.TheVariants as fault
 
 -- the line with the number of the opened blocks and of their bytes
 abbrev pub opened_line : Opened → List ℕ
 opened_line count = line (codes "blocks " ∷ decimal count.blocks ∷ codes " bytes " ∷ decimal count.bytes ∷ [])
 
+-- The blocks were not counted only where this holds of the disk of the input before and after: the file is refused, or could
+-- not be loaded.
+abbrev pub OpenedFaultComes : DiskState → DiskState → Fault → Type 0
+OpenedFaultComes old new (fault.Gate refused) =
+    IfSome old.content (λ file. HasFault file refused × HasNoOpened file × (length file ≤ INPUT_LIMIT))
+OpenedFaultComes old new problem = LoadFaultComes old new problem
+
 -- The command ends with this count or this fault only where the file, if its disk tells it, has that count or that
 -- fault, or the disk's count of faults says that it failed.
 abbrev pub OpenedComes : DiskState → DiskState → Result Opened Fault → Type 0
 OpenedComes old new (Ok count) = IfSome old.content (λ file. IsCountOf file count × (length file ≤ INPUT_LIMIT))
-OpenedComes old new (Err fault) = InputFaultComes old new fault
+OpenedComes old new (Err problem) = OpenedFaultComes old new problem
 
 abbrev pub opened_text : Result Opened Fault → List ℕ
 opened_text (Ok count) = opened_line count

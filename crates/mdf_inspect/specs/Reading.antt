@@ -1,6 +1,5 @@
 -- What the commands `check IN` and `info IN` read of a file.
-use Rattle.std.specs.Prelude.{ℕ, ◌≡◌, ◌<◌, ◌≤◌, ◌↔◌, List, length, IsTrue, IfSome, Result, Ok, Err}
-use Rattle.mdf_format.specs.Cause.{Rose}
+use Rattle.std.specs.Prelude.{ℕ, ◌≡◌, ◌≤◌, ◌↔◌, List, length, IsTrue, IfSome, Result, Ok, Err}
 use Rattle.mdf_block.specs.Refusal.{Read, ◌>>=◌, Fails}
 use Rattle.mdf_head.specs.Ident.{identify}
 use Rattle.mdf_content.specs.declared.fault.ReadFault.{ReadFault}
@@ -12,6 +11,7 @@ use Rattle.mdf_disk.specs.State.{DiskState}
 use Rattle.mdf_port.specs.State.{SinkState}
 use Rattle.mdf_command.specs.Texts.{Prints}
 use Rattle.mdf_command.specs.Faults.{INPUT_LIMIT, fault_line, fault_status}
+use Rattle.mdf_command.specs.Load.{LoadFaultComes}
 use Rattle.mdf_command.specs.declared.fault.Fault.{Fault}
 use Rattle.mdf_command.specs.declared.fault.Fault.TheVariants as fault
 use Rattle.mdf_inspect.specs.declared.reading.Reading.{Reading}
@@ -30,14 +30,11 @@ pub record IsRefused (refused : ReadFault) (file : List ℕ) : Type 0 where
   pub holds : IfSome (read_refusal refused) (IsTrueOfFile file)
   pub short : length file ≤ INPUT_LIMIT
 
--- The file could not be read only where this holds of the disk of the input before and after.
+-- The file could not be read only where this holds of the disk of the input before and after: the file is refused, or could
+-- not be loaded.
 abbrev pub ReadingFaultComes : DiskState → DiskState → Fault → Type 0
-ReadingFaultComes old new fault.Device = Rose old.faults new.faults
-ReadingFaultComes old new (fault.InputOver size limit) =
-    (limit ≡ INPUT_LIMIT) × (limit < size) × IfSome old.content (λ file. size ≡ length file)
-ReadingFaultComes old new fault.Memory = Unit {0}
 ReadingFaultComes old new (fault.Read refused) = IfSome old.content (IsRefused refused)
-ReadingFaultComes old new _ = ⊥
+ReadingFaultComes old new problem = LoadFaultComes old new problem
 
 -- What is read of a file is its measurement, and it is strict exactly where the file is valid.
 pub record IsReading (found : Reading) (file : List ℕ) : Type 0 where

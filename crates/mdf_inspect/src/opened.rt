@@ -8,15 +8,12 @@ ghost use Rattle.mdf_command.specs.Texts.{Gives};
 ghost use Rattle.mdf_inspect.specs.Opened.{OpenedComes, EndsOpened, opened_text, opened_status};
 
 use mdf_command::Piece::{Number, Text};
-use mdf_command::{Fault, give_line, status_after};
-use mdf_disk::{Disk, Role, read_whole};
+use mdf_command::{Fault, give_line, load, status_after};
+use mdf_disk::Disk;
 use mdf_gate::{Opened, opened};
 use mdf_num::{Bytes, Failed};
 use mdf_port::Sink;
 use std::alloc::Global;
-
-/// How many bytes an input file has at most.
-const INPUT_LIMIT: u64 = 536_870_912;
 
 /// Counts the opened blocks of the file of this name.
 fn count<A: Disk>(alloc: Global, input: &Bytes, first: &mut A) -> Result<Opened, Fault>
@@ -26,8 +23,7 @@ fn count<A: Disk>(alloc: Global, input: &Bytes, first: &mut A) -> Result<Opened,
     ensures content { A.content first.new ≡ A.content first.old }
     ensures untouched { A.asked first.new ≡ None → first.new ≡ first.old }
 {
-    first.attach(input.copy()?, Role::Read)?;
-    let bytes = read_whole(alloc, first, INPUT_LIMIT)?;
+    let bytes = load(alloc, input, first)?;
     Ok(opened(bytes.as_slice())?)
 }
 

@@ -7,17 +7,14 @@ ghost use Rattle.mdf_disk.specs.State.{state_of};
 ghost use Rattle.mdf_disk.specs.declared.role.Role.TheVariants.{Read};
 ghost use Rattle.mdf_inspect.specs.Reading.{ReadingComes, reading, reading_status};
 
-use mdf_command::Fault;
+use mdf_command::{Fault, load};
 use mdf_content::ReadFault;
-use mdf_disk::{Disk, Role, read_whole};
+use mdf_disk::Disk;
 use mdf_head::{Ident, IdentFault, ident};
 use mdf_model::Measurement;
 use mdf_num::Bytes;
 use mdf_valid::read_file;
 use std::alloc::Global;
-
-/// How many bytes an input file has at most.
-const INPUT_LIMIT: u64 = 536_870_912;
 
 /// What is read of a finalized file.
 #[derive(Drop)]
@@ -61,8 +58,7 @@ pub fn read_input<A: Disk>(alloc: Global, input: &Bytes, first: &mut A) -> Resul
     ensures content { A.content first.new ≡ A.content first.old }
     ensures untouched { A.asked first.new ≡ None → first.new ≡ first.old }
 {
-    first.attach(input.copy()?, Role::Read)?;
-    let bytes = read_whole(alloc, first, INPUT_LIMIT)?;
+    let bytes = load(alloc, input, first)?;
     Ok(reading_of(alloc, bytes.as_slice())?)
 }
 

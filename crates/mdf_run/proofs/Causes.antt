@@ -10,11 +10,11 @@ use Rattle.mdf_content.specs.Fault.{read_refusal}
 use Rattle.mdf_gate.specs.declared.answer.Opened.{Opened}
 use Rattle.mdf_tool.specs.declared.made.Report.{Report}
 use Rattle.mdf_command.specs.Texts.{Prints, unwritten_status}
-use Rattle.mdf_command.specs.Faults.{InputFaultComes, fault_line, fault_status, refused_status}
+use Rattle.mdf_command.specs.Faults.{fault_line, fault_status, refused_status}
 use Rattle.mdf_command.specs.declared.fault.Fault.{Fault}
 use Rattle.mdf_command.specs.declared.fault.Fault.TheVariants as fault
 use Rattle.mdf_make.specs.Making.{EndsMaking, Inputs, MakingComes, making_status, making_text}
-use Rattle.mdf_inspect.specs.Opened.{EndsOpened, OpenedComes, opened_status, opened_text}
+use Rattle.mdf_inspect.specs.Opened.{EndsOpened, OpenedComes, OpenedFaultComes, opened_status, opened_text}
 use Rattle.mdf_inspect.specs.Reading.{EndsReading, ReadingComes, ReadingFaultComes, answer_text, reading_status}
 use Rattle.mdf_inspect.specs.Export.{EndsExport, PrintsEnd, TableComes, TableFaultComes}
 use Rattle.mdf_inspect.specs.declared.reading.Reading.{Reading}
@@ -96,8 +96,8 @@ module _ (disk disk' : DiskState) (sink sink' : SinkState) (status : ℕ) where
   opened_coded : (end : Result Opened Fault) → OpenedComes disk disk' end → Coded ⊥ (Rose disk.faults disk'.faults) (opened_status end)
   opened_coded (Ok count) comes = done ⊥ (Rose disk.faults disk'.faults)
   opened_coded (Err problem) comes =
-      fault_coded ⊥ (Rose disk.faults disk'.faults) problem (λ is. subst (λ p. InputFaultComes disk disk' p) is comes)
-      (λ is. subst (λ p. InputFaultComes disk disk' p) is comes)
+      fault_coded ⊥ (Rose disk.faults disk'.faults) problem (λ is. subst (λ p. OpenedFaultComes disk disk' p) is comes)
+      (λ is. subst (λ p. OpenedFaultComes disk disk' p) is comes)
 
   pub opened_caused : EndsOpened disk disk' sink sink' status → IsCaused ⊥ (Rose disk.faults disk'.faults) (Rose sink.faults sink'.faults) status
   opened_caused ends =
