@@ -1,13 +1,12 @@
 //! Files that are cut to each length, and files whose blocks lead back to themselves or reach too far.
 
-use crate::finalizing::{FINALIZE, SORT, finalized};
+use crate::finalizing::{FINALIZE, SORT, finalized, made_of};
 use crate::foreign::engine_and_gearbox;
 use crate::recordings::{Part, put, recording};
-use crate::runs::{COUNTING, Given, failing_disk, made, recorded, told};
+use crate::runs::{COUNTING, Given, recorded, told};
 use crate::told::is_told;
 use mdf_disk::MemoryDisk;
 use mdf_num::Bytes;
-use std::alloc::Global;
 use std::process::Abort;
 use std::sync::Wait;
 use std::test::Fail;
@@ -143,10 +142,8 @@ fn sorted<R>(rt: &R, file: &Bytes) -> Result<Bytes, Fail>
 where
     R: AllocGlobal + Threads + Wait + Sync,
 {
-    let alloc = rt.alloc();
-    let first = MemoryDisk::holding(alloc, file.copy()?);
-    let (_, made) = made(rt, SORT, first, failing_disk(alloc, &[])?)?;
-    Ok(made)
+    let (_, sorted) = made_of(rt, SORT, file.copy()?, &[])?;
+    Ok(sorted)
 }
 
 /// What these commands say of the finished file and of the sorted one, cut to each length.

@@ -2,15 +2,14 @@
 ghost use Rattle.std.specs.Prelude.{◌≡◌, None, IfOk};
 
 use crate::cuts::CUT;
-use crate::finalizing::{FINALIZE, SORT, finalized};
+use crate::finalizing::{FINALIZE, SORT, finalized, made_of};
 use crate::joined::CONCAT;
-use crate::runs::{
-    COUNTING, Ended, Given, failing_disk, line, made, numbers, ran, record, recorded, told,
-};
+use crate::runs::{COUNTING, Given, failing_disk, left_by, numbers, ran, record, recorded};
 use crate::told::is_status;
 use book_owned::Marks;
 use mdf_disk::{Disk, Fuse, MemoryDisk};
 use mdf_num::Bytes;
+use mdf_run::Finished;
 use std::alloc::Global;
 use std::process::Abort;
 use std::sync::Wait;
@@ -82,21 +81,43 @@ where
     Ok(())
 }
 
-/// The status of a recording over a disk that fails at this call, all of whose images hold.
-fn status_failing_at<R>(rt: &R, call: u64) -> Result<u8, Fail>
+/// The status of a run over a disk that so many calls reach at most, all of whose images hold.
+fn status_where_images_hold<R, A>(
+    rt: &R,
+    finished: &Finished<A, Fuse<MemoryDisk>>,
+    most: u64,
+) -> Result<u8, Fail>
 where
     R: AllocGlobal + Threads + Wait + Sync + Abort,
 {
-    let out = failing_disk(rt.alloc(), &[call])?;
+    let disk = finished.out.disk();
+    assert!(rt; disk.calls() <= most);
+    images_hold(rt, disk, &finished.marks, finished.history.len())?;
+    Ok(finished.status)
+}
+
+/// The status of a recording over this disk, which so many calls reach at most. All of its images hold.
+fn status_over<R>(rt: &R, out: Fuse<MemoryDisk>, most: u64) -> Result<u8, Fail>
+where
+    R: AllocGlobal + Threads + Wait + Sync + Abort,
+    requires { ⟦<Fuse<MemoryDisk> as Disk>⟧.asked out ≡ None }
+{
     let ended = ran(
         rt,
         record(COUNTING, &[], &[]),
         MemoryDisk::new(rt.alloc()),
         out,
     )?;
-    let finished = &ended.finished;
-    images_hold(rt, &finished.out, &finished.marks, finished.history.len())?;
-    Ok(finished.status)
+    status_where_images_hold(rt, &ended.finished, most)
+}
+
+/// The status of a recording over a disk that fails at this call.
+fn status_failing_at<R>(rt: &R, call: u64) -> Result<u8, Fail>
+where
+    R: AllocGlobal + Threads + Wait + Sync + Abort,
+{
+    let disk = failing_disk(rt.alloc(), &[call])?;
+    status_over(rt, Fuse::new(disk, u64::MAX), u64::MAX)
 }
 
 #[test]
@@ -107,19 +128,13 @@ fn a_recording_stands_a_fault_of_each_call_of_its_disk(rt: HostRuntime) -> Resul
     is_status(&rt, status_failing_at(&rt, CALLS), 0)
 }
 
-/// The status of a recording that is stopped after so many calls of its disk, which are all that reach it. Its images hold.
+/// The status of a recording that is stopped after so many calls of its disk.
 fn status_stopped_after<R>(rt: &R, calls: u64) -> Result<u8, Fail>
 where
     R: AllocGlobal + Threads + Wait + Sync + Abort,
 {
-    let alloc = rt.alloc();
-    let out = Fuse::new(MemoryDisk::new(alloc), calls);
-    let ended = ran(rt, record(COUNTING, &[], &[]), MemoryDisk::new(alloc), out)?;
-    let finished = &ended.finished;
-    let disk = finished.out.disk();
-    assert!(rt; disk.calls() <= calls);
-    images_hold(rt, disk, &finished.marks, finished.history.len())?;
-    Ok(finished.status)
+    let disk = MemoryDisk::new(rt.alloc());
+    status_over(rt, Fuse::new(disk, calls), calls)
 }
 
 #[test]
@@ -152,6 +167,19 @@ where
     Ok(())
 }
 
+/// The status of a run, all of whose images are sealed.
+fn status_where_sealed<R, A>(
+    rt: &R,
+    finished: &Finished<A, MemoryDisk>,
+    whole: &[u8],
+) -> Result<u8, Fail>
+where
+    R: Abort,
+{
+    images_are_sealed(rt, &finished.out, whole)?;
+    Ok(finished.status)
+}
+
 /// The status of a command that makes a file of this one, over a disk that fails at this call. Its images are sealed.
 fn made_status<R>(
     rt: &R,
@@ -163,11 +191,10 @@ fn made_status<R>(
 where
     R: AllocGlobal + Threads + Wait + Sync + Abort,
 {
+    let file = input.copy()?;
     let out = failing_disk(rt.alloc(), &[call])?;
-    let first = MemoryDisk::holding(rt.alloc(), input.copy()?);
-    let ended = ran(rt, given, first, out)?;
-    images_are_sealed(rt, &ended.finished.out, whole)?;
-    Ok(ended.finished.status)
+    let ended = ran(rt, given, MemoryDisk::holding(rt.alloc(), file), out)?;
+    status_where_sealed(rt, &ended.finished, whole)
 }
 
 // The commands that make a file of a file, and whether that is a finished one; `concat` has it for both of its inputs.
@@ -187,8 +214,7 @@ where
         second: input.as_slice(),
         ..given
     };
-    let first = MemoryDisk::holding(rt.alloc(), input.copy()?);
-    let (_, whole) = made(rt, given, first, failing_disk(rt.alloc(), &[])?)?;
+    let (_, whole) = made_of(rt, given, input.copy()?, &[])?;
     for call in 0u64..7 {
         is_status(rt, made_status(rt, given, input, whole.as_slice(), call), 4)?;
     }
@@ -255,8 +281,8 @@ where
 {
     let alloc = rt.alloc();
     let first = disk_of(alloc, file, faults)?;
-    let ended = ran(rt, given, first, MemoryDisk::new(alloc))?;
-    Ok(ended.finished.status)
+    let left = left_by(rt, given, first, MemoryDisk::new(alloc))?;
+    Ok(left.status)
 }
 
 // An input is attached, its size is asked for, and it is read.

@@ -1,7 +1,10 @@
 //! What the line `live` of a script adds to what is printed of its recording. The file is the same.
 
 use crate::runs::{failing_disk, record, record_told};
+use crate::told::is_told;
+use std::sync::Wait;
 use std::test::Fail;
+use std::thread::Threads;
 
 // A script of three samples with a flush after the second; one of two sources; and one with room for one sample alone, of
 // 145 bytes.
@@ -59,12 +62,18 @@ const LIVE: [(&str, &[u64], &[u64], &str); 7] = [
     ),
 ];
 
+fn told<R>(rt: &R, script: &str, faults: &[u64], failing: &[u64]) -> Result<String, Fail>
+where
+    R: AllocGlobal + Threads + Wait + Sync,
+{
+    let out = failing_disk(rt.alloc(), faults)?;
+    record_told(rt, record(script, &[], failing), out)
+}
+
 #[test]
 fn live_line(rt: HostRuntime) -> Result<(), Fail> {
     for (script, faults, failing, want) in LIVE {
-        let out = failing_disk(rt.alloc(), faults)?;
-        let text = record_told(&rt, record(script, &[], failing), out)?;
-        assert_eq!(rt; text.as_str(), want);
+        is_told(&rt, told(&rt, script, faults, failing), want)?;
     }
     Ok(())
 }

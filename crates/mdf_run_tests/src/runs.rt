@@ -154,21 +154,47 @@ fn record_line<A>(alloc: Global, ended: &Ended<A, MemoryDisk>) -> Result<String,
     Ok(format!(in alloc; "{line}file {length} history {accepted} marks {marks:?}")?)
 }
 
+/// What a run left: its status; that and the printed text; the same with what was recorded; and the bytes of the file that it made.
+#[derive(Drop)]
+pub struct Left {
+    pub status: u8,
+    pub line: String,
+    pub recorded: String,
+    pub file: Bytes,
+}
+
+fn left_of<A>(alloc: Global, ended: &Ended<A, MemoryDisk>) -> Result<Left, Fail> {
+    let line = line(alloc, ended)?;
+    let recorded = record_line(alloc, ended)?;
+    let file = Bytes::from_slice(alloc, ended.finished.out.bytes())?;
+    Ok(Left {
+        status: ended.finished.status,
+        line,
+        recorded,
+        file,
+    })
+}
+
+/// Runs what is given over these disks, and answers what that left.
+pub fn left_by<R, A>(rt: &R, given: Given<'_>, first: A, out: MemoryDisk) -> Result<Left, Fail>
+where
+    R: AllocGlobal + Threads + Wait + Sync,
+    A: Disk + Drop,
+    requires first { A.asked first ≡ None }
+    requires out { ⟦<MemoryDisk as Disk>⟧.asked out ≡ None }
+{
+    let ended = ran(rt, given, first, out)?;
+    left_of(rt.alloc(), &ended)
+}
+
 pub fn told<R, A>(rt: &R, given: Given<'_>, first: A) -> Result<String, Fail>
 where
     R: AllocGlobal + Threads + Wait + Sync,
     A: Disk + Drop,
     requires { A.asked first ≡ None }
 {
-    let alloc = rt.alloc();
-    let ended = ran(rt, given, first, MemoryDisk::new(alloc))?;
-    line(alloc, &ended)
-}
-
-/// That line, and the bytes of the file that was made.
-fn line_and_file<A>(alloc: Global, ended: &Ended<A, MemoryDisk>) -> Result<(String, Bytes), Fail> {
-    let line = line(alloc, ended)?;
-    Ok((line, Bytes::from_slice(alloc, ended.finished.out.bytes())?))
+    let left = left_by(rt, given, first, MemoryDisk::new(rt.alloc()))?;
+    Ok(left.line)
 }
 
 /// What is printed, and the bytes of the file that was made.
@@ -183,9 +209,13 @@ where
     requires first { ⟦<MemoryDisk as Disk>⟧.asked first ≡ None }
     requires out { ⟦<MemoryDisk as Disk>⟧.asked out ≡ None }
 {
-    let alloc = rt.alloc();
-    let ended = ran(rt, given, first, out)?;
-    line_and_file(alloc, &ended)
+    let Left {
+        status: _,
+        line,
+        recorded: _,
+        file,
+    } = left_by(rt, given, first, out)?;
+    Ok((line, file))
 }
 
 /// What a command prints of this file.
@@ -209,9 +239,8 @@ where
     R: AllocGlobal + Threads + Wait + Sync,
     requires { ⟦<MemoryDisk as Disk>⟧.asked out ≡ None }
 {
-    let alloc = rt.alloc();
-    let ended = ran(rt, given, MemoryDisk::new(alloc), out)?;
-    record_line(alloc, &ended)
+    let left = left_by(rt, given, MemoryDisk::new(rt.alloc()), out)?;
+    Ok(left.recorded)
 }
 
 const fn opened(failing: &[u64]) -> Given<'_> {
@@ -589,9 +618,13 @@ where
     R: AllocGlobal + Threads + Wait + Sync,
 {
     let alloc = rt.alloc();
-    let (first, out) = (MemoryDisk::new(alloc), MemoryDisk::new(alloc));
-    let ended = ran(rt, record(script, &[], &[]), first, out)?;
-    Ok(Bytes::from_slice(alloc, ended.finished.out.bytes())?)
+    let (_, file) = made(
+        rt,
+        record(script, &[], &[]),
+        MemoryDisk::new(alloc),
+        MemoryDisk::new(alloc),
+    )?;
+    Ok(file)
 }
 
 // The blocks of the head of that recording and the names in them, its two blocks of data, and the closed place behind

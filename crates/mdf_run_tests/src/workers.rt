@@ -4,10 +4,11 @@ use crate::runs::{TWO_SOURCES, line, ran_under, record, record_told};
 use crate::told::is_told;
 use mdf_disk::MemoryDisk;
 use mdf_run::Gate;
+use std::sync::Wait;
 use std::sync::atomic::AtomicBool;
 use std::sync::atomic::Ordering::SeqCst;
 use std::test::Fail;
-use std::thread::yield_now;
+use std::thread::{Threads, yield_now};
 
 /// How often a source looks whether the other has begun before it goes on all the same.
 const LOOKS: u64 = 2_000_000;
@@ -38,22 +39,36 @@ impl Gate for Meeting {
     }
 }
 
+/// What is printed of a recording of two sources under this gate.
+fn told_under<R>(rt: &R, meeting: &Meeting) -> Result<String, Fail>
+where
+    R: AllocGlobal + Threads + Wait + Sync,
+{
+    let alloc = rt.alloc();
+    let ended = ran_under(
+        rt,
+        record(TWO_SOURCES, &[], &[]),
+        MemoryDisk::new(alloc),
+        MemoryDisk::new(alloc),
+        meeting,
+    )?;
+    line(alloc, &ended)
+}
+
 #[test]
 fn two_sources_record_at_once(rt: HostRuntime) -> Result<(), Fail> {
-    let alloc = rt.alloc();
     let meeting = Meeting {
         first: AtomicBool::new(false),
         second: AtomicBool::new(false),
         in_vain: AtomicBool::new(false),
     };
-    let (first, out) = (MemoryDisk::new(alloc), MemoryDisk::new(alloc));
-    let ended = ran_under(&rt, record(TWO_SOURCES, &[], &[]), first, out, &meeting)?;
-    assert!(rt; !meeting.in_vain.load(SeqCst));
     is_told(
         &rt,
-        line(alloc, &ended),
+        told_under(&rt, &meeting),
         "0 source 0 accepted 2\nsource 1 accepted 2\nsamples 4 durable 4\n",
-    )
+    )?;
+    assert!(rt; !meeting.in_vain.load(SeqCst));
+    Ok(())
 }
 
 // The first source has no room for its third sample, since each costs 145, but the second has room for its one, which costs
