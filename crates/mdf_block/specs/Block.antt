@@ -52,6 +52,16 @@ pub record IsCompressed (file : List ℕ) (at : ℕ) (kind : Kind) : Type 0 wher
   pub on_eight : at % 8 ≡ 0
   pub named : (bytes_at 4 file at ≡ codes "##DZ") ⊎ (bytes_at 4 file at ≡ codes "##HL")
 
+-- the header of a block of the kind begins at the address
+abbrev pub Begins : List ℕ → ℕ → Kind → Type 0
+Begins file at kind = (at % 8 ≡ 0) × ((bytes_at 4 file at ≡ name_of kind) × (at + 24 ≤ length file))
+
+-- the block whose header begins at the address lies inside the file, and has the least links of the kind
+pub record IsLaid (file : List ℕ) (at : ℕ) (kind : Kind) : Type 0 where
+  pub headed : header_size (links_at file at) ≤ size_at file at
+  pub whole : at + size_at file at ≤ length file
+  pub linked : least_links kind ≤ links_at file at
+
 -- the block that stands at the address, if one of the kind does
 abbrev pub the_block : List ℕ → ℕ → Kind → BlockAt
 the_block file at kind = record {

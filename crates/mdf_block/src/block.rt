@@ -1,12 +1,12 @@
-ghost use Rattle.std.specs.Prelude.{◌≡◌, ◌≤◌, ◌↔◌, ℕ, List, [], Some, length, IfOk, IfErr, IfSome, MatchOption, IsTrue};
-ghost use Rattle.mdf_format.specs.Block.{least_body, body_at, body_size, IsBlock};
+ghost use Rattle.std.specs.Prelude.{◌≡◌, ◌+◌, ◌≤◌, ◌↔◌, ℕ, List, [], Some, length, IfOk, IfErr, IfSome, MatchOption, IsTrue};
+ghost use Rattle.mdf_format.specs.Block.{least_links, least_body, body_at, body_size, IsBlock};
 ghost use Rattle.mdf_num.specs.Halt.{StopCause, HaltCause};
 ghost use Rattle.mdf_block.specs.Refusal.{Gives, GivesOf};
-ghost use Rattle.mdf_block.specs.Block.{the_block, block, block_refusal, HasNoBlock, IsAboutData, IsInside, IsFilled};
+ghost use Rattle.mdf_block.specs.Block.{the_block, block, block_refusal, Begins, IsLaid, HasNoBlock, IsAboutData, IsInside, IsFilled};
 
 use crate::field::u16_field;
 use crate::name::{has_name_in, is_compressed_in, least_body, least_links, name_of};
-use crate::word::{body_in, u64_in};
+use crate::word::{body_in, is_there, u64_in};
 use crate::{BlockAt, BlockFault};
 use mdf_format::Kind;
 use mdf_num::{Halt, SliceSpan, Span, Stop};
@@ -35,6 +35,47 @@ fn is_filled_in<P: Span>(span: &mut P, block: &BlockAt) -> Result<bool, Stop>
     }
 }
 
+/// Whether the header of a block of this kind begins at `at`.
+fn begins_in<P: Span>(span: &mut P, at: u64, want: Kind) -> Result<bool, Stop>
+    ensures begins { IfOk result (λ b. (f : List ℕ) → P.bytes span.old ≡ Some f → (IsTrue b ↔ Begins f at want)) }
+    ensures there { IfOk result (λ b. IsTrue b → at + 24 ≤ P.size span.old) }
+    ensures same { P.bytes span.new ≡ P.bytes span.old }
+    ensures size { P.size span.new ≡ P.size span.old }
+    ensures cause { StopCause P.may_want (P.faults span.old) (P.faults span.new) result }
+{
+    if at % 8 != 0 || !is_there(span.len(), at, 24) {
+        return Ok(false);
+    }
+    has_name_in(span, at, &name_of(want))
+}
+
+/// The block whose header begins at `at`, if it lies inside and has the least links of its kind.
+fn laid_in<P: Span>(span: &mut P, at: u64, want: Kind) -> Result<Option<BlockAt>, Stop>
+    requires { at + 24 ≤ P.size span.old }
+    ensures found { IfOk result (λ found. (f : List ℕ) → P.bytes span.old ≡ Some f →
+        MatchOption found (¬ IsLaid f at want) (λ b. IsLaid f at want × (b ≡ the_block f at want))) }
+    ensures inside { IfOk result (λ found. IfSome found (IsInside (P.size span.old))) }
+    ensures kind { IfOk result (λ found. IfSome found (λ b. b.kind ≡ want)) }
+    ensures linked { IfOk result (λ found. IfSome found (λ b. least_links want ≤ b.links)) }
+    ensures same { P.bytes span.new ≡ P.bytes span.old }
+    ensures size { P.size span.new ≡ P.size span.old }
+    ensures cause { StopCause P.may_want (P.faults span.old) (P.faults span.new) result }
+{
+    let room = span.len() - at;
+    let size = u64_in(span, at + 8)?;
+    let links = u64_in(span, at + 16)?;
+    if size < 24 || size > room || links > (size - 24) / 8 || links < least_links(want) {
+        return Ok(None);
+    }
+    Ok(Some(BlockAt {
+        at,
+        kind: want,
+        links,
+        body_at: at + 24 + 8 * links,
+        body_len: size - 24 - 8 * links,
+    }))
+}
+
 /// The block of this kind that stands whole at `at`, if one does.
 pub(crate) fn whole_in<P: Span>(span: &mut P, at: u64, want: Kind) -> Result<Option<BlockAt>, Stop>
     ensures found { IfOk result (λ found. (f : List ℕ) → P.bytes span.old ≡ Some f →
@@ -45,29 +86,19 @@ pub(crate) fn whole_in<P: Span>(span: &mut P, at: u64, want: Kind) -> Result<Opt
     ensures size { P.size span.new ≡ P.size span.old }
     ensures cause { StopCause P.may_want (P.faults span.old) (P.faults span.new) result }
 {
-    let len = span.len();
-    if at % 8 != 0 || at > len || len - at < 24 {
+    if !begins_in(span, at, want)? {
         return Ok(None);
     }
-    if !has_name_in(span, at, &name_of(want))? {
-        return Ok(None);
+    match laid_in(span, at, want)? {
+        Some(block) => {
+            if is_filled_in(span, &block)? {
+                Ok(Some(block))
+            } else {
+                Ok(None)
+            }
+        }
+        None => Ok(None),
     }
-    let size = u64_in(span, at + 8)?;
-    let links = u64_in(span, at + 16)?;
-    if size < 24 || size > len - at || links > (size - 24) / 8 || links < least_links(want) {
-        return Ok(None);
-    }
-    let block = BlockAt {
-        at,
-        kind: want,
-        links,
-        body_at: at + 24 + 8 * links,
-        body_len: size - 24 - 8 * links,
-    };
-    if !is_filled_in(span, &block)? {
-        return Ok(None);
-    }
-    Ok(Some(block))
 }
 
 /// The block of the kind that is wanted at `at`, read through a span.

@@ -67,26 +67,7 @@ channel_row at front links values extra = record {
 
 -- a channel, from its body
 abbrev pub the_channel : ℕ → List ℕ → ChannelLinks → ℕ → ℕ → ChannelRow
-the_channel at body links values extra = record {
-  at = at;
-  kind = slice_index body 0;
-  sync = slice_index body 1;
-  data_type = slice_index body 2;
-  bit = slice_index body 3;
-  byte = le_number (bytes_at 4 body 4);
-  bits = le_number (bytes_at 4 body 8);
-  flags = le_number (bytes_at 4 body 12);
-  inval = le_number (bytes_at 4 body 16);
-  precision = slice_index body 20;
-  ranges = numbers_at body 24 6;
-  name = links.name;
-  source = links.source;
-  conv = links.conv;
-  unit = links.unit;
-  comment = links.comment;
-  values = values;
-  extra = extra;
-}
+the_channel at body links values extra = channel_row at (channel_front body) links values extra
 
 -- the links of a channel that are not followed inside it: the next channel, the address of its values, and how many
 -- name something and are passed over, a composition and those after the eighth

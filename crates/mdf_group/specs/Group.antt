@@ -65,19 +65,7 @@ group_row at front links channels = record {
 
 -- a channel group, from its body
 abbrev pub the_group : ℕ → List ℕ → GroupLinks → List ChannelRow → GroupRow
-the_group at body links channels = record {
-  at = at;
-  id = le_number (bytes_at 8 body 0);
-  cycles = le_number (bytes_at 8 body 8);
-  flags = le_number (bytes_at 2 body 16);
-  separator = le_number (bytes_at 2 body 18);
-  data_bytes = le_number (bytes_at 4 body 24);
-  inval_bytes = le_number (bytes_at 4 body 28);
-  name = links.name;
-  source = links.source;
-  comment = links.comment;
-  channels = channels;
-}
+the_group at body links channels = group_row at (group_front body) links channels
 
 -- what the channel group of a block holds: what its links lead to, and then its channels
 unfoldable pub group_contents : List ℕ → BlockAt → Room → Read (GroupContents × Room)
@@ -86,21 +74,17 @@ group_contents file b left = do
   channels ← channels_from file left.channels (link_at file b.at 1) links.1
   Ok (record { links = links.0; rows = channels.0 }, record { channels = channels.1; budget = channels.2 })
 
--- the channel group at an address with these numbers and contents
-abbrev pub group_finished : ℕ → GroupNumbers → GroupContents → Room → GroupRow × ℕ × Room
-group_finished at numbers contents left = (
+-- the channel group at an address with these numbers and contents; the link to its first sample reduction is passed over
+abbrev pub group_with : ℕ → GroupNumbers → GroupContents → Room → GroupRow × ℕ × Room
+group_with at numbers contents left = (
   group_row at numbers.front contents.links contents.rows,
   numbers.next,
   record { channels = left.channels; budget = with_dropped numbers.reduced left.budget },
 )
 
--- the channel group of a block with these contents; the link to its first sample reduction is passed over
+-- the channel group of a block with these contents
 abbrev pub finished_group : List ℕ → BlockAt → GroupContents → Room → GroupRow × ℕ × Room
-finished_group file b contents left = (
-  the_group b.at (body_of file b) contents.links contents.rows,
-  link_at file b.at 0,
-  record { channels = left.channels; budget = with_dropped (link_count (link_at file b.at 4)) left.budget },
-)
+finished_group file b contents left = group_with b.at (group_numbers file b) contents left
 
 -- a channel group at an address: its block, and then what it holds
 unfoldable pub group : List ℕ → Step GroupRow Room

@@ -4,7 +4,7 @@ ghost use Rattle.mdf_num.specs.Halt.{StopCause, HaltCause};
 ghost use Rattle.mdf_block.specs.Refusal.{Gives, IsPlain};
 ghost use Rattle.mdf_block.specs.Block.{IsInside, IsFilled};
 ghost use Rattle.mdf_group.specs.Link.{group_links, group_refusal};
-ghost use Rattle.mdf_group.specs.Group.{group_numbers, group_contents, group_finished, group, groups_from};
+ghost use Rattle.mdf_group.specs.Group.{group_numbers, group_contents, group_with, group, groups_from};
 
 use crate::channel::channels_in;
 use crate::field::{group_front_in, group_of};
@@ -91,7 +91,7 @@ fn finished(
     contents: GroupContents,
     room: Room,
 ) -> (GroupRow, u64, Room)
-    ensures { result ≡ group_finished at numbers contents room }
+    ensures { result ≡ group_with at numbers contents room }
 {
     let row = group_of(at, numbers.front, contents.links, contents.rows);
     let left = Room {
