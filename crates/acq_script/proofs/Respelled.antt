@@ -80,10 +80,6 @@ channel_are name true ok =
 channel_are name false ok =
     All-cons (All IsByte) (codes "channel") (name ∷ codes "u64" ∷ []) (literal (codes "channel") refl) (two name (codes "u64") (name_bytes name ok) (literal (codes "u64") refl))
 
-sixty_four : number_of (codes "64") ≡ Some 64
-unfolding number_of
-sixty_four = refl
-
 word_type : type_of (codes "u64") ≡ Some (packed 0 64)
 unfolding number_of type_of number_type count_behind
 word_type = refl

@@ -10,7 +10,7 @@ use Rattle.std.proofs.lemmas.List.Sums.{sum_by-append, sum_by-cons}
 use Rattle.std.proofs.lemmas.Option.{slice_get-get_or}
 use Rattle.mdf_format.specs.Field.{HasBit}
 use Rattle.mdf_format.specs.Row as forms
-use Rattle.mdf_format.specs.Row.{RowNumbers, Form, form_of, field_bits, spot_of_row, UsesInval, is_big, BreaksRowRule}
+use Rattle.mdf_format.specs.Row.{RowNumbers, Form, form_of, field_bits, spot_of_row, is_big, BreaksRowRule}
 use Rattle.mdf_group.specs.Recordable.{numbers_of, is_of_values, ArePlaced, IsRecordableChannel, IsRecordableGroup}
 use Rattle.mdf_group.specs.declared.row.ChannelRow.{ChannelRow}
 use Rattle.mdf_group.specs.declared.row.GroupRow.{GroupRow}
@@ -107,10 +107,6 @@ values_of_one : (v : Bool) (m : Bool) (row : ChannelRow) → row.kind ≡ cond v
 values_of_one true m row is = ap (λ k. length (cond (nat_eq k 1) (row ∷ []) [])) is
 values_of_one false true row is = ap (λ k. length (cond (nat_eq k 1) (row ∷ []) [])) is
 values_of_one false false row is = ap (λ k. length (cond (nat_eq k 1) (row ∷ []) [])) is
-
-counted_values : (v : Bool) (old new all most : ℕ) → old ≡ all → new ≡ old + cond v 1 0 → cond v (old + 1) old ≡ new
-counted_values true old new all most is more = omega (arith, more)
-counted_values false old new all most is more = omega (arith, more)
 
 room_left : (v : Bool) (n : ℕ) → not (v && nat_le 128 n) ≡ true → n ≤ 128 → cond v (n + 1) n ≤ 128
 room_left true n test few = omega (arith, leb-false _ _ (not-true (nat_le 128 n) test))

@@ -3,7 +3,6 @@ use Rattle.std.proofs.Common.{◌≡◌, ℕ, zero, suc, ◌+◌, ◌-◌, ◌<�
 use Rattle.std.specs.Prelude.{slice_index, slice_set, replicate}
 use Rattle.std.specs.Prelude.{Option as Opt, Some}
 use Rattle.std.proofs.lemmas.Bool.{cases_eq, cases_lt}
-use Rattle.std.proofs.lemmas.List.{get_or_past}
 use Rattle.atomic_table.specs.Seated.{TableId}
 use Rattle.book_shared.specs.Basis.{Basis}
 use Rattle.book_shared.specs.Plays.{fresh}
@@ -44,9 +43,6 @@ filled_on table owners count owner within is filled = record {
 } where
   front_of : (k n : ℕ) → k < n + 1 → (k ≡ n → ⊥) → k < n
   front_of k n less differs = ⊎_elim (λ h. h) (λ h. absurd (differs (omega (arith, h, less)))) (cases_lt k n)
-
-pub filled_all : (table owners : List ℕ) (count : ℕ) → IsFilled table owners count → length owners ≤ count → (k : ℕ) → slice_index table k ≡ slice_index owners k
-filled_all table owners count filled whole k = ⊎_elim (λ less. filled.front k less) (λ more. filled.behind k more ∙ sym (get_or_past owners k 0 (omega (arith, whole, more)))) (cases_lt k count)
 
 pub new_seats-length : (table : TableId) (basis : Basis) (first count : ℕ) → length (new_seats table basis first count) ≡ count
 new_seats-length table basis first zero = refl

@@ -122,9 +122,6 @@ gathered_on table seats left left' whole seat gathered parts single = record {
   covered = (covers_new whole seat single, all_covered whole seat.know gathered.behind gathered.covered);
 }
 
-pub gathered_all : (table : TableId) (seats left : List Place) (whole : View) → Gathered table seats left whole → left ≡ [] → AreCovered whole seats
-gathered_all table seats left whole gathered none_left = subst (AreCovered whole) (sym (gathered.parts ∙ ap (λ ls. ls ++ gathered.behind) none_left)) gathered.covered
-
 module _ {D V : Type 0} where
   pub closes : (basis : Basis) (whole : View) (slots : List (Opt (Account D V))) (ended : Ended basis whole slots) (seats : List Place) → AreCovered whole seats → Closes basis ended.book seats
   closes basis whole slots ended [] covered = tt

@@ -8,7 +8,6 @@ use Rattle.mdf_format.specs.Block.{link_at, IsBlock, IsChain}
 use Rattle.mdf_format.specs.declared.kind.Kind.{Kind}
 use Rattle.mdf_num.specs.declared.halt.Halt.{Halt}
 use Rattle.mdf_block.specs.declared.what.What.{What}
-use Rattle.mdf_block.specs.declared.place.BlockAt.{BlockAt}
 use Rattle.mdf_block.specs.Refusal.{Refusal, TooMany, Read, ◌>>=◌, Halts}
 use Rattle.mdf_block.specs.Block.{block}
 use Rattle.mdf_block.specs.Chain.{Step, chain, full, AreAlong}
@@ -89,18 +88,7 @@ module _ {A S : Type 0} (step : Step A S) (full_at : ℕ → Read (List A × ℕ
       subst (Halts refusal halt) (sym (is_full rows room at left none some) ∙ is)
       (halts_then refusal halt (full_at at) (λ rest. Ok (rows ++ rest.0, rest.1, rest.2)) halted)
 
--- the refusals of the block past the count
-pub full_halts : {E : Type 0} (A : Type 0) (refusal : E → Option Refusal) (halt : Halt E) (what : What) (kind : Kind) (f : List ℕ) (at : ℕ)
-    → Halts refusal halt (block f at kind) → Halts refusal halt (full {A = A} what kind f at)
-unfolding full
-full_halts A refusal halt what kind f at halted = halts_then refusal halt (block f at kind) (λ _. Err (TooMany what at)) halted
-
-pub full_many : (A : Type 0) (what : What) (kind : Kind) (f : List ℕ) (at : ℕ) (b : BlockAt) → block f at kind ≡ Ok b
-    → full {A = A} what kind f at ≡ Err (TooMany what at)
-unfolding full
-full_many A what kind f at b found = ap (λ (read : Read BlockAt). read >>= λ _. Err (TooMany what at)) found
-
--- it finds nothing
+-- the block past the count gives nothing
 pub full_none : (A : Type 0) (what : What) (kind : Kind) (f : List ℕ) (at : ℕ) (x : A) → full what kind f at ≡ Ok x → ⊥
 unfolding full
 full_none A what kind f at x found =

@@ -1,12 +1,11 @@
 -- Parts of parts of a file, and the least body of a kind.
-use Rattle.std.proofs.Common.{◌≡◌, ◌+◌, ◌-◌, ◌/◌, ◌≤◌, ◌<◌, ◌↔◌, ℕ, IsTrue, List, [], get_or, take, drop, refl, sym, ◌∙◌, ap, arith, lit≤}
+use Rattle.std.proofs.Common.{◌≡◌, ◌+◌, ◌-◌, ◌/◌, ◌≤◌, ◌<◌, ◌↔◌, ℕ, IsTrue, List, get_or, take, drop, sym, ◌∙◌, ap, arith, lit≤}
 use Rattle.std.proofs.Math.Dec.{leb}
 use Rattle.std.proofs.lemmas.Bool.{leb-true, le-leb}
 use Rattle.std.proofs.lemmas.List.{drop-take, take-take, drop-drop, get_or-take}
 use Rattle.mdf_format.specs.Number.{le_number, bytes_at}
 use Rattle.mdf_format.specs.Block.{least_body, body_at, body_size, links_at, header_size}
-use Rattle.mdf_format.specs.declared.kind.Kind.{Kind}
-use Rattle.mdf_format.specs.declared.kind.Kind.TheVariants.{Hd, Fh, Dg, Cg, Cn, Cc, Si, Tx, Md, Dt, Dl, Sd, At}
+use Rattle.mdf_format.specs.declared.kind.Kind.TheVariants.{Cc}
 
 -- bytes of a part of the file are bytes of the file
 pub bytes_at-bytes_at : (n m k at : ℕ) (f : List ℕ) → k + n ≤ m → bytes_at n (bytes_at m f at) k ≡ bytes_at n f (at + k)
@@ -27,22 +26,6 @@ module _ (f : List ℕ) (place front len : ℕ) (least : front ≤ len) where
   pub byte_same : (k : ℕ) → k < front → get_or (bytes_at front f place) k 0 ≡ get_or (bytes_at len f place) k 0
   byte_same k within =
       get_or-take front (drop place f) k 0 within ∙ sym (get_or-take len (drop place f) k 0 (omega (arith, within)))
-
--- only a CCBLOCK's least body hangs on its body
-pub least_body-other : (kind : Kind) (body : List ℕ) → (kind ≡ Cc → ⊥) → least_body kind body ≡ least_body kind []
-least_body-other Hd body other = refl
-least_body-other Fh body other = refl
-least_body-other Dg body other = refl
-least_body-other Cg body other = refl
-least_body-other Cn body other = refl
-least_body-other Cc body other = absurd (other refl)
-least_body-other Si body other = refl
-least_body-other Tx body other = refl
-least_body-other Md body other = refl
-least_body-other Dt body other = refl
-least_body-other Dl body other = refl
-least_body-other Sd body other = refl
-least_body-other At body other = refl
 
 -- the values of a CCBLOCK fit into its body
 pub values_fit : (f : List ℕ) (at values len place : ℕ) → len ≡ body_size f at → place ≡ at + header_size (links_at f at)

@@ -4,10 +4,7 @@ use Rattle.std.proofs.lemmas.List.{drop-append-le, take-append-le, length-drop}
 use Rattle.mdf_format.specs.Number.{le_number, bytes_at}
 use Rattle.mdf_format.specs.Block.{least_links, least_body, size_at, links_at, link_at, header_size, body_size, body_at, IsBlock, IsChain}
 use Rattle.mdf_format.specs.declared.kind.Kind.{Kind}
-use Rattle.mdf_block.specs.declared.note.Note.{Note}
-use Rattle.mdf_block.specs.declared.note.Note.TheVariants as notes
-use Rattle.mdf_block.specs.Text.{text_of, IsNote}
-use Rattle.mdf_block.specs.Draft.{Placed, size_of, room_of, end_of, filler_of, Stands, AllStand}
+use Rattle.mdf_block.specs.Draft.{Placed, size_of, end_of, filler_of, Stands, AllStand}
 use Rattle.mdf_block.proofs.Laying.{le_room}
 
 module _ (file more : List ℕ) where
@@ -49,16 +46,6 @@ module _ (file more : List ℕ) where
         linked = omega (arith, count, is.linked);
         filled = omega (arith, long, ap (least_body kind) body, is.filled);
       }
-
-  -- a text is kept
-  text_kept : (at : ℕ) (kind : Kind) (bytes : List ℕ) → IsBlock file at kind → bytes ≡ text_of (body_at file at)
-      → bytes ≡ text_of (body_at (file ++ more) at)
-  text_kept at kind bytes is same = same ∙ ap text_of (sym (body_kept at is.headed is.whole))
-
-  pub note_kept : (at : ℕ) (note : Note) → IsNote file at note → IsNote (file ++ more) at note
-  note_kept at notes.Nothing is = is
-  note_kept at (notes.Plain bytes) is = (is.0, block_kept at _ is.1, text_kept at _ bytes is.1 is.2)
-  note_kept at (notes.Xml bytes) is = (is.0, block_kept at _ is.1, text_kept at _ bytes is.1 is.2)
 
   -- a chain of blocks that have a link is kept
   pub chain_kept : (kind : Kind) → 1 ≤ least_links kind → (at : ℕ) (places : List ℕ)

@@ -68,8 +68,3 @@ pub now_written : (E : Type 0) (old new : Option Story) (at : ℕ) (bytes : List
     → NowHas new R
 now_written E None new at bytes Q R writes has on = subst (λ s. NowHas s R) (sym writes) tt
 now_written E (Some story) new at bytes Q R writes has on = subst (λ s. NowHas s R) (sym writes) (on story.now has)
-
-pub now_synced : (E : Type 0) (old new : Option Story) (Q R : Moment → Type 0)
-    → Syncs {E = E} old new (Ok tt) → NowHas old Q → ((moment : Moment) → Q moment → R (settled moment.content)) → NowHas new R
-now_synced E None new Q R syncs has on = subst (λ s. NowHas s R) (sym syncs) tt
-now_synced E (Some story) new Q R syncs has on = subst (λ s. NowHas s R) (sym syncs) (on story.now has)

@@ -1,5 +1,5 @@
 -- What a file carries, of a longer history and of fewer samples.
-use Rattle.std.proofs.Common.{◌≡◌, ◌+◌, ◌≤◌, ◌⊎◌, ℕ, List, [], ◌∷◌, ◌++◌, length, take, drop, Option, Some, None, refl, sym, ◌∙◌, ap, subst, inl, inr, ⊎_elim, arith, append_assoc, length-append}
+use Rattle.std.proofs.Common.{◌≡◌, ◌+◌, ◌≤◌, ◌⊎◌, ℕ, List, [], ◌∷◌, ◌++◌, length, take, drop, Option, Some, None, refl, sym, ◌∙◌, ap, subst, inl, inr, ⊎_elim, arith, append_assoc}
 use Rattle.std.proofs.lemmas.List.{take-append-drop, length-take-le, append-nil}
 use Rattle.std.proofs.lemmas.List.Folds.{concat-append}
 use Rattle.std.proofs.lemmas.List.Sums.{sum_by-append}
@@ -31,9 +31,6 @@ prefix_append xs ys = (ys, refl)
 
 pub prefix_take : {A : Type 0} (n : ℕ) (xs : List A) → IsPrefix (take n xs) xs
 prefix_take n xs = (drop n xs, take-append-drop n xs)
-
-pub prefix-length : {A : Type 0} (xs ys : List A) → IsPrefix xs ys → length xs ≤ length ys
-prefix-length xs ys (rest, is) = omega (arith, ap length is, length-append xs rest)
 
 -- a longer history costs no less
 cost_longer : (layouts : List Layout) (history longer : List Sample) → IsPrefix history longer → history_cost layouts history ≤ history_cost layouts longer

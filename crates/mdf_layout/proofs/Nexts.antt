@@ -281,10 +281,6 @@ pub entries_of : (layouts : List Layout) (sample : Sample) (layout : Layout) →
 entries_of layouts sample layout known fits =
     subst (λ (l : Layout). AreEntriesOf l.rows sample.values) (same_Some fits.layout layout (sym fits.known ∙ known)) fits.entries
 
-pub size_of_sample : (layouts : List Layout) (sample : Sample) (layout : Layout) → slice_get layouts sample.group ≡ Some layout
-    → encoded_size layouts sample ≡ 1 + record_size layout + long_size layout.rows sample.values
-size_of_sample layouts sample layout known = ap (λ found. option_map_or (λ layout. 1 + record_size layout + long_size layout.rows sample.values) found 0) known
-
 -- the values of a group that come next behind a history
 pub next_there : (layouts : List Layout) (before : List Sample) (group : ℕ) (layout : Layout) (nexts : List Next) (next : Next) → slice_get layouts group ≡ Some layout
     → AreNext layouts before nexts → next ≡ get_or nexts group next → next ≡ next_behind layouts before group layout

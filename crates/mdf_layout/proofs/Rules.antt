@@ -1,15 +1,14 @@
 -- The test of the rules says what the rules say.
-use Rattle.std.proofs.Common.{◌≡◌, ◌≢◌, ◌<◌, ◌+◌, ◌-◌, ◌*◌, ◌/◌, ◌%◌, ◌⊎◌, ℕ, zero, suc, Bool, true, false, ◌&&◌, ◌||◌, not, List, length, get_or, refl, sym, ◌∙◌, ap, subst, arith, inl, inr, Option, Some, None}
-use Rattle.std.specs.Prelude.{nat_eq, nat_le, nat_lt, slice_get, All}
+use Rattle.std.proofs.Common.{◌≡◌, ◌≢◌, ◌<◌, ◌+◌, ◌-◌, ◌*◌, ◌/◌, ◌%◌, ◌⊎◌, ℕ, zero, suc, Bool, true, false, ◌&&◌, ◌||◌, not, List, length, refl, sym, ◌∙◌, ap, subst, arith, inl, inr, Option, Some, None}
+use Rattle.std.specs.Prelude.{nat_eq, nat_le, nat_lt, slice_get}
 use Rattle.std.specs.Option.{option_map_or}
-use Rattle.std.proofs.lemmas.Bool.{and_parts, and_from, or_cases, or_left, or_right, or_from, or_parts, not-true, not-false, not_from_false, leb-true, ltb-true, eqb-true, le-leb, lt-ltb, eq-eqb, ne_eqb, eqb-false, both_ways, cases_eq, false_from_ne_true}
+use Rattle.std.proofs.lemmas.Bool.{and_parts, and_from, or_cases, or_left, or_right, or_from, not-true, not_from_false, leb-true, ltb-true, eqb-true, le-leb, lt-ltb, eq-eqb, ne_eqb, eqb-false, both_ways, cases_eq, false_from_ne_true}
 use Rattle.std.proofs.lemmas.Option.{slice_get_within}
 use Rattle.mdf_format.specs.Field.{Spot, HasBit, covered_size, covered_end, place_of}
 use Rattle.mdf_format.specs.Row.{IsNumberPlaced, AreBytesPlaced, SharesBit}
 use Rattle.mdf_bits.specs.Field.{bit_within}
 use Rattle.mdf_bits.proofs.Spots.{lies_at, comes_from}
-use Rattle.mdf_layout.specs.Rule.{any_below, is_among, has_bit, shares_bit, is_number_placed, are_bytes_placed, is_placed, is_inval_placed, is_variable, meets_at, breaks_row_rule, spot_in, IsPlacedAs, IsInvalIn, BreaksRule, AreRuled}
-use Rattle.mdf_layout.specs.Values.{IsRowPlaced}
+use Rattle.mdf_layout.specs.Rule.{any_below, is_among, has_bit, shares_bit, is_number_placed, are_bytes_placed, is_placed, is_inval_placed, is_variable, meets_at, breaks_row_rule, spot_in, IsPlacedAs, IsInvalIn, BreaksRule}
 use Rattle.mdf_layout.specs.declared.field.FieldKind.{FieldKind}
 use Rattle.mdf_layout.specs.declared.field.FieldKind.TheVariants.{Unsigned, Signed, Fixed, Variable, Virtual}
 use Rattle.mdf_layout.specs.declared.field.FieldRow.{FieldRow}
@@ -191,17 +190,3 @@ breaks_law data_bytes inval_bytes rows k row =
     tells_or _ _ _ _ (tells_not _ _ (placed_law row.kind data_bytes (spot_in row)))
     (tells_or _ _ _ _ (tells_not _ _ (inval_law inval_bytes row.inval))
     (tells_and _ _ _ _ (kind_law row.kind row refl) (meets_law rows k row)))
-
--- channels that break no rule have their places
-pub ruled_placed : (data_bytes inval_bytes : ℕ) (rows : List FieldRow) → AreRuled data_bytes inval_bytes rows (length rows) → All (IsRowPlaced data_bytes inval_bytes) rows
-ruled_placed data_bytes inval_bytes rows ruled k d within =
-    let row = get_or rows k d in
-    let placed = is_placed row.kind data_bytes (spot_in row) in
-    let marked = is_inval_placed inval_bytes row.inval in
-    let meets = is_variable row && any_below (length rows) (meets_at rows k row) in
-    let one = or_parts (not placed) (not marked || meets) (ruled k d within) in
-    let two = or_parts (not marked) meets one.1 in
-    record {
-      field = (placed_law row.kind data_bytes (spot_in row)).to (not-false placed one.0);
-      position = (inval_law inval_bytes row.inval).to (not-false marked two.0);
-    }

@@ -2,7 +2,6 @@
 use Rattle.std.proofs.Common.{◌≡◌, ◌≤◌, ◌<◌, ◌+◌, ◌-◌, min, ℕ, List, [], ◌++◌, Option, Some, None, length, take, drop, sym, ◌∙◌, ap, arith, length-append, length-drop, take-append-drop, append_assoc}
 use Rattle.std.proofs.lemmas.List.{take_at, drop_all, drop-drop, length-take-le}
 use Rattle.std.specs.Io.KnownBytes.{Appends, Keeps, Consumes}
-use Rattle.std.specs.Prelude.{IfSome}
 
 -- a buffer whose front was written over with the next n bytes
 pub taken : (bytes buf part : List ℕ) (at n : ℕ) → at ≤ length bytes → n ≡ min (length buf) (length bytes - at)
@@ -42,15 +41,3 @@ consumes_more (Some bytes) None new xs ys first second = absurd first
 consumes_more (Some bytes) (Some more) None xs ys first second = absurd second
 consumes_more (Some bytes) (Some more) (Some most) xs ys first second =
     first ∙ ap (λ (rest : List ℕ). xs ++ rest) second ∙ sym (append_assoc xs ys most)
-
-pub consumes_kept : (old mid new : Option (List ℕ)) (xs : List ℕ) → Consumes old mid xs → Keeps mid new → Consumes old new xs
-consumes_kept None mid new xs first second = tt
-consumes_kept (Some bytes) None new xs first second = absurd first
-consumes_kept (Some bytes) (Some more) None xs first second = absurd second
-consumes_kept (Some bytes) (Some more) (Some most) xs first second = first ∙ ap (λ (rest : List ℕ). xs ++ rest) (sym second)
-
--- what was taken was there
-pub consumed_there : (old new : Option (List ℕ)) (xs : List ℕ) → Consumes old new xs → IfSome old (λ bytes. length xs ≤ length bytes)
-consumed_there None new xs consumes = tt
-consumed_there (Some bytes) None xs consumes = absurd consumes
-consumed_there (Some bytes) (Some rest) xs consumes = omega (arith, ap length consumes, length-append xs rest)

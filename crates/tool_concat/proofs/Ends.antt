@@ -12,7 +12,7 @@ use Rattle.mdf_tool.specs.declared.made.Report.{Report}
 use Rattle.tool_concat.specs.declared.fault.ConcatFault.{ConcatFault}
 use Rattle.tool_concat.specs.declared.fault.ConcatFault.TheVariants as faults
 use Rattle.tool_concat.specs.Concat.{ConcatEnds, IsConcatImage, IsConcatOf, Joining}
-use Rattle.tool_concat.specs.Making.{FirstRead, IsMadeFrom, IsRefused, SecondRead}
+use Rattle.tool_concat.specs.Making.{IsMadeFrom, IsRefused}
 
 module _ (asked : Joining) (one other : Measured) (made : Made) (first : measurement asked.first ≡ Ok one) (second : measurement asked.second ≡ Ok other)
     (stands : StandsIn asked.first one) (is : IsMadeFrom one other asked.now made) where
@@ -40,23 +40,7 @@ module _ (asked : Joining) (one other : Measured) (made : Made) (first : measure
 
 -- refusals before the disk is touched
 module _ (asked : Joining) (old new : DiskState) (same : new ≡ old) where
-  pub first_ends : (fault : ConcatFault) → FirstRead asked.first (Err fault) → ConcatEnds asked old new (Err fault)
-  first_ends (faults.First fault) is = (is.0, is.1, same)
-  first_ends (faults.Second fault) is = absurd is
-  first_ends (faults.Differs group) is = absurd is
-  first_ends (faults.Wide group channel) is = absurd is
-  first_ends faults.Failed is = absurd is
-  first_ends faults.Memory is = same
-
   module _ (one : Measured) (first : measurement asked.first ≡ Ok one) where
-    pub second_ends : (fault : ConcatFault) → SecondRead asked.second (Err fault) → ConcatEnds asked old new (Err fault)
-    second_ends (faults.First fault) is = absurd is
-    second_ends (faults.Second fault) is = ((one, first), is.0, is.1, same)
-    second_ends (faults.Differs group) is = absurd is
-    second_ends (faults.Wide group channel) is = absurd is
-    second_ends faults.Failed is = absurd is
-    second_ends faults.Memory is = same
-
     pub refused_ends : (other : Measured) → measurement asked.second ≡ Ok other → (fault : ConcatFault) → IsRefused one other fault
         → ConcatEnds asked old new (Err fault)
     refused_ends other second (faults.First fault) is = absurd is

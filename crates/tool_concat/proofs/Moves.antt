@@ -1,5 +1,5 @@
 -- Offsets that are moved one after another.
-use Rattle.std.proofs.Common.{◌≡◌, ◌+◌, ◌<◌, ◌≤◌, ◌^◌, ℕ, false, List, length, Some, refl, sym, ◌∙◌, ap, subst, arith}
+use Rattle.std.proofs.Common.{◌≡◌, ◌+◌, ◌<◌, ◌≤◌, ◌^◌, ℕ, false, List, length, Some, sym, ◌∙◌, ap, subst, arith}
 use Rattle.std.proofs.lemmas.Bool.{both_ways}
 use Rattle.std.specs.Prelude.{slice_get}
 use Rattle.mdf_bits.proofs.Spots.{same_number}
@@ -12,9 +12,6 @@ use Rattle.tool_concat.proofs.Apart.{is_variable_of, one_row}
 use Rattle.tool_concat.proofs.Steps.{each_more}
 
 module _ (rows : List FieldRow) (streams : List (List ℕ)) where
-  pub moved_none : (old : List ℕ) → AreOffsetsMoved rows streams 0 old old
-  moved_none old = record { long = refl; offsets = λ k row below is. absurd (omega (arith, below)); others = λ p none. refl }
-
   -- a channel that is not of variable length is passed over
   pub moved_past : (i : ℕ) (row : FieldRow) (old mid : List ℕ) → slice_get rows i ≡ Some row → is_variable row ≡ false
       → AreOffsetsMoved rows streams i old mid → AreOffsetsMoved rows streams (i + 1) old mid

@@ -1,6 +1,5 @@
 -- Streams that are joined one after another.
-use Rattle.std.proofs.Common.{◌≡◌, ◌+◌, ◌<◌, ◌≤◌, ℕ, zero, suc, List, [], ◌∷◌, ◌++◌, length, take, get_or, refl, ◌∙◌, ap, arith, add-one}
-use Rattle.std.proofs.lemmas.List.{take_all}
+use Rattle.std.proofs.Common.{◌≡◌, ◌+◌, ◌<◌, ℕ, zero, suc, List, [], ◌∷◌, ◌++◌, length, take, get_or, refl, ◌∙◌, ap, arith, add-one}
 use Rattle.tool_concat.specs.Joined.{joined_streams}
 
 joined_next : (streams others : List (List ℕ)) (k : ℕ) (d e : List ℕ) → k < length streams → k < length others
@@ -17,9 +16,3 @@ pub joined_more : (streams others : List (List ℕ)) (k : ℕ) (d e : List ℕ) 
     ≡ joined_streams (take k streams) (take k others) ++ (get_or streams k d ++ get_or others k e) ∷ []
 joined_more streams others k d e below within =
     ap (λ (n : ℕ). joined_streams (take n streams) (take n others)) (add-one k) ∙ joined_next streams others k d e below within
-
-pub joined_all : (streams others : List (List ℕ)) (k : ℕ) → length streams ≤ k → length others ≤ k
-    → joined_streams (take k streams) (take k others) ≡ joined_streams streams others
-joined_all streams others k past behind =
-    ap (λ (first : List (List ℕ)). joined_streams first (take k others)) (take_all k streams past)
-    ∙ ap (λ (second : List (List ℕ)). joined_streams streams second) (take_all k others behind)

@@ -1,27 +1,18 @@
 -- The groups of a measurement, cut one after another.
-use Rattle.std.proofs.Common.{◌≡◌, ◌<◌, ◌≤◌, ℕ, zero, suc, ℤ, List, [], ◌∷◌, ◌++◌, length, take, drop, map, get_or, set, Option, Some, None, refl, ap, arith}
+use Rattle.std.proofs.Common.{◌≡◌, ◌<◌, ◌≤◌, ℕ, zero, suc, ℤ, List, [], ◌∷◌, ◌++◌, length, take, drop, map, get_or, set, refl, ap, arith}
 use Rattle.std.specs.List.{AllByRecursion}
 use Rattle.mdf_content.specs.Samples.{record_at}
 use Rattle.mdf_layout.specs.Layout.{Layout}
 use Rattle.mdf_layout.specs.declared.field.FieldRow.{FieldRow}
 use Rattle.mdf_model.specs.declared.part.Measure.{Measure}
 use Rattle.mdf_model.specs.Measurement.{HasSamples}
-use Rattle.tool_cut.specs.Kept.{cut_at, cut_by, cut_measure, is_kept, kept_bytes, kept_count}
-use Rattle.tool_cut.specs.Master.{master_field}
+use Rattle.tool_cut.specs.Kept.{cut_by, is_kept, kept_bytes, kept_count}
 use Rattle.tool_cut.proofs.Keepings.{kept_samples}
 
 -- a group that is cut has samples
 pub by_samples : (from to : ℤ) (m : Measure) (field : FieldRow) → HasSamples m → HasSamples (cut_by from to m field)
 by_samples from to m field samples =
     kept_samples m.shape m.part.streams m.part.content m.count samples (is_kept from to m.shape field m.part.content) m.count (omega arith)
-
-at_samples : (from to : ℤ) (m : Measure) (field : Option FieldRow) → HasSamples m → HasSamples (cut_at from to m field)
-at_samples from to m None samples = samples
-at_samples from to m (Some field) samples = by_samples from to m field samples
-
-pub cut_samples : (from to : ℤ) (m : Measure) → HasSamples m → HasSamples (cut_measure from to m)
-unfolding cut_measure
-cut_samples from to m samples = at_samples from to m (master_field m) samples
 
 -- the item of a list with a property
 pub one_of : {A : Type 0} (P : A → Type 0) (xs : List A) (k : ℕ) (d : A) → AllByRecursion P xs → k < length xs → P (get_or xs k d)

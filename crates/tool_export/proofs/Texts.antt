@@ -1,5 +1,5 @@
 -- Texts that are given one behind the other.
-use Rattle.std.proofs.Common.{◌≡◌, ◌+◌, ◌-◌, ◌≤◌, ◌<◌, ℕ, zero, suc, Result, Ok, Err, List, [], ◌++◌, Option, Some, None, refl, sym, ◌∙◌, ap, arith, append_assoc, append-nil}
+use Rattle.std.proofs.Common.{◌≡◌, ◌+◌, ◌-◌, ◌≤◌, ℕ, zero, suc, Result, Ok, Err, List, [], ◌++◌, Option, Some, None, refl, sym, ◌∙◌, ap, arith, append_assoc, append-nil}
 use Rattle.std.specs.Io.KnownBytes.{Appends}
 use Rattle.mdf_layout.specs.declared.sample.Entry.{Entry}
 use Rattle.mdf_num.specs.declared.halt.Stop.{Stop}
@@ -29,10 +29,6 @@ front_behind old mid new xs ys first front =
 front_longer : (old new : Option (List ℕ)) (xs rest : List ℕ) → AppendsFront old new xs → AppendsFront old new (xs ++ rest)
 front_longer old new xs rest front =
     (front.0, (front.1.0 ++ rest, sym (append_assoc front.0 front.1.0 rest) ∙ ap (λ (zs : List ℕ). zs ++ rest) front.1.1), front.2)
-
--- what was given is a front of a longer text
-whole_front : (old new : Option (List ℕ)) (xs rest : List ℕ) → Appends old new xs → AppendsFront old new (xs ++ rest)
-whole_front old new xs rest given = (xs, (rest, refl), given)
 
 -- a text behind a text that was given
 pub gives_behind : (xs ys : List ℕ) (old mid new : SinkState) (result : Result Unit Stop)
@@ -98,13 +94,3 @@ module _ (sample : ℕ → Option (List Entry)) where
   lines_more i entries is =
       let next : i + 1 ≡ suc i = omega arith in
       ap (sample_lines sample) next ∙ ap (λ (found : Option (List Entry)). sample_lines sample i ++ line_at i found) is
-
-  -- the lines up to a sample, its line, and those behind it
-  pub lines_around : (i n : ℕ) (entries : List Entry) → i < n → sample i ≡ Some entries
-      → (rest : List ℕ) × (sample_lines sample n ≡ sample_lines sample i ++ (line_at i (Some entries) ++ rest))
-  lines_around i n entries below is =
-      let found = lines_behind (i + 1) n (omega (arith, below)) in (
-        found.0,
-        found.1 ∙ ap (λ (front : List ℕ). front ++ found.0) (lines_more i entries is)
-            ∙ append_assoc (sample_lines sample i) (line_at i (Some entries)) found.0,
-      )
