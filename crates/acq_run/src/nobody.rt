@@ -15,7 +15,7 @@ use std::thread;
 use std::thread::Threads;
 
 /// Nobody: a view that shows nobody anything needs no more.
-#[derive(Clone, Copy, Debug)]
+#[derive(Clone, Copy)]
 pub struct Nobody;
 
 impl Follower<NoView> for Nobody {

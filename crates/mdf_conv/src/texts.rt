@@ -1,7 +1,7 @@
 use mdf_block::Note;
 
 /// The texts of a conversion (CCBLOCK).
-#[derive(Debug, Drop)]
+#[derive(Drop)]
 pub struct Texts {
     /// The name.
     pub name: Note,
@@ -12,7 +12,7 @@ pub struct Texts {
 }
 
 /// The texts of a source.
-#[derive(Debug, Drop)]
+#[derive(Drop)]
 pub(crate) struct SourceTexts {
     pub(crate) name: Note,
     pub(crate) path: Note,

@@ -6,7 +6,7 @@ pub trait Gate {
 }
 
 /// The gate that holds nobody back.
-#[derive(Clone, Copy, Debug)]
+#[derive(Clone, Copy)]
 pub struct Open;
 
 impl Gate for Open {
