@@ -15,7 +15,7 @@ use std::thread;
 use std::thread::Threads;
 
 /// Nobody: a view that shows nobody anything needs no more.
-#[derive(Clone, Copy)]
+#[derive(Clone, Copy, Debug)]
 pub struct Nobody;
 
 impl Follower<NoView> for Nobody {

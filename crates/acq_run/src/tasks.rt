@@ -11,7 +11,7 @@ use std::sync::Wait;
 use std::vec::IntoIter;
 
 /// What a source hands in next.
-#[derive(Drop)]
+#[derive(Debug, Drop)]
 pub enum Fed {
     /// A sample.
     Sample(Sample),

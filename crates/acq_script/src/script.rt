@@ -3,7 +3,7 @@ use mdf_layout::{Sample, Shapes};
 use mdf_num::{Bytes, Rows};
 
 /// What a script says before its samples.
-#[derive(Drop)]
+#[derive(Debug, Drop)]
 pub struct Plan {
     /// The layouts of the groups, in the order of their numbers: those of the rows.
     pub shapes: Shapes,
@@ -22,7 +22,7 @@ pub struct Plan {
 }
 
 /// What a source does.
-#[derive(Drop)]
+#[derive(Debug, Drop)]
 pub enum Task {
     /// It hands in a sample.
     Sample(Sample),
@@ -31,7 +31,7 @@ pub enum Task {
 }
 
 /// A script: its plan, and for each source what it does, in order.
-#[derive(Drop)]
+#[derive(Debug, Drop)]
 pub struct Script {
     pub plan: Plan,
     pub lists: Rows<Rows<Task>>,

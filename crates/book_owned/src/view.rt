@@ -67,7 +67,7 @@ pub trait Shown {
 }
 
 /// A view that counts and shows nobody anything. It wants no memory.
-#[derive(Drop)]
+#[derive(Debug, Drop)]
 pub struct NoView {
     count: u64,
 }

@@ -2,7 +2,7 @@ use book_owned::Append;
 use mdf_layout::Sample;
 
 /// The answer of an append that waits for nothing.
-#[derive(Drop)]
+#[derive(Debug, Drop)]
 pub enum Try {
     /// Another seat has the turn, or had it since the call looked: `word` is the turn word that was met. The sample comes back.
     Busy {

@@ -1,5 +1,5 @@
 /// What a link of a block in a draft names.
-#[derive(Clone, Copy)]
+#[derive(Clone, Copy, Debug)]
 pub enum Link {
     /// Nothing: the number 0.
     Nothing,

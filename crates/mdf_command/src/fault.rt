@@ -17,7 +17,7 @@ use mdf_port::{Sink, TakeFault};
 use mdf_tool::ToolFault;
 
 /// Why a command ends with a status other than 0.
-#[derive(Clone, Copy)]
+#[derive(Clone, Copy, Debug)]
 pub enum Fault {
     /// The input has no opened blocks.
     Gate(GateFault),

@@ -42,7 +42,7 @@ use std::alloc::Global;
 use std::collections::BTreeSet;
 
 /// What is read of a channel group (CGBLOCK) that holds no values of variable length.
-#[derive(Drop)]
+#[derive(Debug, Drop)]
 pub struct Contents {
     /// The layout of its records.
     pub shape: Shape,
@@ -55,7 +55,7 @@ pub struct Contents {
 }
 
 /// What is read of a data group (DGBLOCK).
-#[derive(Drop)]
+#[derive(Debug, Drop)]
 pub struct DataContents {
     /// Its channel groups that hold no values of variable length, in order.
     pub groups: Rows<Contents>,

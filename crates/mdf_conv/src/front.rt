@@ -1,5 +1,5 @@
 /// The numbers in the first 24 bytes of the body of a conversion.
-#[derive(Clone, Copy)]
+#[derive(Clone, Copy, Debug)]
 pub(crate) struct ConvFront {
     /// How it converts.
     pub(crate) kind: u8,

@@ -1,7 +1,7 @@
 use mdf_block::Note;
 
 /// The texts of a conversion (CCBLOCK).
-#[derive(Drop)]
+#[derive(Debug, Drop)]
 pub struct Texts {
     /// The name.
     pub name: Note,
@@ -12,7 +12,7 @@ pub struct Texts {
 }
 
 /// The texts of a source.
-#[derive(Drop)]
+#[derive(Debug, Drop)]
 pub(crate) struct SourceTexts {
     pub(crate) name: Note,
     pub(crate) path: Note,

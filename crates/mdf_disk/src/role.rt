@@ -1,5 +1,5 @@
 /// What a disk is attached for.
-#[derive(Clone, Copy)]
+#[derive(Clone, Copy, Debug)]
 pub enum Role {
     /// To read a file that is there.
     Read,

@@ -3,7 +3,7 @@ use mdf_head::IdentFault;
 use thiserror::Error;
 
 /// What is opened of a recording.
-#[derive(Clone, Copy)]
+#[derive(Clone, Copy, Debug)]
 pub struct Opened {
     /// How many blocks are opened.
     pub blocks: u64,

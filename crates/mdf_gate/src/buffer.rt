@@ -29,7 +29,7 @@ const BEHIND: usize = 8;
 /// The buffer of a data block (DTBLOCK): the data of at most `limit` bytes, with room before them for the 23 bytes of
 /// the header that follow its first, and behind them for the 1 to 8 zero bytes up to the next place and on it. It is
 /// reserved once.
-#[derive(Drop)]
+#[derive(Debug, Drop)]
 pub struct Block {
     limit: u32,
     used: u32,

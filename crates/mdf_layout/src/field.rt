@@ -1,5 +1,5 @@
 /// How the value of a channel lies in a record.
-#[derive(Clone, Copy)]
+#[derive(Clone, Copy, Debug)]
 pub enum FieldKind {
     /// An unsigned number, or the bit pattern of a float.
     Unsigned,
@@ -14,7 +14,7 @@ pub enum FieldKind {
 }
 
 /// Where and how the value of one channel (CNBLOCK) lies in a record.
-#[derive(Clone, Copy)]
+#[derive(Clone, Copy, Debug)]
 pub struct FieldRow {
     pub kind: FieldKind,
     /// Whether its bytes stand with the highest first.

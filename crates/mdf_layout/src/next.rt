@@ -21,7 +21,7 @@ use std::marker::Model;
 
 /// Where the next values of a group go: the record id of its first channel of variable length, and of each such channel,
 /// in order, the offset of its next value.
-#[derive(Drop)]
+#[derive(Debug, Drop)]
 struct NextInGroup {
     id: u8,
     offsets: Vec<u64>,
@@ -37,7 +37,7 @@ impl Model for NextInGroup {
 
 /// Where the next values of variable length go: of each group the record id of its first channel of variable length,
 /// and of each such channel, in order, the offset of its next value.
-#[derive(Drop)]
+#[derive(Debug, Drop)]
 pub struct NextValues {
     groups: Vec<NextInGroup>,
 }

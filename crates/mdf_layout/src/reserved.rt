@@ -7,7 +7,7 @@ use std::marker::Model;
 
 /// A list with room for more items that was found beforehand. Contracts see the list and its spare, which is the number
 /// of items that it can take without memory.
-#[derive(Drop)]
+#[derive(Debug, Drop)]
 pub struct Reserved<T> {
     items: Vec<T>,
 }

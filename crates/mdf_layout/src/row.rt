@@ -8,7 +8,7 @@ ghost use Rattle.mdf_layout.specs.declared.field.FieldRow.{FieldRow};
 use crate::{FieldKind, FieldRow};
 
 /// What the row of a channel (CNBLOCK) says of its place in a record.
-#[derive(Clone, Copy)]
+#[derive(Clone, Copy, Debug)]
 pub struct ChannelNumbers {
     /// `cn_type`.
     pub kind: u8,

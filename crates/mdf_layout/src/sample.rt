@@ -27,7 +27,7 @@ pub struct Entry {
 pub type Entries = Rows<Entry>;
 
 /// A sample of a channel group: one value for each of its channels.
-#[derive(Drop)]
+#[derive(Debug, Drop)]
 pub struct Sample {
     /// The number of the group, counted from 0.
     pub group: u16,

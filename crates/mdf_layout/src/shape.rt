@@ -20,7 +20,7 @@ use thiserror::Error;
 
 /// The layout of the records of a channel group: its channels, and how many data bytes (`cg_data_bytes`) and invalidation
 /// bytes (`cg_inval_bytes`) a record has. No channel breaks a rule of `first_bad`, and there are fewer than 2^31.
-#[derive(Drop)]
+#[derive(Debug, Drop)]
 pub struct Shape {
     rows: Rows<FieldRow>,
     data_bytes: u32,

@@ -10,7 +10,7 @@ use std::alloc::Global;
 use std::marker::Model;
 
 /// The layouts of the groups of a recording, in the order of their numbers.
-#[derive(Drop)]
+#[derive(Debug, Drop)]
 pub struct Shapes {
     items: Rows<Shape>,
 }

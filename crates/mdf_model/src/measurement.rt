@@ -21,7 +21,7 @@ use std::alloc::Global;
 use std::marker::Model;
 
 /// The measurement of a finalized file. Contracts see it as its parts.
-#[derive(Drop)]
+#[derive(Debug, Drop)]
 pub struct Measurement {
     head: Head,
     history: Rows<History>,

@@ -15,7 +15,7 @@ use mdf_num::{Halt, Rows, Span, Stop};
 use std::alloc::Global;
 
 /// The blocks of a file that are reached by links, the data left out.
-#[derive(Drop)]
+#[derive(Debug, Drop)]
 pub struct Tree {
     /// The header (HDBLOCK).
     pub head: Head,

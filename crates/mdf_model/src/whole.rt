@@ -17,7 +17,7 @@ use mdf_num::{Halt, Rows, Span};
 use std::alloc::Global;
 
 /// All that is read of a finalized file.
-#[derive(Drop)]
+#[derive(Debug, Drop)]
 pub struct Whole {
     /// Its identification.
     pub ident: Ident,

@@ -9,7 +9,7 @@ use std::marker::Model;
 const TOO_LONG: u64 = 1 << 62;
 
 /// Bytes in pieces, one behind the other, so that a long piece need not be copied. Contracts see the list of all bytes.
-#[derive(Drop)]
+#[derive(Debug, Drop)]
 pub struct Pieces {
     items: Vec<Bytes>,
     count: u64,

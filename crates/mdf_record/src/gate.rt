@@ -6,7 +6,7 @@ pub trait Gate {
 }
 
 /// The gate that holds nobody back.
-#[derive(Clone, Copy)]
+#[derive(Clone, Copy, Debug)]
 pub struct Open;
 
 impl Gate for Open {

@@ -21,7 +21,7 @@ use std::alloc::Global;
 use std::marker::Model;
 
 /// What the data group of a recording holds.
-#[derive(Drop)]
+#[derive(Debug, Drop)]
 struct Kept {
     content: Bytes,
     counts: Rows<u64>,
@@ -76,7 +76,7 @@ fn front_in<P: Span>(alloc: Global, span: &mut P, view: &DataView, size: u64) ->
 }
 
 /// A recording that is read. Contracts see it as its parts.
-#[derive(Drop)]
+#[derive(Debug, Drop)]
 pub struct Session {
     tree: Tree,
     kept: Kept,

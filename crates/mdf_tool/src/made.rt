@@ -12,7 +12,7 @@ pub struct Report {
 }
 
 /// What a tool made: the bytes of a file, in pieces, and what is told of it.
-#[derive(Drop)]
+#[derive(Debug, Drop)]
 pub struct Made {
     pub bytes: Pieces,
     pub report: Report,

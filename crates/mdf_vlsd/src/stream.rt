@@ -9,7 +9,7 @@ use std::alloc::Global;
 use std::marker::Model;
 
 /// A stream of values of variable length. Contracts see it as its bytes.
-#[derive(Drop)]
+#[derive(Debug, Drop)]
 pub struct ValueStream {
     bytes: Bytes,
 }
