@@ -1,2 +1,3 @@
 pub mod Fronts
 mod Samples
+pub mod Taken

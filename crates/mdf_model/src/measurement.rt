@@ -1,4 +1,4 @@
-ghost use Rattle.std.specs.Prelude.{◌≡◌, ◌^◌, ◌<◌, Some, length, slice_index_or, IfOk};
+ghost use Rattle.std.specs.Prelude.{◌≡◌, ◌^◌, ◌<◌, [], Some, length, slice_index_or, IfOk};
 ghost use Rattle.std.specs.List.{AllByRecursion, list_all};
 ghost use Rattle.mdf_content.specs.declared.contents.DataContents.{DataContents};
 ghost use Rattle.mdf_block.specs.Refusal.{GivesOf};
@@ -19,6 +19,7 @@ use mdf_num::{Bytes, Halt, Memory, Rows, SliceSpan};
 use mdf_vlsd::Streams;
 use std::alloc::Global;
 use std::marker::Model;
+use std::mem::replace;
 
 /// The measurement of a finalized file. Contracts see it as its parts.
 #[derive(Debug, Drop)]
@@ -195,6 +196,30 @@ impl Measurement {
         ensures { (d : Measure) → IfOk result (λ entries. sample_of (slice_index_or self.now.groups group d) i ≡ Some entries) }
     {
         sample_of(alloc, &self.groups[group as usize], i)
+    }
+
+    /// Takes the bytes of its records out of a group, which has no records then. Its streams stay, and so does all else. It
+    /// takes no memory.
+    pub fn take_content(&mut self, alloc: Global, group: u32) -> Bytes
+        requires { group < length self.old.groups }
+        ensures content { (d : Measure) → result ≡ (slice_index_or self.old.groups group d).part.content }
+        ensures left { (d : Measure) → self.new ≡ with_records self.old group 0 [] (slice_index_or self.old.groups group d).part.streams d }
+    {
+        let measure = &mut self.groups[group as usize];
+        measure.count = 0;
+        replace(&mut measure.part.content, Bytes::empty(alloc))
+    }
+
+    /// Gives a group other records: how many, and their data bytes and invalidation bytes, one record behind the other. Its
+    /// streams stay, and so does all else. It takes no memory.
+    pub fn put_content(&mut self, group: u32, count: u64, content: Bytes)
+        requires group { group < length self.old.groups }
+        requires samples { (d : Measure) → AreSamples (slice_index_or self.old.groups group d).shape count content (slice_index_or self.old.groups group d).part.streams }
+        ensures { (d : Measure) → self.new ≡ with_records self.old group count content (slice_index_or self.old.groups group d).part.streams d }
+    {
+        let measure = &mut self.groups[group as usize];
+        measure.part.content = content;
+        measure.count = count;
     }
 
     /// Gives a group other records: how many, their data bytes and invalidation bytes, one record behind the other, and

@@ -92,7 +92,7 @@ const FILES: [Row; 2] = [
 ];
 
 // The sorted file of it.
-fn spelled(alloc: Global, measurement: &Measurement, done: Done) -> Result<Bytes, Memory> {
+fn spelled(alloc: Global, measurement: Measurement, done: Done) -> Result<Bytes, Memory> {
     let now = 0x1112_1314_1516_1718;
     let pieces = match done {
         Done::Sort => spell_sorted(alloc, measurement, "sort", now),
@@ -113,7 +113,7 @@ fn is_sorted(
     let Ok(measurement) = read_measurement(alloc, file) else {
         return Ok(false);
     };
-    Ok(spelled(alloc, &measurement, done)?.as_slice() == want.as_slice())
+    Ok(spelled(alloc, measurement, done)?.as_slice() == want.as_slice())
 }
 
 #[test]

@@ -1,5 +1,5 @@
 -- The groups of a sorted file, placed one after another, and the whole of it.
-use Rattle.std.proofs.Common.{◌≡◌, ◌+◌, ◌^◌, ◌<◌, ◌≤◌, ℕ, List, [], ◌∷◌, ◌++◌, length, map, take, drop, slice_index_or, refl, sym, ◌∙◌, ap, subst, arith, append-nil, length-append}
+use Rattle.std.proofs.Common.{◌≡◌, ◌+◌, ◌^◌, ◌<◌, ◌≤◌, ℕ, List, [], ◌∷◌, ◌++◌, length, map, take, drop, get_or, slice_index_or, refl, sym, ◌∙◌, ap, subst, arith, add-zero, append-nil, length-append, get_or-drop}
 use Rattle.std.proofs.lemmas.List.{take_all, drop_all, get_or_default, length-map}
 use Rattle.std.proofs.lemmas.List.Sums.{sum_by-cons}
 use Rattle.std.specs.Prelude.{nat_lt}
@@ -94,7 +94,7 @@ measures_step w after next m rest is placed =
     (part_long (length w) (next_link past rest) m.part m.count)
 
 -- some group, where there is one
-some_measure : (groups : List Measure) → 0 < length groups → Measure
+pub some_measure : (groups : List Measure) → 0 < length groups → Measure
 some_measure [] some = absurd (omega (arith, some))
 some_measure (m ∷ rest) some = m
 
@@ -115,6 +115,15 @@ measure_placed w0 w after groups i part count below part_is count_is placed befo
     measures_step w after _ m (drop (i + 1) groups) (next_less (past_part (length w) m.part) (i + 1) groups) same
     ∙ ap (λ (left : List Measure). w ++ measures_blocks (length w) left) (sym (cut_at groups i d below))
     ∙ before
+
+-- group i, where what is left from it on is the same
+pub same_left : (now groups : List Measure) (i : ℕ) (d : Measure) → drop i now ≡ drop i groups → get_or now i d ≡ get_or groups i d
+same_left now groups i d rest =
+    ap (λ (k : ℕ). get_or now k d) (sym (add-zero i))
+    ∙ sym (get_or-drop i now 0 d)
+    ∙ ap (λ (left : List Measure). get_or left 0 d) rest
+    ∙ get_or-drop i groups 0 d
+    ∙ ap (λ (k : ℕ). get_or groups k d) (add-zero i)
 
 -- no group is left
 pub no_measures : (w : List Placed) (groups : List Measure) (i : ℕ) → length groups ≤ i → w ≡ w ++ measures_blocks (length w) (drop i groups)

@@ -8,7 +8,7 @@ ghost use Rattle.mdf_sorted.specs.Sorted.{sorted_group, past_part, tree_blocks, 
 use crate::places::PartPlaces;
 use mdf_block::{Draft, Kind, Link};
 use mdf_model::GroupPart;
-use mdf_num::Memory;
+use mdf_num::{Bytes, Memory};
 use mdf_spell::{block_links, place_data, place_data_group};
 use mdf_tree::{
     Counted, group_places, next_if, next_number, note_count, place_group, place_note, plus,
@@ -110,20 +110,22 @@ fn place_values(alloc: Global, draft: &mut Draft, streams: &[ValueStream]) -> Re
     Ok(())
 }
 
-/// Places a group of a measurement with so many records: its data group, its records and its values. Where one more follows
-/// it is linked.
+/// Places a group of a measurement with so many records, which are moved into their block: its data group, these records and its
+/// values. Where one more follows it is linked.
 pub(crate) fn place_part(
     alloc: Global,
     draft: &mut Draft,
     part: &GroupPart,
+    content: Bytes,
     count: u64,
     more: bool,
 ) -> Result<(), Memory>
-    ensures placed { OnOk result (draft.new ≡ draft.old ++ part_blocks (length draft.old) (next_if more (past_part (length draft.old) part.now)) part.now count) }
+    ensures placed { OnOk result (draft.new ≡ draft.old ++ part_blocks (length draft.old) (next_if more (past_part (length draft.old) part.now))
+        (record part.now { content = content }) count) }
     ensures fits { count < 2 ^ 64 }
 {
     let past = part_places(next_number(draft)?, part)?.past;
     place_tree(alloc, draft, part, count, next_if(more, past))?;
-    place_data(alloc, draft, Kind::Dt, part.content.as_slice())?;
+    draft.place_linked(Kind::Dt, Vec::new(alloc), content)?;
     place_values(alloc, draft, part.streams.as_slice())
 }

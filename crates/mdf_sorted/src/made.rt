@@ -3,7 +3,7 @@ ghost use Rattle.mdf_sorted.specs.Kept.{StandsIn, IsSortedOf};
 ghost use Rattle.mdf_sorted.specs.Made.{sample_count, report_for, IsMadeOf};
 ghost use Rattle.mdf_sorted.specs.Sorted.{IsTitle};
 
-use crate::sorted::spell_from;
+use crate::sorted::spell_sorted;
 use mdf_model::Measurement;
 use mdf_num::Memory;
 use mdf_tool::{Made, Report};
@@ -38,8 +38,7 @@ fn report_of(measurement: &Measurement) -> Result<Report, Memory>
     })
 }
 
-/// The sorted file of a measurement, as `spell_sorted`, with what is told of it. The measurement is given back to the
-/// allocator before the file is made of its blocks.
+/// The sorted file of a measurement, as `spell_sorted`, with what is told of it.
 ///
 /// # Errors
 /// `Memory` where memory runs out, where there are more than 2^30 blocks, or where there are more samples than a u64 counts.
@@ -54,6 +53,6 @@ pub fn make_sorted(
     ensures keeps { (file : List ℕ) → StandsIn file measurement → IfOk result (λ made. IsSortedOf measurement title.now now_ns made.bytes) }
 {
     let report = report_of(&measurement)?;
-    let bytes = spell_from(alloc, measurement, title, now_ns)?;
+    let bytes = spell_sorted(alloc, measurement, title, now_ns)?;
     Ok(Made { bytes, report })
 }

@@ -47,20 +47,21 @@ fn join_group(
     ensures count { OnOk result (length first.new.groups ≡ length first.old.groups) }
     ensures rest { OnOk result (first.new ≡ record first.old { groups = first.new.groups }) }
 {
-    let own = first.part(group);
-    let part = second.part(group);
-    let content = with_moved(
-        alloc,
-        own.content.as_slice(),
-        second.shape(group),
-        own.streams.as_slice(),
-        part.content.as_slice(),
-        second.samples(group),
-    )?;
-    let streams = joined_streams(alloc, own.streams.as_slice(), part.streams.as_slice())?;
     let Some(count) = first.samples(group).checked_add(second.samples(group)) else {
         return Err(Memory);
     };
+    let before = first.take_content(alloc, group);
+    let own = first.part(group).streams.as_slice();
+    let part = second.part(group);
+    let content = with_moved(
+        alloc,
+        before,
+        second.shape(group),
+        own,
+        part.content.as_slice(),
+        second.samples(group),
+    )?;
+    let streams = joined_streams(alloc, own, part.streams.as_slice())?;
     first.replace(group, count, content, streams);
     Ok(())
 }

@@ -79,8 +79,7 @@ fn has_no_offsets(rows: &[FieldRow]) -> bool
 
 /// The records of a group without offsets behind bytes. There is nothing to move, so that they are copied at once.
 fn with_others(
-    alloc: Global,
-    before: &[u8],
+    before: Bytes,
     shape: &Shape,
     streams: &[ValueStream],
     others: &[u8],
@@ -88,17 +87,17 @@ fn with_others(
 ) -> Result<Bytes, Memory>
     requires long { length others.now ≡ count * record_size shape.now }
     requires none { HasNoOffsets shape.now.rows }
-    ensures { IfOk result (λ content. (moved : List ℕ) × (content ≡ before.now ++ moved) × AreMoved shape.now streams.now others.now count moved) }
+    ensures { IfOk result (λ content. (moved : List ℕ) × (content ≡ before ++ moved) × AreMoved shape.now streams.now others.now count moved) }
 {
-    let mut content = Bytes::from_slice(alloc, before)?;
+    let mut content = before;
     content.push_slice(others)?;
     Ok(content)
 }
 
-/// The records of a group behind bytes, with their offsets moved by the lengths of streams.
+/// The records of a group behind bytes, in their memory, with their offsets moved by the lengths of streams.
 pub(crate) fn with_moved(
     alloc: Global,
-    before: &[u8],
+    before: Bytes,
     shape: &Shape,
     streams: &[ValueStream],
     others: &[u8],
@@ -106,12 +105,12 @@ pub(crate) fn with_moved(
 ) -> Result<Bytes, Memory>
     requires long { length others.now ≡ count * record_size shape.now }
     requires held { AreAllHeld shape.now streams.now others.now count }
-    ensures { IfOk result (λ content. (moved : List ℕ) × (content ≡ before.now ++ moved) × AreMoved shape.now streams.now others.now count moved) }
+    ensures { IfOk result (λ content. (moved : List ℕ) × (content ≡ before ++ moved) × AreMoved shape.now streams.now others.now count moved) }
 {
     if has_no_offsets(shape.fields().as_slice()) {
-        return with_others(alloc, before, shape, streams, others, count);
+        return with_others(before, shape, streams, others, count);
     }
-    let mut content = Bytes::from_slice(alloc, before)?;
+    let mut content = before;
     let mut scratch = Vec::new(alloc);
     let _fields = shape.fields();
     for i in 0..count {

@@ -36,7 +36,7 @@ count_few keeps (suc i) = omega (arith, count_few keeps i, one_or_none (keeps i)
 pub record_inside : (i n size total : ℕ) → i < n → total ≡ n * size → i * size + size ≤ total
 record_inside i n size total below long = grind arith
 
-one_longer : (n size : ℕ) → n * size + size ≡ (n + 1) * size
+pub one_longer : (n size : ℕ) → n * size + size ≡ (n + 1) * size
 one_longer n size = grind arith
 
 -- a record has a sample, whatever its index is there

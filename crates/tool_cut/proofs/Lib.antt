@@ -1,5 +1,6 @@
 mod Indexes
 mod Keepings
+mod Places
 mod Groups
 mod Standings
 mod Ends

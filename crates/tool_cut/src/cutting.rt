@@ -15,7 +15,7 @@ use crate::measure::cut_all;
 use mdf_content::ReadFault;
 use mdf_disk::Disk;
 use mdf_model::Measurement;
-use mdf_num::{Bytes, Memory};
+use mdf_num::Bytes;
 use mdf_sorted::{make_sorted, read_standing};
 use mdf_tool::{Report, ToolFault, write_made};
 use std::alloc::Global;
@@ -28,14 +28,14 @@ fn measurement_of(alloc: Global, file: Bytes) -> Result<Measurement, ReadFault>
     read_standing(alloc, file.as_slice())
 }
 
-/// The measurement with those records alone whose master lies in the range.
-fn cut_in(alloc: Global, found: Measurement, range: Range) -> Result<Measurement, Memory>
+/// The measurement with those records alone whose master lies in the range. It takes no memory.
+fn cut_in(alloc: Global, found: Measurement, range: Range) -> Measurement
     requires samples { AllByRecursion HasSamples found.groups }
-    ensures { IfOk result (λ cut. cut ≡ cut_of range.from range.to found) }
+    ensures { result ≡ cut_of range.from range.to found }
 {
     let mut cut = found;
-    cut_all(alloc, &mut cut, range)?;
-    Ok(cut)
+    cut_all(alloc, &mut cut, range);
+    cut
 }
 
 /// Writes the sorted file of a finalized file at `now_ns` (ns since 1970) with those records alone whose master has a raw
@@ -66,7 +66,7 @@ pub fn cut<C: Disk>(
 {
     let found = measurement_of(alloc, file)?;
     let range = Range::new(from, to);
-    let cut = cut_in(alloc, found, range)?;
+    let cut = cut_in(alloc, found, range);
     let made = make_sorted(alloc, cut, "cut", now_ns)?;
     write_made(out, made)
 }

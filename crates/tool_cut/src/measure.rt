@@ -1,4 +1,4 @@
-ghost use Rattle.std.specs.Prelude.{◌≡◌, ◌<◌, length, slice_get, slice_index_or, slice_set, IfOk, IfSome, OnOk};
+ghost use Rattle.std.specs.Prelude.{◌≡◌, ◌<◌, length, slice_get, slice_index_or, slice_set, IfSome};
 ghost use Rattle.std.specs.List.{AllByRecursion};
 ghost use Rattle.mdf_layout.specs.Rule.{IsPlacedAs, spot_in};
 ghost use Rattle.mdf_model.specs.declared.part.Measure.{Measure};
@@ -10,8 +10,6 @@ use crate::kept::{Kept, kept_in};
 use crate::master::{Range, master_of};
 use mdf_layout::{FieldRow, Shape};
 use mdf_model::Measurement;
-use mdf_num::{Bytes, Memory, Rows};
-use mdf_vlsd::{Streams, ValueStream};
 use std::alloc::Global;
 
 /// The field of a channel, where there is one.
@@ -34,77 +32,40 @@ fn master_field(measurement: &Measurement, group: u32) -> Option<FieldRow>
     }
 }
 
-/// Equal streams.
-fn copies_of(alloc: Global, streams: &[ValueStream]) -> Result<Streams, Memory>
-    ensures { IfOk result (λ copies. copies ≡ streams.now) }
-{
-    let mut copies = Rows::empty(alloc);
-    for stream in streams {
-        let bytes = Bytes::from_slice(alloc, stream.bytes())?;
-        copies.push(ValueStream::from_bytes(bytes))?;
-    }
-    Ok(copies)
-}
-
 /// Leaves of the records of a group those in which the number of a field lies in the range.
-fn cut_by(
-    alloc: Global,
-    measurement: &mut Measurement,
-    group: u32,
-    field: FieldRow,
-    range: Range,
-) -> Result<(), Memory>
+fn cut_by(alloc: Global, measurement: &mut Measurement, group: u32, field: FieldRow, range: Range)
     requires group { group < length measurement.old.groups }
     requires samples { (d : Measure) → HasSamples (slice_index_or measurement.old.groups group d) }
     requires placed { (d : Measure) → IsPlacedAs field.kind (slice_index_or measurement.old.groups group d).shape.data_bytes (spot_in field) }
-    ensures { (d : Measure) → OnOk result (measurement.new ≡ record measurement.old {
+    ensures { (d : Measure) → measurement.new ≡ record measurement.old {
       groups = slice_set measurement.old.groups group (cut_by range.from range.to (slice_index_or measurement.old.groups group d) field);
-    }) }
+    } }
 {
-    let part = measurement.part(group);
-    let Kept { count, content } = kept_in(
-        alloc,
-        measurement.shape(group),
-        part.content.as_slice(),
-        measurement.samples(group),
-        field,
-        range,
-    )?;
-    let streams = copies_of(alloc, part.streams.as_slice())?;
-    measurement.replace(group, count, content, streams);
-    Ok(())
+    let count = measurement.samples(group);
+    let content = measurement.take_content(alloc, group);
+    let Kept { count, content } = kept_in(measurement.shape(group), content, count, field, range);
+    measurement.put_content(group, count, content);
 }
 
 /// Cuts a group to the records in which its master lies in the range. A group without a master stays whole.
-fn cut_group(
-    alloc: Global,
-    measurement: &mut Measurement,
-    group: u32,
-    range: Range,
-) -> Result<(), Memory>
+fn cut_group(alloc: Global, measurement: &mut Measurement, group: u32, range: Range)
     requires group { group < length measurement.old.groups }
     requires samples { (d : Measure) → HasSamples (slice_index_or measurement.old.groups group d) }
-    ensures { (d : Measure) → OnOk result (measurement.new ≡ record measurement.old {
+    ensures { (d : Measure) → measurement.new ≡ record measurement.old {
       groups = slice_set measurement.old.groups group (cut_measure range.from range.to (slice_index_or measurement.old.groups group d));
-    }) }
+    } }
 {
-    match master_field(measurement, group) {
-        Some(field) => cut_by(alloc, measurement, group, field, range),
-        None => Ok(()),
+    if let Some(field) = master_field(measurement, group) {
+        cut_by(alloc, measurement, group, field, range);
     }
 }
 
-/// Cuts each group to the records in which its master lies in the range.
-pub(crate) fn cut_all(
-    alloc: Global,
-    measurement: &mut Measurement,
-    range: Range,
-) -> Result<(), Memory>
+/// Cuts each group to the records in which its master lies in the range. It takes no memory.
+pub(crate) fn cut_all(alloc: Global, measurement: &mut Measurement, range: Range)
     requires samples { AllByRecursion HasSamples measurement.old.groups }
-    ensures { OnOk result (measurement.new ≡ cut_of range.from range.to measurement.old) }
+    ensures { measurement.new ≡ cut_of range.from range.to measurement.old }
 {
     for group in 0..measurement.groups() {
-        cut_group(alloc, measurement, group, range)?;
+        cut_group(alloc, measurement, group, range);
     }
-    Ok(())
 }

@@ -14,7 +14,7 @@ returns-clause-written c =
 
 pub returns-clause-keeps : goal.returns-clause-keeps
 returns-clause-keeps c = λ file stands.
-    let m = c.args.measurement.now in
+    let m = c.args.measurement in
     let title = c.args.title.now in
     let blocks = c.in_ok-blocks.blocks in
     both_if (λ (bytes : List ℕ). bytes ≡ written finalized_ident blocks) (λ (bytes : List ℕ). AllStand bytes blocks) (IsSortedOf m title c.args.now_ns)

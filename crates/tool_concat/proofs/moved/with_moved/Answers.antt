@@ -5,7 +5,7 @@ use Rattle.tool_concat.proofs.moved.with_moved.Goals as goal
 
 pub loop-i-init : goal.loop-i-init
 unfolding AreMoved
-loop-i-init c = ([], c.in_ok-content.ensures ∙ sym (append-nil c.args.before.now), refl)
+loop-i-init c = ([], sym (append-nil c.args.before), refl)
 
 pub add_moved-requires-clause-placed : goal.add_moved-requires-clause-placed
 add_moved-requires-clause-placed c = offsets_placed c.args.shape.now c.fields-fields.ensures.ruled
@@ -29,6 +29,6 @@ loop-i-preserved c =
       subst (λ (bytes : List ℕ). IsMoved layout streams bytes one.0) c.record_in-bytes.ensures.bytes one.2,
     ) in (
       moved,
-      one.1 ∙ ap (λ (bytes : List ℕ). bytes ++ one.0) so_far.1 ∙ append_assoc c.args.before.now so_far.0 one.0,
+      one.1 ∙ ap (λ (bytes : List ℕ). bytes ++ one.0) so_far.1 ∙ append_assoc c.args.before so_far.0 one.0,
       are,
     )

@@ -8,8 +8,8 @@ use Rattle.tool_cut.proofs.Ends.{ends, leaves}
 use Rattle.tool_cut.proofs.Standings.{all_samples, cut_stands}
 use Rattle.tool_cut.proofs.cutting.cut.Goals as goal
 
-pub cut_in-requires : goal.cut_in-requires
-cut_in-requires g c = record { samples = all_samples c.args.file c.in_ok-found.found.groups c.in_ok-found.ensures.stands.groups }
+pub cut_in-cut-requires : goal.cut_in-cut-requires
+cut_in-cut-requires g c = record { samples = all_samples c.args.file c.in_ok-found.found.groups c.in_ok-found.ensures.stands.groups }
 
 pub returns-clause-ends : goal.returns-clause-ends
 returns-clause-ends g c =
@@ -17,8 +17,8 @@ returns-clause-ends g c =
     let now = c.args.now_ns in
     let found = c.in_ok-found.found in
     let made = c.in_ok-made.made in
-    let same : c.in_ok-cut.cut ≡ cut_of c.args.from c.args.to found =
-    c.in_ok-cut.ensures
+    let same : c.cut_in-cut.result ≡ cut_of c.args.from c.args.to found =
+    c.cut_in-cut.ensures
     ∙ ap (λ (from : ℤ). cut_of from c.new-range.result.to found) (c.new-range.ensures.from ∙ to_z-of_z c.ranges.from)
     ∙ ap (λ (to : ℤ). cut_of c.args.from to found) (c.new-range.ensures.to ∙ to_z-of_z c.ranges.to) in
     let stands = subst (λ (m : Measured). StandsIn file m) (sym same) (cut_stands file c.args.from c.args.to found c.in_ok-found.ensures.stands) in
@@ -33,8 +33,8 @@ returns-clause-any_moment g c =
     let now = c.args.now_ns in
     let found = c.in_ok-found.found in
     let made = c.in_ok-made.made in
-    let same : c.in_ok-cut.cut ≡ cut_of c.args.from c.args.to found =
-    c.in_ok-cut.ensures
+    let same : c.cut_in-cut.result ≡ cut_of c.args.from c.args.to found =
+    c.cut_in-cut.ensures
     ∙ ap (λ (from : ℤ). cut_of from c.new-range.result.to found) (c.new-range.ensures.from ∙ to_z-of_z c.ranges.from)
     ∙ ap (λ (to : ℤ). cut_of c.args.from to found) (c.new-range.ensures.to ∙ to_z-of_z c.ranges.to) in
     let stands = subst (λ (m : Measured). StandsIn file m) (sym same) (cut_stands file c.args.from c.args.to found c.in_ok-found.ensures.stands) in

@@ -30,7 +30,7 @@ loop-group-preserved c =
     let cut = cut_measure c.args.range.from c.args.range.to in
     let below : i < length xs = omega (arith, c.loop-group-test.true, c.groups-group-end.ensures) in
     let d = item_of xs i below in
-    c.in_ok-cut_group.ensures d
+    c.cut_group.ensures d
     ∙ ap (λ (m : Measured). record m { groups = set m.groups i (cut (get_or m.groups i d)) }) c.loop-group.invariant
     ∙ ap (λ (groups : List Measure). record found { groups = groups })
     (ap (λ (m : Measure). set (changed cut i xs) i (cut m)) (changed_next cut xs i d below) ∙ changed_more cut xs i d below

@@ -1,33 +1,79 @@
-use Rattle.std.proofs.Common.{◌≡◌, ◌*◌, ℕ, List, length, get_or, sym, ◌∙◌, ap, subst}
+use Rattle.std.proofs.Common.{◌≡◌, ◌*◌, ℕ, List, length, get_or, sym, ◌∙◌, ap, subst, arith}
 use Rattle.mdf_layout.specs.Layout.{Layout, record_size}
 use Rattle.mdf_layout.specs.Rule.{IsPlacedAs, spot_in}
-use Rattle.mdf_model.specs.declared.part.GroupPart.{GroupPart}
+use Rattle.mdf_model.specs.declared.part.Measure.{Measure}
+use Rattle.mdf_model.specs.Measurement.{with_records}
+use Rattle.mdf_model.proofs.Taken.{taken_at, taken_length, then_put}
+use Rattle.tool_cut.specs.Kept.{cut_by}
 use Rattle.tool_cut.proofs.Groups.{by_samples, bytes_of, count_of, item_of}
 use Rattle.tool_cut.proofs.measure.cut_by.Goals as goal
 
-pub kept_in-requires-clause-long : goal.kept_in-requires-clause-long
-kept_in-requires-clause-long c =
-    let d = item_of c.args.measurement.now.groups c.args.group c.requires.group in
-    let m = get_or c.args.measurement.now.groups c.args.group d in
-    ap (λ (bytes : List ℕ). length bytes) (c.as_slice.ensures ∙ ap (λ (part : GroupPart). part.content) (c.part-part.ensures d))
+pub shape-requires : goal.shape-requires
+shape-requires c =
+    let all = c.args.measurement.now in
+    let taken = c.take_content-content in
+    let d = item_of all.groups c.args.group c.requires.group in
+    omega (arith, c.requires.group, taken_length all taken.new.self c.args.group c.requires.group taken.ensures.left d)
+
+pub put_content-requires-clause-group : goal.put_content-requires-clause-group
+put_content-requires-clause-group c =
+    let all = c.args.measurement.now in
+    let taken = c.take_content-content in
+    let d = item_of all.groups c.args.group c.requires.group in
+    omega (arith, c.requires.group, taken_length all taken.new.self c.args.group c.requires.group taken.ensures.left d)
+
+pub kept_in-count-requires-clause-long : goal.kept_in-count-requires-clause-long
+kept_in-count-requires-clause-long c =
+    let all = c.args.measurement.now in
+    let taken = c.take_content-content in
+    let d = item_of all.groups c.args.group c.requires.group in
+    let m = get_or all.groups c.args.group d in
+    let shape = c.shape.ensures d ∙ ap (λ (one : Measure). one.shape) (taken_at all taken.new.self c.args.group c.requires.group taken.ensures.left d) in
+    ap (λ (bytes : List ℕ). length bytes) (taken.ensures.content d)
     ∙ (c.requires.samples d).long
-    ∙ ap (λ (n : ℕ). n * record_size m.shape) (sym (c.samples.ensures d))
-    ∙ ap (λ (layout : Layout). c.samples.result * record_size layout) (sym (c.shape.ensures d))
+    ∙ ap (λ (n : ℕ). n * record_size m.shape) (sym (c.samples-count.ensures d))
+    ∙ ap (λ (layout : Layout). c.samples-count.result * record_size layout) (sym shape)
 
-pub kept_in-requires-clause-placed : goal.kept_in-requires-clause-placed
-kept_in-requires-clause-placed c =
-    let d = item_of c.args.measurement.now.groups c.args.group c.requires.group in
-    subst (λ (layout : Layout). IsPlacedAs c.args.field.kind layout.data_bytes (spot_in c.args.field)) (sym (c.shape.ensures d)) (c.requires.placed d)
+pub kept_in-count-requires-clause-placed : goal.kept_in-count-requires-clause-placed
+kept_in-count-requires-clause-placed c =
+    let all = c.args.measurement.now in
+    let taken = c.take_content-content in
+    let d = item_of all.groups c.args.group c.requires.group in
+    let shape = c.shape.ensures d ∙ ap (λ (one : Measure). one.shape) (taken_at all taken.new.self c.args.group c.requires.group taken.ensures.left d) in
+    subst (λ (layout : Layout). IsPlacedAs c.args.field.kind layout.data_bytes (spot_in c.args.field)) (sym shape) (c.requires.placed d)
 
-pub replace-requires-clause-samples : goal.replace-requires-clause-samples
-replace-requires-clause-samples c d =
-    let m = get_or c.args.measurement.now.groups c.args.group d in
+pub put_content-requires-clause-samples : goal.put_content-requires-clause-samples
+put_content-requires-clause-samples c d =
+    let all = c.args.measurement.now in
+    let taken = c.take_content-content in
+    let m = get_or all.groups c.args.group d in
+    let at = taken_at all taken.new.self c.args.group c.requires.group taken.ensures.left d in
+    let shape = c.shape.ensures d ∙ ap (λ (one : Measure). one.shape) at in
+    let kept = c.kept_in-count in
     let from = c.args.range.from in
     let to = c.args.range.to in
-    let content : c.as_slice.result.now ≡ m.part.content = c.as_slice.ensures ∙ ap (λ (part : GroupPart). part.content) (c.part-part.ensures d) in
-    let count = c.in_ok-count.ensures.count
-    ∙ count_of from to m c.args.field c.shape.result.now c.as_slice.result.now c.samples.result (c.shape.ensures d) content (c.samples.ensures d) in
-    let bytes = c.in_ok-count.ensures.content
-    ∙ bytes_of from to m c.args.field c.shape.result.now c.as_slice.result.now c.samples.result (c.shape.ensures d) content (c.samples.ensures d) in
-    let streams = c.in_ok-streams.ensures ∙ c.as_slice-2.ensures ∙ ap (λ (part : GroupPart). part.streams) (c.part-part.ensures d) in
-    rw (count, bytes, streams) (by_samples from to m c.args.field (c.requires.samples d))
+    let count = kept.ensures.count
+    ∙ count_of from to m c.args.field c.shape.result.now taken.result c.samples-count.result shape (taken.ensures.content d) (c.samples-count.ensures d) in
+    let bytes = kept.ensures.content
+    ∙ bytes_of from to m c.args.field c.shape.result.now taken.result c.samples-count.result shape (taken.ensures.content d) (c.samples-count.ensures d) in
+    rw (at, count, bytes) (by_samples from to m c.args.field (c.requires.samples d))
+
+pub returns : goal.returns
+returns c d =
+    let all = c.args.measurement.now in
+    let taken = c.take_content-content in
+    let m = get_or all.groups c.args.group d in
+    let at = taken_at all taken.new.self c.args.group c.requires.group taken.ensures.left d in
+    let shape = c.shape.ensures d ∙ ap (λ (one : Measure). one.shape) at in
+    let kept = c.kept_in-count in
+    let from = c.args.range.from in
+    let to = c.args.range.to in
+    let count = kept.ensures.count
+    ∙ count_of from to m c.args.field c.shape.result.now taken.result c.samples-count.result shape (taken.ensures.content d) (c.samples-count.ensures d) in
+    let bytes = kept.ensures.content
+    ∙ bytes_of from to m c.args.field c.shape.result.now taken.result c.samples-count.result shape (taken.ensures.content d) (c.samples-count.ensures d) in
+    c.put_content.ensures d
+    ∙ ap (λ (one : Measure). with_records taken.new.self c.args.group kept.result.count kept.result.content one.part.streams d) at
+    ∙ then_put all taken.new.self c.args.group c.requires.group taken.ensures.left d kept.result.count kept.result.content m.part.streams
+    ∙ ap (λ (n : ℕ). with_records all c.args.group n kept.result.content m.part.streams d) count
+    ∙ ap (λ (content : List ℕ). with_records all c.args.group (cut_by from to m c.args.field).count content m.part.streams d) bytes

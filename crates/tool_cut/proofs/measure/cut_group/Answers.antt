@@ -1,5 +1,5 @@
 use Rattle.std.proofs.Common.{◌≡◌, List, get_or, Option, sym, ap, subst}
-use Rattle.std.specs.Prelude.{OnOk, slice_set}
+use Rattle.std.specs.Prelude.{slice_set}
 use Rattle.mdf_layout.specs.declared.field.FieldRow.{FieldRow}
 use Rattle.mdf_model.specs.declared.part.Measure.{Measure}
 use Rattle.tool_cut.specs.Kept.{cut_at, cut_measure}
@@ -10,16 +10,16 @@ pub returns-in-Some : goal.returns-in-Some
 unfolding cut_measure
 returns-in-Some c d =
     let found = c.args.measurement.now in
-    subst (λ (field : Option FieldRow). OnOk c.cut_by.result (c.cut_by.new.measurement ≡ record found {
+    subst (λ (field : Option FieldRow). c.cut_by.new.measurement ≡ record found {
       groups = slice_set found.groups c.args.group (cut_at c.args.range.from c.args.range.to (get_or found.groups c.args.group d) field);
-    }))
+    })
     (c.in-Some.ensures.field d) (c.cut_by.ensures d)
 
-pub returns-in-None : goal.returns-in-None
+pub returns-in_default : goal.returns-in_default
 unfolding cut_measure
-returns-in-None c d =
+returns-in_default c d =
     let found = c.args.measurement.now in
     subst (λ (field : Option FieldRow). found ≡ record found {
       groups = slice_set found.groups c.args.group (cut_at c.args.range.from c.args.range.to (get_or found.groups c.args.group d) field);
     })
-    (c.in-None.ensures.field d) (ap (λ (groups : List Measure). record found { groups = groups }) (sym (set_own found.groups c.args.group d)))
+    (c.in_default.ensures.field d) (ap (λ (groups : List Measure). record found { groups = groups }) (sym (set_own found.groups c.args.group d)))
