@@ -1,7 +1,7 @@
 //! How a source works.
 ghost use Rattle.std.specs.Prelude.{◌≡◌, List, [], ◌∷◌, IfOk, IfErr};
 ghost use Rattle.acq_run.specs.Tasks.{IsTask, MayFeed, flushes_of};
-ghost use Rattle.acq_run.specs.Works.{CountsFaults, Does, Drives, Ends, HasDriven, HasFed, HasHeard, IsSameSeat};
+ghost use Rattle.acq_run.specs.Works.{CountsFaults, Does, Ends, HasDriven, HasFed, HasHeard, IsSameSeat};
 ghost use Rattle.acq_run.specs.Workers.{IsReady};
 ghost use Rattle.acq_run.specs.declared.tasks.Fed.{Fed};
 

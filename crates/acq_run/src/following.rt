@@ -1,4 +1,4 @@
-ghost use Rattle.std.specs.Prelude.{◌≤◌, ◌+◌, ℕ, List, length, take};
+ghost use Rattle.std.specs.Prelude.{◌+◌, ℕ, List, take};
 ghost use mathlib.Core.List.{IsPrefix};
 ghost use Rattle.mdf_layout.specs.declared.sample.Sample.{Sample};
 

@@ -1,4 +1,4 @@
-ghost use Rattle.std.specs.Prelude.{◌≡◌, length, All, Ok, IfOk, IfErr, IfSome, OnOk};
+ghost use Rattle.std.specs.Prelude.{◌≡◌, length, All, Ok, IfOk, IfErr, OnOk};
 ghost use Rattle.acq_script.specs.Plan.{IsPlan, TaskFits};
 ghost use Rattle.acq_script.specs.Stage.{IsScript, Sound};
 ghost use Rattle.acq_script.specs.Script.{GivesScript, FaultIs, MayWantFor, WantComes, WantsIn, after, ended, script_of};

@@ -5,7 +5,6 @@ ghost use Rattle.mdf_layout.specs.Row.{field_row};
 ghost use Rattle.acq_script.specs.Done.{done_as};
 ghost use Rattle.acq_script.specs.Sketch.{IsSketch, opening_of, first_sketch, with_group, channel_in, unit_in, plan_with, begun, more_sources, has_room, counted};
 ghost use Rattle.script_line.specs.Line.{IsForm};
-ghost use Rattle.script_line.specs.Text.{is_name};
 ghost use Rattle.acq_script.specs.Plan.{layout_of, HasPlace};
 
 use crate::draft::{self, Draft, group_row, new_draft};

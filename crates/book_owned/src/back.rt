@@ -1,4 +1,4 @@
-ghost use Rattle.std.specs.Prelude.{◌≡◌, ◌+◌, ◌≤◌, ◌<◌, ◌≢◌, ◌⊎◌, false, [], length, OnOk, OnErr, IfErr, IfSome, IfNone};
+ghost use Rattle.std.specs.Prelude.{◌≡◌, ◌+◌, ◌≤◌, ◌<◌, ◌≢◌, false, [], length, OnOk, OnErr, IfErr, IfSome, IfNone};
 ghost use Rattle.mdf_layout.specs.Record.{SampleFits, encoded_size};
 ghost use Rattle.book_owned.specs.Halves.{IsBook, IsCounted};
 ghost use Rattle.book_owned.specs.Hand.{Hands, IsHandFault, HasWritten, MakesRoom, Takes, Refuses};

@@ -1,12 +1,9 @@
-ghost use Rattle.std.specs.Prelude.{◌≡◌, ◌+◌, ◌≤◌, ◌<◌, ◌^◌, ℕ, List, [], ◌∷◌, ◌++◌, true, false, length, All, sum_by, drop, is_some, IfOk, IfErr, IfSome, IfNone, MatchBool};
+ghost use Rattle.std.specs.Prelude.{◌≡◌, ◌+◌, ◌≤◌, ◌<◌, ◌^◌, List, [], true, false, length, drop, is_some, IfOk, IfErr, IfSome, IfNone, MatchBool};
 ghost use Rattle.mdf_format.specs.Cause.{Rose};
-ghost use Rattle.mdf_disk.specs.Crash.{HoldsSince};
 ghost use Rattle.mdf_disk.specs.State.{state_of};
 ghost use Rattle.mdf_layout.specs.Record.{SampleFits, encoded_size, cost_of, history_cost, history_size};
 ghost use Rattle.mdf_layout.specs.Behind.{first_id};
 ghost use Rattle.mdf_layout.specs.Next.{AreNext};
-ghost use Rattle.mdf_gate.specs.Gated.{RestsOn};
-ghost use Rattle.mdf_gate.specs.Images.{head_of, IsBegun};
 
 use crate::back::{make_room, refusal, write_pending};
 use crate::front::{accept, last_mark, publish, reserve, size_behind};

@@ -1,5 +1,5 @@
 //! How a shared book is begun.
-ghost use Rattle.std.specs.Prelude.{ℕ, ◌≡◌, ◌≤◌, ◌<◌, [], ◌∷◌, ◌++◌, length, slice_index, Some, IfOk, IfErr, vec_len};
+ghost use Rattle.std.specs.Prelude.{ℕ, ◌≡◌, ◌≤◌, ◌<◌, [], ◌∷◌, length, slice_index, Some, IfOk, IfErr};
 ghost use Rattle.std.specs.Vec.{vec_capacity};
 ghost use Rattle.book_owned.specs.Account.{Account};
 ghost use Rattle.book_shared.specs.Plays.{fresh};

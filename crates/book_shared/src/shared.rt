@@ -1,5 +1,5 @@
 //! The calls of a shared book. Each takes the book under the turn, calls it where it lies, and gives it back.
-ghost use Rattle.std.specs.Prelude.{ℕ, ◌≡◌, ◌+◌, ◌%◌, ◌<◌, ◌≤◌, [], ◌∷◌, ◌++◌, length, slice_index, is_some, Some, None, IfOk, IfErr};
+ghost use Rattle.std.specs.Prelude.{ℕ, ◌≡◌, ◌+◌, ◌%◌, ◌<◌, ◌≤◌, [], ◌∷◌, length, slice_index, is_some, Some, None, IfOk, IfErr};
 ghost use mathlib.Core.Option.{none};
 ghost use Rattle.atomic_table.specs.Table.{step};
 ghost use Rattle.mdf_layout.specs.Record.{SampleFits, encoded_size};
@@ -7,10 +7,9 @@ ghost use Rattle.book_owned.specs.Account.{Account, Steps};
 ghost use Rattle.book_owned.specs.Answers.{AppendAnswers, FlushAnswers, accepted_by};
 ghost use Rattle.book_owned.specs.Marks.{AreRising};
 ghost use Rattle.book_shared.specs.Basis.{idle};
-ghost use Rattle.book_shared.specs.Rule.{AreOld};
 ghost use Rattle.book_shared.specs.Plays.{looked, given, Holds, Takes};
 ghost use Rattle.book_shared.specs.Place.{IsSingle};
-ghost use Rattle.book_shared.specs.Turns.{Took, Waited, IsBusy, Rests, MayTake, Works};
+ghost use Rattle.book_shared.specs.Turns.{Took, IsBusy, Rests, MayTake, Works};
 ghost use Rattle.book_shared.specs.Told.{Appends, Tries, Puts, tried_by, Flushes, FlushesAll, IsNoted, AppendsBook, TriesBook, FlushesBook};
 
 use crate::Try;

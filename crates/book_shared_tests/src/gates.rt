@@ -1,5 +1,4 @@
 //! A disk whose syncs wait at a gate.
-ghost use Rattle.std.specs.Prelude.{◌≡◌};
 
 use mdf_disk::{Disk, Role};
 use mdf_num::{Bytes, Failed};

@@ -3,7 +3,6 @@ ghost use Rattle.std.specs.Prelude.{◌≡◌, ◌+◌, ◌^◌, ◌<◌, ◌≤
 ghost use mathlib.Core.List.{IsPrefix};
 ghost use Rattle.left_right.specs.Sides.{view as knows};
 ghost use Rattle.book_view.specs.Log.{head_of};
-ghost use Rattle.book_view.specs.Names.{name_of};
 ghost use Rattle.book_view.specs.Handed.{Pends, IsHeld};
 
 use crate::copies::{Sees, StoreWriter};

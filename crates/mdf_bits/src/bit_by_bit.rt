@@ -1,7 +1,7 @@
 //! `get` and `put` of this crate once more, one bit after another: slower and plainer, to compare them with. They have
 //! the same contracts.
 ghost use Rattle.std.specs.Prelude.{◌≡◌, ℕ, ◌+◌, ◌*◌, ◌^◌, ◌≤◌, ◌<◌, length};
-ghost use Rattle.mdf_format.specs.Field.{HasBit, bit_of, covered_end, covered_size, field_number, place_of};
+ghost use Rattle.mdf_format.specs.Field.{HasBit, bit_of, covered_end, field_number, place_of};
 ghost use Rattle.mdf_bits.specs.Field.{spot_of};
 
 use crate::Field;

@@ -1,5 +1,5 @@
 -- Refusals that hold: of a step, of steps one after another, of chains and of loops over numbers.
-use Rattle.std.proofs.Common.{◌≡◌, ◌+◌, ◌<◌, ℕ, zero, suc, Bool, true, false, cond, List, [], ◌∷◌, Option, Some, None, Ok, Err, refl, sym, subst, ◌⊎◌, inl, inr, arith}
+use Rattle.std.proofs.Common.{◌≡◌, ◌+◌, ◌<◌, ℕ, zero, suc, Bool, true, false, cond, List, [], ◌∷◌, Option, Some, None, Ok, Err, refl, sym, subst, inl, inr, arith}
 use Rattle.std.specs.Prelude.{nat_eq, IfSome}
 use Rattle.mdf_format.specs.Block.{IsBlock}
 use Rattle.mdf_format.specs.declared.kind.Kind.{Kind}
@@ -15,7 +15,7 @@ use Rattle.mdf_block.specs.Chain.{Step, chain, full}
 use Rattle.mdf_block.specs.Each.{each}
 use Rattle.mdf_block.specs.Truth.{LacksBlock, IsCounted, IsTrueOf}
 use Rattle.mdf_block.proofs.Refusals.{bind_err}
-use Rattle.mdf_block.proofs.Wholes.{chosen, is_compressed_true, not_block, block_found}
+use Rattle.mdf_block.proofs.Wholes.{is_compressed_true, not_block, block_found}
 use Rattle.mdf_block.proofs.Notes.{note_lacks}
 
 -- each refusal of what is read has this property

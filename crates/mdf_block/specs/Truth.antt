@@ -1,5 +1,5 @@
 -- What a refusal says of the file at the address that it names.
-use Rattle.std.specs.Prelude.{ℕ, ◌≡◌, ◌<◌, ◌⊎◌, List, slice_index, Option, Some, None}
+use Rattle.std.specs.Prelude.{ℕ, ◌≡◌, ◌<◌, ◌⊎◌, List, slice_index}
 use Rattle.mdf_format.specs.Block.{IsBlock, body_at}
 use Rattle.mdf_format.specs.Identification.{IsMdf, IsFinalized, HasReadVersion, version_of, standard_flags, custom_flags}
 use Rattle.mdf_format.specs.declared.kind.Kind.{Kind}

@@ -1,4 +1,4 @@
-ghost use Rattle.std.specs.Prelude.{◌≡◌, ◌+◌, ◌≤◌, ◌↔◌, MatchOption, ℕ, List, Some, length, IfOk, IsTrue, []};
+ghost use Rattle.std.specs.Prelude.{◌≡◌, MatchOption, ℕ, List, Some, IfOk, IsTrue, []};
 ghost use Rattle.mdf_format.specs.Block.{name_of, least_links, least_body};
 ghost use Rattle.mdf_num.specs.Halt.{StopCause};
 ghost use Rattle.mdf_format.specs.declared.kind.Kind.{Kind};

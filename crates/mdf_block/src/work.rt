@@ -1,6 +1,6 @@
-ghost use Rattle.std.specs.Prelude.{ℕ, ◌≡◌, ◌+◌, ◌-◌, ◌^◌, ◌<◌, ◌≤◌, List, [], ◌∷◌, ◌++◌, length, map, replicate, IfOk, OnOk};
+ghost use Rattle.std.specs.Prelude.{ℕ, ◌≡◌, ◌+◌, ◌-◌, ◌^◌, ◌<◌, List, ◌++◌, map, replicate, IfOk, OnOk};
 ghost use Rattle.std.specs.List.{flat_map};
-ghost use Rattle.mdf_block.specs.Draft.{Placed, size_of, room_of, end_of, link_bytes, block_bytes, written, HasLink, with_link};
+ghost use Rattle.mdf_block.specs.Draft.{Placed, size_of, room_of, link_bytes, block_bytes, written, HasLink, with_link};
 ghost use Rattle.mdf_block.specs.Item.{placed_of, AreLaidOut};
 ghost use Rattle.mdf_block.specs.Places.{AreAddresses, front_bytes};
 

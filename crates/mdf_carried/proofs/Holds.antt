@@ -17,7 +17,7 @@ use Rattle.mdf_group.specs.Recordable.{numbers_of, is_of_values}
 use Rattle.mdf_layout.specs.Layout.{Layout, record_size}
 use Rattle.mdf_layout.specs.Row.{kind_in}
 use Rattle.mdf_layout.specs.Rule as rules_
-use Rattle.mdf_layout.specs.Rule.{is_variable_kind, spot_in}
+use Rattle.mdf_layout.specs.Rule.{is_variable_kind}
 use Rattle.mdf_layout.specs.Behind.{variables, first_id}
 use Rattle.mdf_layout.specs.Read.{Piece, IsPiece, stream_of, streams_from, samples_from}
 use Rattle.mdf_layout.specs.declared.field.FieldRow.{FieldRow}

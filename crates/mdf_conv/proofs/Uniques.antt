@@ -1,7 +1,6 @@
 -- What stands at an address stands there alone: one source, and one conversion, whatever levels are read.
 use Rattle.std.proofs.Common.{◌≡◌, ◌≢◌, ◌+◌, ◌<◌, ℕ, zero, suc, List, [], ◌∷◌, length, get_or, refl, sym, ◌∙◌, ap, inl, inr, arith, lit<}
 use Rattle.mdf_format.specs.Block.{name_of, link_at, body_at, IsBlock}
-use Rattle.mdf_format.specs.declared.kind.Kind.{Kind}
 use Rattle.mdf_format.specs.declared.kind.Kind.TheVariants.{Cc, Tx, Md}
 use Rattle.mdf_block.specs.declared.note.Note.{Note}
 use Rattle.mdf_block.specs.declared.note.Note.TheVariants as notes

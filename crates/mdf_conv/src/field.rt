@@ -1,5 +1,4 @@
-ghost use Rattle.std.specs.Prelude.{◌≡◌, ◌+◌, ◌*◌, ◌≤◌, ◌<◌, ◌^◌, ℕ, List, Some, Ok, true, length, IfOk, IfErr};
-ghost use Rattle.mdf_format.specs.Number.{le_number, bytes_at};
+ghost use Rattle.std.specs.Prelude.{◌≡◌, ◌+◌, ◌*◌, ◌≤◌, ◌<◌, ◌^◌, ℕ, List, Some, Ok, true, IfOk, IfErr};
 ghost use Rattle.mdf_format.specs.declared.kind.Kind.TheVariants.{Cc, Si};
 ghost use Rattle.mdf_num.specs.Halt.{StopCause, HaltCause};
 ghost use Rattle.mdf_block.specs.Refusal.{Gives, IsPlain};

@@ -1,5 +1,4 @@
-ghost use Rattle.std.specs.Prelude.{◌≡◌, ◌+◌, ◌≤◌, ◌↔◌, ℕ, Bool, true, false, List, [], length, Option, Some, None, IfSome, IfOk, IsOk, OnOk};
-ghost use Rattle.std.specs.Option.{option_map};
+ghost use Rattle.std.specs.Prelude.{◌≡◌, ◌+◌, ◌≤◌, ◌↔◌, ℕ, Bool, true, false, List, length, Option, Some, None, IfSome, IfOk, IsOk, OnOk};
 ghost use Rattle.mdf_format.specs.Number.{bytes_at};
 ghost use Rattle.mdf_format.specs.Cause.{HasCause};
 ghost use Rattle.mdf_disk.specs.declared.role.Role.{Role};

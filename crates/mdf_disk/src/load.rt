@@ -1,5 +1,4 @@
-ghost use Rattle.std.specs.Prelude.{◌≡◌, ◌≤◌, ◌<◌, ◌^◌, true, IfSome, IfOk, OnOk, IfErr, length};
-ghost use Rattle.mdf_format.specs.Cause.{HasCause};
+ghost use Rattle.std.specs.Prelude.{◌≡◌, ◌≤◌, ◌<◌, true, IfSome, IfOk, IfErr, length};
 ghost use Rattle.mdf_disk.specs.declared.load.LoadFault.TheVariants.{Failed as DeviceFailed, Memory as NoMemory};
 ghost use Rattle.mdf_disk.specs.Load.{LoadCause};
 

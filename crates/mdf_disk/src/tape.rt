@@ -1,5 +1,4 @@
-ghost use Rattle.std.specs.Prelude.{◌≡◌, ◌+◌, ◌≤◌, ◌<◌, ◌∷◌, [], ◌++◌, List, length, vec_len, Some, OnOk, OnErr, IfOk, slice_get};
-ghost use Rattle.std.specs.Option.{option_copied};
+ghost use Rattle.std.specs.Prelude.{◌≡◌, ◌+◌, ◌<◌, ◌∷◌, [], ◌++◌, List, length, Some, OnOk, OnErr, IfOk};
 ghost use Rattle.mdf_format.specs.Number.{patched};
 ghost use Rattle.mdf_disk.specs.Story.{MayLeave, LeftSince};
 ghost use Rattle.mdf_disk.specs.Image.{image_of, moment_inside, moment_before};

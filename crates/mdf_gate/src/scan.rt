@@ -1,4 +1,4 @@
-ghost use Rattle.std.specs.Prelude.{◌≡◌, ◌+◌, ◌≤◌, ◌<◌, ◌^◌, ◌↔◌, List, ℕ, length, IsTrue, IfOk, IfErr, OnErr};
+ghost use Rattle.std.specs.Prelude.{◌≡◌, ◌+◌, ◌≤◌, ◌<◌, ◌^◌, ◌↔◌, length, IsTrue, IfOk, IfErr, OnErr};
 ghost use Rattle.mdf_format.specs.Number.{aligned};
 ghost use Rattle.mdf_format.specs.Recording.{IsOpenPlace};
 ghost use Rattle.mdf_gate.specs.Recording.{HasNoOpened};

@@ -1,5 +1,4 @@
-ghost use Rattle.std.specs.Prelude.{◌≡◌, ◌+◌, ◌≤◌, ℕ, List, Some, length, slice_index, IfOk};
-ghost use Rattle.mdf_format.specs.Number.{le_number, bytes_at};
+ghost use Rattle.std.specs.Prelude.{◌≡◌, ◌≤◌, ℕ, List, Some, length, slice_index, IfOk};
 ghost use Rattle.mdf_format.specs.declared.kind.Kind.TheVariants.{Dg, Cg, Cn};
 ghost use Rattle.mdf_num.specs.Halt.{StopCause};
 ghost use Rattle.mdf_block.specs.Block.{body_of, IsInside, IsFilled};

@@ -1,8 +1,8 @@
-ghost use Rattle.std.specs.Prelude.{◌≡◌, ◌≤◌, Bool, ◌||◌, ℕ, List, length, filter, IfOk, OnOk};
+ghost use Rattle.std.specs.Prelude.{◌≡◌, ◌||◌, ℕ, IfOk, OnOk};
 ghost use Rattle.std.specs.List.{list_any};
 ghost use Rattle.std.specs.Ordering.{nat_cmp};
 ghost use Rattle.std.specs.BTreeSet.{contains};
-ghost use Rattle.mdf_group.specs.Group.{is_variable, has_values_at, names_values, is_unnamed, unnamed_count};
+ghost use Rattle.mdf_group.specs.Group.{is_variable, has_values_at, names_values, unnamed_count};
 
 use crate::{ChannelRow, GroupRow};
 use mdf_num::Memory;

@@ -1,5 +1,5 @@
 -- Fields of the front of a body are fields of the body.
-use Rattle.std.proofs.Common.{◌≡◌, ◌+◌, ◌<◌, ◌≤◌, ℕ, List, get_or, ◌∙◌, ap, arith}
+use Rattle.std.proofs.Common.{◌≡◌, ◌≤◌, ℕ, List, get_or, ◌∙◌, ap, arith}
 use Rattle.mdf_format.specs.Number.{le_number, bytes_at}
 use Rattle.mdf_block.specs.declared.note.Note.{Note}
 use Rattle.mdf_block.proofs.Parts.{part_same, byte_same}

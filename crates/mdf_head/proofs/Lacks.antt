@@ -3,7 +3,6 @@ use Rattle.std.proofs.Common.{◌≡◌, ◌≢◌, ◌+◌, ◌<◌, ◌≤◌,
 use Rattle.mdf_format.specs.Block.{link_at, IsBlock}
 use Rattle.mdf_format.specs.declared.kind.Kind.TheVariants.{Hd, Fh}
 use Rattle.mdf_block.specs.declared.what.What.TheVariants as whats
-use Rattle.mdf_block.specs.declared.note.Note.{Note}
 use Rattle.mdf_block.specs.declared.place.BlockAt.{BlockAt}
 use Rattle.std.specs.Prelude.{IfSome}
 use Rattle.mdf_block.specs.Refusal.{Refusal, Bad, TooMany, Read, Fails}
@@ -13,10 +12,10 @@ use Rattle.mdf_block.specs.Chain.{full, AreAlong}
 use Rattle.mdf_block.proofs.Refusals.{bind_ok, bind_err}
 use Rattle.mdf_block.proofs.Wholes.{block_found, block_lacks}
 use Rattle.mdf_block.proofs.Notes.{note_found, note_lacks}
-use Rattle.mdf_block.proofs.Chains.{Stops, chain_stops}
+use Rattle.mdf_block.proofs.Chains.{chain_stops}
 use Rattle.mdf_head.specs.declared.entry.Head.{Head}
 use Rattle.mdf_head.specs.declared.entry.History.{History}
-use Rattle.mdf_head.specs.Head.{the_head, the_history, history, histories, header, head, IsBehind, IsCommentOf, HasHeader, LacksHead}
+use Rattle.mdf_head.specs.Head.{history, histories, header, head, IsBehind, HasHeader, LacksHead}
 use Rattle.mdf_head.proofs.Heads.{follows, history_spends, ok_is}
 
 -- the address of a block that is found

@@ -1,5 +1,5 @@
 -- How the budget falls, and how many entries there are.
-use Rattle.std.proofs.Common.{◌≡◌, ◌+◌, ◌≤◌, ℕ, List, Ok, ap, subst, arith, length}
+use Rattle.std.proofs.Common.{◌≡◌, ◌+◌, ◌≤◌, ℕ, List, Ok, subst, arith, length}
 use Rattle.mdf_format.specs.declared.kind.Kind.TheVariants.{Fh}
 use Rattle.mdf_block.specs.declared.what.What.TheVariants as whats
 use Rattle.mdf_block.specs.Text.{note_size}

@@ -1,4 +1,4 @@
-ghost use Rattle.std.specs.Prelude.{◌≡◌, ◌+◌, ◌≤◌, ◌<◌, ◌^◌, ℕ, List, Some, length, IfOk};
+ghost use Rattle.std.specs.Prelude.{◌≡◌, ◌+◌, ◌≤◌, ◌<◌, ℕ, List, Some, length, IfOk};
 ghost use Rattle.mdf_format.specs.Field.{signed_number};
 ghost use Rattle.mdf_format.specs.declared.kind.Kind.TheVariants.{Hd, Fh};
 ghost use Rattle.mdf_num.specs.Halt.{StopCause};

@@ -1,4 +1,4 @@
-ghost use Rattle.std.specs.Prelude.{◌≡◌, IfOk, IfErr};
+ghost use Rattle.std.specs.Prelude.{IfOk, IfErr};
 ghost use Rattle.mdf_format.specs.Identification.{IsMdf, HasReadVersion};
 ghost use Rattle.mdf_block.specs.Refusal.{GivesOf};
 ghost use Rattle.mdf_head.specs.Ident.{IsIdent, HasNoIdent, identify, ident_refusal};

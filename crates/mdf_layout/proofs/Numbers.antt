@@ -6,7 +6,7 @@ use Rattle.std.proofs.lemmas.Bool.{eqb-true, eq-eqb, both_ways}
 use Rattle.std.proofs.lemmas.Option.{slice_get-map}
 use Rattle.mdf_format.specs.Field.{Spot}
 use Rattle.mdf_format.specs.Row as forms
-use Rattle.mdf_format.specs.Row.{RowNumbers, Form, form_of, field_bits, spot_of_row, IsPlaced, IsInvalPlaced, UsesInval, SharesBit, BreaksRowRule}
+use Rattle.mdf_format.specs.Row.{RowNumbers, Form, form_of, field_bits, spot_of_row, IsPlaced, IsInvalPlaced, SharesBit, BreaksRowRule}
 use Rattle.mdf_layout.specs.Row.{field_row, kind_in}
 use Rattle.mdf_layout.specs.Rule.{bits_in, spot_in, IsPlacedAs, IsInvalIn, BreaksRule, breaks_row_rule}
 use Rattle.mdf_layout.specs.declared.field.FieldKind.TheVariants.{Unsigned, Signed, Fixed, Variable, Virtual}

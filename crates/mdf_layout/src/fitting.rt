@@ -1,5 +1,5 @@
 // Whether channels lie apart, and whether they can have entries.
-ghost use Rattle.std.specs.Prelude.{◌≡◌, ◌+◌, ◌-◌, ◌/◌, ◌^◌, ◌<◌, ◌↔◌, max, min, length, All, IsTrue};
+ghost use Rattle.std.specs.Prelude.{◌≡◌, ◌+◌, ◌-◌, ◌/◌, ◌^◌, ◌<◌, ◌↔◌, max, min, All, IsTrue};
 ghost use Rattle.mdf_format.specs.Row.{SharesBit};
 ghost use Rattle.mdf_bits.specs.Field.{IsSignedOf};
 ghost use Rattle.mdf_layout.specs.Rule.{bits_in, spot_in};

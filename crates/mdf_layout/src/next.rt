@@ -1,5 +1,5 @@
 // Where the next values of variable length go, and samples written with theirs.
-ghost use Rattle.std.specs.Prelude.{◌≡◌, ℕ, ◌+◌, ◌^◌, ◌<◌, ◌≤◌, List, [], ◌∷◌, ◌++◌, length, take, map, true, false, All, slice_get, slice_set, Some, IfOk};
+ghost use Rattle.std.specs.Prelude.{◌≡◌, ◌+◌, ◌^◌, ◌<◌, ◌≤◌, List, [], ◌∷◌, ◌++◌, length, take, true, false, All, slice_get, slice_set, Some, IfOk};
 ghost use Rattle.std.specs.List.{slice_index_or};
 ghost use Rattle.mdf_layout.specs.Values.{bytes_in};
 ghost use Rattle.mdf_layout.specs.Rule.{is_variable};

@@ -1,6 +1,6 @@
 // The field of a channel, from the numbers of its row.
-ghost use Rattle.std.specs.Prelude.{◌≡◌, ℕ, List, map, Bool, true, ◌↔◌};
-ghost use Rattle.mdf_format.specs.Row.{RowNumbers, BreaksRowRule, form_of, is_big};
+ghost use Rattle.std.specs.Prelude.{◌≡◌, ℕ, List, map, true, ◌↔◌};
+ghost use Rattle.mdf_format.specs.Row.{RowNumbers, BreaksRowRule, form_of};
 ghost use Rattle.mdf_layout.specs.Row.{field_row, numbers_of, kind_in};
 ghost use Rattle.mdf_layout.specs.Rule.{breaks_row_rule, BreaksRule};
 ghost use Rattle.mdf_layout.specs.declared.field.FieldRow.{FieldRow};

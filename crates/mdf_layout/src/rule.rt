@@ -1,5 +1,5 @@
 // The rules that the channels of a layout keep.
-ghost use Rattle.std.specs.Prelude.{◌≡◌, ◌≢◌, ◌+◌, ◌*◌, ◌^◌, ◌<◌, ◌≤◌, length, slice_get, Some, IfSome, IfNone, All};
+ghost use Rattle.std.specs.Prelude.{◌≡◌, ◌+◌, ◌*◌, ◌^◌, ◌<◌, ◌≤◌, length, slice_get, Some, IfSome, IfNone, All};
 ghost use Rattle.mdf_layout.specs.Values.{IsRowPlaced};
 ghost use Rattle.mdf_format.specs.Field.{covered_size, covered_end, place_of};
 ghost use Rattle.mdf_bits.specs.Field as bits;

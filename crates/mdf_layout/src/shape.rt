@@ -1,4 +1,4 @@
-ghost use Rattle.std.specs.Prelude.{◌≡◌, ℕ, ◌^◌, ◌<◌, ◌≤◌, ◌↔◌, List, length, map, take, drop, false, All, IsTrue, IfOk, IfErr, OnOk, Some};
+ghost use Rattle.std.specs.Prelude.{◌≡◌, ℕ, ◌^◌, ◌<◌, ◌≤◌, ◌↔◌, List, length, map, take, drop, false, All, IsTrue, IfOk, IfErr, Some};
 ghost use Rattle.mdf_format.specs.Field.{bit_of};
 ghost use Rattle.mdf_vlsd.specs.Value.{value_at};
 ghost use Rattle.mdf_layout.specs.Values.{Finder, sample_by, sample_of};

@@ -1,4 +1,4 @@
-ghost use Rattle.std.specs.Prelude.{◌≡◌, ℕ, ◌+◌, ◌/◌, ◌^◌, ◌<◌, ◌≤◌, List, length, take, drop, false, All, Some};
+ghost use Rattle.std.specs.Prelude.{◌≡◌, ℕ, ◌+◌, ◌^◌, ◌<◌, ◌≤◌, List, length, take, drop, false, All, Some};
 ghost use Rattle.std.specs.List.{slice_index_or};
 ghost use Rattle.mdf_format.specs.Field.{HasBit, bit_of};
 ghost use Rattle.mdf_format.specs.Number.{bytes_at};

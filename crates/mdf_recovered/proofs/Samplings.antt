@@ -14,7 +14,6 @@ use Rattle.mdf_data.specs.Split.{Record, IsBody}
 use Rattle.mdf_group.specs.declared.row.GroupRow.{GroupRow}
 use Rattle.mdf_group.specs.declared.row.DataRow.{DataRow}
 use Rattle.mdf_group.specs.Group.{is_variable}
-use Rattle.mdf_layout.specs.Layout.{Layout}
 use Rattle.mdf_layout.specs.Layout as layouts
 use Rattle.mdf_layout.specs.Values.{sample_of}
 use Rattle.mdf_layout.specs.declared.sample.Sample.{Sample}

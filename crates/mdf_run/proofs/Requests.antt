@@ -17,7 +17,7 @@ use Rattle.mdf_make.specs.Sort.{EndsSort}
 use Rattle.mdf_make.specs.Cut.{EndsCut}
 use Rattle.mdf_make.specs.Concat.{EndsConcat}
 use Rattle.mdf_record.specs.Recorded.{EndsGenerated, EndsRecord}
-use Rattle.mdf_command.specs.Words.{Asks, IsUsage, Request, arguments_of, input_of, name_of, name_text, output_of, second_of}
+use Rattle.mdf_command.specs.Words.{Asks, Request, arguments_of, input_of, name_of, name_text, output_of, second_of}
 use Rattle.mdf_command.specs.Words as words
 use Rattle.mdf_run.proofs.Scripts.{one_number}
 use Rattle.mdf_run.proofs.Words.{same_group, same_range}

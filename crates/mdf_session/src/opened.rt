@@ -1,11 +1,11 @@
-ghost use Rattle.std.specs.Prelude.{◌≡◌, ◌+◌, ◌^◌, ◌≤◌, ◌<◌, ◌++◌, ◌∷◌, [], ℕ, List, Some, length, true, IsTrue, IfOk, IfErr, OnOk};
+ghost use Rattle.std.specs.Prelude.{◌≡◌, ◌+◌, ◌^◌, ◌≤◌, ◌<◌, ◌++◌, ◌∷◌, [], ℕ, List, Some, length, true, IfOk, IfErr, OnOk};
 ghost use Rattle.mdf_num.specs.Halt.{HaltCause, StopCause};
 ghost use Rattle.mdf_block.specs.Refusal.{Gives, IsPlain};
 ghost use Rattle.mdf_block.specs.Block.{IsInside};
 ghost use Rattle.mdf_stream.specs.Parts.{ArePartsInside, stream_size};
 ghost use Rattle.mdf_stream.specs.Link.{part_of};
 ghost use Rattle.mdf_content.specs.Fault.{read_refusal};
-ghost use Rattle.mdf_session.specs.Opened.{AreBehind, is_open, is_place, opened_from, opened_parts, place_behind, unit};
+ghost use Rattle.mdf_session.specs.Opened.{AreBehind, is_open, opened_from, opened_parts, place_behind, unit};
 
 use mdf_block::{BlockAt, BlockFault, block_in};
 use mdf_content::{Kind, ReadFault};

@@ -3,7 +3,7 @@ ghost use Rattle.std.specs.List.{AllByRecursion};
 ghost use Rattle.mdf_group.specs.Recordable.{AreRecordable};
 ghost use Rattle.mdf_tree.specs.Group.{next_if, group_body, group_blocks, groups_blocks};
 ghost use Rattle.mdf_tree.specs.Head.{header_block, history_blocks, head_blocks, new_entry};
-ghost use Rattle.mdf_spell.specs.Recording.{start_head, values_row, values_rows, variable_count, value_links, recording_data, recording_groups, ArePlacedBefore, recording_blocks, head_file, IsRecordingTree, FindsHead, FindsGroups};
+ghost use Rattle.mdf_spell.specs.Recording.{start_head, values_row, values_rows, variable_count, value_links, recording_data, recording_groups, ArePlacedBefore, head_file, IsRecordingTree, FindsHead, FindsGroups};
 ghost use Rattle.mdf_tree.specs.Sized.{IsWholeSized};
 
 use crate::history::new_entry;

@@ -1,4 +1,4 @@
-ghost use Rattle.std.specs.Prelude.{◌≡◌, length, filter, sum_by, IfOk};
+ghost use Rattle.std.specs.Prelude.{◌≡◌, length, filter, IfOk};
 ghost use Rattle.mdf_group.specs.Recordable.{is_of_values};
 ghost use Rattle.mdf_spell.specs.Recording.{block_links, variable_count};
 

@@ -20,7 +20,7 @@ pub struct DataView {
 }
 
 impl Model for DataView {
-    ghost use Rattle.std.specs.Prelude.{List, map, ◌<◌, ◌^◌};
+    ghost use Rattle.std.specs.Prelude.{List, ◌<◌, ◌^◌};
     ghost use Rattle.mdf_stream.specs.declared.part.Part.{Part};
     ghost use Rattle.mdf_stream.specs.Stretch.{parts_of, AreJoined};
 

@@ -1,4 +1,4 @@
-ghost use Rattle.std.specs.Prelude.{◌≡◌, ◌∷◌, [], All, IfOk, length};
+ghost use Rattle.std.specs.Prelude.{◌≡◌, [], All, IfOk, length};
 ghost use Rattle.mdf_layout.specs.Layout.{record_size};
 ghost use Rattle.mdf_layout.specs.Written.{AreApart, AreEntriesOf};
 ghost use Rattle.mdf_layout.specs.Stored.{IsStored};

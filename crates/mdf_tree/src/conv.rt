@@ -1,5 +1,5 @@
 ghost use Rattle.std.specs.Prelude.{◌≡◌, ◌+◌, ◌^◌, ◌≤◌, [], ◌∷◌, ◌++◌, length, IfOk, OnOk};
-ghost use Rattle.mdf_tree.specs.Conv.{conv_body, ref_blocks, ref_link, refs_blocks, refs_links, conv_first, conv_head_links, conv_links, conv_own, conv_blocks_by, conv_blocks};
+ghost use Rattle.mdf_tree.specs.Conv.{conv_body, ref_blocks, ref_link, refs_blocks, refs_links, conv_links, conv_own, conv_blocks_by, conv_blocks};
 ghost use Rattle.mdf_tree.specs.Group.{conv_part, conv_link};
 
 use crate::count::{LEVELS, ref_count};

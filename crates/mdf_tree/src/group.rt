@@ -1,7 +1,6 @@
 ghost use Rattle.std.specs.Prelude.{◌≡◌, ◌+◌, [], ◌∷◌, ◌++◌, length, IfOk, OnOk};
 ghost use Rattle.std.specs.List.{AllByRecursion};
-ghost use Rattle.mdf_group.specs.Group.{is_variable};
-ghost use Rattle.mdf_tree.specs.Group.{next_if, next_link, past_group, past_groups, group_body, group_own, group_values, group_values_behind, group_blocks, groups_blocks, IsChannelSized};
+ghost use Rattle.mdf_tree.specs.Group.{next_if, past_group, past_groups, group_body, group_own, group_values, group_values_behind, group_blocks, IsChannelSized};
 ghost use Rattle.mdf_tree.specs.Places.{AreGroupPlaces, counted_row};
 ghost use Rattle.mdf_tree.specs.Sized.{IsRowSized};
 

@@ -23,7 +23,7 @@ use Rattle.mdf_content.specs.Records.{record_size, size_of, known_of}
 use Rattle.mdf_content.specs.Contents.{taken, leaves_nothing, are_said, has_id, are_ids_apart}
 use Rattle.mdf_model.specs.declared.whole.Whole.{Whole}
 use Rattle.mdf_model.specs.Measurement as model
-use Rattle.mdf_model.specs.Measurement.{measures, Measured, measured, measurement}
+use Rattle.mdf_model.specs.Measurement.{measures, Measured, measurement}
 use Rattle.mdf_valid.specs.Bodies.{is_of, bodies}
 use Rattle.mdf_valid.specs.Contents.{empties_in, IsDataSplit}
 use Rattle.mdf_valid.specs.Measurement.{IsValidData, IsValidFile}

@@ -6,7 +6,7 @@ use Rattle.mdf_format.specs.declared.kind.Kind.{Kind}
 use Rattle.mdf_format.specs.declared.kind.Kind.TheVariants.{Dt, Sd}
 use Rattle.mdf_block.specs.declared.what.What.TheVariants as whats
 use Rattle.mdf_block.specs.Refusal as refusals
-use Rattle.mdf_block.specs.Refusal.{Refusal, Bad, Compressed, TooMany, UnknownId, Cut, Cycles, Offset, Read, ◌>>=◌}
+use Rattle.mdf_block.specs.Refusal.{Refusal, Bad, Compressed, TooMany, ◌>>=◌}
 use Rattle.mdf_block.specs.Truth.{IsTrueOf}
 use Rattle.mdf_block.proofs.Wholes.{chosen}
 use Rattle.mdf_block.proofs.Truths.{Refusing, refusing_none, refusing_one, refusing_then, refusing_if, refusing_as}

@@ -1,4 +1,4 @@
-ghost use Rattle.std.specs.Prelude.{◌≡◌, ◌↔◌, IsTrue, IfOk, IfErr, IfSome};
+ghost use Rattle.std.specs.Prelude.{◌↔◌, IsTrue, IfOk, IfErr, IfSome};
 ghost use Rattle.mdf_block.specs.Refusal.{GivesOf};
 ghost use Rattle.mdf_content.specs.Fault.{read_refusal};
 ghost use Rattle.mdf_model.specs.Measurement.{measurement};

@@ -8,7 +8,7 @@ use Rattle.script_line.specs.Text.{words_of, is_end, is_name}
 use Rattle.script_line.specs.Number.{number_of}
 use Rattle.script_line.specs.Kind.{packed, at_byte, long, behind, up_to, count_behind, or_else, number_type, named_type, type_of, is_number, IsType}
 use Rattle.script_line.specs.Line as said
-use Rattle.script_line.specs.Line.{is_passed, IsSaid, IsForm, group_of, marks_of, form_with, channel_with, channel_of, unit_of, one_number, block_of, session_of, flush_of, alone, worded, worded_plan, worded_list, line_of}
+use Rattle.script_line.specs.Line.{is_passed, IsSaid, group_of, marks_of, form_with, channel_with, channel_of, unit_of, one_number, block_of, session_of, flush_of, alone, worded, worded_plan, worded_list, line_of}
 use Rattle.script_line.specs.declared.kind.ValueType.{ValueType}
 use Rattle.script_line.specs.declared.line.Marks.{Marks}
 

@@ -1,6 +1,5 @@
 // The values of a sample.
-ghost use Rattle.std.specs.Prelude.{◌≡◌, ◌<◌, ◌≤◌, ◌^◌, ◌+◌, ◌*◌, ◌↔◌, length, take, drop, IsTrue, IfOk, IfSome, Some, None};
-ghost use Rattle.std.specs.Option.{option_map};
+ghost use Rattle.std.specs.Prelude.{◌≡◌, ◌<◌, ◌≤◌, ◌^◌, ◌+◌, ◌*◌, ◌↔◌, IsTrue, IfOk, IfSome, Some, None};
 ghost use Rattle.script_line.specs.Value.{begins_with, is_marked, unsigned_value, negative_in, positive_in, signed_value, digit_of, pairs_of, bytes_of, fixed_value, long_value, value_of, entry_of, IsReadable};
 
 use crate::number::number_of;

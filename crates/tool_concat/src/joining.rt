@@ -2,7 +2,6 @@ ghost use Rattle.std.specs.Prelude.{◌≡◌, ◌≤◌, true, is_some, IfErr, 
 ghost use Rattle.std.specs.List.{AllByRecursion};
 ghost use Rattle.mdf_disk.specs.Crash.{Adds};
 ghost use Rattle.mdf_disk.specs.State.{state_of};
-ghost use Rattle.mdf_model.specs.Measurement.{measurement};
 ghost use Rattle.mdf_seal.specs.Seal.{IsBlank};
 ghost use Rattle.mdf_sorted.specs.Kept.{StandsIn};
 ghost use Rattle.tool_concat.specs.Concat.{ConcatEnds, IsConcatImage};

@@ -1,5 +1,5 @@
 // Fields and records of a layout.
-ghost use Rattle.std.specs.Prelude.{◌≡◌, ◌+◌, ◌*◌, ◌^◌, ◌<◌, length, slice_index_or, [], Some, slice_get};
+ghost use Rattle.std.specs.Prelude.{◌≡◌, ◌+◌, ◌*◌, ◌<◌, length, slice_index_or, [], Some, slice_get};
 ghost use Rattle.mdf_bits.specs.Field as bits;
 ghost use Rattle.mdf_content.specs.Samples.{record_at};
 ghost use Rattle.mdf_format.specs.Row.{IsNumberPlaced};

@@ -6,7 +6,7 @@ ghost use Rattle.mdf_layout.specs.Rule.{spot_in};
 ghost use Rattle.mdf_layout.specs.declared.field.FieldKind.TheVariants as kinds;
 ghost use Rattle.mdf_model.specs.declared.part.Measure.{Measure};
 ghost use Rattle.mdf_model.specs.Measurement.{HasSamples};
-ghost use Rattle.tool_concat.specs.Moved.{IsVariableAt, offset_in};
+ghost use Rattle.tool_concat.specs.Moved.{offset_in};
 ghost use Rattle.tool_concat.specs.Wide.{HasPast, IsFirstWide, IsFirstWideAt, IsFirstWideIn, IsNoneWide, IsWide, NoneWideTo};
 
 use crate::record::{is_variable, offset_field, record_in, row_at, stream_length};

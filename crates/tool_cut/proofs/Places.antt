@@ -1,5 +1,5 @@
 -- Records that are kept are moved to the front, one behind the other.
-use Rattle.std.proofs.Common.{◌≡◌, ◌+◌, ◌-◌, ◌*◌, ◌≤◌, ℕ, zero, suc, ℤ, Bool, List, [], ◌++◌, length, take, drop, refl, sym, ◌∙◌, ap, arith, drop-drop, length-drop, take-add, zero-mul, mul-le-mul_right}
+use Rattle.std.proofs.Common.{◌≡◌, ◌+◌, ◌-◌, ◌*◌, ◌≤◌, ℕ, ℤ, Bool, List, [], ◌++◌, length, take, drop, refl, sym, ◌∙◌, ap, arith, drop-drop, length-drop, take-add, zero-mul, mul-le-mul_right}
 use Rattle.std.proofs.Math.Seq.{paste, take-paste, drop-paste}
 use Rattle.std.specs.Prelude.{if◌then◌else◌}
 use Rattle.mdf_format.specs.Number.{bytes_at}

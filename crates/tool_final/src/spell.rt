@@ -1,4 +1,4 @@
-ghost use Rattle.std.specs.Prelude.{◌≡◌, IfOk};
+ghost use Rattle.std.specs.Prelude.{IfOk};
 ghost use Rattle.mdf_spell.specs.Counts.{IsCounted};
 ghost use Rattle.tool_final.specs.Finalized.{AreSessionBlocks, IsSessionFile, IsSessionFront, IsOfSession, KeepsSession};
 

@@ -1,11 +1,11 @@
-ghost use Rattle.std.specs.Prelude.{◌≡◌, ◌≤◌, true, is_some, codes, IfOk};
+ghost use Rattle.std.specs.Prelude.{◌≡◌, ◌≤◌, true, is_some, IfOk};
 ghost use Rattle.mdf_block.specs.Refusal.{GivesOf};
 ghost use Rattle.mdf_content.specs.Fault.{read_refusal};
 ghost use Rattle.mdf_disk.specs.Crash.{Adds};
 ghost use Rattle.mdf_disk.specs.State.{state_of};
 ghost use Rattle.mdf_model.specs.Measurement.{measurement};
 ghost use Rattle.mdf_seal.specs.Seal.{IsBlank};
-ghost use Rattle.mdf_sorted.specs.Kept.{StandsIn, IsSortedOf};
+ghost use Rattle.mdf_sorted.specs.Kept.{StandsIn};
 ghost use Rattle.tool_sort.specs.Sort.{SortEnds, IsSortImage};
 
 use mdf_content::ReadFault;

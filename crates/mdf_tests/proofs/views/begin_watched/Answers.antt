@@ -1,4 +1,4 @@
-use Rattle.std.proofs.Common.{◌≡◌, ℕ, ◌+◌, ◌<◌, List, [], ◌∷◌, ◌++◌, length, All, sym, ◌∙◌, ap, subst, arith, length-append}
+use Rattle.std.proofs.Common.{◌≡◌, ◌+◌, List, [], ◌∷◌, ◌++◌, length, All, sym, ◌∙◌, ap, subst, arith, length-append}
 use Rattle.std.proofs.Math.Seq.{get_or-append_seam}
 use Rattle.book_view.specs.Known.{Known}
 use Rattle.mdf_tests.proofs.Begins.{one_group}

@@ -1,4 +1,4 @@
-use Rattle.std.proofs.Common.{◌≡◌, ◌∙◌, sym, ap, ◌+◌, ◌*◌, Some, None, arith}
+use Rattle.std.proofs.Common.{◌∙◌, sym, ap, ◌+◌, ◌*◌, Some, arith}
 use Rattle.script_line.specs.Value.{pairs_of}
 use Rattle.script_line.proofs.Pairs.{in_front, odd_none, pair_more, no_high, no_low, all_pairs}
 use Rattle.script_line.proofs.value.pairs_of.Goals as goal

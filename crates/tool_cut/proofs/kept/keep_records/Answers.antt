@@ -1,4 +1,4 @@
-use Rattle.std.proofs.Common.{◌≡◌, sym, ◌∙◌, arith}
+use Rattle.std.proofs.Common.{arith}
 use Rattle.tool_cut.specs.Kept.{is_kept}
 use Rattle.tool_cut.proofs.Keepings.{count_few}
 use Rattle.tool_cut.proofs.Places.{keeps_more, keeps_none}

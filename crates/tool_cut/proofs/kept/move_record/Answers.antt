@@ -1,4 +1,4 @@
-use Rattle.std.proofs.Common.{◌≡◌, ◌+◌, ◌-◌, ◌*◌, ◌≤◌, ℕ, drop, length, ◌∙◌, ap, arith}
+use Rattle.std.proofs.Common.{◌+◌, ◌-◌, ◌*◌, ◌≤◌, ℕ, drop, length, ◌∙◌, ap, arith}
 use Rattle.std.proofs.Math.Seq.{paste}
 use Rattle.mdf_layout.specs.Layout.{record_size}
 use Rattle.tool_cut.proofs.Keepings.{record_inside}

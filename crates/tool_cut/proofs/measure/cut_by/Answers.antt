@@ -1,4 +1,4 @@
-use Rattle.std.proofs.Common.{◌≡◌, ◌*◌, ℕ, List, length, get_or, sym, ◌∙◌, ap, subst, arith}
+use Rattle.std.proofs.Common.{◌*◌, ℕ, List, length, get_or, sym, ◌∙◌, ap, subst, arith}
 use Rattle.mdf_layout.specs.Layout.{Layout, record_size}
 use Rattle.mdf_layout.specs.Rule.{IsPlacedAs, spot_in}
 use Rattle.mdf_model.specs.declared.part.Measure.{Measure}
