@@ -45,3 +45,15 @@ peak() {
 subprocess.run(sys.argv[1:], check=True, stdout=subprocess.DEVNULL)
 print(1024 * resource.getrusage(resource.RUSAGE_CHILDREN).ru_maxrss)' "$@"
 }
+
+# Times the program and a plain copy of a file with one sync, in turn, once that file lies on the disk: with the setting of mdf4rec, but
+# without its look at the sources. Prints of both the best time and the median in microseconds, and the ratio of the medians.
+#
+# usage: beside_copy FILE NAME PROGRAM WORD...
+beside_copy() {
+    local file="$1" name="$2"
+    shift 2
+    sync
+    GLIBC_TUNABLES=glibc.malloc.hugetlb=1 python3 "$here/../paired.py" "$runs" "$work/made.mf4" \
+        'copy' "dd if='$file' of='$work/made.mf4' bs=4M conv=fsync status=none" "$name" "$(printf "'%s' " "$@")"
+}

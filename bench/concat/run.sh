@@ -2,8 +2,8 @@
 # Counts the instructions, or without valgrind the best time in microseconds, of `concat` of a finalized file of 5 MB of three groups
 # with record ids and itself, and of a twin in straight C that reads both files whole, goes over their records once for each group and
 # writes the same file with the same calls. Prints both numbers and their ratio. Of two files of 125 MB, one of three such groups and
-# one of a single group without ids, each joined with itself, it prints the best time of `concat` and of a plain copy of what it makes
-# with one sync in microseconds, and their ratio, which is to be at most 2; and the peak memory of `concat` in bytes and its ratio to
+# one of a single group without ids, each joined with itself, it prints the times of `concat` and of a plain copy of what it makes
+# with one sync, run in turn, in microseconds, and their ratio, which is to be at most 2; and the peak memory of `concat` in bytes and its ratio to
 # the size of what it makes.
 #
 # usage: bench/concat/run.sh [RUNS]
@@ -40,14 +40,12 @@ rm "$work/first.mf4"
 
 # compares `concat` with a plain copy on a file of this shape
 compare() {
-    local file="$work/$1.mf4" ours copy memory
+    local file="$work/$1.mf4" memory
     python3 "$here/../make.py" "$1" 125000000 "$file"
-    ours="$(best /dev/null "$top/mdf4rec" concat "$file" "$file" "$work/made.mf4")"
     memory="$(before && peak "$top/mdf4rec" concat "$file" "$file" "$work/made.mf4")"
     mv "$work/made.mf4" "$work/joined.mf4"
-    copy="$(best /dev/null dd if="$work/joined.mf4" of="$work/made.mf4" bs=4M conv=fsync status=none)"
-    awk -v name="$1" -v ours="$ours" -v copy="$copy" -v memory="$memory" -v size="$(stat -c %s "$work/joined.mf4")" 'BEGIN {
-        printf "%s, time: concat %d, copy %d, ratio %.2f\n", name, ours, copy, ours / copy
+    beside_copy "$work/joined.mf4" "concat, $1" "$maker" concat "$file" "$file" "$work/made.mf4"
+    awk -v name="$1" -v memory="$memory" -v size="$(stat -c %s "$work/joined.mf4")" 'BEGIN {
         printf "%s, memory: concat %d, made %d, ratio %.2f\n", name, memory, size, memory / size
     }'
     rm "$file" "$work/joined.mf4"

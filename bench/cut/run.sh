@@ -2,9 +2,9 @@
 # Counts the instructions, or without valgrind the best time in microseconds, of `cut` of a finalized file of 5 MB of three groups
 # with record ids, of whose masters it keeps all, and of a twin in straight C that reads the file whole, goes over its records once
 # for each group and writes the same file with the same calls. Prints both numbers and their ratio. Of two files of 250 MB,
-# one of three such groups and one of a single group without ids, it prints the best time of `cut` and of a plain copy of the file
-# with one sync in microseconds, and their ratio, which is to be at most 2; and the peak memory of `cut` in bytes and its ratio to
-# the size of the file.
+# one of three such groups and one of a single group without ids, it prints the times of `cut` and of a plain copy of the file
+# with one sync, run in turn, in microseconds, and their ratio, which is to be at most 2; and the peak memory of `cut` in bytes and
+# its ratio to the size of the file.
 #
 # usage: bench/cut/run.sh [RUNS]
 #
@@ -40,13 +40,11 @@ awk -v ours="$ours" -v twin="$twin" 'BEGIN { printf "cut %d, C %d, ratio %.2f\n"
 
 # compares `cut` with a plain copy on a file of this shape
 compare() {
-    local file="$work/$1.mf4" ours copy memory
+    local file="$work/$1.mf4" memory
     python3 "$here/../make.py" "$1" 250000000 "$file"
-    ours="$(best /dev/null "$top/mdf4rec" cut "$file" "$work/made.mf4" "${range[@]}")"
-    copy="$(best /dev/null dd if="$file" of="$work/made.mf4" bs=4M conv=fsync status=none)"
+    beside_copy "$file" "cut, $1" "$maker" cut "$file" "$work/made.mf4" "${range[@]}"
     memory="$(before && peak "$top/mdf4rec" cut "$file" "$work/made.mf4" "${range[@]}")"
-    awk -v name="$1" -v ours="$ours" -v copy="$copy" -v memory="$memory" -v size="$(stat -c %s "$file")" 'BEGIN {
-        printf "%s, time: cut %d, copy %d, ratio %.2f\n", name, ours, copy, ours / copy
+    awk -v name="$1" -v memory="$memory" -v size="$(stat -c %s "$file")" 'BEGIN {
         printf "%s, memory: cut %d, file %d, ratio %.2f\n", name, memory, size, memory / size
     }'
     rm "$file"

@@ -1,6 +1,6 @@
 #!/usr/bin/env bash
 # Compares `finalize` of two recordings of 250 MB, one of small records and one of wide ones, with a plain copy of the file with one
-# sync. Prints of each the best times in microseconds and their ratio, which is to be at most 1.5, and the peak memory of `finalize`
+# sync, run in turn. Prints of each the times in microseconds and their ratio, which is to be at most 1.5, and the peak memory of `finalize`
 # in bytes and its ratio to the size of the file, which is to be at most 2.2.
 #
 # usage: bench/finalize/run.sh [RUNS]
@@ -23,14 +23,12 @@ before() { rm -f "$work/made.mf4"; }
 maker="$top/crates/mdf_cli/out/mdf_cli"
 # compares both on a recording of this shape
 compare() {
-    local file="$work/$1.mf4" ours copy memory
+    local file="$work/$1.mf4" memory
     python3 "$here/../make.py" "$1" 250000000 "$file"
-    ours="$(best /dev/null "$top/mdf4rec" finalize "$file" "$work/made.mf4")"
-    "$maker" check "$work/made.mf4" | grep -qx valid
-    copy="$(best /dev/null dd if="$file" of="$work/made.mf4" bs=4M conv=fsync status=none)"
+    beside_copy "$file" "finalize, $1" "$maker" finalize "$file" "$work/made.mf4"
     memory="$(before && peak "$top/mdf4rec" finalize "$file" "$work/made.mf4")"
-    awk -v name="$1" -v ours="$ours" -v copy="$copy" -v memory="$memory" -v size="$(stat -c %s "$file")" 'BEGIN {
-        printf "%s, time: finalize %d, copy %d, ratio %.2f\n", name, ours, copy, ours / copy
+    "$maker" check "$work/made.mf4" | grep -qx valid
+    awk -v name="$1" -v memory="$memory" -v size="$(stat -c %s "$file")" 'BEGIN {
         printf "%s, memory: finalize %d, file %d, ratio %.2f\n", name, memory, size, memory / size
     }'
     rm "$file"
