@@ -2,7 +2,6 @@
 ghost use Rattle.std.specs.Prelude.{◌≡◌, ℕ, ◌+◌, ◌-◌, ◌*◌, ◌^◌, ◌≤◌, ◌<◌, length, if◌then◌else◌};
 ghost use Rattle.std.specs.Int.{bit_at};
 ghost use Rattle.mdf_format.specs.Field.{bit_of, lowest_first};
-ghost use Rattle.mdf_format.specs.Number.{le_number};
 
 /// Where byte `i` of `len` bytes stands, counted from the lowest one.
 fn byte_place(len: usize, big: bool, i: usize) -> usize
@@ -12,38 +11,17 @@ fn byte_place(len: usize, big: bool, i: usize) -> usize
     if big { len - 1 - i } else { i }
 }
 
-/// The number that eight bytes are, with the lowest first.
-fn word_of_eight(bytes: &[u8]) -> u64
-    requires { length bytes.now ≡ 8 }
-    ensures { result ≡ le_number bytes.now }
-{
-    let mut eight = [0; 8];
-    eight.copy_from_slice(bytes);
-    u64::from_le_bytes(eight)
-}
-
-/// The number that the bytes are, read one after another.
-fn word_of_each(bytes: &[u8], big: bool) -> u128
+/// The number that the bytes are.
+pub(crate) fn word_of(bytes: &[u8], big: bool) -> u128
     requires { length bytes.now ≤ 16 }
-    ensures { result ≡ le_number (lowest_first big bytes.now) }
+    ensures bits { (k : ℕ) → bit_at result k ≡ bit_of (lowest_first big bytes.now) k }
+    ensures fits { result < 2 ^ (8 * length bytes.now) }
 {
     let mut word = 0;
     for i in (0..bytes.len()).rev() {
         word = (word << 8) | bytes[byte_place(bytes.len(), big, i)] as u128;
     }
     word
-}
-
-/// The number that the bytes are. Eight bytes with the lowest first are read at once.
-pub(crate) fn word_of(bytes: &[u8], big: bool) -> u128
-    requires { length bytes.now ≤ 16 }
-    ensures bits { (k : ℕ) → bit_at result k ≡ bit_of (lowest_first big bytes.now) k }
-    ensures fits { result < 2 ^ (8 * length bytes.now) }
-{
-    if bytes.len() == 8 && !big {
-        return word_of_eight(bytes) as u128;
-    }
-    word_of_each(bytes, big)
 }
 
 /// Writes the number into all of the bytes, one after another.

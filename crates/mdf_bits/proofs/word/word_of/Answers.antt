@@ -1,26 +1,26 @@
-use Rattle.std.proofs.Common.{◌≡◌, ◌<◌, ◌*◌, ◌^◌, ℕ, Bool, false, sym, ◌∙◌, ap, subst₂, rules}
-use Rattle.std.specs.Int.{bit_at}
-use Rattle.mdf_format.specs.Field.{bit_of, lowest_first}
-use Rattle.mdf_bits.proofs.Orders.{are_bytes, bit_at-le_number, le_number-lt, length-lowest_first, lowest_first_bytes}
+use Rattle.std.proofs.Common.{◌≡◌, ◌-◌, suc, drop, sym, ◌∙◌, ap, arith}
+use Rattle.mdf_format.specs.Field.{lowest_first}
+use Rattle.mdf_format.specs.Number.{le_number}
+use Rattle.mdf_bits.proofs.Orders.{are_bytes, bit_at-le_number, le_number-lower, le_number-lt, length-lowest_first, lowest_first_bytes}
 use Rattle.mdf_bits.proofs.word.word_of.Goals as goal
 
-pub returns-then-not-big-clause-bits : goal.returns-then-not-big-clause-bits
-returns-then-not-big-clause-bits c = λ k.
+pub loop-i-preserved : goal.loop-i-preserved
+loop-i-preserved c =
+    let big = c.args.big in
     let bytes = c.args.bytes.now in
-    let little : c.args.big ≡ false = search rules in
-    ap (λ (n : ℕ). bit_at n k) c.word_of_eight.ensures
-    ∙ bit_at-le_number bytes k (are_bytes bytes c.type_inv.bytes)
-    ∙ ap (λ (big : Bool). bit_of (lowest_first big bytes) k) (sym little)
+    let below : c.loop-i.i ≡ suc (c.loop-i.i - 1) = omega arith in
+    let so_far = c.loop-i.invariant ∙ ap (λ n. le_number (drop n (lowest_first big bytes))) below in
+    rw c.byte_place.ensures (le_number-lower big bytes (c.loop-i.i - 1) c.loop-i.word (are_bytes bytes c.type_inv.bytes) c.requires (omega arith) so_far)
 
 pub returns-clause-bits : goal.returns-clause-bits
 returns-clause-bits c = λ k.
-    let bytes = c.args.bytes.now in
-    let ordered = lowest_first_bytes c.args.big bytes (are_bytes bytes c.type_inv.bytes) in
-    ap (λ (n : ℕ). bit_at n k) c.word_of_each.ensures ∙ bit_at-le_number (lowest_first c.args.big bytes) k ordered
+    let ordered = lowest_first_bytes c.args.big c.args.bytes.now (are_bytes c.args.bytes.now c.type_inv.bytes) in
+    let done : c.loop-i.i ≡ 0 = omega arith in
+    rw (c.loop-i.invariant, done) (bit_at-le_number (lowest_first c.args.big c.args.bytes.now) k ordered)
 
 pub returns-clause-fits : goal.returns-clause-fits
 returns-clause-fits c =
-    let bytes = c.args.bytes.now in
-    let ordered = lowest_first_bytes c.args.big bytes (are_bytes bytes c.type_inv.bytes) in
-    subst₂ (λ (n many : ℕ). n < 2 ^ (8 * many)) (sym c.word_of_each.ensures) (length-lowest_first c.args.big bytes)
-    (le_number-lt (lowest_first c.args.big bytes) ordered)
+    let ordered = lowest_first_bytes c.args.big c.args.bytes.now (are_bytes c.args.bytes.now c.type_inv.bytes) in
+    let done : c.loop-i.i ≡ 0 = omega arith in
+    let long = length-lowest_first c.args.big c.args.bytes.now in
+    rw (c.loop-i.invariant, done, sym long) (le_number-lt (lowest_first c.args.big c.args.bytes.now) ordered)
