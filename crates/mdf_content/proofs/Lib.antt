@@ -7,3 +7,5 @@ pub mod Spots
 pub mod Strictness
 pub mod Samples
 pub mod Evens
+pub mod Lefts
+pub mod Backs

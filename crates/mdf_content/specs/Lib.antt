@@ -4,3 +4,4 @@ pub mod Records
 pub mod Values
 pub mod Samples
 pub mod Contents
+pub mod Left

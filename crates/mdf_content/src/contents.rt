@@ -1,4 +1,4 @@
-ghost use Rattle.std.specs.Prelude.{◌≡◌, ◌+◌, ◌*◌, ◌≤◌, ◌<◌, ◌++◌, ◌||◌, not, nat_eq, ℕ, List, Some, length, map, take, true, false, IfOk, IfErr, OnOk};
+ghost use Rattle.std.specs.Prelude.{◌≡◌, ◌+◌, ◌*◌, ◌≤◌, ◌<◌, ◌++◌, ◌||◌, not, nat_eq, if◌then◌else◌, ℕ, List, [], Some, length, map, take, true, false, IfOk, IfErr, OnOk};
 ghost use Rattle.std.specs.List.{AllByRecursion};
 ghost use Rattle.std.specs.Ordering.{nat_cmp};
 ghost use Rattle.std.specs.BTreeSet.{contains};
@@ -26,6 +26,7 @@ ghost use Rattle.mdf_content.specs.Contents.{
   leaves_nothing,
   taken,
 };
+ghost use Rattle.mdf_content.specs.Left.{all_without, contents_without, data_read, found_without};
 
 use crate::layouts::{is_variable, layout_in, layouts_in};
 use crate::lower::view_of;
@@ -167,7 +168,7 @@ fn even_content_in<P: Span>(
 }
 
 /// The bytes of so many records of a size, one record behind the other.
-fn content_in<P: Span>(
+pub(crate) fn content_in<P: Span>(
     alloc: Global,
     span: &mut P,
     view: &DataView,
@@ -190,7 +191,33 @@ fn content_in<P: Span>(
     listed_content_in(alloc, span, view, size, places, count, room)
 }
 
-/// What is read of a group that holds no values, whose records have these places.
+/// The same, or no bytes where they are left in the file.
+fn content_where<P: Span>(
+    alloc: Global,
+    span: &mut P,
+    view: &DataView,
+    group: &GroupRow,
+    places: &Places,
+    count: u64,
+    left: bool,
+    room: &mut Room,
+) -> Result<Bytes, Stop>
+    requires inside { ArePartsInside (P.size span.old) view.now }
+    requires room { AllByRecursion (λ place. place + record_size group.now ≤ stream_size view.now) places.now }
+    requires few { count ≤ length places.now }
+    ensures content { IfOk result (λ content. (f : List ℕ) → P.bytes span.old ≡ Some f →
+        content ≡ (if left then [] else content_of (stream_of f view.now) (record_size group.now) (take count places.now))) }
+    ensures same { P.bytes span.new ≡ P.bytes span.old }
+    ensures size { P.size span.new ≡ P.size span.old }
+    ensures cause { StopCause true (P.faults span.old) (P.faults span.new) result }
+{
+    if left {
+        return Ok(Bytes::empty(alloc));
+    }
+    content_in(alloc, span, view, record_size(group), places, count, room)
+}
+
+/// What is read of a group that holds no values, whose records have these places. Their bytes may be left in the file.
 ///
 /// # Errors
 /// `Layout` exactly where a channel breaks a rule of layouts. Else of each channel of variable length in order: the fault
@@ -203,13 +230,14 @@ fn contents_in<P: Span>(
     believed: bool,
     group: &GroupRow,
     places: &Places,
+    left: bool,
     room: &mut Room,
 ) -> Result<Contents, Halt<ReadFault>>
     requires held { IsHeld (P.size span.old) held.now }
     requires other { is_variable group.now ≡ false }
     requires room { AllByRecursion (λ place. place + record_size group.now ≤ stream_size held.now.view.now) places.now }
-    ensures found { (f : List ℕ) → P.bytes span.old ≡ Some f → Gives read_refusal result (contents f (held_of held.now) believed group.now places.now) }
-    ensures samples { (f : List ℕ) → P.bytes span.old ≡ Some f → IfOk result HaveSamples }
+    ensures found { (f : List ℕ) → P.bytes span.old ≡ Some f → Gives read_refusal result (contents_without left f (held_of held.now) believed group.now places.now) }
+    ensures samples { (f : List ℕ) → P.bytes span.old ≡ Some f → left ≡ false → IfOk result HaveSamples }
     ensures plain { IfErr result (IsPlain read_refusal) }
     ensures same { P.bytes span.new ≡ P.bytes span.old }
     ensures size { P.size span.new ≡ P.size span.old }
@@ -223,15 +251,7 @@ fn contents_in<P: Span>(
         count,
     };
     let streams = streams_in(alloc, span, held, &records, group.channels.as_slice(), room)?;
-    let content = content_in(
-        alloc,
-        span,
-        held.view,
-        record_size(group),
-        places,
-        count,
-        room,
-    )?;
+    let content = content_where(alloc, span, held.view, group, places, count, left, room)?;
     Ok(Contents {
         shape,
         count,
@@ -245,13 +265,15 @@ fn contents_in<P: Span>(
 struct Groups<'a> {
     held: &'a Held<'a>,
     believed: bool,
+    left: bool,
 }
 
 impl Visit for Groups<'_> {
     ghost use Rattle.mdf_stream.specs.Parts.{stream_size};
     ghost use Rattle.mdf_content.specs.Records.{HasRoom};
     ghost use Rattle.mdf_content.specs.Values.{IsHeld, held_of};
-    ghost use Rattle.mdf_content.specs.Contents.{HaveSamples, group_item};
+    ghost use Rattle.mdf_content.specs.Contents.{HaveSamples};
+    ghost use Rattle.mdf_content.specs.Left.{item_without};
 
     type Item = GroupRow;
 
@@ -265,13 +287,13 @@ impl Visit for Groups<'_> {
 
     ghost refusal = { read_refusal };
 
-    ghost read = { λ groups file. group_item file (held_of groups.held.now) groups.believed };
+    ghost read = { λ groups file. item_without groups.left file (held_of groups.held.now) groups.believed };
 
     ghost needs = { λ groups size. IsHeld size groups.held.now };
 
     ghost admits = { λ groups. HasRoom (stream_size groups.held.now.view.now) groups.held.now.lists.now };
 
-    ghost gives = { λ _. HaveSamples };
+    ghost gives = { λ groups found. groups.left ≡ false → HaveSamples found };
 
     #[tactic(auto, unfolding(crate::specs::Contents::group_item))]
     fn item_in<P: Span>(
@@ -288,12 +310,21 @@ impl Visit for Groups<'_> {
         }
         let none = Places::empty(alloc);
         let places = places_or(self.held.lists, k, &none);
-        let found = contents_in(alloc, span, self.held, self.believed, item, places, room)?;
+        let found = contents_in(
+            alloc,
+            span,
+            self.held,
+            self.believed,
+            item,
+            places,
+            self.left,
+            room,
+        )?;
         Ok((Some(found), state))
     }
 }
 
-/// What is read of all groups of a data group that hold no values.
+/// What is read of all groups of a data group that hold no values. The bytes of their records may be left in the file.
 ///
 /// # Errors
 /// The first fault of a group, in order; the span's own; and want of memory.
@@ -304,14 +335,14 @@ fn all_contents_in<P: Span>(
     view: &DataView,
     groups: &[GroupRow],
     lists: &[Places],
-    believed: bool,
+    left: bool,
     room: &mut Room,
 ) -> Result<Rows<Contents>, Halt<ReadFault>>
     requires inside { ArePartsInside (P.size span.old) view.now }
     requires room { HaveRoom (stream_size view.now) (map known_of groups.now) lists.now }
     ensures found { (f : List ℕ) → P.bytes span.old ≡ Some f → Gives read_refusal result
-        (all_contents f (record { parts = view.now; groups = groups.now; lists = lists.now }) believed) }
-    ensures samples { (f : List ℕ) → P.bytes span.old ≡ Some f → IfOk result (AllByRecursion HaveSamples) }
+        (all_without left f (record { parts = view.now; groups = groups.now; lists = lists.now }) true) }
+    ensures samples { (f : List ℕ) → P.bytes span.old ≡ Some f → left ≡ false → IfOk result (AllByRecursion HaveSamples) }
     ensures plain { IfErr result (IsPlain read_refusal) }
     ensures same { P.bytes span.new ≡ P.bytes span.old }
     ensures size { P.size span.new ≡ P.size span.old }
@@ -326,7 +357,8 @@ fn all_contents_in<P: Span>(
     };
     let visit = Groups {
         held: &held,
-        believed,
+        believed: true,
+        left,
     };
     let (found, _) = every_in(alloc, &visit, span, groups, (), room)?;
     Ok(found)
@@ -398,7 +430,7 @@ fn is_strict(alloc: Global, row: &DataRow, total: u64, lists: &[Places]) -> Resu
     are_ids_apart(alloc, groups)
 }
 
-/// What is read of a data group whose records are found.
+/// What is read of a data group whose records are found. Their bytes may be left in the file.
 #[tactic(auto, unfolding(crate::specs::Contents::found_of))]
 fn found_in<P: Span>(
     alloc: Global,
@@ -406,18 +438,19 @@ fn found_in<P: Span>(
     view: &DataView,
     row: &DataRow,
     lists: &[Places],
+    left: bool,
     room: &mut Room,
 ) -> Result<DataContents, Halt<ReadFault>>
     requires inside { ArePartsInside (P.size span.old) view.now }
     requires room { HaveRoom (stream_size view.now) (map known_of row.now.groups) lists.now }
-    ensures found { (f : List ℕ) → P.bytes span.old ≡ Some f → Gives read_refusal result (found_of f view.now row.now lists.now) }
-    ensures samples { (f : List ℕ) → P.bytes span.old ≡ Some f → IfOk result AllHaveSamples }
+    ensures found { (f : List ℕ) → P.bytes span.old ≡ Some f → Gives read_refusal result (found_without left f view.now row.now lists.now) }
+    ensures samples { (f : List ℕ) → P.bytes span.old ≡ Some f → left ≡ false → IfOk result AllHaveSamples }
     ensures plain { IfErr result (IsPlain read_refusal) }
     ensures same { P.bytes span.new ≡ P.bytes span.old }
     ensures size { P.size span.new ≡ P.size span.old }
     ensures cause { HaltCause true (P.faults span.old) (P.faults span.new) result }
 {
-    let groups = all_contents_in(alloc, span, view, row.groups.as_slice(), lists, true, room)?;
+    let groups = all_contents_in(alloc, span, view, row.groups.as_slice(), lists, left, room)?;
     let strict = is_strict(alloc, row, view.len(), lists)?;
     Ok(DataContents { groups, strict })
 }
@@ -431,16 +464,19 @@ fn found_in<P: Span>(
 /// there are; and of the groups in order, of each channel of variable length the fault of its link to data, and `Offset`
 /// of the first record whose offset meets no value. The span's own; and want of memory, which is answered too where the
 /// room does not suffice for the records and the values.
+///
+/// The bytes of the records are left out where `left` says that they stay in the file; `put_back` puts them there.
 #[tactic(auto, unfolding(crate::specs::Contents::data_of))]
 pub fn data_in<P: Span>(
     alloc: Global,
     span: &mut P,
     row: &DataRow,
     number: u32,
+    left: bool,
     room: &mut Room,
 ) -> Result<(DataContents, u32), Halt<ReadFault>>
-    ensures found { (f : List ℕ) → P.bytes span.old ≡ Some f → Gives read_refusal result (data_of f row.now number) }
-    ensures samples { (f : List ℕ) → P.bytes span.old ≡ Some f → IfOk result (λ found. AllHaveSamples found.0) }
+    ensures found { (f : List ℕ) → P.bytes span.old ≡ Some f → Gives read_refusal result (data_read left f row.now number) }
+    ensures samples { (f : List ℕ) → P.bytes span.old ≡ Some f → left ≡ false → IfOk result (λ found. AllHaveSamples found.0) }
     ensures plain { IfErr result (IsPlain read_refusal) }
     ensures same { P.bytes span.new ≡ P.bytes span.old }
     ensures size { P.size span.new ≡ P.size span.old }
@@ -450,6 +486,6 @@ pub fn data_in<P: Span>(
     let view = view_of(alloc, span, row.content, Kind::Dt)?;
     let lists = records_in(alloc, span, &view, true, row)?;
     let next = counted_in(alloc, span, lists.as_slice(), row.groups.as_slice(), number)?;
-    let found = found_in(alloc, span, &view, row, lists.as_slice(), room)?;
+    let found = found_in(alloc, span, &view, row, lists.as_slice(), left, room)?;
     Ok((found, next))
 }

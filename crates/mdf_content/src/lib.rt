@@ -7,6 +7,7 @@
 mod contents;
 mod fault;
 mod layouts;
+mod left;
 mod lower;
 mod records;
 mod room;
@@ -15,6 +16,7 @@ mod values;
 pub use contents::{Contents, DataContents, data_in};
 pub use fault::ReadFault;
 pub use layouts::{is_variable, layout_in, layouts_in};
+pub use left::put_back;
 pub use mdf_block::{Kind, What};
 pub use records::{count_at, counted_in, record_size, records_in};
 pub use room::Room;

@@ -1,3 +1,4 @@
 pub mod Fronts
 mod Samples
 pub mod Taken
+pub mod Lefts

@@ -1,3 +1,4 @@
 pub mod Tree
 pub mod Whole
 pub mod Measurement
+pub mod Left

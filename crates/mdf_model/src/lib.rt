@@ -10,7 +10,7 @@ mod whole;
 
 pub use identity::{finalized_in, identity_in};
 pub use mdf_content::ReadFault;
-pub use measurement::{Measurement, read_measurement};
+pub use measurement::{Measurement, read_measurement, take_measurement};
 pub use part::{GroupPart, Measure};
 pub use tree::{Tree, tree_in};
 pub use whole::{Whole, whole_in};

@@ -1,4 +1,4 @@
-ghost use Rattle.std.specs.Prelude.{◌≡◌, ◌^◌, ◌<◌, [], Some, length, slice_index_or, IfOk};
+ghost use Rattle.std.specs.Prelude.{◌≡◌, ◌^◌, ◌<◌, List, [], Some, true, length, slice_index_or, IfOk};
 ghost use Rattle.std.specs.List.{AllByRecursion, list_all};
 ghost use Rattle.mdf_content.specs.declared.contents.DataContents.{DataContents};
 ghost use Rattle.mdf_block.specs.Refusal.{GivesOf};
@@ -9,10 +9,12 @@ ghost use Rattle.mdf_content.specs.Samples.{AreSamples, record_at};
 ghost use Rattle.mdf_model.specs.declared.part.Measure.{Measure};
 ghost use Rattle.mdf_model.specs.Measurement.{HasSamples, is_strict, measured, measurement, sample_of, with_records};
 ghost use Rattle.mdf_model.specs.Whole.{whole};
+ghost use Rattle.mdf_model.specs.Left.{AreLeft, HaveSamplesBut, is_left, whole_read};
 
 use crate::part::{GroupPart, Measure, measures_of};
-use crate::whole::{Whole, whole_in};
-use mdf_content::{DataContents, ReadFault};
+use crate::whole::{Whole, is_left, joined, whole_left_in};
+use mdf_content::{DataContents, ReadFault, put_back};
+use mdf_group::DataRow;
 use mdf_head::{Head, History};
 use mdf_layout::{DecodeFault, Entries, Shape};
 use mdf_num::{Bytes, Halt, Memory, Rows, SliceSpan};
@@ -237,16 +239,65 @@ impl Measurement {
     }
 }
 
+/// All that is read of a finalized file in memory. The records of its first data group may be left there.
+fn whole_left_of(alloc: Global, bytes: &[u8], wanted: bool) -> Result<Whole, ReadFault>
+    ensures exact { GivesOf read_refusal result (whole_read wanted bytes.now) }
+    ensures samples { IfOk result (λ all. HaveSamplesBut (is_left wanted all.tree.rows) all.contents) }
+{
+    match whole_left_in(alloc, &mut SliceSpan::new(bytes), wanted) {
+        Ok(all) => Ok(all),
+        Err(Halt::Fault(fault)) => Err(fault),
+        Err(Halt::Failed) => unreachable!(),
+        Err(Halt::Memory) => Err(ReadFault::Memory),
+    }
+}
+
 /// All that is read of a finalized file in memory.
 fn whole_of(alloc: Global, bytes: &[u8]) -> Result<Whole, ReadFault>
     ensures exact { GivesOf read_refusal result (whole bytes.now) }
     ensures samples { IfOk result (λ all. AllByRecursion AllHaveSamples all.contents) }
 {
-    match whole_in(alloc, &mut SliceSpan::new(bytes)) {
-        Ok(all) => Ok(all),
-        Err(Halt::Fault(fault)) => Err(fault),
-        Err(Halt::Failed) => unreachable!(),
-        Err(Halt::Memory) => Err(ReadFault::Memory),
+    whole_left_of(alloc, bytes, false)
+}
+
+/// What the data groups hold, with the records of the first, where they were left in the file.
+fn contents_from(
+    alloc: Global,
+    file: Bytes,
+    rows: &[DataRow],
+    contents: Rows<DataContents>,
+) -> Result<Rows<DataContents>, Memory>
+    requires left { (found : List DataContents) × AreLeft file rows.now contents found }
+    requires samples { HaveSamplesBut (is_left true rows.now) contents }
+    ensures back { (found : List DataContents) → AreLeft file rows.now contents found → IfOk result (λ back. back ≡ found) }
+    ensures samples { IfOk result (AllByRecursion AllHaveSamples) }
+{
+    if !is_left(true, rows) {
+        return Ok(contents);
+    }
+    let mut rest = contents.into_vec();
+    let left = rest.remove(0);
+    let first = put_back(alloc, file, &rows[0], left)?;
+    joined(first, Rows::from_vec(rest))
+}
+
+/// All that is read of a finalized file, which is handed over.
+fn whole_from(alloc: Global, file: Bytes) -> Result<Whole, ReadFault>
+    ensures exact { GivesOf read_refusal result (whole file) }
+    ensures samples { IfOk result (λ all. AllByRecursion AllHaveSamples all.contents) }
+{
+    let Whole {
+        ident,
+        tree,
+        contents,
+    } = whole_left_of(alloc, file.as_slice(), true)?;
+    match contents_from(alloc, file, tree.rows.as_slice(), contents) {
+        Ok(contents) => Ok(Whole {
+            ident,
+            tree,
+            contents,
+        }),
+        Err(Memory) => Err(ReadFault::Memory),
     }
 }
 
@@ -263,6 +314,23 @@ pub fn read_measurement(alloc: Global, bytes: &[u8]) -> Result<Measurement, Read
     ensures exact { GivesOf read_refusal result (measurement bytes.now) }
 {
     let all = whole_of(alloc, bytes)?;
+    match measured_of(alloc, all) {
+        Ok(measurement) => Ok(measurement),
+        Err(Memory) => Err(ReadFault::Memory),
+    }
+}
+
+/// The measurement of a finalized file, as `read_measurement`. The file is handed over: the records of its first data group (DGBLOCK),
+/// where they have no record ids and its data blocks stand in their order, stay in the memory of the file, and no memory is taken for
+/// them; else the file is given back to the allocator.
+///
+/// # Errors
+/// As `read_measurement`.
+#[tactic(auto, unfolding(crate::specs::Measurement::measurement))]
+pub fn take_measurement(alloc: Global, file: Bytes) -> Result<Measurement, ReadFault>
+    ensures exact { GivesOf read_refusal result (measurement file) }
+{
+    let all = whole_from(alloc, file)?;
     match measured_of(alloc, all) {
         Ok(measurement) => Ok(measurement),
         Err(Memory) => Err(ReadFault::Memory),

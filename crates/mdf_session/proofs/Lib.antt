@@ -1,4 +1,4 @@
 pub mod Units
 pub mod Counts
 pub mod Keeps
-pub mod Moves
+

@@ -38,8 +38,3 @@ is_place place = not (nat_eq place 0 || not (nat_eq (place % 8) 0))
 -- the opened blocks from the first place on; there are no more than the file has bytes
 unfoldable pub opened_parts : List ℕ → ℕ → Read (List Part)
 opened_parts file first = if is_place first then opened_from file (length file) first else Err (Bad first Dt)
-
--- each part stands in the file at its place in the stream or behind it, where the first of them has this place
-unfoldable pub AreBehind : ℕ → List Part → Type 0
-AreBehind place [] = Unit {0}
-AreBehind place (part ∷ parts) = (place ≤ part.at) × AreBehind (place + part.len) parts

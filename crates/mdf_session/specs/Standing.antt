@@ -1,11 +1,10 @@
 -- What is read of a recording while its records still stand in the file.
 use Rattle.std.specs.Prelude.{ℕ, ◌≤◌, List}
 use Rattle.mdf_format.specs.Number.{bytes_at}
-use Rattle.mdf_stream.specs.Parts.{ArePartsInside, stream_of, stream_size}
+use Rattle.mdf_stream.specs.Parts.{AreBehind, ArePartsInside, stream_of, stream_size}
 use Rattle.mdf_session.specs.declared.standing.Standing.{Standing}
 use Rattle.mdf_session.specs.declared.session.Kept.{Kept}
 use Rattle.mdf_session.specs.declared.session.Found.{Found}
-use Rattle.mdf_session.specs.Opened.{AreBehind}
 use Rattle.mdf_session.specs.Session.{SessionParts}
 
 -- what a data group holds, with these records

@@ -3,7 +3,6 @@
 #![tactic(auto)]
 
 mod counted;
-mod moved;
 mod opened;
 mod session;
 mod standing;

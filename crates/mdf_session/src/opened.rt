@@ -2,10 +2,10 @@ ghost use Rattle.std.specs.Prelude.{◌≡◌, ◌+◌, ◌^◌, ◌≤◌, ◌<
 ghost use Rattle.mdf_num.specs.Halt.{HaltCause, StopCause};
 ghost use Rattle.mdf_block.specs.Refusal.{Gives, IsPlain};
 ghost use Rattle.mdf_block.specs.Block.{IsInside};
-ghost use Rattle.mdf_stream.specs.Parts.{ArePartsInside, stream_size};
+ghost use Rattle.mdf_stream.specs.Parts.{AreBehind, ArePartsInside, stream_size};
 ghost use Rattle.mdf_stream.specs.Link.{part_of};
 ghost use Rattle.mdf_content.specs.Fault.{read_refusal};
-ghost use Rattle.mdf_session.specs.Opened.{AreBehind, is_open, opened_from, opened_parts, place_behind, unit};
+ghost use Rattle.mdf_session.specs.Opened.{is_open, opened_from, opened_parts, place_behind, unit};
 
 use mdf_block::{BlockAt, BlockFault, block_in};
 use mdf_content::{Kind, ReadFault};

@@ -8,7 +8,6 @@ ghost use Rattle.mdf_group.specs.declared.row.DataRow.{DataRow};
 ghost use Rattle.mdf_session.specs.Session.{HasFirst, recording, session};
 ghost use Rattle.mdf_session.specs.Standing.{StandIn, session_from, with_content};
 
-use crate::moved::moved_front;
 use crate::standing::{Standing, first_standing_in};
 use mdf_content::ReadFault;
 use mdf_group::DataRow;

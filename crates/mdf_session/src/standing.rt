@@ -2,12 +2,11 @@ ghost use Rattle.std.specs.Prelude.{◌≡◌, ◌≤◌, ℕ, List, Some, Ok, l
 ghost use Rattle.mdf_format.specs.Number.{bytes_at};
 ghost use Rattle.mdf_num.specs.Halt.{HaltCause};
 ghost use Rattle.mdf_block.specs.Refusal.{Halts, IsPlain};
-ghost use Rattle.mdf_stream.specs.Parts.{ArePartsInside, stream_size};
+ghost use Rattle.mdf_stream.specs.Parts.{AreBehind, ArePartsInside, stream_size};
 ghost use Rattle.mdf_content.specs.Fault.{read_refusal};
 ghost use Rattle.mdf_data.specs.Places.{HaveRoom};
 ghost use Rattle.mdf_content.specs.Records.{known_of};
 ghost use Rattle.mdf_session.specs.Counted.{records_content};
-ghost use Rattle.mdf_session.specs.Opened.{AreBehind};
 ghost use Rattle.mdf_session.specs.Session.{HasFirst, IsCountedOf, first_kept, kept, kept_of};
 ghost use Rattle.mdf_session.specs.Standing.{StandIn, kept_from, with_content};
 

@@ -10,5 +10,5 @@ mod sorted;
 
 pub use law::{a_measurement_stands, one_sorted_file, other_records_stand};
 pub use made::make_sorted;
-pub use read::read_standing;
+pub use read::take_standing;
 pub use sorted::spell_sorted;

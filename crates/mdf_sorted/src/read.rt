@@ -2,20 +2,30 @@ ghost use Rattle.std.specs.Prelude.{IfOk};
 ghost use Rattle.mdf_block.specs.Refusal.{GivesOf};
 ghost use Rattle.mdf_content.specs.Fault.{read_refusal};
 ghost use Rattle.mdf_model.specs.Measurement.{measurement};
+ghost use Rattle.mdf_spell.specs.Standing.{AreBytes};
 ghost use Rattle.mdf_sorted.specs.Kept.{StandsIn};
 
 use mdf_model::{Measurement, ReadFault};
-use mdf_valid::read_file;
+use mdf_num::Bytes;
+use mdf_valid::take_file;
 use std::alloc::Global;
 
-/// The measurement of a finalized file, as `read_file` of `mdf_valid`. It stands in the file, so a sorted file that is made of it
-/// keeps it.
+/// The items of a slice of bytes are bytes.
+fn are_bytes(bytes: &[u8])
+    ensures { AreBytes bytes.now }
+{
+    let _bytes = bytes;
+}
+
+/// The measurement of a finalized file that is handed over, as `take_file` of `mdf_valid`. It stands in the file, so a sorted file that
+/// is made of it keeps it.
 ///
 /// # Errors
 /// As `read_measurement` of `mdf_model`.
-pub fn read_standing(alloc: Global, bytes: &[u8]) -> Result<Measurement, ReadFault>
-    ensures exact { GivesOf read_refusal result (measurement bytes.now) }
-    ensures stands { IfOk result (StandsIn bytes.now) }
+pub fn take_standing(alloc: Global, file: Bytes) -> Result<Measurement, ReadFault>
+    ensures exact { GivesOf read_refusal result (measurement file) }
+    ensures stands { IfOk result (StandsIn file) }
 {
-    read_file(alloc, bytes)
+    are_bytes(file.as_slice());
+    take_file(alloc, file)
 }

@@ -1,5 +1,6 @@
 pub mod Joins
 pub mod Links
+pub mod Moves
 pub mod Ranges
 pub mod Streams
 pub mod Truths

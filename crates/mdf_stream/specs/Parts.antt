@@ -1,5 +1,5 @@
 -- Parts of a file, read one behind the other as one stream.
-use Rattle.std.specs.Prelude.{ℕ, ◌+◌, ◌≤◌, List, sum_by}
+use Rattle.std.specs.Prelude.{ℕ, ◌+◌, ◌≤◌, List, [], ◌∷◌, sum_by}
 use Rattle.std.specs.List.{flat_map, AllByRecursion}
 use Rattle.mdf_format.specs.Number.{bytes_at}
 use Rattle.mdf_stream.specs.declared.part.Part.{Part}
@@ -22,3 +22,8 @@ IsPartInside size part = part.at + part.len ≤ size
 
 abbrev pub ArePartsInside : ℕ → List Part → Type 0
 ArePartsInside size parts = AllByRecursion (IsPartInside size) parts
+
+-- each part stands in the file at its place in the stream or behind it, where the first of them has this place
+unfoldable pub AreBehind : ℕ → List Part → Type 0
+AreBehind place [] = Unit {0}
+AreBehind place (part ∷ parts) = (place ≤ part.at) × AreBehind (place + part.len) parts

@@ -6,6 +6,7 @@
 mod fault;
 mod law;
 mod link;
+mod moved;
 mod part;
 mod stretch;
 mod view;
@@ -14,5 +15,6 @@ pub use fault::DataFault;
 pub use law::{a_range_has_its_bytes, streams_agree};
 pub use link::{view_data, view_data_in};
 pub use mdf_format::Kind;
+pub use moved::moved_front;
 pub use part::Part;
 pub use view::DataView;

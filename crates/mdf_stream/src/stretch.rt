@@ -1,9 +1,9 @@
-ghost use Rattle.std.specs.Prelude.{◌≡◌, ◌+◌, ◌-◌, ◌^◌, ◌≤◌, ◌<◌, ◌++◌, ◌∷◌, ℕ, List, Some, length, drop, slice_index_or, IsTrue, IfOk, OnOk};
+ghost use Rattle.std.specs.Prelude.{◌≡◌, ◌+◌, ◌-◌, ◌^◌, ◌≤◌, ◌<◌, ◌↔◌, ◌++◌, ◌∷◌, ℕ, List, Some, length, drop, slice_index_or, IsTrue, IfOk, OnOk};
 ghost use Rattle.std.specs.List.Sorted.{IsNonDecreasingBy};
 ghost use Rattle.mdf_format.specs.Number.{bytes_at};
 ghost use Rattle.mdf_num.specs.Halt.{StopCause};
 ghost use Rattle.mdf_stream.specs.declared.stretch.Stretch.{Stretch};
-ghost use Rattle.mdf_stream.specs.Parts.{stream_of, ArePartsInside};
+ghost use Rattle.mdf_stream.specs.Parts.{AreBehind, stream_of, ArePartsInside};
 ghost use Rattle.mdf_stream.specs.Stretch.{parts_of, AreJoined, front_len, front_part};
 ghost use Rattle.mdf_stream.specs.Range.{parts_between};
 
@@ -73,19 +73,22 @@ pub(crate) fn stretch_of(items: &[Stretch], end: u64, at: u64, near: &mut usize)
     items[k]
 }
 
-/// The first part of the range of `len` bytes from a place of the stream on.
-pub(crate) fn front_of(items: &[Stretch], end: u64, at: u64, len: u64) -> Part
+/// The first part of the range of `len` bytes from a place of the stream on. Part `near` and the next are tried first; it becomes
+/// the number of the part that has it.
+pub(crate) fn front_of(items: &[Stretch], end: u64, at: u64, len: u64, near: &mut usize) -> Part
     requires joined { AreJoined 0 items.now end }
     requires some { 0 < len }
     requires within { at + len ≤ end }
     ensures some { 0 < result.len }
     ensures most { result.len ≤ len }
     ensures fits { result.at + result.len < 2 ^ 64 }
+    ensures inside { (size : ℕ) → ArePartsInside size (parts_of items.now) → result.at + result.len ≤ size }
+    ensures bytes { (f : List ℕ) → ArePartsInside (length f) (parts_of items.now) →
+        bytes_at result.len (stream_of f (parts_of items.now)) at ≡ bytes_at result.len f result.at }
     ensures range { parts_between (parts_of items.now) at len
         ≡ result ∷ parts_between (parts_of items.now) (at + result.len) (len - result.len) }
 {
-    let mut near = 0;
-    let stretch = stretch_of(items, end, at, &mut near);
+    let stretch = stretch_of(items, end, at, near);
     let left = stretch.end - at;
     Part {
         at: stretch.part.at + (stretch.part.len - left),
@@ -115,11 +118,9 @@ fn front_in<P: Span>(
     ensures size { P.size span.new ≡ P.size span.old }
     ensures cause { StopCause P.may_want (P.faults span.old) (P.faults span.new) result }
 {
-    let stretch = stretch_of(items, end, at, near);
-    let left = stretch.end - at;
-    let place = stretch.part.at + (stretch.part.len - left);
-    let count = (buf.len() as u64).min(left) as usize;
-    span.fill(place, &mut buf[..count])?;
+    let part = front_of(items, end, at, buf.len() as u64, near);
+    let count = part.len as usize;
+    span.fill(part.at, &mut buf[..count])?;
     Ok(count)
 }
 
@@ -147,4 +148,19 @@ pub(crate) fn fill_in<P: Span>(
         done += front_in(span, items, end, at + done as u64, &mut buf[done..], near)?;
     }
     Ok(())
+}
+
+/// Whether each part stands in the file at its place in the stream or behind it.
+pub(crate) fn are_behind(items: &[Stretch], end: u64) -> bool
+    requires { AreJoined 0 items.now end }
+    ensures { IsTrue result ↔ AreBehind 0 (parts_of items.now) }
+{
+    let mut k = 0;
+    while k < items.len() {
+        if items[k].end > items[k].part.at + items[k].part.len {
+            return false;
+        }
+        k += 1;
+    }
+    true
 }

@@ -1,11 +1,11 @@
 ghost use Rattle.std.specs.Prelude.{◌≡◌, ◌+◌, ◌-◌, ◌^◌, ◌≤◌, ◌<◌, ◌↔◌, ◌++◌, ◌∷◌, [], ℕ, List, Some, length, take, IsTrue, IfOk, OnOk, OnErr};
 ghost use Rattle.mdf_format.specs.Number.{le_number, bytes_at};
 ghost use Rattle.mdf_num.specs.Halt.{StopCause};
-ghost use Rattle.mdf_stream.specs.Parts.{stream_of, stream_size, ArePartsInside};
+ghost use Rattle.mdf_stream.specs.Parts.{AreBehind, stream_of, stream_size, ArePartsInside};
 ghost use Rattle.mdf_stream.specs.Range.{parts_between};
 
 use crate::Part;
-use crate::stretch::{Stretch, fill_in, front_of};
+use crate::stretch::{Stretch, are_behind, fill_in, front_of};
 use mdf_block::u32_field;
 use mdf_num::{Memory, SliceSpan, Span, Stop};
 use std::alloc::Global;
@@ -56,6 +56,13 @@ impl DataView {
         self.len() == 0
     }
 
+    /// Whether each part stands in the file at its place in the stream or behind it.
+    pub fn is_behind(&self) -> bool
+        ensures { IsTrue result ↔ AreBehind 0 self.now }
+    {
+        are_behind(self.items.as_slice(), self.end)
+    }
+
     /// Adds the `len` bytes from `at` on at the end of the stream.
     ///
     /// # Errors
@@ -87,8 +94,9 @@ impl DataView {
     {
         let mut place = at;
         let mut left = len;
+        let mut near = 0;
         while left > 0 {
-            let part = front_of(view.items.as_slice(), view.end, place, left);
+            let part = front_of(view.items.as_slice(), view.end, place, left, &mut near);
             self.add(part.at, part.len)?;
             place += part.len;
             left -= part.len;
@@ -124,6 +132,20 @@ impl DataView {
             return Err(memory);
         }
         Ok(())
+    }
+
+    /// The first part of the range of `len` bytes from a place of the stream on: where in the file its next bytes stand. Part `near`
+    /// of the stream and the next are tried first: any number will do, and it becomes the number of the part that has it.
+    pub fn first_part(&self, at: u64, len: u64, near: &mut usize) -> Part
+        requires some { 0 < len }
+        requires within { at + len ≤ stream_size self.now }
+        ensures some { 0 < result.len }
+        ensures most { result.len ≤ len }
+        ensures inside { (size : ℕ) → ArePartsInside size self.now → result.at + result.len ≤ size }
+        ensures bytes { (f : List ℕ) → ArePartsInside (length f) self.now → bytes_at result.len (stream_of f self.now) at ≡ bytes_at result.len f result.at }
+        ensures range { parts_between self.now at len ≡ result ∷ parts_between self.now (at + result.len) (len - result.len) }
+    {
+        front_of(self.items.as_slice(), self.end, at, len, near)
     }
 
     /// As `read_in`, where part `near` of the stream and the next are tried first: any number will do, and it becomes the

@@ -9,4 +9,4 @@ pub use law::{
     a_refusal_is_true, measurements_agree, refused_data_has_no_measurement, strict_is_valid,
     what_is_placed_anew_is_the_same, what_is_read_is_the_measurement,
 };
-pub use read::read_file;
+pub use read::{read_file, take_file};

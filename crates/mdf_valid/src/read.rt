@@ -5,7 +5,8 @@ ghost use Rattle.mdf_model.specs.Measurement.{measurement};
 ghost use Rattle.mdf_valid.specs.Measurement.{IsMeasurement, IsValidFile};
 ghost use Rattle.mdf_valid.specs.Truth.{IsTrueOfFile};
 
-use mdf_model::{Measurement, ReadFault, read_measurement};
+use mdf_model::{Measurement, ReadFault, read_measurement, take_measurement};
+use mdf_num::Bytes;
 use std::alloc::Global;
 
 /// The measurement of a finalized file, as `read_measurement` of `mdf_model`, with what it is in the standard's words: it
@@ -20,4 +21,17 @@ pub fn read_file(alloc: Global, bytes: &[u8]) -> Result<Measurement, ReadFault>
     ensures refused { IfErr result (λ fault. IfSome (read_refusal fault) (IsTrueOfFile bytes.now)) }
 {
     read_measurement(alloc, bytes)
+}
+
+/// The measurement of a finalized file that is handed over, as `take_measurement` of `mdf_model`, with what `read_file` says of it.
+///
+/// # Errors
+/// As `read_measurement`.
+pub fn take_file(alloc: Global, file: Bytes) -> Result<Measurement, ReadFault>
+    ensures exact { GivesOf read_refusal result (measurement file) }
+    ensures measurement { IfOk result (λ m. IsMeasurement file m.head m.history m.groups) }
+    ensures strict { IfOk result (λ m. IsTrue m.strict ↔ IsValidFile file) }
+    ensures refused { IfErr result (λ fault. IfSome (read_refusal fault) (IsTrueOfFile file)) }
+{
+    take_measurement(alloc, file)
 }

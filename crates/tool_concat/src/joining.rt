@@ -16,28 +16,28 @@ use mdf_content::ReadFault;
 use mdf_disk::Disk;
 use mdf_model::Measurement;
 use mdf_num::{Bytes, Memory};
-use mdf_sorted::{make_sorted, read_standing};
+use mdf_sorted::{make_sorted, take_standing};
 use mdf_tool::{Made, Report, ToolFault, write_made};
 use std::alloc::Global;
 
-/// The measurement of the first file, which is given back to the allocator.
+/// The measurement of the first file, which is handed over.
 fn first_of(alloc: Global, file: Bytes) -> Result<Measurement, ConcatFault>
     ensures read { FirstRead file result }
     ensures stands { IfOk result (StandsIn file) }
 {
-    match read_standing(alloc, file.as_slice()) {
+    match take_standing(alloc, file) {
         Ok(found) => Ok(found),
         Err(ReadFault::Memory) => Err(ConcatFault::Memory),
         Err(fault) => Err(ConcatFault::First(fault)),
     }
 }
 
-/// The measurement of the second file, which is given back to the allocator.
+/// The measurement of the second file, which is handed over.
 fn second_of(alloc: Global, file: Bytes) -> Result<Measurement, ConcatFault>
     ensures read { SecondRead file result }
     ensures stands { IfOk result (StandsIn file) }
 {
-    match read_standing(alloc, file.as_slice()) {
+    match take_standing(alloc, file) {
         Ok(found) => Ok(found),
         Err(ReadFault::Memory) => Err(ConcatFault::Memory),
         Err(fault) => Err(ConcatFault::Second(fault)),

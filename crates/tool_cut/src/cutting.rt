@@ -1,32 +1,20 @@
-ghost use Rattle.std.specs.Prelude.{◌≡◌, ◌≤◌, true, is_some, IfOk};
+ghost use Rattle.std.specs.Prelude.{◌≡◌, ◌≤◌, true, is_some};
 ghost use Rattle.std.specs.List.{AllByRecursion};
-ghost use Rattle.mdf_block.specs.Refusal.{GivesOf};
-ghost use Rattle.mdf_content.specs.Fault.{read_refusal};
 ghost use Rattle.mdf_disk.specs.Crash.{Adds};
 ghost use Rattle.mdf_disk.specs.State.{state_of};
-ghost use Rattle.mdf_model.specs.Measurement.{HasSamples, measurement};
+ghost use Rattle.mdf_model.specs.Measurement.{HasSamples};
 ghost use Rattle.mdf_seal.specs.Seal.{IsBlank};
-ghost use Rattle.mdf_sorted.specs.Kept.{StandsIn};
 ghost use Rattle.tool_cut.specs.Cut.{CutEnds, IsCutImage};
 ghost use Rattle.tool_cut.specs.Kept.{cut_of};
 
 use crate::master::Range;
 use crate::measure::cut_all;
-use mdf_content::ReadFault;
 use mdf_disk::Disk;
 use mdf_model::Measurement;
 use mdf_num::Bytes;
-use mdf_sorted::{make_sorted, read_standing};
+use mdf_sorted::{make_sorted, take_standing};
 use mdf_tool::{Report, ToolFault, write_made};
 use std::alloc::Global;
-
-/// The measurement of a file, which is given back to the allocator before anything is made of it.
-fn measurement_of(alloc: Global, file: Bytes) -> Result<Measurement, ReadFault>
-    ensures exact { GivesOf read_refusal result (measurement file) }
-    ensures stands { IfOk result (StandsIn file) }
-{
-    read_standing(alloc, file.as_slice())
-}
 
 /// The measurement with those records alone whose master lies in the range. It takes no memory.
 fn cut_in(alloc: Global, found: Measurement, range: Range) -> Measurement
@@ -42,7 +30,8 @@ fn cut_in(alloc: Global, found: Measurement, range: Range) -> Measurement
 /// number from `from` on and below `to`, under a seal, on a disk that is attached with an empty file, and answers what is told
 /// of it. The master of a group is its first channel of kind 2 with data type 0 to 5 (CNBLOCK); its number counts whether it
 /// is valid or not, and that of a float is the number that its bits are. A group without a master is kept whole, and so are
-/// the values of variable length. The input is given back to the allocator before the output is made.
+/// the values of variable length. The input is handed over: it is given back to the allocator before the output is made, or its memory holds
+/// records that the output is made of.
 ///
 /// # Errors
 /// `Read` where the file is refused, with its first fault; `Memory` where memory runs out: of both no call of the disk was
@@ -64,7 +53,7 @@ pub fn cut<C: Disk>(
     ensures moment { C.moment out.old ≤ C.moment out.new }
     ensures told { is_some (C.story out.new) ≡ is_some (C.story out.old) }
 {
-    let found = measurement_of(alloc, file)?;
+    let found = take_standing(alloc, file)?;
     let range = Range::new(from, to);
     let cut = cut_in(alloc, found, range);
     let made = make_sorted(alloc, cut, "cut", now_ns)?;

@@ -1,32 +1,18 @@
-ghost use Rattle.std.specs.Prelude.{◌≡◌, ◌≤◌, true, is_some, IfOk};
-ghost use Rattle.mdf_block.specs.Refusal.{GivesOf};
-ghost use Rattle.mdf_content.specs.Fault.{read_refusal};
+ghost use Rattle.std.specs.Prelude.{◌≡◌, ◌≤◌, true, is_some};
 ghost use Rattle.mdf_disk.specs.Crash.{Adds};
 ghost use Rattle.mdf_disk.specs.State.{state_of};
-ghost use Rattle.mdf_model.specs.Measurement.{measurement};
 ghost use Rattle.mdf_seal.specs.Seal.{IsBlank};
-ghost use Rattle.mdf_sorted.specs.Kept.{StandsIn};
 ghost use Rattle.tool_sort.specs.Sort.{SortEnds, IsSortImage};
 
-use mdf_content::ReadFault;
 use mdf_disk::Disk;
-use mdf_model::Measurement;
 use mdf_num::Bytes;
-use mdf_sorted::{make_sorted, read_standing};
+use mdf_sorted::{make_sorted, take_standing};
 use mdf_tool::{Report, ToolFault, write_made};
 use std::alloc::Global;
 
-/// The measurement of a file, which is given back to the allocator before anything is made of it.
-fn measurement_of(alloc: Global, file: Bytes) -> Result<Measurement, ReadFault>
-    ensures exact { GivesOf read_refusal result (measurement file) }
-    ensures stands { IfOk result (StandsIn file) }
-{
-    read_standing(alloc, file.as_slice())
-}
-
 /// Writes the sorted file of a finished file at `now_ns` (ns since 1970) under a seal, on a disk that is attached with an empty
-/// file, and answers what is told of it. The records of each group keep their order. The input is given back to the allocator
-/// before the output is made.
+/// file, and answers what is told of it. The records of each group keep their order. The input is handed over: it is given
+/// back to the allocator before the output is made, or its memory holds records that the output is made of.
 ///
 /// # Errors
 /// `Read` where the file is refused, with the first fault of `read_measurement`; `Memory` where memory runs out: of both no
@@ -46,7 +32,7 @@ pub fn sort<C: Disk>(
     ensures moment { C.moment out.old ≤ C.moment out.new }
     ensures told { is_some (C.story out.new) ≡ is_some (C.story out.old) }
 {
-    let found = measurement_of(alloc, file)?;
+    let found = take_standing(alloc, file)?;
     let made = make_sorted(alloc, found, "sort", now_ns)?;
     write_made(out, made)
 }

@@ -3,7 +3,7 @@ use Rattle.std.proofs.lemmas.Result.{err_from_is_err_and}
 use Rattle.mdf_stream.specs.Parts.{IsPartInside}
 use Rattle.mdf_stream.proofs.Links.{all_more}
 use Rattle.mdf_content.specs.Fault.{read_refusal}
-use Rattle.mdf_session.proofs.Moves.{behind_more, none_behind}
+use Rattle.mdf_stream.proofs.Moves.{behind_more, none_behind}
 use Rattle.mdf_session.proofs.Units.{begins, is_done, goes_on, ends}
 use Rattle.mdf_session.proofs.opened.units_in.Goals as goal
 

@@ -1,6 +1,6 @@
 use Rattle.std.proofs.Common.{◌≡◌, ◌-◌, ◌≤◌, ℕ, List, Some, length}
-use Rattle.mdf_stream.specs.Parts.{ArePartsInside, stream_size}
-use Rattle.mdf_session.specs.Opened.{AreBehind, opened_from}
+use Rattle.mdf_stream.specs.Parts.{AreBehind, ArePartsInside, stream_size}
+use Rattle.mdf_session.specs.Opened.{opened_from}
 use Rattle.mdf_session.proofs.Units.{Opens}
 use Rattle.mdf_session.proofs.opened.units_in.Given as goal
 

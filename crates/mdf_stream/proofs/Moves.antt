@@ -1,14 +1,16 @@
 -- The bytes of a stream are moved to the front of the file, where each part stands at its place in the stream or behind it.
-use Rattle.std.proofs.Common.{◌≡◌, ◌+◌, ◌-◌, ◌≤◌, ℕ, List, [], ◌∷◌, ◌++◌, length, take, drop, refl, sym, ◌∙◌, ap, subst, arith, inl, inr}
+use Rattle.std.proofs.Common.{◌≡◌, ◌+◌, ◌-◌, ◌≤◌, ◌<◌, ℕ, zero, suc, List, [], ◌∷◌, ◌++◌, length, get_or, take, drop, refl, sym, ◌∙◌, ap, subst, arith, inl, inr, ◌⊎◌}
 use Rattle.std.proofs.lemmas.List.{drop-append-le, drop-take}
 use Rattle.std.proofs.lemmas.List.Sums.{sum_by-cons}
 use Rattle.std.proofs.lemmas.Bool.Decides.{leb_tells}
 use Rattle.std.proofs.Math.Seq.{drop-append-add, drop-drop, take-add}
 use Rattle.mdf_format.specs.Number.{bytes_at}
 use Rattle.mdf_stream.specs.declared.part.Part.{Part}
-use Rattle.mdf_stream.specs.Parts.{part_bytes, stream_of, stream_size, IsPartInside, ArePartsInside}
+use Rattle.mdf_stream.specs.declared.stretch.Stretch.{Stretch}
+use Rattle.mdf_stream.specs.Stretch.{parts_of, AreJoined}
+use Rattle.mdf_stream.specs.Range.{part_at, shared, parts_between}
+use Rattle.mdf_stream.specs.Parts.{AreBehind, part_bytes, stream_of, stream_size, IsPartInside, ArePartsInside}
 use Rattle.mdf_stream.proofs.Joins.{length-part}
-use Rattle.mdf_session.specs.Opened.{AreBehind}
 
 -- no part
 pub none_behind : (parts : List Part) → parts ≡ [] → AreBehind 0 parts
@@ -23,6 +25,26 @@ unfolding AreBehind
 behind_more place [] more behind after = (omega (arith, after), tt)
 behind_more place (part ∷ parts) more behind after =
     (behind.0, behind_more (place + part.len) parts more behind.1 (omega (arith, after, sum_by-cons (λ (p : Part). p.len) part parts)))
+
+-- the first part of a range, of which so many bytes lie in this part
+shared_behind : (place at n : ℕ) (part first : Part) (others rest : List Part) → place ≤ part.at
+    → part_at (part.at + at) n ++ others ≡ first ∷ rest → (others ≡ first ∷ rest) ⊎ (place + at ≤ first.at)
+shared_behind place at zero part first others rest behind is = inl is
+shared_behind place at (suc n) part first others rest behind is =
+    let same : part.at + at ≡ first.at = cc in
+    inr (omega (arith, same, behind))
+
+-- the first part of a range stands at its place in the stream or behind it, where all parts do
+pub range_behind : (place : ℕ) (parts : List Part) (at len : ℕ) (first : Part) (rest : List Part) → AreBehind place parts
+    → parts_between parts at len ≡ first ∷ rest → place + at ≤ first.at
+unfolding AreBehind parts_between
+range_behind place [] at len first rest behind is = cc
+range_behind place (part ∷ parts) at len first rest behind is =
+    let n = shared part at len in
+    elim (shared_behind place at n part first (parts_between parts (at - part.len) (len - n)) rest behind.0 is) [
+      | inl later ↦ omega (arith, range_behind (place + part.len) parts (at - part.len) (len - n) first rest behind.1 later)
+      | inr here ↦ here
+    ]
 
 -- the stream is no longer than the file
 pub fits : (size place : ℕ) (parts : List Part) → place ≤ size → AreBehind place parts → ArePartsInside size parts → place + stream_size parts ≤ size
@@ -78,6 +100,31 @@ module _ (xs ys : List ℕ) (from : ℕ) (same : drop from xs ≡ drop from ys) 
             (same_rest (place + part.len) parts 0 (omega (arith, below, less)) behind.1 inside.1 other.1)
             ∙ sym (drop_within ys part (stream_of ys parts) at other.0 less)
       ]
+
+-- parts with their places in the stream: each ends there no further on than in the file, so it begins there no further on
+abbrev EndsBehind : Stretch → Type 0
+EndsBehind stretch = stretch.end ≤ stretch.part.at + stretch.part.len
+
+module _ (d : Stretch) where
+  pub all_behind : (at : ℕ) (stretches : List Stretch) (end : ℕ) → AreJoined at stretches end
+      → ((k : ℕ) → k < length stretches → EndsBehind (get_or stretches k d)) → AreBehind at (parts_of stretches)
+  unfolding AreJoined AreBehind
+  all_behind at [] end joined each = tt
+  all_behind at (stretch ∷ stretches) end joined each =
+      let first = each 0 (omega arith) in (
+        omega (arith, joined.0, first),
+        subst (λ (n : ℕ). AreBehind n (parts_of stretches)) joined.0
+            (all_behind stretch.end stretches end joined.2 (λ k less. each (suc k) (omega (arith, less)))),
+      )
+
+  pub each_behind : (at : ℕ) (stretches : List Stretch) (end k : ℕ) → AreJoined at stretches end → AreBehind at (parts_of stretches)
+      → k < length stretches → EndsBehind (get_or stretches k d)
+  unfolding AreJoined AreBehind
+  each_behind at [] end k joined behind below = absurd (omega (arith, below))
+  each_behind at (stretch ∷ stretches) end zero joined behind below = omega (arith, joined.0, behind.0)
+  each_behind at (stretch ∷ stretches) end (suc k) joined behind below =
+      let rest : AreBehind stretch.end (parts_of stretches) = subst (λ (n : ℕ). AreBehind n (parts_of stretches)) (sym joined.0) behind.1 in
+      each_behind stretch.end stretches end k joined.2 rest (omega (arith, below))
 
 -- so many bytes are moved: they are those of the stream, and behind them the file is as it was
 pub record Moves (file : List ℕ) (parts : List Part) (done : ℕ) (bytes : List ℕ) : Type 0 where

@@ -1,6 +1,6 @@
 use Rattle.std.proofs.Common.{◌-◌, ◌≤◌}
-use Rattle.mdf_session.proofs.Moves.{Moves}
-use Rattle.mdf_session.proofs.moved.move_front.Given as goal
+use Rattle.mdf_stream.proofs.Moves.{Moves}
+use Rattle.mdf_stream.proofs.moved.move_front.Given as goal
 
 abbrev pub invariant-loop-at : goal.invariant-loop-at
 invariant-loop-at l = record {

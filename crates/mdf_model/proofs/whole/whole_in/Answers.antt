@@ -1,0 +1,8 @@
+use Rattle.std.proofs.Common.{subst}
+use Rattle.mdf_block.specs.Refusal.{Gives}
+use Rattle.mdf_content.specs.Fault.{read_refusal}
+use Rattle.mdf_model.proofs.Lefts.{whole_read_with}
+use Rattle.mdf_model.proofs.whole.whole_in.Goals as goal
+
+pub returns-clause-found : goal.returns-clause-found
+returns-clause-found g c = λ f told. subst (Gives read_refusal c.whole_left_in.result) (whole_read_with f) (c.whole_left_in.ensures.found f told)
