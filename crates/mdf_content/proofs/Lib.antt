@@ -9,3 +9,4 @@ pub mod Samples
 pub mod Evens
 pub mod Lefts
 pub mod Backs
+pub mod Behinds

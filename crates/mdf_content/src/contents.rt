@@ -77,33 +77,60 @@ fn count_of(believed: bool, group: &GroupRow, places: &Places) -> u64
     }
 }
 
-/// Adds the bytes of the record at a place, which fill the buffer, at the end. The search for it begins at part `near` of
-/// the stream.
-fn add_record<P: Span>(
+/// Reads the record of a size at a place of a stream into a list, from `start` on. The search for it begins at part `near`
+/// of the stream.
+fn put_record<P: Span>(
     span: &mut P,
     view: &DataView,
+    size: usize,
     place: u64,
-    buffer: &mut [u8],
-    content: &mut Bytes,
+    content: &mut [u8],
+    start: usize,
     near: &mut usize,
 ) -> Result<(), Stop>
     requires inside { ArePartsInside (P.size span.old) view.now }
-    requires room { place + length buffer.old ≤ stream_size view.now }
-    ensures added { OnOk result ((f : List ℕ) → P.bytes span.old ≡ Some f →
-        content.new ≡ content.old ++ bytes_at (length buffer.old) (stream_of f view.now) place) }
-    ensures len { length buffer.new ≡ length buffer.old }
+    requires room { place + size ≤ stream_size view.now }
+    requires fits { start + size ≤ length content.old }
+    ensures put { OnOk result ((f : List ℕ) → P.bytes span.old ≡ Some f →
+        take (start + size) content.new ≡ take start content.old ++ bytes_at size (stream_of f view.now) place) }
     ensures same { P.bytes span.new ≡ P.bytes span.old }
     ensures size { P.size span.new ≡ P.size span.old }
-    ensures cause { StopCause true (P.faults span.old) (P.faults span.new) result }
+    ensures cause { StopCause P.may_want (P.faults span.old) (P.faults span.new) result }
 {
-    view.read_near(span, place, buffer, near)?;
-    match content.push_slice(buffer) {
-        Ok(()) => Ok(()),
-        Err(_) => Err(Stop::Memory),
-    }
+    view.read_near(span, place, &mut content[start..start + size], near)
 }
 
-/// The bytes of so many records of a size, one record behind the other, which are read record by record, wherever they stand.
+/// Reads so many records of a size into a list, one record behind the other, record by record, wherever they stand.
+fn put_records<P: Span>(
+    span: &mut P,
+    view: &DataView,
+    size: usize,
+    places: &Places,
+    count: u64,
+    content: &mut [u8],
+) -> Result<(), Stop>
+    requires inside { ArePartsInside (P.size span.old) view.now }
+    requires room { AllByRecursion (λ place. place + size ≤ stream_size view.now) places.now }
+    requires few { count ≤ length places.now }
+    requires long { length content.old ≡ count * size }
+    ensures put { OnOk result ((f : List ℕ) → P.bytes span.old ≡ Some f → content.new ≡ content_of (stream_of f view.now) size (take count places.now)) }
+    ensures same { P.bytes span.new ≡ P.bytes span.old }
+    ensures size { P.size span.new ≡ P.size span.old }
+    ensures cause { StopCause P.may_want (P.faults span.old) (P.faults span.new) result }
+{
+    let mut row = 0;
+    let mut done = 0;
+    let mut near = 0;
+    while row < count {
+        let place = place_at(places, row);
+        put_record(span, view, size, place, content, done, &mut near)?;
+        done += size;
+        row += 1;
+    }
+    Ok(())
+}
+
+/// The bytes of so many records of a size, one record behind the other, wherever they stand.
 fn listed_content_in<P: Span>(
     alloc: Global,
     span: &mut P,
@@ -121,27 +148,21 @@ fn listed_content_in<P: Span>(
     ensures size { P.size span.new ≡ P.size span.old }
     ensures cause { StopCause true (P.faults span.old) (P.faults span.new) result }
 {
-    if room.take(count.saturating_mul(size)).is_err() {
-        return Err(Stop::Memory);
-    }
-    let Ok(mut buffer) = vec![in alloc; 0u8; size as usize] else {
+    let Some(total) = count.checked_mul(size) else {
         return Err(Stop::Memory);
     };
-    let mut content = Bytes::empty(alloc);
-    let mut row = 0;
-    let mut near = 0;
-    while row < count {
-        add_record(
-            span,
-            view,
-            place_at(places, row),
-            buffer.as_mut_slice(),
-            &mut content,
-            &mut near,
-        )?;
-        row += 1;
-    }
-    Ok(content)
+    let Ok(mut content) = room.zeros(alloc, total) else {
+        return Err(Stop::Memory);
+    };
+    put_records(
+        span,
+        view,
+        size as usize,
+        places,
+        count,
+        content.as_mut_slice(),
+    )?;
+    Ok(Bytes::from_vec(content))
 }
 
 /// The same of records that stand one behind the other from the begin of the stream on, which are read at once.

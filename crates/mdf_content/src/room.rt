@@ -1,6 +1,7 @@
-ghost use Rattle.std.specs.Prelude.{◌≡◌, ◌+◌, ◌*◌, ◌-◌, ◌^◌, ◌<◌, min, OnOk, OnErr};
+ghost use Rattle.std.specs.Prelude.{◌≡◌, ◌+◌, ◌*◌, ◌-◌, ◌^◌, ◌<◌, [], min, replicate, vec_len, IfOk, OnOk, OnErr};
 
 use mdf_num::{Memory, Span};
+use std::alloc::Global;
 
 /// How many bytes of records and of values may still be kept of a file. Channels may name the same values, and data
 /// groups the same records, and each has its own copy of them; what no longer fits is want of memory.
@@ -33,5 +34,30 @@ impl Room {
         }
         self.left -= bytes;
         Ok(())
+    }
+
+    /// A list without bytes that has room for so many, which is taken.
+    ///
+    /// # Errors
+    /// Where there is less room; and want of memory.
+    pub(crate) fn list(&mut self, alloc: Global, len: u64) -> Result<Vec<u8>, Memory>
+        ensures empty { IfOk result (λ list. list.items ≡ []) }
+    {
+        self.take(len)?;
+        let list = Vec::with_capacity(alloc, len as usize)?;
+        Ok(list)
+    }
+
+    /// A list of so many bytes, which are 0; the room for them is taken.
+    ///
+    /// # Errors
+    /// Where there is less room; and want of memory.
+    pub(crate) fn zeros(&mut self, alloc: Global, len: u64) -> Result<Vec<u8>, Memory>
+        ensures zeros { IfOk result (λ list. list.items ≡ replicate len 0) }
+        ensures len { IfOk result (λ list. vec_len list ≡ len) }
+    {
+        let mut list = self.list(alloc, len)?;
+        list.resize(len as usize, 0)?;
+        Ok(list)
     }
 }

@@ -1,4 +1,4 @@
-ghost use Rattle.std.specs.Prelude.{◌≡◌, ◌+◌, ◌-◌, ◌≤◌, ◌<◌, ◌++◌, if◌then◌else◌, ◌&&◌, nat_eq, ℕ, List, Some, length, take, slice_index_or, true, false, None, IfOk, IfErr, OnOk};
+ghost use Rattle.std.specs.Prelude.{◌≡◌, ◌+◌, ◌-◌, ◌^◌, ◌≤◌, ◌<◌, ◌++◌, if◌then◌else◌, ◌&&◌, nat_eq, ℕ, List, Some, length, min, sum_by, slice_index_or, true, false, None, IfOk, IfErr, OnOk};
 ghost use Rattle.std.specs.List.{AllByRecursion};
 ghost use Rattle.std.specs.BTreeMap.{get};
 ghost use Rattle.std.specs.Ordering.{nat_cmp};
@@ -6,10 +6,11 @@ ghost use Rattle.mdf_format.specs.Number.{bytes_at};
 ghost use Rattle.mdf_format.specs.Field.{covered_end, covered_size, field_number};
 ghost use Rattle.mdf_bits.specs.Field.{spot_of};
 ghost use Rattle.mdf_num.specs.Halt.{HaltCause, StopCause};
+ghost use Rattle.mdf_format.specs.declared.kind.Kind.TheVariants.{Sd};
 ghost use Rattle.mdf_block.specs.Refusal.{Gives, IsPlain};
 ghost use Rattle.mdf_block.specs.Every.{AllByNumber};
 ghost use Rattle.mdf_stream.specs.Parts.{stream_of, stream_size, ArePartsInside};
-ghost use Rattle.mdf_stream.specs.Range.{parts_between};
+ghost use Rattle.mdf_stream.specs.Link.{data_parts};
 ghost use Rattle.mdf_group.specs.Group.{is_variable};
 ghost use Rattle.mdf_layout.specs.Rule.{spot_in};
 ghost use Rattle.mdf_content.specs.Fault.{read_refusal};
@@ -18,6 +19,7 @@ ghost use Rattle.mdf_content.specs.Values.{
   IsHeld,
   IsValuesTable,
   AreWithin,
+  bytes_of,
   channel_stream,
   channel_values,
   held_of,
@@ -44,9 +46,6 @@ use mdf_vlsd::{Streams, ValueStream};
 use std::alloc::Global;
 use std::collections::BTreeMap;
 
-/// How many bytes a stream has fewer than.
-const LONGEST: u64 = 1 << 62;
-
 /// The stream of a data group (DGBLOCK), with its channel groups and the places of their records in it.
 #[derive(Drop)]
 pub struct Held<'a> {
@@ -69,13 +68,6 @@ pub struct Records<'a> {
     pub places: &'a Places,
     /// How many they are: the first so many of these places.
     pub count: u64,
-}
-
-/// Where the searches for the next record and for the next value begin: at these parts of their streams.
-#[derive(Clone, Copy)]
-struct Near {
-    record: usize,
-    value: usize,
 }
 
 /// Adds a group to a table of the groups that hold values, if it is one.
@@ -112,58 +104,95 @@ pub fn place_at(places: &Places, row: u64) -> u64
     places.get(row).unwrap_or(0)
 }
 
-/// Adds the value in the record at a place, with its length, at the end of a stream. The search for it begins at part
+/// How many bytes the value in the record at a place has, with its length. The search for it begins at part `near` of the
+/// stream of the records.
+fn value_len_in<P: Span>(
+    span: &mut P,
+    view: &DataView,
+    place: u64,
+    near: &mut usize,
+) -> Result<u64, Stop>
+    requires inside { ArePartsInside (P.size span.old) view.now }
+    requires room { place + 4 ≤ stream_size view.now }
+    ensures len { IfOk result (λ len. (f : List ℕ) → P.bytes span.old ≡ Some f →
+        len ≡ value_size (stream_of f view.now) (stream_size view.now) place) }
+    ensures within { IfOk result (λ len. place + len ≤ stream_size view.now) }
+    ensures same { P.bytes span.new ≡ P.bytes span.old }
+    ensures size { P.size span.new ≡ P.size span.old }
+    ensures cause { StopCause P.may_want (P.faults span.old) (P.faults span.new) result }
+{
+    let len = 4 + view.u32_near(span, place, near)? as u64;
+    Ok(len.min(view.len() - place))
+}
+
+/// How many bytes the values in the records at these places have, each with its length; the greatest number for more.
+fn values_len_in<P: Span>(span: &mut P, view: &DataView, places: &Places) -> Result<u64, Stop>
+    requires inside { ArePartsInside (P.size span.old) view.now }
+    requires room { AllByRecursion (λ place. place + 4 ≤ stream_size view.now) places.now }
+    ensures total { IfOk result (λ total. (f : List ℕ) → P.bytes span.old ≡ Some f →
+        total ≡ min (sum_by (value_size (stream_of f view.now) (stream_size view.now)) places.now) (2 ^ 64 - 1)) }
+    ensures same { P.bytes span.new ≡ P.bytes span.old }
+    ensures size { P.size span.new ≡ P.size span.old }
+    ensures cause { StopCause P.may_want (P.faults span.old) (P.faults span.new) result }
+{
+    let mut total: u64 = 0;
+    let mut k = 0;
+    let mut near = 0;
+    while k < places.len() {
+        let len = value_len_in(span, view, place_at(places, k), &mut near)?;
+        total = total.saturating_add(len);
+        k += 1;
+    }
+    Ok(total)
+}
+
+/// Adds the value in the record at a place, with its length, at the end of a list. The search for it begins at part
 /// `near` of the stream of the records.
 fn add_value<P: Span>(
     span: &mut P,
     view: &DataView,
     place: u64,
-    values: &mut DataView,
+    values: &mut Vec<u8>,
     near: &mut usize,
 ) -> Result<(), Stop>
     requires inside { ArePartsInside (P.size span.old) view.now }
     requires room { place + 4 ≤ stream_size view.now }
-    ensures added { OnOk result ((f : List ℕ) → P.bytes span.old ≡ Some f →
-        values.new ≡ values.old ++ parts_between view.now place (value_size (stream_of f view.now) (stream_size view.now) place)) }
-    ensures inside { ArePartsInside (P.size span.old) values.old → OnOk result (ArePartsInside (P.size span.old) values.new) }
+    ensures added { OnOk result ((f : List ℕ) → P.bytes span.old ≡ Some f → values.new.items
+        ≡ values.old.items ++ bytes_at (value_size (stream_of f view.now) (stream_size view.now) place) (stream_of f view.now) place) }
     ensures same { P.bytes span.new ≡ P.bytes span.old }
     ensures size { P.size span.new ≡ P.size span.old }
     ensures cause { StopCause true (P.faults span.old) (P.faults span.new) result }
 {
-    let len = 4 + view.u32_near(span, place, near)? as u64;
-    let len = len.min(view.len() - place);
-    if len >= LONGEST - values.len() {
-        return Err(Stop::Memory);
-    }
-    match values.add_part(view, place, len) {
-        Ok(()) => Ok(()),
-        Err(_) => Err(Stop::Memory),
-    }
+    let len = value_len_in(span, view, place, near)?;
+    add_bytes(span, view, place, len, values, near)
 }
 
-/// The values in the records at these places, each with its length, as a stream.
+/// The values in the records at these places, each with its length, one behind the other.
 fn values_in<P: Span>(
     alloc: Global,
     span: &mut P,
     view: &DataView,
     places: &Places,
-) -> Result<DataView, Stop>
+    room: &mut Room,
+) -> Result<Bytes, Stop>
     requires inside { ArePartsInside (P.size span.old) view.now }
     requires room { AllByRecursion (λ place. place + 4 ≤ stream_size view.now) places.now }
-    ensures values { IfOk result (λ values. (f : List ℕ) → P.bytes span.old ≡ Some f → values ≡ values_at f view.now places.now) }
-    ensures inside { IfOk result (ArePartsInside (P.size span.old)) }
+    ensures values { IfOk result (λ values. (f : List ℕ) → P.bytes span.old ≡ Some f → values ≡ stream_of f (values_at f view.now places.now)) }
     ensures same { P.bytes span.new ≡ P.bytes span.old }
     ensures size { P.size span.new ≡ P.size span.old }
     ensures cause { StopCause true (P.faults span.old) (P.faults span.new) result }
 {
-    let mut values = DataView::empty(alloc);
+    let total = values_len_in(span, view, places)?;
+    let Ok(mut values) = room.list(alloc, total) else {
+        return Err(Stop::Memory);
+    };
     let mut k = 0;
     let mut near = 0;
     while k < places.len() {
         add_value(span, view, place_at(places, k), &mut values, &mut near)?;
         k += 1;
     }
-    Ok(values)
+    Ok(Bytes::from_vec(values))
 }
 
 /// The number of the group of values that stands at an address, if one does.
@@ -181,55 +210,57 @@ pub fn places_or<'a>(lists: &'a [Places], k: usize, other: &'a Places) -> &'a Pl
     if k < lists.len() { &lists[k] } else { other }
 }
 
-/// Where the values of a channel are whose own link is `at`: in the records of a group that stands there, or where the
-/// link leads to.
+/// The bytes that a link to values leads to.
+fn linked_values_in<P: Span>(
+    alloc: Global,
+    span: &mut P,
+    at: u64,
+    room: &mut Room,
+) -> Result<Bytes, Halt<ReadFault>>
+    ensures found { (f : List ℕ) → P.bytes span.old ≡ Some f →
+        Gives read_refusal result (bytes_of f (data_parts f Sd at)) }
+    ensures plain { IfErr result (IsPlain read_refusal) }
+    ensures same { P.bytes span.new ≡ P.bytes span.old }
+    ensures size { P.size span.new ≡ P.size span.old }
+    ensures cause { HaltCause true (P.faults span.old) (P.faults span.new) result }
+{
+    let view = view_of(alloc, span, at, Kind::Sd)?;
+    let values = bytes_in(alloc, span, &view, view.len(), room)?;
+    Ok(values)
+}
+
+/// The bytes of the values of a channel whose own link is `at`: those in the records of a group that stands there, or
+/// those where the link leads to.
 #[tactic(auto, unfolding(crate::specs::Values::channel_values))]
 fn channel_values_in<P: Span>(
     alloc: Global,
     span: &mut P,
     held: &Held,
     at: u64,
-) -> Result<DataView, Halt<ReadFault>>
+    room: &mut Room,
+) -> Result<Bytes, Halt<ReadFault>>
     requires held { IsHeld (P.size span.old) held.now }
-    ensures found { (f : List ℕ) → P.bytes span.old ≡ Some f → Gives read_refusal result (channel_values f (held_of held.now) at) }
-    ensures inside { IfOk result (ArePartsInside (P.size span.old)) }
+    ensures found { (f : List ℕ) → P.bytes span.old ≡ Some f →
+        Gives read_refusal result (bytes_of f (channel_values f (held_of held.now) at)) }
     ensures plain { IfErr result (IsPlain read_refusal) }
     ensures same { P.bytes span.new ≡ P.bytes span.old }
     ensures size { P.size span.new ≡ P.size span.old }
     ensures cause { HaltCause true (P.faults span.old) (P.faults span.new) result }
 {
     let Some(k) = values_group(held, at) else {
-        return view_of(alloc, span, at, Kind::Sd);
+        return linked_values_in(alloc, span, at, room);
     };
     let none = Places::empty(alloc);
-    let values = values_in(
-        alloc,
-        span,
-        held.view,
-        places_or(held.lists, k as usize, &none),
-    )?;
+    let places = places_or(held.lists, k as usize, &none);
+    let values = values_in(alloc, span, held.view, places, room)?;
     Ok(values)
 }
 
-/// Whether a whole value stands at an offset of a stream. The search for it begins at part `near` of the stream.
-fn has_value_in<P: Span>(
-    span: &mut P,
-    values: &DataView,
-    offset: u64,
-    near: &mut usize,
-) -> Result<bool, Stop>
-    requires inside { ArePartsInside (P.size span.old) values.now }
-    ensures has { IfOk result (λ has. (f : List ℕ) → P.bytes span.old ≡ Some f → has ≡ has_value (stream_of f values.now) offset) }
-    ensures same { P.bytes span.new ≡ P.bytes span.old }
-    ensures size { P.size span.new ≡ P.size span.old }
-    ensures cause { StopCause P.may_want (P.faults span.old) (P.faults span.new) result }
+/// Whether a whole value stands at an offset of a stream.
+fn has_value(stream: &ValueStream, offset: u64) -> bool
+    ensures { result ≡ has_value stream.now offset }
 {
-    let total = values.len();
-    if total < 4 || offset > total - 4 {
-        return Ok(false);
-    }
-    let len = values.u32_near(span, offset, near)? as u64;
-    Ok(len <= total - offset - 4)
+    stream.value_at(offset).is_some()
 }
 
 /// Where the offset of a channel of variable length lies in so many data bytes.
@@ -316,19 +347,18 @@ fn offset_met_in<P: Span>(
     span: &mut P,
     view: &DataView,
     records: &Records,
-    values: &DataView,
+    values: &ValueStream,
     channel: &ChannelRow,
     c: u32,
     row: u64,
-    near: &mut Near,
+    near: &mut usize,
 ) -> Result<(), Halt<ReadFault>>
     requires kind { channel.now.kind ≡ 1 }
     requires placed { HasOffset records.now.data_bytes channel.now }
     requires inside { ArePartsInside (P.size span.old) view.now }
-    requires values { ArePartsInside (P.size span.old) values.now }
     requires within { slice_index_or records.now.places.now row 0 + records.now.data_bytes ≤ stream_size view.now }
     ensures found { (f : List ℕ) → P.bytes span.old ≡ Some f → Gives read_refusal result
-        (offset_met (has_value (stream_of f values.now)) (offset_in (stream_of f view.now) (records_of records.now) channel.now) c row) }
+        (offset_met (has_value values.now) (offset_in (stream_of f view.now) (records_of records.now) channel.now) c row) }
     ensures plain { IfErr result (IsPlain read_refusal) }
     ensures same { P.bytes span.new ≡ P.bytes span.old }
     ensures size { P.size span.new ≡ P.size span.old }
@@ -336,15 +366,8 @@ fn offset_met_in<P: Span>(
 {
     let place = place_at(records.places, row);
     let field = offset_field(channel, records.data_bytes);
-    let offset = number_in(
-        span,
-        view,
-        field,
-        records.data_bytes,
-        place,
-        &mut near.record,
-    )?;
-    if !has_value_in(span, values, offset, &mut near.value)? {
+    let offset = number_in(span, view, field, records.data_bytes, place, near)?;
+    if !has_value(values, offset) {
         return Err(Halt::Fault(ReadFault::Offset {
             channel: c,
             row,
@@ -359,17 +382,16 @@ fn offsets_met_in<P: Span>(
     span: &mut P,
     view: &DataView,
     records: &Records,
-    values: &DataView,
+    values: &ValueStream,
     channel: &ChannelRow,
     c: u32,
 ) -> Result<(), Halt<ReadFault>>
     requires kind { channel.now.kind ≡ 1 }
     requires placed { HasOffset records.now.data_bytes channel.now }
     requires inside { ArePartsInside (P.size span.old) view.now }
-    requires values { ArePartsInside (P.size span.old) values.now }
     requires within { AreWithin (stream_size view.now) (records_of records.now) }
     ensures found { (f : List ℕ) → P.bytes span.old ≡ Some f → Gives read_refusal result
-        (offsets_met (has_value (stream_of f values.now)) (offset_in (stream_of f view.now) (records_of records.now) channel.now) c 0 records.now.count) }
+        (offsets_met (has_value values.now) (offset_in (stream_of f view.now) (records_of records.now) channel.now) c 0 records.now.count) }
     ensures plain { IfErr result (IsPlain read_refusal) }
     ensures same { P.bytes span.new ≡ P.bytes span.old }
     ensures size { P.size span.new ≡ P.size span.old }
@@ -377,15 +399,40 @@ fn offsets_met_in<P: Span>(
 {
     let count = records.count;
     let mut row = 0;
-    let mut near = Near {
-        record: 0,
-        value: 0,
-    };
+    let mut near = 0;
     while row < count {
         offset_met_in(span, view, records, values, channel, c, row, &mut near)?;
         row += 1;
     }
     Ok(())
+}
+
+/// Adds so many bytes of a stream from a place on at the end of a list. The search for them begins at part `near` of the
+/// stream.
+fn add_bytes<P: Span>(
+    span: &mut P,
+    view: &DataView,
+    place: u64,
+    len: u64,
+    bytes: &mut Vec<u8>,
+    near: &mut usize,
+) -> Result<(), Stop>
+    requires inside { ArePartsInside (P.size span.old) view.now }
+    requires within { place + len ≤ stream_size view.now }
+    ensures added { OnOk result ((f : List ℕ) → P.bytes span.old ≡ Some f →
+        bytes.new.items ≡ bytes.old.items ++ bytes_at len (stream_of f view.now) place) }
+    ensures same { P.bytes span.new ≡ P.bytes span.old }
+    ensures size { P.size span.new ≡ P.size span.old }
+    ensures cause { StopCause true (P.faults span.old) (P.faults span.new) result }
+{
+    let start = bytes.len();
+    let Some(end) = start.checked_add(len as usize) else {
+        return Err(Stop::Memory);
+    };
+    let Ok(()) = bytes.resize(end, 0) else {
+        return Err(Stop::Memory);
+    };
+    view.read_near(span, place, &mut bytes.as_mut_slice()[start..], near)
 }
 
 /// So many bytes of a stream.
@@ -403,31 +450,11 @@ pub(crate) fn bytes_in<P: Span>(
     ensures size { P.size span.new ≡ P.size span.old }
     ensures cause { StopCause true (P.faults span.old) (P.faults span.new) result }
 {
-    if room.take(len).is_err() {
-        return Err(Stop::Memory);
-    }
-    let Ok(mut items) = vec![in alloc; 0u8; len as usize] else {
+    let Ok(mut bytes) = room.zeros(alloc, len) else {
         return Err(Stop::Memory);
     };
-    view.read_in(span, 0, items.as_mut_slice())?;
-    Ok(Bytes::from_vec(items))
-}
-
-/// The bytes of a stream.
-fn stream_in<P: Span>(
-    alloc: Global,
-    span: &mut P,
-    view: &DataView,
-    room: &mut Room,
-) -> Result<ValueStream, Stop>
-    requires inside { ArePartsInside (P.size span.old) view.now }
-    ensures stream { IfOk result (λ stream. (f : List ℕ) → P.bytes span.old ≡ Some f → stream ≡ stream_of f view.now) }
-    ensures same { P.bytes span.new ≡ P.bytes span.old }
-    ensures size { P.size span.new ≡ P.size span.old }
-    ensures cause { StopCause true (P.faults span.old) (P.faults span.new) result }
-{
-    let bytes = bytes_in(alloc, span, view, view.len(), room)?;
-    Ok(ValueStream::from_bytes(bytes))
+    view.read_in(span, 0, bytes.as_mut_slice())?;
+    Ok(Bytes::from_vec(bytes))
 }
 
 /// The stream of a channel of variable length, whose number in its group is `c`.
@@ -452,9 +479,9 @@ fn channel_stream_in<P: Span>(
     ensures size { P.size span.new ≡ P.size span.old }
     ensures cause { HaltCause true (P.faults span.old) (P.faults span.new) result }
 {
-    let values = channel_values_in(alloc, span, held, channel.values)?;
-    offsets_met_in(span, held.view, records, &values, channel, c)?;
-    let stream = stream_in(alloc, span, &values, room)?;
+    let values = channel_values_in(alloc, span, held, channel.values, room)?;
+    let stream = ValueStream::from_bytes(values);
+    offsets_met_in(span, held.view, records, &stream, channel, c)?;
     Ok(stream)
 }
 

@@ -9,5 +9,5 @@ pub values_in-requires-clause-room : goal.values_in-requires-clause-room
 values_in-requires-clause-room g c =
     let held = c.args.held.now in
     let none = ap (slice_index_or held.lists.now c.in-Some.k) c.empty-none.ensures in
-    subst (AllByRecursion (λ place. place + 4 ≤ stream_size held.view.now)) (sym (c.places_or.ensures ∙ none))
+    subst (AllByRecursion (λ place. place + 4 ≤ stream_size held.view.now)) (sym (c.places_or-places.ensures ∙ none))
     (values_room (stream_size held.view.now) held.groups.now held.lists.now c.args.at c.in-Some.k c.requires.held.room (sym c.in-Some.ensures))
