@@ -14,7 +14,7 @@ use mdf_group::DataRow;
 use mdf_head::{Head, History, Ident};
 use mdf_model::{Tree, identity_in, tree_in};
 use mdf_num::{Bytes, Halt, Rows, SliceSpan, Span, Stop};
-use mdf_stream::DataView;
+use mdf_stream::{DataView, moved_front};
 use mdf_vlsd::Streams;
 use std::alloc::Global;
 use std::marker::Model;
