@@ -1,6 +1,7 @@
 mod Indexes
 mod Keepings
 mod Places
+mod Words
 mod Groups
 mod Standings
 mod Ends

@@ -1,3 +1,4 @@
 pub mod Master
 pub mod Kept
 pub mod Cut
+pub mod Word
