@@ -8,7 +8,6 @@ ghost use Rattle.mdf_data.specs.Record.{IsIdSize, least_size, group_of, body_siz
 
 use crate::known::Group;
 use crate::{DataView, Known, Piece, Size, SplitFault};
-use mdf_block::u64_field;
 use mdf_num::{Halt, Span, Stop};
 
 /// The first of these groups that has this id.
@@ -46,9 +45,7 @@ fn id_in<P: Span>(
     ensures size { P.size span.new ≡ P.size span.old }
     ensures cause { StopCause P.may_want (P.faults span.old) (P.faults span.new) result }
 {
-    let mut word = [0u8; 8];
-    view.read_near(span, at, &mut word[..id_size as usize], near)?;
-    Ok(u64_field(&word, 0))
+    view.number_near(span, at, id_size, near)
 }
 
 /// How long the body of a record of a group is, where it is whole. The body begins at `at`, and `rest` bytes are there. The

@@ -1,6 +1,6 @@
 ghost use Rattle.std.specs.Prelude.{◌≡◌, ◌+◌, ◌%◌, ◌^◌, ◌≤◌, ◌<◌, ◌↔◌, length, IsTrue};
 ghost use Rattle.std.specs.Int.{to_le_bytes, w16, w32, w64};
-ghost use Rattle.mdf_format.specs.Number.{number_at, patched, aligned};
+ghost use Rattle.mdf_format.specs.Number.{le_number, number_at, patched, aligned};
 
 use byteorder::{ByteOrder, LittleEndian};
 
@@ -43,6 +43,22 @@ pub fn u64_at(bytes: &[u8], at: u64) -> Option<u64>
     }
     let start = at as usize;
     Some(LittleEndian::read_u64(&bytes[start..start + 8]))
+}
+
+/// The number that these bytes are, of which there are 1 to 8. Of 1, 2, 4 and 8 bytes it is read at once.
+pub fn number_of(bytes: &[u8]) -> u64
+    requires some { 0 < length bytes.now }
+    requires most { length bytes.now ≤ 8 }
+    ensures number { result ≡ le_number bytes.now }
+    ensures fits { result < 256 ^ length bytes.now }
+{
+    match bytes.len() {
+        1 => u64::from(bytes[0]),
+        2 => u64::from(LittleEndian::read_u16(bytes)),
+        4 => u64::from(LittleEndian::read_u32(bytes)),
+        8 => LittleEndian::read_u64(bytes),
+        count => LittleEndian::read_uint(bytes, count),
+    }
 }
 
 /// Writes a number into the 2 bytes from `at` on.

@@ -1,9 +1,9 @@
-ghost use Rattle.std.specs.Prelude.{◌≡◌, ◌+◌, ◌≤◌, ℕ, Bool, true, false, List, Option, Some, length, OnOk, refl};
-ghost use Rattle.mdf_format.specs.Number.{bytes_at};
+ghost use Rattle.std.specs.Prelude.{◌≡◌, ◌+◌, ◌^◌, ◌≤◌, ◌<◌, ℕ, Bool, true, false, List, Option, Some, length, IfOk, OnOk, refl};
+ghost use Rattle.mdf_format.specs.Number.{le_number, bytes_at};
 ghost use Rattle.mdf_num.specs.Halt.{StopCause};
 ghost use Rattle.mdf_num.specs.Span.{IsTold};
 
-use crate::Stop;
+use crate::{Stop, number_of};
 
 /// Bytes that are read piece by piece: a slice, or a file of which only some pages are in memory.
 pub trait Span {
@@ -33,6 +33,26 @@ pub trait Span {
         ensures same { bytes self.new ≡ bytes self.old }
         ensures size { size self.new ≡ size self.old }
         ensures cause { StopCause may_want (faults self.old) (faults self.new) result };
+
+    /// The number in the `count` bytes from `at` on.
+    ///
+    /// # Errors
+    /// As `fill`.
+    fn number(&mut self, at: u64, count: u8) -> Result<u64, Stop>
+        requires some { 0 < count }
+        requires most { count ≤ 8 }
+        requires inside { at + count ≤ size self.old }
+        ensures number { IfOk result (λ n. (file : List ℕ) → bytes self.old ≡ Some file → n ≡ le_number (bytes_at count file at)) }
+        ensures fits { IfOk result (λ n. n < 256 ^ count) }
+        ensures same { bytes self.new ≡ bytes self.old }
+        ensures size { size self.new ≡ size self.old }
+        ensures cause { StopCause may_want (faults self.old) (faults self.new) result }
+    {
+        let mut word = [0u8; 8];
+        let part = &mut word[..count as usize];
+        self.fill(at, part)?;
+        Ok(number_of(part))
+    }
 
     /// How often the span has failed.
     fn faults(&self) -> u64
@@ -75,6 +95,11 @@ impl Span for SliceSpan<'_> {
         let start = at as usize;
         buf.copy_from_slice(&self.bytes[start..start + buf.len()]);
         Ok(())
+    }
+
+    fn number(&mut self, at: u64, count: u8) -> Result<u64, Stop> {
+        let start = at as usize;
+        Ok(number_of(&self.bytes[start..start + count as usize]))
     }
 
     fn faults(&self) -> u64 {

@@ -1,6 +1,6 @@
 ghost use Rattle.std.specs.Prelude.{◌≡◌, ◌+◌, ◌-◌, ◌^◌, ◌≤◌, ◌<◌, ◌↔◌, ◌++◌, ◌∷◌, ℕ, List, Some, length, drop, slice_index_or, IsTrue, IfOk, OnOk};
 ghost use Rattle.std.specs.List.Sorted.{IsNonDecreasingBy};
-ghost use Rattle.mdf_format.specs.Number.{bytes_at};
+ghost use Rattle.mdf_format.specs.Number.{le_number, bytes_at};
 ghost use Rattle.mdf_num.specs.Halt.{StopCause};
 ghost use Rattle.mdf_stream.specs.declared.stretch.Stretch.{Stretch};
 ghost use Rattle.mdf_stream.specs.Parts.{AreBehind, stream_of, ArePartsInside};
@@ -8,7 +8,7 @@ ghost use Rattle.mdf_stream.specs.Stretch.{parts_of, AreJoined, front_len, front
 ghost use Rattle.mdf_stream.specs.Range.{parts_between};
 
 use crate::Part;
-use mdf_num::{Span, Stop};
+use mdf_num::{Span, Stop, number_of};
 
 /// A part of a stream.
 #[derive(Clone, Copy, Debug)]
@@ -20,6 +20,7 @@ pub(crate) struct Stretch {
 }
 
 /// The number of the first part that ends behind a place of the stream, by a search over all.
+#[inline(never)]
 fn stretch_by_search(items: &[Stretch], at: u64) -> usize
     requires { IsNonDecreasingBy (λ (stretch : Stretch). stretch.end) items.now }
     ensures bound { result ≤ length items.now }
@@ -163,4 +164,62 @@ pub(crate) fn are_behind(items: &[Stretch], end: u64) -> bool
         k += 1;
     }
     true
+}
+
+/// As `number_in`, where the bytes may lie in several parts: they are read into a word.
+#[cold]
+fn number_across<P: Span>(
+    span: &mut P,
+    items: &[Stretch],
+    end: u64,
+    at: u64,
+    count: u8,
+    near: &mut usize,
+) -> Result<u64, Stop>
+    requires joined { AreJoined 0 items.now end }
+    requires inside { ArePartsInside (P.size span.old) (parts_of items.now) }
+    requires some { 0 < count }
+    requires most { count ≤ 8 }
+    requires within { at + count ≤ end }
+    ensures number { IfOk result (λ n. (f : List ℕ) → P.bytes span.old ≡ Some f →
+        n ≡ le_number (bytes_at count (stream_of f (parts_of items.now)) at)) }
+    ensures fits { IfOk result (λ n. n < 256 ^ count) }
+    ensures same { P.bytes span.new ≡ P.bytes span.old }
+    ensures size { P.size span.new ≡ P.size span.old }
+    ensures cause { StopCause P.may_want (P.faults span.old) (P.faults span.new) result }
+{
+    let mut word = [0u8; 8];
+    let bytes = &mut word[..count as usize];
+    fill_in(span, items, end, at, bytes, near)?;
+    Ok(number_of(bytes))
+}
+
+/// The number in the `count` bytes of the stream from `at` on. Part `near` and the next are tried first; it becomes the
+/// number of the part that was read last. The span is asked for the number where one part has all its bytes.
+#[inline]
+pub(crate) fn number_in<P: Span>(
+    span: &mut P,
+    items: &[Stretch],
+    end: u64,
+    at: u64,
+    count: u8,
+    near: &mut usize,
+) -> Result<u64, Stop>
+    requires joined { AreJoined 0 items.now end }
+    requires inside { ArePartsInside (P.size span.old) (parts_of items.now) }
+    requires some { 0 < count }
+    requires most { count ≤ 8 }
+    requires within { at + count ≤ end }
+    ensures number { IfOk result (λ n. (f : List ℕ) → P.bytes span.old ≡ Some f →
+        n ≡ le_number (bytes_at count (stream_of f (parts_of items.now)) at)) }
+    ensures fits { IfOk result (λ n. n < 256 ^ count) }
+    ensures same { P.bytes span.new ≡ P.bytes span.old }
+    ensures size { P.size span.new ≡ P.size span.old }
+    ensures cause { StopCause P.may_want (P.faults span.old) (P.faults span.new) result }
+{
+    let part = front_of(items, end, at, count as u64, near);
+    if part.len == count as u64 {
+        return span.number(part.at, count);
+    }
+    number_across(span, items, end, at, count, near)
 }

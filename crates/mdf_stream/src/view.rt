@@ -5,8 +5,7 @@ ghost use Rattle.mdf_stream.specs.Parts.{AreBehind, stream_of, stream_size, AreP
 ghost use Rattle.mdf_stream.specs.Range.{parts_between};
 
 use crate::Part;
-use crate::stretch::{Stretch, are_behind, fill_in, front_of};
-use mdf_block::u32_field;
+use crate::stretch::{Stretch, are_behind, fill_in, front_of, number_in};
 use mdf_num::{Memory, SliceSpan, Span, Stop};
 use std::alloc::Global;
 use std::marker::Model;
@@ -229,8 +228,34 @@ impl DataView {
         ensures size { P.size span.new ≡ P.size span.old }
         ensures cause { StopCause P.may_want (P.faults span.old) (P.faults span.new) result }
     {
-        let mut word = [0u8; 4];
-        self.read_near(span, at, &mut word, near)?;
-        Ok(u32_field(&word, 0))
+        let number = self.number_near(span, at, 4, near)?;
+        Ok(number as u32)
+    }
+
+    /// The number in the `count` bytes of the stream from `at` on. Part `near` of the stream and the next are tried first: any
+    /// number will do, and it becomes the number of the part that was read last. Places that rise are found so without a
+    /// search.
+    ///
+    /// # Errors
+    /// The span's own. It is as before in what it tells.
+    #[inline]
+    pub fn number_near<P: Span>(
+        &self,
+        span: &mut P,
+        at: u64,
+        count: u8,
+        near: &mut usize,
+    ) -> Result<u64, Stop>
+        requires some { 0 < count }
+        requires most { count ≤ 8 }
+        requires inside { ArePartsInside (P.size span.old) self.now }
+        requires within { at + count ≤ stream_size self.now }
+        ensures number { IfOk result (λ n. (f : List ℕ) → P.bytes span.old ≡ Some f → n ≡ le_number (bytes_at count (stream_of f self.now) at)) }
+        ensures fits { IfOk result (λ n. n < 256 ^ count) }
+        ensures same { P.bytes span.new ≡ P.bytes span.old }
+        ensures size { P.size span.new ≡ P.size span.old }
+        ensures cause { StopCause P.may_want (P.faults span.old) (P.faults span.new) result }
+    {
+        number_in(span, self.items.as_slice(), self.end, at, count, near)
     }
 }
