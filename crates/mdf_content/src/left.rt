@@ -1,4 +1,4 @@
-ghost use Rattle.std.specs.Prelude.{◌≡◌, ◌+◌, ◌≤◌, ℕ, Ok, length, map, take, true, IsTrue, IfOk};
+ghost use Rattle.std.specs.Prelude.{◌≡◌, ◌+◌, ◌≤◌, Ok, length, map, take, true, IsTrue, IfOk};
 ghost use Rattle.std.specs.List.{AllByRecursion};
 ghost use Rattle.mdf_format.specs.declared.kind.Kind.TheVariants.{Dt};
 ghost use Rattle.mdf_stream.specs.Parts.{stream_of, stream_size, ArePartsInside};
