@@ -7,3 +7,5 @@ mod Holding
 mod Keeping
 mod Reading
 mod Sames
+mod Indexes
+pub mod Behind

@@ -181,7 +181,3 @@ second_finds rows old new streams others same moved k row v is found =
           ∙ found_from (joined_streams streams others) n (o + length (get_or streams n [])) value.0 (omega (arith, below, joined_length streams others same))
           (ap (λ (stream : List ℕ). value_at stream (o + length (get_or streams n []))) (joined_at streams others n same below) ∙ value.1),
     )
-
--- a record finds what it finds
-pub finds_same : (rows : List FieldRow) (bytes : List ℕ) (finders : List Finder) → FindsToo rows bytes bytes finders finders
-finds_same rows bytes finders k row v is found = (v, found)

@@ -1,4 +1,3 @@
-mod Indexes
 mod Keepings
 mod Places
 mod Words
