@@ -13,7 +13,7 @@ use mdf_disk::Disk;
 use mdf_head::{Ident, IdentFault, ident};
 use mdf_model::Measurement;
 use mdf_num::Bytes;
-use mdf_valid::read_file;
+use mdf_valid::take_file;
 use std::alloc::Global;
 
 /// What is read of a finalized file.
@@ -35,15 +35,15 @@ fn ident_of(bytes: &[u8]) -> Result<Ident, ReadFault>
     }
 }
 
-/// What is read of these bytes.
+/// What is read of a file, which is handed over.
 #[tactic(auto, unfolding(crate::specs::Reading::reading))]
-fn reading_of(alloc: Global, bytes: &[u8]) -> Result<Reading, ReadFault>
-    ensures exact { GivesOf read_refusal result (reading bytes.now) }
-    ensures measured { IfOk result (λ found. IsMeasurement bytes.now found.measurement.head found.measurement.history found.measurement.groups) }
-    ensures valid { IfOk result (λ found. IsTrue found.measurement.strict ↔ IsValidFile bytes.now) }
+fn reading_of(alloc: Global, file: Bytes) -> Result<Reading, ReadFault>
+    ensures exact { GivesOf read_refusal result (reading file) }
+    ensures measured { IfOk result (λ found. IsMeasurement file found.measurement.head found.measurement.history found.measurement.groups) }
+    ensures valid { IfOk result (λ found. IsTrue found.measurement.strict ↔ IsValidFile file) }
 {
-    let id = ident_of(bytes)?;
-    let measurement = read_file(alloc, bytes)?;
+    let id = ident_of(file.as_slice())?;
+    let measurement = take_file(alloc, file)?;
     Ok(Reading {
         version: id.ver,
         measurement,
@@ -59,7 +59,7 @@ pub fn read_input<A: Disk>(alloc: Global, input: &Bytes, first: &mut A) -> Resul
     ensures untouched { A.asked first.new ≡ None → first.new ≡ first.old }
 {
     let bytes = load(alloc, input, first)?;
-    Ok(reading_of(alloc, bytes.as_slice())?)
+    Ok(reading_of(alloc, bytes)?)
 }
 
 /// The status with which a command on a file ends.

@@ -1,30 +1,17 @@
 ghost use Rattle.std.specs.Prelude.{◌≡◌, ◌≤◌, ◌<◌, length, slice_index_or, IfOk, IfErr};
 ghost use Rattle.mdf_model.specs.declared.part.Measure.{Measure};
-ghost use Rattle.mdf_block.specs.Refusal.{GivesOf};
-ghost use Rattle.mdf_content.specs.Fault.{read_refusal};
-ghost use Rattle.mdf_model.specs.Measurement.{measurement};
 ghost use Rattle.mdf_port.specs.State.{sink_state};
-ghost use Rattle.mdf_valid.specs.Measurement.{IsMeasurement};
 ghost use Rattle.tool_export.specs.Export.{ExportEnds, GivesText, NamesNone};
 ghost use Rattle.tool_export.specs.Table.{table_of};
 
 use crate::ExportFault;
 use crate::give::give_table;
 use crate::samples::GroupSamples;
-use mdf_content::ReadFault;
 use mdf_model::Measurement;
 use mdf_num::{Bytes, Stop};
 use mdf_port::Sink;
-use mdf_valid::read_file;
+use mdf_valid::take_file;
 use std::alloc::Global;
-
-/// The measurement of a file, which is given back to the allocator before anything is printed of it.
-fn measurement_of(alloc: Global, file: Bytes) -> Result<Measurement, ReadFault>
-    ensures exact { GivesOf read_refusal result (measurement file) }
-    ensures is { IfOk result (λ found. IsMeasurement file found.head found.history found.groups) }
-{
-    read_file(alloc, file.as_slice())
-}
 
 /// The number of a group, where there is one.
 fn group_in(found: &Measurement, said: u64) -> Result<u32, ExportFault>
@@ -70,7 +57,7 @@ pub fn export<K: Sink>(
     ensures ends { ExportEnds file group (sink_state K.Sink sink.old) (sink_state K.Sink sink.new) result }
     ensures later { K.faults sink.old ≤ K.faults sink.new }
 {
-    let found = measurement_of(alloc, file)?;
+    let found = take_file(alloc, file)?;
     let group = group_in(&found, group)?;
     give_group(alloc, sink, &found, group)?;
     Ok(found.samples(group))

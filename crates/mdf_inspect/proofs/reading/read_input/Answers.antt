@@ -7,15 +7,12 @@ use Rattle.mdf_inspect.proofs.reading.read_input.Goals as goal
 
 pub returns-clause-comes : goal.returns-clause-comes
 returns-clause-comes g c =
-    let exact = rw c.as_slice.ensures at c.in_ok-reading_of.ensures.exact in
-    let measured = rw c.as_slice.ensures at c.in_ok-reading_of.ensures.measured in
-    let valid = rw c.as_slice.ensures at c.in_ok-reading_of.ensures.valid in
+    let read = c.in_ok-reading_of.ensures in
     of_file _ _ (IsReading c.in_ok-reading_of.field-0) c.in_ok-bytes.ensures.comes.told
-    (record { is_read = exact; measured = measured; valid = valid; short = c.in_ok-bytes.ensures.comes.short })
+    (record { is_read = read.exact; measured = read.measured; valid = read.valid; short = c.in_ok-bytes.ensures.comes.short })
 
 pub returns-in_err-reading_of-clause-comes : goal.returns-in_err-reading_of-clause-comes
 returns-in_err-reading_of-clause-comes g c =
     let p = err_from_is_err_and c.from_residual-in_err-reading_of.result c.from_residual-in_err-reading_of.ensures.1 in
-    let failed = rw c.as_slice.ensures at c.in_err-reading_of.ensures.exact in
     rw (p.1, p.2) (refused_comes (state_of g.A.Disk c.args.first.now) (state_of g.A.Disk c.load.new.first) _ c.in_err-reading_of.field-0.0
-    c.in_ok-bytes.ensures.comes.told failed c.in_ok-bytes.ensures.comes.short)
+    c.in_ok-bytes.ensures.comes.told c.in_err-reading_of.ensures.exact c.in_ok-bytes.ensures.comes.short)

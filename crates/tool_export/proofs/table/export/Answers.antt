@@ -25,7 +25,7 @@ returns-in_err-give_group-clause-ends g c =
     let p = err_from_is_err_and c.from_residual-in_err-give_group.result c.from_residual-in_err-give_group.ensures.1 in
     rw (p.1, p.2) (subst (λ (said : ℕ). ExportEnds c.args.file said (sink_state g.K.Sink c.args.sink.now) (sink_state g.K.Sink c.give_group.new.sink)
     (Err (fault_of_stop c.in_err-give_group.field-0.0))) there.0
-    (stopped_ends c.args.file found c.in_ok-found.ensures.exact c.in_ok-found.ensures.is group there.1 _ _ _
+    (stopped_ends c.args.file found c.in_ok-found.ensures.exact c.in_ok-found.ensures.measurement group there.1 _ _ _
     (c.in_err-give_group.ensures (item_of found.groups group there.1))))
 
 pub returns-in_err-give_group-clause-later : goal.returns-in_err-give_group-clause-later
@@ -38,7 +38,7 @@ returns-clause-ends g c =
     let group = c.in_ok-group.group in
     let there = c.in_ok-group.ensures.there in
     let d = item_of found.groups group there.1 in
-    rw (← there.0) (given_ends c.args.file found c.in_ok-found.ensures.exact c.in_ok-found.ensures.is group there.1 _ _ _
+    rw (← there.0) (given_ends c.args.file found c.in_ok-found.ensures.exact c.in_ok-found.ensures.measurement group there.1 _ _ _
     (c.samples.ensures d) (c.in_ok-give_group.ensures d))
 
 pub returns-clause-later : goal.returns-clause-later
