@@ -3,3 +3,4 @@ pub mod Crash
 pub mod Images
 mod Tapes
 mod Moments
+mod Steps

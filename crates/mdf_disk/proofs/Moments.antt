@@ -1,6 +1,6 @@
 -- The moments of a story stay in it, and each of the images of a call is one that a crash may leave.
 use Rattle.std.proofs.Common.{◌≡◌, ◌⊎◌, inl, inr, ⊎_elim, ℕ, ◌+◌, ◌-◌, ◌≤◌, ◌<◌, List, [], ◌∷◌, ◌++◌, length, take, drop, replicate, fold, get_or, true, false, refl, sym, ◌∙◌, ap, subst, arith, length-append, take-append-drop, append_assoc}
-use Rattle.std.proofs.lemmas.List.{take_more, take_all, drop_all, get_or_append_left, length-replicate, append-nil}
+use Rattle.std.proofs.lemmas.List.{take_all, drop_all, get_or_append_left, length-replicate, append-nil}
 use Rattle.std.proofs.lemmas.Bool.{cases_lt}
 use Rattle.std.proofs.lemmas.List.Sums.{fold-append}
 use Rattle.std.specs.List.{AllByRecursion}
@@ -14,7 +14,7 @@ use Rattle.mdf_disk.specs.declared.image.Pick.{Pick}
 use Rattle.mdf_disk.specs.declared.image.Pick.TheVariants.{Stable, Content, Filled}
 use Rattle.mdf_format.specs.Number.{patched}
 use Rattle.mdf_disk.proofs.Patches.{length-patched, get_or-patched}
-use Rattle.mdf_disk.proofs.Tapes.{IsPossible, story_of-push}
+use Rattle.mdf_disk.proofs.Tapes.{IsPossible, story_of-more}
 
 -- a story and what it was before
 pub record GoesOn (old new : Story) : Type 0 where
@@ -83,9 +83,7 @@ pub inside_all : (calls : List Call) (k : ℕ) → k < length calls → IsMoment
 inside_all calls k within =
     let call = get_or calls k Attach in
     let before = story_of (take k calls) in
-    let pushed : story_of (take (k + 1) calls) ≡ told_by before call =
-    ap story_of (take_more calls k Attach within) ∙ story_of-push (take k calls) call in
-    let one = subst (λ (s : Story). IsMomentOf s (inside call before.now) (length before.past)) (sym pushed) (inside_one before call) in
+    let one = subst (λ (s : Story). IsMomentOf s (inside call before.now) (length before.past)) (sym (story_of-more calls k Attach within)) (inside_one before call) in
     let on = of_all calls (k + 1) in record {
       left = λ file left. left_later _ _ on _ file (one.left file left);
       possible = λ all. one.possible (all_before IsPossible _ _ on all);

@@ -1,5 +1,5 @@
 -- What a crash may leave while a head is written under a seal.
-use Rattle.std.proofs.Common.{◌≡◌, inl, inr, ⊎_elim, ℕ, ◌≤◌, ◌<◌, List, [], ◌∷◌, ◌++◌, length, take, drop, get_or, codes, Option, Some, None, sym, ◌∙◌, ap, subst, arith, length-append}
+use Rattle.std.proofs.Common.{◌≡◌, inl, inr, ⊎_elim, ℕ, ◌+◌, ◌≤◌, ◌<◌, List, [], ◌∷◌, ◌++◌, length, take, drop, get_or, codes, Option, Some, None, is_some, sym, ◌∙◌, ap, subst, arith, length-append}
 use Rattle.std.proofs.lemmas.List.{take_at, drop_more, get_or-take, get_or-drop, get_or_append_left}
 use Rattle.std.proofs.lemmas.Bool.{cases_eq}
 use Rattle.mdf_format.specs.Number.{bytes_at}
@@ -92,3 +92,14 @@ pub kept_head : (head : List ℕ) (content : Option (List ℕ)) (story : Option 
 kept_head head content None kept = tt
 kept_head head content (Some s) kept =
     ap (λ (m : Moment). take (length head) m.content) kept.kept ∙ take_at head (0 ∷ []) (length head) (omega arith)
+
+-- how far the clock rises, where the story is told: in one call, and in one more
+pub rises_more : (story : Option Story) (before now few most : ℕ) → few ≤ most → IfSome story (λ s. now ≤ before + few) → IfSome story (λ s. now ≤ before + most)
+rises_more None before now few most at_most rises = tt
+rises_more (Some s) before now few most at_most rises = omega (arith, at_most, rises)
+
+pub rises_both : (old mid : Option Story) (before between now few more : ℕ) → is_some mid ≡ is_some old → IfSome old (λ s. between ≤ before + few)
+    → IfSome mid (λ s. now ≤ between + more) → IfSome old (λ s. now ≤ before + (few + more))
+rises_both None mid before between now few more told first second = tt
+rises_both (Some s) None before between now few more told first second = absurd (cc told)
+rises_both (Some s) (Some t) before between now few more told first second = omega (arith, first, second)

@@ -1,5 +1,5 @@
 -- The two writes of a block: the payload behind the last gate of a file, and that gate.
-use Rattle.std.proofs.Common.{◌≡◌, inl, inr, ℕ, ◌+◌, List, [], ◌∷◌, ◌++◌, length, take, drop, get_or, Option, Some, None, Result, Ok, Err, sym, ◌∙◌, ap, subst, arith, take-append-drop, append_assoc}
+use Rattle.std.proofs.Common.{◌≡◌, inl, inr, ℕ, ◌+◌, ◌≤◌, List, [], ◌∷◌, ◌++◌, length, take, drop, get_or, Option, Some, None, Result, Ok, Err, sym, ◌∙◌, ap, subst, arith, take-append-drop, append_assoc, length-append}
 use Rattle.std.specs.Prelude.{IfSome, OnOk, OnErr}
 use Rattle.std.specs.Option.{option_map}
 use Rattle.std.proofs.lemmas.List.{take_all, drop_all, drop_more, append-nil, length-take-le}
@@ -91,3 +91,14 @@ pub written_twice : (place : ℕ) (payload : List ℕ) (old mid new : Option (Li
 written_twice place payload None mid new ends first second = second ∙ ap (option_map (patched place (35 ∷ []))) first
 written_twice place payload (Some file) mid new ends first second =
     second ∙ ap (option_map (patched place (35 ∷ []))) first ∙ ap Some (opened place file payload ends)
+
+-- the last gate is within the content once the payload is written
+pub still_within : (place : ℕ) (payload : List ℕ) (old mid : Option (List ℕ)) → IfSome old (λ file. length file ≡ place + 1)
+    → mid ≡ option_map (patched (place + 1) payload) old → IfSome mid (λ file. place ≤ length file)
+still_within place payload None mid ends first = subst (λ c. IfSome c (λ file. place ≤ length file)) (sym first) tt
+still_within place payload (Some file) mid ends first =
+    let front = length-take-le (place + 1) file (omega (arith, ends)) in
+    let rest = drop (place + 1 + length payload) file in
+    let all = length-append (take (place + 1) file ++ payload) rest in
+    let within : place ≤ length (patched (place + 1) payload file) = omega (arith, front, all, length-append (take (place + 1) file) payload) in
+    subst (λ c. IfSome c (λ file. place ≤ length file)) (sym first) within

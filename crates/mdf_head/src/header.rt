@@ -15,7 +15,6 @@ use std::alloc::Global;
 const HEADER_AT: u64 = 64;
 
 /// The header, the address of the first entry of the history, and how many bytes of texts may still come.
-#[tactic(auto, unfolding(crate::specs::Head::header))]
 fn header_in<P: Span>(
     alloc: Global,
     span: &mut P,

@@ -4,7 +4,7 @@ use Rattle.std.proofs.lemmas.Result.{on_ok_weaker, on_err_weaker}
 use Rattle.mdf_disk.proofs.Crash.{adds_both, adds_more}
 use Rattle.mdf_seal.specs.Seal.{IsKept}
 use Rattle.mdf_gate.specs.Images.{IsTorn, IsStage}
-use Rattle.mdf_gate.proofs.Stages.{both_ok, changed_twice, written_twice, on_err, none_staged, all_staged, first_stage, second_stage, opened}
+use Rattle.mdf_gate.proofs.Stages.{both_ok, changed_twice, written_twice, on_err, none_staged, all_staged, first_stage, second_stage, opened, still_within}
 use Rattle.mdf_gate.proofs.stage.write_block.Goals as goal
 
 pub returns-in_err-write_and_sync-clause-any_moment : goal.returns-in_err-write_and_sync-clause-any_moment
@@ -70,3 +70,8 @@ returns-clause-staged g c = λ kept is ends.
 pub returns-clause-in_flight : goal.returns-clause-in_flight
 returns-clause-in_flight g c = λ kept is.
     c.write_and_sync-2.ensures.in_flight (patched (c.args.place + 1) c.args.payload.now kept) (c.in_ok-write_and_sync.ensures.kept kept is.kept)
+
+pub write_and_sync-requires-2-clause-within : goal.write_and_sync-requires-2-clause-within
+write_and_sync-requires-2-clause-within g c =
+    let content = g.D.Disk.content in
+    still_within c.args.place c.args.payload.now (content c.args.disk.now) (content c.write_and_sync.new.disk) c.requires.ends c.in_ok-write_and_sync.ensures.content

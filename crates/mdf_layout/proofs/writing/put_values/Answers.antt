@@ -1,7 +1,8 @@
-use Rattle.std.proofs.Common.{◌≡◌, ◌<◌, ◌∙◌, ap, sym, subst, length, get_or, arith}
+use Rattle.std.proofs.Common.{◌≡◌, ◌<◌, ◌^◌, ◌∙◌, ap, sym, subst, length, get_or, arith}
+use Rattle.std.proofs.lemmas.Option.{slice_get_within, get_or_from_slice_get}
 use Rattle.std.specs.List.{All}
 use Rattle.mdf_layout.specs.Rule.{spot_in, is_variable, IsPlacedAs}
-use Rattle.mdf_layout.specs.Written.{HoldsValue, offset_of}
+use Rattle.mdf_layout.specs.Written.{ValueFits, HoldsValue, offset_of}
 use Rattle.mdf_layout.proofs.Samples.{streams_more, few_more}
 use Rattle.mdf_layout.proofs.Stays.{AreBytes, values_more, others_more}
 use Rattle.mdf_layout.proofs.writing.put_values.Goals as goal
@@ -32,3 +33,35 @@ loop-channel-preserved c =
       few = omega (arith, c.streams_with-stream.ensures, few_more (is_variable row) c.loop-channel.stream i c.loop-channel.invariant.few);
       small = small'.small;
     }
+
+pub put_value-requires-clause-placed : goal.put_value-requires-clause-placed
+put_value-requires-clause-placed c =
+    let rows = c.args.rows.now in
+    let i = c.loop-channel.channel in
+    let row = c.row_at-row.result in
+    let there = c.row_at-row.ensures in
+    let placed = subst (λ n. All (λ row. IsPlacedAs row.kind n (spot_in row)) rows) (sym c.loop-channel.auto.content) c.requires.placed in
+    subst (λ r. IsPlacedAs r.kind (length c.loop-channel.content) (spot_in r)) (get_or_from_slice_get rows i row row there) (placed i row (slice_get_within rows i row there))
+
+pub put_value-requires-clause-fits : goal.put_value-requires-clause-fits
+put_value-requires-clause-fits c =
+    let rows = c.args.rows.now in
+    let i = c.loop-channel.channel in
+    let row = c.row_at-row.result in
+    let there = c.row_at-row.ensures in
+    let entry = c.index-values-channel.result in
+    let fits = c.requires.fits.each i row entry (slice_get_within rows i row there) in
+    subst (λ r. ValueFits r.kind r.bits entry.value) (get_or_from_slice_get rows i row row there)
+    (subst (λ e. ValueFits (get_or rows i row).kind (get_or rows i row).bits e.value) (sym c.index-values-channel.is) fits.value)
+
+pub put_value-requires-clause-offset : goal.put_value-requires-clause-offset
+put_value-requires-clause-offset c = λ variable.
+    let rows = c.args.rows.now in
+    let i = c.loop-channel.channel in
+    let row = c.row_at-row.result in
+    let there = c.row_at-row.ensures in
+    let here = get_or_from_slice_get rows i row row there in
+    let fits = c.requires.offsets i row (slice_get_within rows i row there) (ap (λ r. r.kind) here ∙ variable) in
+    let offset : c.offset_at.result ≡ offset_of rows c.args.offsets.now i =
+    c.offset_at.ensures ∙ ap (λ n. get_or c.args.offsets.now n 0) c.loop-channel.invariant.before in
+    subst (λ n. n < 2 ^ row.bits) (sym offset) (subst (λ r. offset_of rows c.args.offsets.now i < 2 ^ r.bits) here fits)

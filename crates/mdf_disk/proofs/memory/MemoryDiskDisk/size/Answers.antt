@@ -1,10 +1,39 @@
-use Rattle.std.proofs.Common.{◌≡◌, ◌++◌, ◌∷◌, [], refl}
+use Rattle.std.proofs.Common.{Some, length, refl, ap, ◌∙◌}
 use Rattle.mdf_disk.specs.declared.call.Call.TheVariants.{Size}
-use Rattle.mdf_disk.proofs.Tapes.{quiet_told}
+use Rattle.mdf_disk.proofs.Tapes.{stays_told, clock_rises}
 use Rattle.mdf_disk.proofs.memory.MemoryDiskDisk.size.Goals as goal
+
+pub returns-then-not-may-clause-content : goal.returns-then-not-may-clause-content
+returns-then-not-may-clause-content c =
+    let disk = c.args.self.now in
+    ap Some (stays_told disk.file disk.tape c.log.new.tape Size refl c.in_ok-log.ensures.ok).content_is
 
 pub returns-then-not-may-clause-story : goal.returns-then-not-may-clause-story
 returns-then-not-may-clause-story c =
     let disk = c.args.self.now in
-    let calls : c.log.new.tape ≡ disk.tape ++ Size ∷ [] = c.in_ok-log.ensures.ok in
-    rw calls (quiet_told disk.file disk.tape Size refl)
+    (stays_told disk.file disk.tape c.log.new.tape Size refl c.in_ok-log.ensures.ok).story_is
+
+pub returns-then-not-may-clause-moment : goal.returns-then-not-may-clause-moment
+returns-then-not-may-clause-moment c =
+    let disk = c.args.self.now in
+    clock_rises disk.tape c.log.new.tape Size c.in_ok-log.ensures.ok
+
+pub returns-clause-content : goal.returns-clause-content
+returns-clause-content c =
+    let disk = c.args.self.now in
+    ap Some (stays_told disk.file disk.tape c.log.new.tape Size refl c.in_ok-log.ensures.ok).content_is
+
+pub returns-clause-story : goal.returns-clause-story
+returns-clause-story c =
+    let disk = c.args.self.now in
+    (stays_told disk.file disk.tape c.log.new.tape Size refl c.in_ok-log.ensures.ok).story_is
+
+pub returns-clause-moment : goal.returns-clause-moment
+returns-clause-moment c =
+    let disk = c.args.self.now in
+    clock_rises disk.tape c.log.new.tape Size c.in_ok-log.ensures.ok
+
+pub returns-clause-size : goal.returns-clause-size
+returns-clause-size c =
+    let disk = c.args.self.now in
+    ap length (c.bytes.ensures.told ∙ (stays_told disk.file disk.tape c.log.new.tape Size refl c.in_ok-log.ensures.ok).content_is)

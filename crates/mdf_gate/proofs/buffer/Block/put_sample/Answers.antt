@@ -1,4 +1,5 @@
-use Rattle.std.proofs.Common.{◌≡◌, ◌+◌, ◌++◌, ◌∙◌, ap, length, take, rules}
+use Rattle.std.proofs.Common.{◌≡◌, ◌+◌, ◌++◌, ◌∙◌, ap, sym, length, take, drop, length-take, length-drop, arith, rules}
+use Rattle.std.proofs.lemmas.List.{take_at}
 use Rattle.mdf_gate.specs.Gated.{Buffered}
 use Rattle.mdf_format.specs.Number.{bytes_at}
 use Rattle.mdf_gate.proofs.Buffers.{put_behind_data}
@@ -17,4 +18,17 @@ returns-clause-record c = λ before next.
       put_behind_data block.bytes.items new block.used size block.bytes.len len long same
           ∙ ap (λ (b : Buffered). b.bytes ++ bytes_at size new (23 + block.used)) c.self.view_is,
       c.put_records-size.ensures.record before next,
+    )
+
+pub invariant_of-self : goal.invariant_of-self
+invariant_of-self c =
+    let block = c.self.inside in
+    let items = block.bytes.items in
+    let new = c.put_records-size.new.bytes in
+    let len : block.bytes.len ≡ length items = search rules in
+    let long : length new ≡ length items = search rules in
+    let limit = ap (λ (b : Buffered). b.limit) c.self.view_is in
+    let held = ap (λ (b : Buffered). length b.bytes) c.self.view_is in (
+      omega (arith, c.requires.room, c.put_records-size.ensures.size, limit, held, c.self.invariant, length-take block.used (drop 23 items), length-drop 23 items),
+      ap length (take_at new (drop (length new) items) block.bytes.len (long ∙ sym len)) ∙ long ∙ c.self.invariant.1,
     )

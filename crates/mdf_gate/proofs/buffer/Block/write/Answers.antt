@@ -1,4 +1,6 @@
-use Rattle.std.proofs.Common.{◌≡◌, ◌++◌, ◌∷◌, ◌∙◌, List, ℕ, length, take, ap, subst, rules}
+use Rattle.std.proofs.Common.{◌≡◌, ◌++◌, ◌∷◌, ◌∙◌, List, ℕ, length, take, drop, ap, sym, subst, rules}
+use Rattle.std.proofs.lemmas.List.{take_at}
+use Rattle.mdf_format.specs.Number.{bytes_at}
 use Rattle.std.specs.Prelude.{IfSome, OnOk, OnErr}
 use Rattle.std.specs.Option.{option_map}
 use Rattle.mdf_disk.specs.Crash.{Adds}
@@ -55,3 +57,16 @@ returns-clause-staged g c = λ kept is ends.
     len long c.deref_mut.ensures.value c.deref.ensures.value c.align8-end.ensures.aligned c.from.ensures c.frame.ensures.payload (ap (λ (b : Buffered). b.bytes) c.self.view_is) in
     subst (λ (bytes : List ℕ). OnErr c.write_block.result (IfSome (synced (g.D.Disk.story new)) (IsStaged kept bytes))) payload
     (c.write_block.ensures.staged kept is ends)
+
+pub returns-clause-same : goal.returns-clause-same
+returns-clause-same g c =
+    let block = c.self.inside in
+    let items = block.bytes.items in
+    let new = c.frame.new.bytes in
+    let len : block.bytes.len ≡ length items = search rules in
+    let long : length new ≡ length items = c.frame.ensures.length ∙ ap length c.deref_mut.ensures.value in
+    let held : List ℕ → List ℕ = λ bytes. bytes_at block.used bytes 23 in
+    let view : List ℕ → Buffered = λ bytes. record { limit = block.limit; bytes = bytes } in
+    let same : held (take block.bytes.len (new ++ drop (length new) items)) ≡ held items =
+    ap held (take_at new (drop (length new) items) block.bytes.len (long ∙ sym len)) ∙ c.frame.ensures.data_bytes ∙ ap held c.deref_mut.ensures.value in
+    ap view same ∙ c.self.view_is

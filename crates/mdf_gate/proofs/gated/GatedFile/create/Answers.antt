@@ -38,3 +38,8 @@ returns-clause-begun g c =
     subst (λ (t : ℕ). HoldsSince story t (IsBegun (head_of story (length head)))) (sym c.moment-start.ensures)
     (begun_since head story _ (length head) (kept_head head (g.D.Disk.content c.write_head.new.disk) story c.in-Ok.ensures.ok)
     (begun_holds head (g.D.Disk.story c.args.disk) story (g.D.Disk.content c.args.disk) _ (g.met.D.Disk.agrees c.args.disk) c.requires.blank.kept c.write_head.ensures.any_moment))
+
+pub returns-clause-head : goal.returns-clause-head
+returns-clause-head g c =
+    let disk = c.write_head.new.disk in
+    kept_head c.args.head.now (g.D.Disk.content disk) (g.D.Disk.story disk) c.in-Ok.ensures.ok
