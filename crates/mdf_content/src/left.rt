@@ -23,7 +23,8 @@ use mdf_stream::moved_front;
 use std::alloc::Global;
 
 /// The bytes of so many records of a group, one record behind the other, of a file that nobody needs any more. Where the records
-/// stand one behind the other in the stream, and its parts in their order in the file, they are moved in the memory of the file.
+/// stand one behind the other in the stream, and its parts in their order in the file, they are moved in the memory of the file; else
+/// they are copied, for which `data_in` took room.
 fn content_from(
     alloc: Global,
     file: Bytes,
@@ -92,7 +93,7 @@ fn group_from(
 
 /// Puts the bytes of the records that `data_in` left in the file to what it read of a data group (DGBLOCK) without record ids, which has
 /// one channel group at most. They stay in the memory of the file, if they stand there in their order, and the rest of it is given back
-/// to the allocator.
+/// to the allocator. `data_in` took room for them.
 ///
 /// # Errors
 /// Want of memory.
