@@ -43,7 +43,7 @@ use std::alloc::Global;
 use std::collections::BTreeSet;
 
 /// What is read of a channel group (CGBLOCK) that holds no values of variable length.
-#[derive(Debug, Drop)]
+#[derive(Drop)]
 pub struct Contents {
     /// The layout of its records.
     pub shape: Shape,
@@ -56,7 +56,7 @@ pub struct Contents {
 }
 
 /// What is read of a data group (DGBLOCK).
-#[derive(Debug, Drop)]
+#[derive(Drop)]
 pub struct DataContents {
     /// Its channel groups that hold no values of variable length, in order.
     pub groups: Rows<Contents>,
