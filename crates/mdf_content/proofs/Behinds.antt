@@ -1,5 +1,7 @@
 -- Bytes of a stream that are read one behind the other into a list.
-use Rattle.std.proofs.Common.{◌≡◌, ◌+◌, ◌-◌, ℕ, List, [], ◌∷◌, ◌++◌, length, take, drop, refl, sym, ◌∙◌, ap, append-nil, append_assoc, length-append, ◌≤◌, arith}
+use Rattle.std.proofs.Common.{◌≡◌, ◌+◌, ◌-◌, ℕ, List, [], ◌∷◌, ◌++◌, length, get_or, take, drop, refl, sym, ◌∙◌, ap, append-nil, append_assoc, length-append, ◌<◌, ◌≤◌, arith}
+use Rattle.std.proofs.lemmas.Grind.{common_steps}
+use Rattle.std.specs.Prelude.{min, sum_by}
 use Rattle.std.proofs.lemmas.List.{length-drop, length-take-le, take_at, take_all, drop_all}
 use Rattle.std.proofs.lemmas.List.Concat.{flat_map-append}
 use Rattle.std.specs.List.{flat_map}
@@ -39,6 +41,16 @@ read_into old part stream start size place within long is_part =
     ap (take (start + size)) (sym (append_assoc front part rest))
     ∙ take_at (front ++ part) rest (start + size) (length-append front part ∙ omega (arith, begins, long, lent))
     ∙ ap (λ (xs : List ℕ). front ++ xs) (is_part ∙ ap (λ (n : ℕ). bytes_at n stream place) lent)
+
+-- what stands at one more place
+pub more_there : (there : ℕ → List ℕ) (places so_far next one : List ℕ) (k : ℕ) → k < length places → one ≡ there (get_or places k 0)
+    → next ≡ so_far ++ one → so_far ≡ flat_map there (take k places) → next ≡ flat_map there (take (k + 1) places)
+more_there there places so_far next one k below is added so_far_is = grind (arith, common_steps)
+
+-- one more size is summed, up to a greatest number
+pub more_summed : (size : ℕ → ℕ) (places : List ℕ) (most k total len sum : ℕ) → k < length places → len ≡ size (get_or places k 0)
+    → sum ≡ min (total + len) most → total ≡ min (sum_by size (take k places)) most → sum ≡ min (sum_by size (take (k + 1) places)) most
+more_summed size places most k total len sum below is added so_far = grind (arith, common_steps)
 
 -- the value in the record at a place, with its length
 abbrev pub value_there : List ℕ → List Part → ℕ → List ℕ

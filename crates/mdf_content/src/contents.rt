@@ -43,7 +43,7 @@ use std::alloc::Global;
 use std::collections::BTreeSet;
 
 /// What is read of a channel group (CGBLOCK) that holds no values of variable length.
-#[derive(Debug, Drop)]
+#[derive(Drop)]
 pub struct Contents {
     /// The layout of its records.
     pub shape: Shape,
@@ -56,7 +56,7 @@ pub struct Contents {
 }
 
 /// What is read of a data group (DGBLOCK).
-#[derive(Debug, Drop)]
+#[derive(Drop)]
 pub struct DataContents {
     /// Its channel groups that hold no values of variable length, in order.
     pub groups: Rows<Contents>,
@@ -212,7 +212,7 @@ pub(crate) fn content_in<P: Span>(
     listed_content_in(alloc, span, view, size, places, count, room)
 }
 
-/// The same, or no bytes where they are left in the file.
+/// The same, or no bytes where they are left in the file. Room is taken for them all the same.
 fn content_where<P: Span>(
     alloc: Global,
     span: &mut P,
@@ -233,6 +233,12 @@ fn content_where<P: Span>(
     ensures cause { StopCause true (P.faults span.old) (P.faults span.new) result }
 {
     if left {
+        let Some(total) = count.checked_mul(record_size(group)) else {
+            return Err(Stop::Memory);
+        };
+        let Ok(()) = room.take(total) else {
+            return Err(Stop::Memory);
+        };
         return Ok(Bytes::empty(alloc));
     }
     content_in(alloc, span, view, record_size(group), places, count, room)
@@ -486,7 +492,8 @@ fn found_in<P: Span>(
 /// of the first record whose offset meets no value. The span's own; and want of memory, which is answered too where the
 /// room does not suffice for the records and the values.
 ///
-/// The bytes of the records are left out where `left` says that they stay in the file; `put_back` puts them there.
+/// The bytes of the records are left out where `left` says that they stay in the file; `put_back` puts them there. Room is taken for them
+/// all the same.
 #[tactic(auto, unfolding(crate::specs::Contents::data_of))]
 pub fn data_in<P: Span>(
     alloc: Global,

@@ -23,7 +23,8 @@ use mdf_stream::moved_front;
 use std::alloc::Global;
 
 /// The bytes of so many records of a group, one record behind the other, of a file that nobody needs any more. Where the records
-/// stand one behind the other in the stream, and its parts in their order in the file, they are moved in the memory of the file.
+/// stand one behind the other in the stream, and its parts in their order in the file, they are moved in the memory of the file; else
+/// they are copied, for which `data_in` took room.
 fn content_from(
     alloc: Global,
     file: Bytes,
@@ -90,9 +91,46 @@ fn group_from(
     Ok(Contents { content, ..left })
 }
 
+/// What was read of a data group with the bytes of its records, which were left in the file, where its stream and the places of its
+/// records are found.
+fn put_back_at(
+    alloc: Global,
+    file: Bytes,
+    row: &DataRow,
+    found: DataContents,
+    view: &DataView,
+    lists: &[Places],
+) -> Result<DataContents, Memory>
+    requires alone { row.now.id_size ≡ 0 }
+    requires left { (whole : DataContents) × IsLeft file row.now found whole }
+    requires parts { data_parts file Dt row.now.content ≡ Ok view.now }
+    requires lists { places_of (stream_of file view.now) (stream_size view.now) true row.now ≡ Ok lists.now }
+    requires inside { ArePartsInside (length file) view.now }
+    requires room { HaveRoom (stream_size view.now) (map known_of row.now.groups) lists.now }
+    ensures back { (whole : DataContents) → IsLeft file row.now found whole → IfOk result (λ back. back ≡ whole) }
+    ensures samples { IfOk result AllHaveSamples }
+{
+    let DataContents { groups, strict } = found;
+    let mut groups = groups.into_vec();
+    let Some(left) = groups.pop() else {
+        return Ok(DataContents {
+            groups: Rows::from_vec(groups),
+            strict,
+        });
+    };
+    let none = Places::empty(alloc);
+    let places = places_or(lists, 0, &none);
+    let group = &row.groups.as_slice()[0];
+    groups.push(group_from(alloc, file, view, group, places, left)?)?;
+    Ok(DataContents {
+        groups: Rows::from_vec(groups),
+        strict,
+    })
+}
+
 /// Puts the bytes of the records that `data_in` left in the file to what it read of a data group (DGBLOCK) without record ids, which has
 /// one channel group at most. They stay in the memory of the file, if they stand there in their order, and the rest of it is given back
-/// to the allocator.
+/// to the allocator. `data_in` took room for them.
 ///
 /// # Errors
 /// Want of memory.
@@ -108,20 +146,5 @@ pub fn put_back(
     ensures samples { IfOk result AllHaveSamples }
 {
     let (view, lists) = found_again(alloc, &file, row)?;
-    let DataContents { groups, strict } = found;
-    let mut groups = groups.into_vec();
-    let Some(left) = groups.pop() else {
-        return Ok(DataContents {
-            groups: Rows::from_vec(groups),
-            strict,
-        });
-    };
-    let none = Places::empty(alloc);
-    let places = places_or(lists.as_slice(), 0, &none);
-    let group = &row.groups.as_slice()[0];
-    groups.push(group_from(alloc, file, &view, group, places, left)?)?;
-    Ok(DataContents {
-        groups: Rows::from_vec(groups),
-        strict,
-    })
+    put_back_at(alloc, file, row, found, &view, lists.as_slice())
 }

@@ -1,8 +1,9 @@
 ghost use Rattle.std.specs.Prelude.{◌≡◌, ◌^◌, ◌<◌, ℕ, List, Some, length, true, IfOk, IfErr};
-ghost use Rattle.mdf_num.specs.Halt.{HaltCause};
-ghost use Rattle.mdf_block.specs.Refusal.{Gives, IsPlain};
+ghost use Rattle.mdf_num.specs.Halt.{HaltCause, HaltReason};
+ghost use Rattle.mdf_block.specs.Refusal.{Gives, Halts, IsPlain, Read, Refuses};
 ghost use Rattle.mdf_stream.specs.Parts.{stream_of, stream_size, ArePartsInside};
-ghost use Rattle.mdf_stream.specs.Link.{data_parts};
+ghost use Rattle.mdf_stream.specs.declared.part.Part.{Part};
+ghost use Rattle.mdf_stream.specs.Link.{data_parts, data_refusal};
 ghost use Rattle.mdf_data.specs.Record.{IsIdSize};
 ghost use Rattle.mdf_data.specs.Places.{places, HaveRoom};
 ghost use Rattle.mdf_content.specs.Fault.{read_refusal};
@@ -12,6 +13,23 @@ use mdf_block::{Kind, What};
 use mdf_data::{DataFault, DataView, Known, Places, SplitFault, places_in, view_data_in};
 use mdf_num::{Halt, Rows, Span};
 use std::alloc::Global;
+
+/// Why reading stops at a fault of data. Want of memory inside it is want of memory.
+fn data_halt(fault: DataFault) -> Halt<ReadFault>
+    ensures halts { (read : Read (List Part)) → Refuses (data_refusal fault) read → Halts read_refusal result read }
+    ensures plain { IsPlain read_refusal result }
+    ensures reason { (before now : ℕ) → HaltReason true before now result }
+{
+    match fault {
+        DataFault::Bad { at, want } => Halt::Fault(ReadFault::Block { at, want }),
+        DataFault::Compressed { at } => Halt::Fault(ReadFault::Compressed { at }),
+        DataFault::TooMany { at } => Halt::Fault(ReadFault::TooMany {
+            what: What::Block,
+            at,
+        }),
+        DataFault::Memory => Halt::Memory,
+    }
+}
 
 /// What a data link leads to, with the faults of this crate. A stream of more than twice as many bytes as the file has,
 /// which lists of the same blocks can make, counts as want of memory.
@@ -35,18 +53,7 @@ pub(crate) fn view_of<P: Span>(
             }
             Ok(view)
         }
-        Err(Halt::Fault(DataFault::Bad { at, want })) => Err(Halt::Fault(ReadFault::Block {
-            at,
-            want,
-        })),
-        Err(Halt::Fault(DataFault::Compressed { at })) => {
-            Err(Halt::Fault(ReadFault::Compressed { at }))
-        }
-        Err(Halt::Fault(DataFault::TooMany { at })) => Err(Halt::Fault(ReadFault::TooMany {
-            what: What::Block,
-            at,
-        })),
-        Err(Halt::Fault(DataFault::Memory)) => Err(Halt::Memory),
+        Err(Halt::Fault(fault)) => Err(data_halt(fault)),
         Err(Halt::Failed) => Err(Halt::Failed),
         Err(Halt::Memory) => Err(Halt::Memory),
     }

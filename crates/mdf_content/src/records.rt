@@ -58,10 +58,10 @@ fn known_of(group: &GroupRow) -> Known
 }
 
 /// What the splitter knows of groups.
-fn known_groups(alloc: Global, groups: &[GroupRow]) -> Result<Vec<Known>, Memory>
-    ensures { IfOk result (λ known. known.items ≡ map known_of groups.now) }
+fn known_groups(alloc: Global, groups: &[GroupRow]) -> Result<Rows<Known>, Memory>
+    ensures { IfOk result (λ known. known ≡ map known_of groups.now) }
 {
-    let mut known = Vec::new(alloc);
+    let mut known = Rows::empty(alloc);
     for group in groups {
         known.push(known_of(group))?;
     }

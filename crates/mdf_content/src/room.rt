@@ -5,7 +5,7 @@ use std::alloc::Global;
 
 /// How many bytes of records and of values may still be kept of a file. Channels may name the same values, and data
 /// groups the same records, and each has its own copy of them; what no longer fits is want of memory.
-#[derive(Debug, Drop)]
+#[derive(Drop)]
 pub struct Room {
     left: u64,
 }

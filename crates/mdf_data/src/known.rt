@@ -1,5 +1,5 @@
 /// How long the records of a group are, without their ids.
-#[derive(Clone, Copy, Debug)]
+#[derive(Clone, Copy)]
 pub enum Size {
     /// So many bytes each.
     Fixed(u64),
@@ -8,7 +8,7 @@ pub enum Size {
 }
 
 /// A group of records.
-#[derive(Clone, Copy, Debug)]
+#[derive(Clone, Copy)]
 pub struct Known {
     /// What the ids of its records say.
     pub id: u64,

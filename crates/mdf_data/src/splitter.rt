@@ -11,7 +11,7 @@ use mdf_num::{Halt, Rows, SliceSpan, Span};
 use std::marker::Model;
 
 /// A place in a stream of records, and the groups that its records belong to.
-#[derive(Debug, Drop)]
+#[derive(Drop)]
 pub struct Splitter {
     id_size: u8,
     known: Rows<Known>,

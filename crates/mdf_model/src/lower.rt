@@ -1,8 +1,11 @@
 ghost use Rattle.std.specs.Prelude.{◌≡◌, ℕ, List, Some, true, IfOk, IfErr};
-ghost use Rattle.mdf_num.specs.Halt.{HaltCause};
-ghost use Rattle.mdf_block.specs.Refusal.{Gives, IsPlain};
+ghost use Rattle.mdf_num.specs.Halt.{HaltCause, HaltReason};
+ghost use Rattle.mdf_block.specs.Refusal.{Gives, Halts, IsPlain, Read, Refuses};
 ghost use Rattle.mdf_block.specs.Block.{block, IsInside, IsFilled};
+ghost use Rattle.mdf_conv.specs.declared.limits.Budget.{Budget};
 ghost use Rattle.mdf_group.specs.Group.{groups};
+ghost use Rattle.mdf_group.specs.Link.{group_refusal};
+ghost use Rattle.mdf_group.specs.declared.row.DataRow.{DataRow};
 ghost use Rattle.mdf_content.specs.Fault.{read_refusal};
 ghost use Rattle.mdf_model.specs.Tree.{header_of};
 
@@ -71,6 +74,22 @@ pub(crate) fn header_of<P: Span>(
     }
 }
 
+/// Why reading stops at a fault of data groups. Want of memory inside it is want of memory.
+fn groups_halt(fault: GroupFault) -> Halt<ReadFault>
+    ensures halts { (read : Read (List DataRow × Budget)) → Refuses (group_refusal fault) read → Halts read_refusal result read }
+    ensures plain { IsPlain read_refusal result }
+    ensures reason { (before now : ℕ) → HaltReason true before now result }
+{
+    match fault {
+        GroupFault::Bad { at, want } => Halt::Fault(ReadFault::Block { at, want }),
+        GroupFault::TooMany { what, at } => Halt::Fault(ReadFault::TooMany { what, at }),
+        GroupFault::ChannelKind { at, kind } => Halt::Fault(ReadFault::ChannelKind { at, kind }),
+        GroupFault::ChannelType { at, value } => Halt::Fault(ReadFault::ChannelType { at, value }),
+        GroupFault::Deep { at } => Halt::Fault(ReadFault::Deep { at }),
+        GroupFault::Memory => Halt::Memory,
+    }
+}
+
 /// The data groups, with the faults of reading, and what may still come.
 pub(crate) fn groups_of<P: Span>(
     alloc: Global,
@@ -87,22 +106,7 @@ pub(crate) fn groups_of<P: Span>(
     let mut left = budget;
     match read_groups_in(alloc, span, first, &mut left) {
         Ok(rows) => Ok((rows, left)),
-        Err(Halt::Fault(GroupFault::Bad { at, want })) => Err(Halt::Fault(ReadFault::Block {
-            at,
-            want,
-        })),
-        Err(Halt::Fault(GroupFault::TooMany { what, at })) => Err(Halt::Fault(ReadFault::TooMany {
-            what,
-            at,
-        })),
-        Err(Halt::Fault(GroupFault::ChannelKind { at, kind })) => {
-            Err(Halt::Fault(ReadFault::ChannelKind { at, kind }))
-        }
-        Err(Halt::Fault(GroupFault::ChannelType { at, value })) => {
-            Err(Halt::Fault(ReadFault::ChannelType { at, value }))
-        }
-        Err(Halt::Fault(GroupFault::Deep { at })) => Err(Halt::Fault(ReadFault::Deep { at })),
-        Err(Halt::Fault(GroupFault::Memory)) => Err(Halt::Memory),
+        Err(Halt::Fault(fault)) => Err(groups_halt(fault)),
         Err(Halt::Failed) => Err(Halt::Failed),
         Err(Halt::Memory) => Err(Halt::Memory),
     }

@@ -24,7 +24,7 @@ use std::marker::Model;
 use std::mem::replace;
 
 /// The measurement of a finalized file. Contracts see it as its parts.
-#[derive(Debug, Drop)]
+#[derive(Drop)]
 pub struct Measurement {
     head: Head,
     history: Rows<History>,

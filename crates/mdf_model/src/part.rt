@@ -10,7 +10,7 @@ use mdf_vlsd::Streams;
 use std::alloc::Global;
 
 /// A channel group of a measurement, with its records.
-#[derive(Debug, Drop)]
+#[derive(Drop)]
 pub struct GroupPart {
     /// The channel group and its channels.
     pub row: GroupRow,
@@ -23,7 +23,7 @@ pub struct GroupPart {
 }
 
 /// The same with the layout of its records, and with how many they are.
-#[derive(Debug, Drop)]
+#[derive(Drop)]
 pub struct Measure {
     pub(crate) part: GroupPart,
     pub(crate) shape: Shape,

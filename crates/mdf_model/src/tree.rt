@@ -1,7 +1,9 @@
-ghost use Rattle.std.specs.Prelude.{◌≡◌, ◌≤◌, ℕ, List, Some, true, IfOk, IfErr};
+ghost use Rattle.std.specs.Prelude.{◌≡◌, ◌≤◌, ℕ, List, Some, Ok, true, IfOk, IfErr};
 ghost use Rattle.mdf_num.specs.Halt.{HaltCause, StopCause};
 ghost use Rattle.mdf_block.specs.Refusal.{Gives, IsPlain};
-ghost use Rattle.mdf_block.specs.Block.{IsInside};
+ghost use Rattle.mdf_format.specs.declared.kind.Kind.TheVariants.{Hd};
+ghost use Rattle.mdf_block.specs.Block.{block, IsInside};
+ghost use Rattle.mdf_block.specs.declared.place.BlockAt.{BlockAt};
 ghost use Rattle.mdf_content.specs.Fault.{read_refusal};
 ghost use Rattle.mdf_model.specs.Tree.{passed_over, tree, whole_budget};
 
@@ -15,7 +17,7 @@ use mdf_num::{Halt, Rows, Span, Stop};
 use std::alloc::Global;
 
 /// The blocks of a file that are reached by links, the data left out.
-#[derive(Debug, Drop)]
+#[derive(Drop)]
 pub struct Tree {
     /// The header (HDBLOCK).
     pub head: Head,
@@ -52,6 +54,27 @@ fn passed_in<P: Span>(span: &mut P, block: &BlockAt) -> Result<u64, Stop>
     Ok(link_count(hierarchy) + link_count(attachment) + link_count(event))
 }
 
+/// The header, the file history and the data groups of a file, so many links of whose header are passed over.
+#[tactic(auto, unfolding(crate::specs::Tree::tree))]
+fn tree_behind<P: Span>(alloc: Global, span: &mut P, passed: u64) -> Result<Tree, Halt<ReadFault>>
+    ensures found { (f : List ℕ) (b : BlockAt) → P.bytes span.old ≡ Some f → block f 64 Hd ≡ Ok b → passed ≡ passed_over f b.at
+        → Gives read_refusal result (tree f) }
+    ensures plain { IfErr result (IsPlain read_refusal) }
+    ensures same { P.bytes span.new ≡ P.bytes span.old }
+    ensures size { P.size span.new ≡ P.size span.old }
+    ensures cause { HaltCause true (P.faults span.old) (P.faults span.new) result }
+{
+    let (head, history, left) = header_of(alloc, span, whole_budget())?;
+    let (rows, left) = groups_of(alloc, span, head.first_dg, left)?;
+    let dropped = left.with_dropped(passed).dropped;
+    Ok(Tree {
+        head,
+        history,
+        rows,
+        dropped,
+    })
+}
+
 /// The header, the file history and the data groups of a file.
 ///
 /// # Errors
@@ -67,13 +90,5 @@ pub fn tree_in<P: Span>(alloc: Global, span: &mut P) -> Result<Tree, Halt<ReadFa
 {
     let block = block_of(span, HEADER_AT, Kind::Hd)?;
     let passed = passed_in(span, &block)?;
-    let (head, history, left) = header_of(alloc, span, whole_budget())?;
-    let (rows, left) = groups_of(alloc, span, head.first_dg, left)?;
-    let dropped = left.with_dropped(passed).dropped;
-    Ok(Tree {
-        head,
-        history,
-        rows,
-        dropped,
-    })
+    tree_behind(alloc, span, passed)
 }

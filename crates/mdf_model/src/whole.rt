@@ -18,7 +18,7 @@ use mdf_num::{Halt, Memory, Rows, Span};
 use std::alloc::Global;
 
 /// All that is read of a finalized file.
-#[derive(Debug, Drop)]
+#[derive(Drop)]
 pub struct Whole {
     /// Its identification.
     pub ident: Ident,

@@ -1,15 +1,17 @@
 -- Loops that count the records and the values of groups.
 use Rattle.std.proofs.Common.{◌≡◌, ◌+◌, ◌<◌, ◌≤◌, ℕ, zero, suc, List, [], ◌∷◌, ◌++◌, length, get_or, drop, map, refl, sym, ◌∙◌, ap, subst, arith, append_assoc, append-nil, add-one}
+use Rattle.std.proofs.lemmas.Grind.{common_steps}
 use Rattle.std.proofs.lemmas.List.{drop_all}
 use Rattle.std.specs.Prelude.{slice_index_or}
 use Rattle.std.specs.List.{AllByRecursion}
+use Rattle.mdf_format.specs.Number.{le_number, bytes_at}
 use Rattle.mdf_block.proofs.Rests.{rest_is}
 use Rattle.mdf_data.specs.Record.{least_size}
 use Rattle.mdf_data.specs.Places.{HaveRoom}
 use Rattle.mdf_group.specs.declared.row.GroupRow.{GroupRow}
 use Rattle.mdf_content.specs.Records.{known_of, size_of}
 use Rattle.mdf_content.proofs.Rooms.{rooms}
-use Rattle.mdf_session.specs.Counted.{counts_from, total_of, totals_from}
+use Rattle.mdf_session.specs.Counted.{counts_from, total_of, totals_from, values_total}
 
 -- a place below the end has an item
 some_rest : {A : Type 0} (xs : List A) (k : ℕ) → k < length xs → (x : A) × (drop k xs ≡ x ∷ drop (suc k) xs)
@@ -19,6 +21,18 @@ some_rest (x ∷ xs) (suc k) below = some_rest xs k (omega (arith, below))
 
 next_rest : {A : Type 0} (xs : List A) (k : ℕ) → k < length xs → (x : A) × (drop k xs ≡ x ∷ drop (k + 1) xs)
 next_rest xs k below = rw add-one (some_rest xs k below)
+
+module _ (stream places : List ℕ) where
+  -- one more value is summed
+  pub values_more : (row total len sum : ℕ) → row < length places → len ≡ le_number (bytes_at 4 stream (get_or places row 0)) → sum ≡ total + len
+      → total + values_total stream (drop row places) ≡ values_total stream places
+      → sum + values_total stream (drop (row + 1) places) ≡ values_total stream places
+  values_more row total len sum below is summed so_far = grind (arith, common_steps)
+
+  -- all are summed
+  pub values_done : (row total : ℕ) → length places ≤ row → total + values_total stream (drop row places) ≡ values_total stream places
+      → total ≡ values_total stream places
+  values_done row total past so_far = grind (arith, common_steps)
 
 module _ (lists : List (List ℕ)) (groups : List GroupRow) where
   -- one more group is counted

@@ -15,7 +15,11 @@ use Rattle.mdf_block.specs.Every.{every}
 abbrev pub places_by : List (List ℕ) → ℕ → List ℕ
 places_by lists k = slice_index_or lists k []
 
--- the streams of the channels of variable length of a group, over all of its records; groups of values are passed over
+-- the streams of the channels of variable length of a group, over all of its records, which have these places
+abbrev pub streams_at : List ℕ → DataStream → GroupRow → List ℕ → Read (List (List ℕ))
+streams_at file held group places = layout group >>= λ _. streams file held (records_at false group places) group.channels
+
+-- the same group by group; groups of values are passed over
 unfoldable pub group_streams : List ℕ → DataStream → ℕ → GroupRow → Unit {0} → Read (Option (List (List ℕ)) × Unit {0})
 group_streams file held k group left =
     if is_variable group then Ok (None, left)

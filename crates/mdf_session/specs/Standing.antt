@@ -19,9 +19,13 @@ content_of file found = bytes_at found.size (stream_of file found.view) 0
 abbrev pub kept_from : List ℕ → Standing → Kept
 kept_from file found = with_content (content_of file found) found
 
+-- the recording, with these records
+abbrev pub session_with : List ℕ → Found → SessionParts
+session_with content found = record { tree = found.tree; kept = with_content content found.standing }
+
 -- the recording, with its records from the file
 abbrev pub session_from : List ℕ → Found → SessionParts
-session_from file found = record { tree = found.tree; kept = kept_from file found.standing }
+session_from file found = session_with (content_of file found.standing) found
 
 -- the records stand in a file of so many bytes, none of them before its place among them
 pub record StandIn (size : ℕ) (found : Standing) : Type 0 where

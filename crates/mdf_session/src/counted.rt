@@ -1,4 +1,4 @@
-ghost use Rattle.std.specs.Prelude.{◌≡◌, ◌+◌, ◌≤◌, ◌<◌, ◌++◌, ◌∷◌, [], ℕ, List, Some, length, map, reverse, true, IfOk, IfErr, OnOk};
+ghost use Rattle.std.specs.Prelude.{◌≡◌, ◌+◌, ◌≤◌, ◌<◌, ◌++◌, ◌∷◌, [], ℕ, List, Some, length, map, reverse, false, true, IfOk, IfErr, OnOk};
 ghost use Rattle.std.specs.List.{AllByRecursion};
 ghost use Rattle.mdf_num.specs.Halt.{HaltCause, StopCause};
 ghost use Rattle.mdf_block.specs.Refusal.{Gives, IsPlain};
@@ -7,7 +7,9 @@ ghost use Rattle.mdf_data.specs.Places.{HaveRoom};
 ghost use Rattle.mdf_content.specs.Fault.{read_refusal};
 ghost use Rattle.mdf_content.specs.Records.{known_of, size_of};
 ghost use Rattle.mdf_data.specs.Record.{least_size};
-ghost use Rattle.mdf_session.specs.Counted.{all_streams, counts_from, joined, totals_from, total_of, values_total};
+ghost use Rattle.mdf_group.specs.Group.{is_variable};
+ghost use Rattle.mdf_content.specs.Values.{IsHeld, held_of};
+ghost use Rattle.mdf_session.specs.Counted.{all_streams, counts_from, joined, streams_at, totals_from, total_of, values_total};
 
 use mdf_block::{Visit, every_in};
 use mdf_content::{
@@ -20,6 +22,36 @@ use mdf_num::{Halt, Memory, Rows, Span, Stop};
 use mdf_stream::DataView;
 use mdf_vlsd::{Streams, ValueStream};
 use std::alloc::Global;
+
+/// The streams of the channels of variable length of a group that holds no values, whose records have these places.
+///
+/// # Errors
+/// Those of `layout_in` and of `streams_in`.
+fn group_streams_in<P: Span>(
+    alloc: Global,
+    span: &mut P,
+    held: &Held,
+    group: &GroupRow,
+    places: &Places,
+    room: &mut Room,
+) -> Result<Streams, Halt<ReadFault>>
+    requires held { IsHeld (P.size span.old) held.now }
+    requires other { is_variable group.now ≡ false }
+    requires room { AllByRecursion (λ place. place + least_size (size_of group.now) ≤ stream_size held.now.view.now) places.now }
+    ensures found { (f : List ℕ) → P.bytes span.old ≡ Some f → Gives read_refusal result (streams_at f (held_of held.now) group.now places.now) }
+    ensures plain { IfErr result (IsPlain read_refusal) }
+    ensures same { P.bytes span.new ≡ P.bytes span.old }
+    ensures size { P.size span.new ≡ P.size span.old }
+    ensures cause { HaltCause true (P.faults span.old) (P.faults span.new) result }
+{
+    layout_in(alloc, group)?;
+    let records = Records {
+        data_bytes: group.data_bytes,
+        places,
+        count: places.len(),
+    };
+    streams_in(alloc, span, held, &records, group.channels.as_slice(), room)
+}
 
 /// The channel groups of a recording, with its stream.
 #[derive(Drop)]
@@ -66,20 +98,7 @@ impl Visit for Groups<'_> {
         }
         let none = Places::empty(alloc);
         let places = places_or(self.held.lists, k, &none);
-        layout_in(alloc, item)?;
-        let records = Records {
-            data_bytes: item.data_bytes,
-            places,
-            count: places.len(),
-        };
-        let found = streams_in(
-            alloc,
-            span,
-            self.held,
-            &records,
-            item.channels.as_slice(),
-            room,
-        )?;
+        let found = group_streams_in(alloc, span, self.held, item, places, room)?;
         Ok((Some(found), state))
     }
 }

@@ -6,7 +6,7 @@ ghost use Rattle.mdf_stream.specs.Parts.{ArePartsInside, stream_of, stream_size}
 ghost use Rattle.mdf_content.specs.Fault.{read_refusal};
 ghost use Rattle.mdf_group.specs.declared.row.DataRow.{DataRow};
 ghost use Rattle.mdf_session.specs.Session.{HasFirst, recording, session};
-ghost use Rattle.mdf_session.specs.Standing.{StandIn, session_from, with_content};
+ghost use Rattle.mdf_session.specs.Standing.{StandIn, session_from, session_with, with_content};
 
 use crate::standing::{Standing, first_standing_in};
 use mdf_content::ReadFault;
@@ -20,7 +20,7 @@ use std::alloc::Global;
 use std::marker::Model;
 
 /// What the data group of a recording holds.
-#[derive(Debug, Drop)]
+#[derive(Drop)]
 struct Kept {
     content: Bytes,
     counts: Rows<u64>,
@@ -75,7 +75,7 @@ fn front_in<P: Span>(alloc: Global, span: &mut P, view: &DataView, size: u64) ->
 }
 
 /// A recording that is read. Contracts see it as its parts.
-#[derive(Debug, Drop)]
+#[derive(Drop)]
 pub struct Session {
     tree: Tree,
     kept: Kept,
@@ -211,10 +211,12 @@ fn found_of(alloc: Global, bytes: &[u8]) -> Result<Found, ReadFault>
     }
 }
 
-/// What the data group holds, with these records.
-fn kept_with(content: Bytes, standing: Standing) -> Kept
-    ensures { result ≡ with_content content standing }
+/// The recording that is found, with these records.
+fn session_with(content: Bytes, found: Found) -> Session
+    requires counted { HasFirst found.tree.rows (with_content content found.standing) }
+    ensures { result ≡ session_with content found }
 {
+    let Found { tree, standing } = found;
     let Standing {
         view: _,
         size: _,
@@ -222,12 +224,13 @@ fn kept_with(content: Bytes, standing: Standing) -> Kept
         totals,
         streams,
     } = standing;
-    Kept {
+    let kept = Kept {
         content,
         counts,
         totals,
         streams,
-    }
+    };
+    Session { tree, kept }
 }
 
 /// The recording that a file is, read through a span.
@@ -243,10 +246,9 @@ pub fn session_in<P: Span>(alloc: Global, span: &mut P) -> Result<Session, Halt<
     ensures size { P.size span.new ≡ P.size span.old }
     ensures cause { HaltCause true (P.faults span.old) (P.faults span.new) result }
 {
-    let Found { tree, standing } = found_in(alloc, span)?;
-    let content = front_in(alloc, span, &standing.view, standing.size)?;
-    let kept = kept_with(content, standing);
-    Ok(Session { tree, kept })
+    let found = found_in(alloc, span)?;
+    let content = front_in(alloc, span, &found.standing.view, found.standing.size)?;
+    Ok(session_with(content, found))
 }
 
 /// The recording that these bytes are.
@@ -271,8 +273,7 @@ pub fn read_session(alloc: Global, bytes: &[u8]) -> Result<Session, ReadFault>
 pub fn session_of(alloc: Global, file: Bytes) -> Result<Session, ReadFault>
     ensures exact { GivesOf read_refusal result (session file) }
 {
-    let Found { tree, standing } = found_of(alloc, file.as_slice())?;
-    let content = moved_front(file, &standing.view, standing.size);
-    let kept = kept_with(content, standing);
-    Ok(Session { tree, kept })
+    let found = found_of(alloc, file.as_slice())?;
+    let content = moved_front(file, &found.standing.view, found.standing.size);
+    Ok(session_with(content, found))
 }

@@ -1,12 +1,18 @@
 use Rattle.std.proofs.Common.{ℕ, List, take, ◌∙◌, ap, sym, subst}
 use Rattle.std.specs.Prelude.{Bool, if◌then◌else◌, []}
-use Rattle.mdf_stream.specs.Parts.{stream_of}
+use Rattle.mdf_stream.specs.Parts.{stream_of, stream_size}
 use Rattle.mdf_content.specs.Records.{record_size}
 use Rattle.mdf_content.specs.Values.{held_of}
 use Rattle.mdf_content.specs.Contents.{content_of}
+use Rattle.mdf_content.proofs.Rooms.{data_fits}
 use Rattle.mdf_content.proofs.Takes.{told_long}
 use Rattle.mdf_content.proofs.Samples.{HaveRoom, group_samples}
 use Rattle.mdf_content.proofs.contents.contents_in.Goals as goal
+
+pub streams_in-requires-clause-within : goal.streams_in-requires-clause-within
+streams_in-requires-clause-within g c =
+    data_fits (stream_size c.args.held.now.view.now) c.args.group.now c.args.places.now c.count_of-count.result c.count_of-count.ensures.few
+    c.requires.room
 
 pub returns-clause-samples : goal.returns-clause-samples
 returns-clause-samples g c = λ f told whole.

@@ -1,14 +1,8 @@
-use Rattle.std.proofs.Common.{rules, refl, ◌≡◌, ◌+◌, ◌≤◌, ◌++◌, ◌∷◌, ℕ, List, [], length, take, sym, ◌∙◌, ap, subst, arith}
-use Rattle.std.specs.List.{AllByRecursion}
-use Rattle.std.specs.Prelude.{slice_index_or}
-use Rattle.mdf_stream.specs.Parts.{stream_of, stream_size}
-use Rattle.mdf_group.specs.declared.row.GroupRow.{GroupRow}
-use Rattle.mdf_content.specs.declared.contents.Contents.{Contents}
-use Rattle.mdf_content.specs.Records.{record_size}
-use Rattle.mdf_content.specs.Contents.{HaveSamples, content_of}
-use Rattle.mdf_content.specs.Left.{IsLeft}
-use Rattle.mdf_content.specs.declared.contents.DataContents.{DataContents}
-use Rattle.mdf_content.proofs.Backs.{IsOne, content_found, data_found, filled, one_left, one_room, one_samples, whole_so}
+use Rattle.std.proofs.Common.{map, sym, subst}
+use Rattle.mdf_stream.specs.Parts.{stream_size}
+use Rattle.mdf_data.specs.Places.{HaveRoom}
+use Rattle.mdf_content.specs.Records.{known_of}
+use Rattle.mdf_content.proofs.Backs.{data_found}
 use Rattle.mdf_content.proofs.left.put_back.Goals as goal
 
 pub found_again-requires : goal.found_again-requires
@@ -17,87 +11,6 @@ found_again-requires c =
     let read = data_found c.args.file c.args.row.now left.0 c.requires.left.0 left.1.0 left.1.1.0 in
     record { ids = read.ids }
 
-pub bounds-as_slice-0 : goal.bounds-as_slice-0
-bounds-as_slice-0 c =
-    let items : c.args.found.groups ≡ c.pop.new.self.items ++ c.in-Some.left ∷ [] = search rules in
-    let view = c.in_ok-view.view in
-    let lists = c.in_ok-view.lists in
-    let one = one_left c.args.file c.args.row.now c.args.found c.requires.left.0 c.requires.left.1 c.requires.alone view
-    c.in_ok-view.ensures.parts lists c.in_ok-view.ensures.lists c.pop.new.self.items c.in-Some.left items in
-    let long : length c.as_slice-2.result.now ≡ 1 = ap length (c.as_slice-2.ensures ∙ one.0.groups_are) in
-    omega (arith, long)
-
-pub group_from-requires-clause-room : goal.group_from-requires-clause-room
-group_from-requires-clause-room c =
-    let items : c.args.found.groups ≡ c.pop.new.self.items ++ c.in-Some.left ∷ [] = search rules in
-    let view = c.in_ok-view.view in
-    let lists = c.in_ok-view.lists in
-    let one = one_left c.args.file c.args.row.now c.args.found c.requires.left.0 c.requires.left.1 c.requires.alone view
-    c.in_ok-view.ensures.parts lists c.in_ok-view.ensures.lists c.pop.new.self.items c.in-Some.left items in
-    let group = c.index-as_slice-0.result in
-    let same_group : one.0.group ≡ group =
-    sym (c.index-as_slice-0.is ∙ ap (λ (all : List GroupRow). slice_index_or all 0 group) (c.as_slice-2.ensures ∙ one.0.groups_are)) in
-    let same_places : slice_index_or lists 0 [] ≡ c.places_or-places.result.now =
-    sym (c.places_or-places.ensures
-    ∙ ap (λ (all : List (List ℕ)). slice_index_or all 0 c.empty-none.result) c.as_slice.ensures
-    ∙ ap (slice_index_or lists 0) c.empty-none.ensures) in
-    let total = stream_size view in
-    let room = one_room c.args.file view lists c.args.row.now.groups c.requires.left.0.groups total one.0 c.in_ok-view.ensures.room in
-    subst (λ (places : List ℕ). AllByRecursion (λ place. place + record_size group ≤ total) places) same_places
-    (subst (λ (row : GroupRow). AllByRecursion (λ place. place + record_size row ≤ total) (slice_index_or lists 0 [])) same_group room)
-
-pub group_from-requires-clause-few : goal.group_from-requires-clause-few
-group_from-requires-clause-few c =
-    let items : c.args.found.groups ≡ c.pop.new.self.items ++ c.in-Some.left ∷ [] = search rules in
-    let view = c.in_ok-view.view in
-    let lists = c.in_ok-view.lists in
-    let one = one_left c.args.file c.args.row.now c.args.found c.requires.left.0 c.requires.left.1 c.requires.alone view
-    c.in_ok-view.ensures.parts lists c.in_ok-view.ensures.lists c.pop.new.self.items c.in-Some.left items in
-    let same_places : slice_index_or lists 0 [] ≡ c.places_or-places.result.now =
-    sym (c.places_or-places.ensures
-    ∙ ap (λ (all : List (List ℕ)). slice_index_or all 0 c.empty-none.result) c.as_slice.ensures
-    ∙ ap (slice_index_or lists 0) c.empty-none.ensures) in
-    let content = content_found c.args.file _ one.0.group _ one.0.one one.0.read in
-    let count : c.in-Some.left.count ≡ one.0.one.count = ap (λ (z : Contents). z.count) one.1.1 in
-    omega (arith, count, content.0, ap length same_places)
-
--- the one group is what was read of it
-group_back : (c : goal.After-drop-view-inside-2) (whole : DataContents) → IsLeft c.args.file c.args.row.now c.args.found whole
-    → (one : IsOne c.args.file c.in_ok-view.view c.in_ok-view.lists c.args.row.now.groups whole.groups) × (c.from_vec-2.result ≡ one.one ∷ [])
-group_back c whole is =
-    let items : c.args.found.groups ≡ c.pop.new.self.items ++ c.in-Some.left ∷ [] = search rules in
-    let view = c.in_ok-view.view in
-    let lists = c.in_ok-view.lists in
-    let one = one_left c.args.file c.args.row.now c.args.found whole is c.requires.alone view
-    c.in_ok-view.ensures.parts lists c.in_ok-view.ensures.lists c.pop.new.self.items c.in-Some.left items in
-    let group = c.index-as_slice-0.result in
-    let same_group : one.0.group ≡ group =
-    sym (c.index-as_slice-0.is ∙ ap (λ (all : List GroupRow). slice_index_or all 0 group) (c.as_slice-2.ensures ∙ one.0.groups_are)) in
-    let same_places : slice_index_or lists 0 [] ≡ c.places_or-places.result.now =
-    sym (c.places_or-places.ensures
-    ∙ ap (λ (all : List (List ℕ)). slice_index_or all 0 c.empty-none.result) c.as_slice.ensures
-    ∙ ap (slice_index_or lists 0) c.empty-none.ensures) in
-    let stream = stream_of c.args.file view in
-    let content = content_found c.args.file _ one.0.group _ one.0.one one.0.read in
-    let there : one.0.one.content ≡ content_of stream (record_size group) (take one.0.one.count c.places_or-places.result.now) =
-    content.1
-    ∙ ap (λ (row : GroupRow). content_of stream (record_size row) (take one.0.one.count (slice_index_or lists 0 []))) same_group
-    ∙ ap (λ (places : List ℕ). content_of stream (record_size group) (take one.0.one.count places)) same_places in
-    let last : c.in_ok-group_from.field-0 ≡ one.0.one =
-    c.in_ok-group_from.ensures ∙ filled stream group c.places_or-places.result.now c.in-Some.left one.0.one one.1.1 there in
-    let groups : c.from_vec-2.result ≡ c.pop.new.self.items ++ c.in_ok-group_from.field-0 ∷ [] = search rules in
-    (one.0, groups ∙ ap (λ (xs : List Contents). xs ++ c.in_ok-group_from.field-0 ∷ []) one.1.0 ∙ ap (λ (z : Contents). z ∷ []) last)
-
-pub returns-clause-back : goal.returns-clause-back
-returns-clause-back c = λ whole is.
-    let one = group_back c whole is in
-    whole_so c.args.file c.args.row.now c.args.found whole is c.requires.alone c.in_ok-view.view c.in_ok-view.ensures.parts c.in_ok-view.lists
-    c.in_ok-view.ensures.lists (record { groups = c.from_vec-2.result; strict = c.args.found.strict }) one.0 one.1 refl
-
-pub returns-clause-samples : goal.returns-clause-samples
-returns-clause-samples c =
-    let whole = c.requires.left.0 in
-    let one = group_back c whole c.requires.left.1 in
-    let samples = one_samples c.args.file c.in_ok-view.view c.in_ok-view.lists c.args.row.now.groups whole.groups one.0
-    c.in_ok-view.ensures.inside c.in_ok-view.ensures.room in
-    subst (AllByRecursion HaveSamples) (sym one.1) (samples, tt)
+pub put_back_at-requires-clause-room : goal.put_back_at-requires-clause-room
+put_back_at-requires-clause-room c =
+    subst (HaveRoom (stream_size c.in_ok-view.view) (map known_of c.args.row.now.groups)) (sym c.as_slice.ensures) c.in_ok-view.ensures.room

@@ -3,4 +3,4 @@ use Rattle.mdf_content.specs.Records.{known_of}
 use Rattle.mdf_content.proofs.records.known_groups.Given as goal
 
 abbrev pub invariant-loop-group : goal.invariant-loop-group
-invariant-loop-group l = l.known.items ≡ map known_of (take l.group-index l.groups)
+invariant-loop-group l = l.known ≡ map known_of (take l.group-index l.groups)
