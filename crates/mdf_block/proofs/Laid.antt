@@ -1,7 +1,7 @@
 -- The items of a draft stand one behind the other.
 use Rattle.std.proofs.Common.{◌≡◌, ◌+◌, ◌<◌, ◌≤◌, ◌^◌, ℕ, zero, suc, List, [], ◌∷◌, ◌++◌, length, get_or, take, set, replicate, map, refl, sym, ◌∙◌, ap, subst, arith, length-set}
 use Rattle.std.proofs.lemmas.List.{take_all, map-append, flat_map_more}
-use Rattle.std.proofs.lemmas.List.Sums.{sum_by-cons, sum_by-append, sum_by_push}
+use Rattle.std.proofs.lemmas.List.Sums.{sum_by-cons, sum_by-append}
 use Rattle.std.specs.Prelude.{sum_by}
 use Rattle.std.specs.List.{flat_map}
 use Rattle.mdf_block.specs.declared.item.Item.{Item}
@@ -9,7 +9,7 @@ use Rattle.mdf_block.specs.declared.link.Link.{Link}
 use Rattle.mdf_block.specs.declared.link.Link.TheVariants as links
 use Rattle.mdf_format.specs.Number.{aligned}
 use Rattle.mdf_format.specs.Block.{header_size}
-use Rattle.mdf_block.specs.Draft.{Placed, unlinked, size_of, room_of, end_of, block_bytes, HasLink, with_link}
+use Rattle.mdf_block.specs.Draft.{Placed, unlinked, size_of, room_of, block_bytes, HasLink, with_link}
 use Rattle.mdf_block.specs.Item.{placed_of, at_of, AreLaidOut}
 use Rattle.mdf_block.specs.Places.{AreAddresses}
 use Rattle.mdf_block.specs.declared.places.Places.{Places}
@@ -102,12 +102,6 @@ unlinked_is kind count body xs is = ap {B = Placed} (λ (ys : List Link). record
 -- other links, and as many of them, take as much room
 pub room_of-set : (b : Placed) (k : ℕ) (link : Link) → room_of (record b { links = set b.links k link }) ≡ room_of b
 room_of-set b k link = ap (λ (n : ℕ). aligned (header_size n + length b.body)) (length-set b.links k link)
-
--- there is room for a block that is placed
-pub placed_small : (items : List Item) (end : ℕ) (old : List Placed) (b placed : Placed) → AreLaidOut 64 items end
-    → map placed_of items ≡ old → placed ≡ b → end_of (old ++ b ∷ []) < 2 ^ 62 → end + room_of placed < 2 ^ 62
-placed_small items end old b placed laid view is small =
-    omega (arith, small, laid_end 64 items end laid, ap (sum_by room_of) view, sum_by_push room_of old b, ap room_of is)
 
 -- no block is longer than all of them
 pub item_small : (items : List Item) (end : ℕ) (front rest : List Item) (x : Item) → AreLaidOut 64 items end → front ++ x ∷ rest ≡ items

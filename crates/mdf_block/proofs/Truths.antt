@@ -3,7 +3,6 @@ use Rattle.std.proofs.Common.{◌≡◌, ◌+◌, ◌<◌, ℕ, zero, suc, Bool,
 use Rattle.std.specs.Prelude.{nat_eq, IfSome}
 use Rattle.mdf_format.specs.Block.{IsBlock}
 use Rattle.mdf_format.specs.declared.kind.Kind.{Kind}
-use Rattle.mdf_format.specs.declared.kind.Kind.TheVariants as kinds
 use Rattle.mdf_block.specs.declared.what.What.{What}
 use Rattle.mdf_block.specs.declared.what.What.TheVariants as whats
 use Rattle.mdf_block.specs.declared.note.Note.{Note}

@@ -1,5 +1,5 @@
 ghost use Rattle.std.specs.Prelude.{◌≡◌, ◌+◌, ◌≤◌, ◌↔◌, ℕ, List, [], Some, length, IfOk, IfErr, IfSome, MatchOption, IsTrue};
-ghost use Rattle.mdf_format.specs.Block.{least_links, least_body, body_at, body_size, IsBlock};
+ghost use Rattle.mdf_format.specs.Block.{header_size, least_links, least_body, body_at, body_size, IsBlock};
 ghost use Rattle.mdf_num.specs.Halt.{StopCause, HaltCause};
 ghost use Rattle.mdf_block.specs.Refusal.{Gives, GivesOf};
 ghost use Rattle.mdf_block.specs.Block.{the_block, block, block_refusal, Begins, IsLaid, HasNoBlock, IsAboutData, IsInside, IsFilled};
@@ -49,6 +49,16 @@ fn begins_in<P: Span>(span: &mut P, at: u64, want: Kind) -> Result<bool, Stop>
     has_name_in(span, at, &name_of(want))
 }
 
+/// Whether a block of so many bytes, with so many links, lies in so much room and has the least links of its kind.
+fn is_laid(size: u64, links: u64, room: u64, want: Kind) -> bool
+    ensures { IsTrue result ↔ (header_size links ≤ size × size ≤ room × least_links want ≤ links) }
+{
+    if size < 24 || size > room || links > (size - 24) / 8 || links < least_links(want) {
+        return false;
+    }
+    true
+}
+
 /// The block whose header begins at `at`, if it lies inside and has the least links of its kind.
 fn laid_in<P: Span>(span: &mut P, at: u64, want: Kind) -> Result<Option<BlockAt>, Stop>
     requires { at + 24 ≤ P.size span.old }
@@ -64,7 +74,7 @@ fn laid_in<P: Span>(span: &mut P, at: u64, want: Kind) -> Result<Option<BlockAt>
     let room = span.len() - at;
     let size = u64_in(span, at + 8)?;
     let links = u64_in(span, at + 16)?;
-    if size < 24 || size > room || links > (size - 24) / 8 || links < least_links(want) {
+    if !is_laid(size, links, room, want) {
         return Ok(None);
     }
     Ok(Some(BlockAt {

@@ -92,15 +92,7 @@ impl Draft {
     {
         let number = self.items.len() as u32;
         let links = links_of(*self.items.allocator(), links)?;
-        let item = Item {
-            kind,
-            at: self.end,
-            links,
-            body,
-        };
-        let room = room_of(&item);
-        self.items.push(item)?;
-        self.end += room;
+        self.place_linked(kind, links, body)?;
         Ok(number)
     }
 

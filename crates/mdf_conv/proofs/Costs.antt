@@ -20,12 +20,11 @@ use Rattle.mdf_conv.specs.declared.row.SourceInfo.{SourceInfo}
 use Rattle.mdf_conv.specs.declared.row.Conversion.{Conversion}
 use Rattle.mdf_conv.specs.declared.row.Ref.{Ref}
 use Rattle.mdf_conv.specs.declared.row.Ref.TheVariants as refs
-use Rattle.mdf_conv.specs.declared.texts.SourceTexts.{SourceTexts}
 use Rattle.mdf_conv.specs.declared.texts.Texts.{Texts}
 use Rattle.mdf_conv.specs.Left.{with_dropped, link_count}
-use Rattle.mdf_conv.specs.Conv.{words, block_size, without, counted, source_texts, source, texts, ref_by, item_by, conv_of_block, conv_by, conv}
+use Rattle.mdf_conv.specs.Conv.{words, block_size, without, counted, source, texts, ref_by, item_by, conv_of_block, conv_by, conv}
 use Rattle.mdf_conv.specs.Cost.{Cost, nothing, both, bytes_of_texts, dropped_links, note_cost, source_cost, text_size, ref_cost, refs_cost, own_cost, conv_cost, Spends}
-use Rattle.mdf_conv.proofs.Founds.{ok_injective, words_found}
+use Rattle.mdf_conv.proofs.Founds.{ok_injective, words_found, texts_found}
 
 -- the budget falls by the cost, where the count of dropped links fits
 pub record Falls (left : Budget) (cost : Cost) (rest : Budget) : Type 0 where
@@ -109,17 +108,17 @@ three_fall left a b c one two rest first second third =
     falls_both left (bytes_of_texts (a + b)) two (bytes_of_texts c) rest
     (falls_both left (bytes_of_texts a) one (bytes_of_texts b) two first second) third
 
-source_texts_fall : (f : List ℕ) (at : ℕ) (left : Budget) (found : SourceTexts × Budget) → source_texts f at left ≡ Ok found
-    → Falls left (bytes_of_texts (note_size found.0.name + note_size found.0.path + note_size found.0.comment)) found.1
-unfolding source_texts
-source_texts_fall f at left found is =
+sizes_fall : (f : List ℕ) (at : ℕ) (left : Budget) (found : Texts × Budget) → texts f at left ≡ Ok found
+    → Falls left (bytes_of_texts (note_size found.0.name + note_size found.0.unit + note_size found.0.comment)) found.1
+unfolding texts
+sizes_fall f at left found is =
     let name = bind_ok (words f (link_at f at 0) left) _ found is in
-    let path = bind_ok (words f (link_at f at 1) name.0.1) _ found name.2 in
-    let comment = bind_ok (words f (link_at f at 2) path.0.1) _ found path.2 in
-    subst (λ (y : SourceTexts × Budget). Falls left (bytes_of_texts (note_size y.0.name + note_size y.0.path + note_size y.0.comment)) y.1)
+    let unit = bind_ok (words f (link_at f at 1) name.0.1) _ found name.2 in
+    let comment = bind_ok (words f (link_at f at 2) unit.0.1) _ found unit.2 in
+    subst (λ (y : Texts × Budget). Falls left (bytes_of_texts (note_size y.0.name + note_size y.0.unit + note_size y.0.comment)) y.1)
     (ok_injective _ _ comment.2)
-    (three_fall left _ _ _ name.0.1 path.0.1 comment.0.1 (words_falls f _ left name.0 name.1) (words_falls f _ name.0.1 path.0 path.1)
-    (words_falls f _ path.0.1 comment.0 comment.1))
+    (three_fall left _ _ _ name.0.1 unit.0.1 comment.0.1 (words_falls f _ left name.0 name.1) (words_falls f _ name.0.1 unit.0 unit.1)
+    (words_falls f _ unit.0.1 comment.0 comment.1))
 
 -- a source
 pub source_falls : (f : List ℕ) (at : ℕ) (left : Budget) (found : SourceInfo × Budget) → source f at left ≡ Ok found
@@ -127,23 +126,20 @@ pub source_falls : (f : List ℕ) (at : ℕ) (left : Budget) (found : SourceInfo
 unfolding source
 source_falls f at left found is =
     let first = bind_ok (block f at Si) _ found is in
-    let given = bind_ok (source_texts f first.0.at left) _ found first.2 in
+    let given = bind_ok (texts f first.0.at left) _ found first.2 in
     subst (λ (y : SourceInfo × Budget). Falls left (source_cost y.0) y.1) (ok_injective _ _ given.2)
-    (source_texts_fall f first.0.at left given.0 given.1)
+    (sizes_fall f first.0.at left given.0 given.1)
 
 abbrev three_texts : List ℕ → ℕ → ℕ
 three_texts f at = text_size f (link_at f at 0) + text_size f (link_at f at 1) + text_size f (link_at f at 2)
 
 texts_fall : (f : List ℕ) (at : ℕ) (left : Budget) (found : Texts × Budget) → texts f at left ≡ Ok found
     → Falls left (bytes_of_texts (three_texts f at)) found.1
-unfolding texts
 texts_fall f at left found is =
-    let name = bind_ok (words f (link_at f at 0) left) _ found is in
-    let unit = bind_ok (words f (link_at f at 1) name.0.1) _ found name.2 in
-    let comment = bind_ok (words f (link_at f at 2) unit.0.1) _ found unit.2 in
-    subst (λ (y : Texts × Budget). Falls left (bytes_of_texts (three_texts f at)) y.1) (ok_injective _ _ comment.2)
-    (three_fall left _ _ _ name.0.1 unit.0.1 comment.0.1 (text_falls f _ left name.0 name.1) (text_falls f _ name.0.1 unit.0 unit.1)
-    (text_falls f _ unit.0.1 comment.0 comment.1))
+    let are = texts_found f at left found is in
+    let sizes : note_size found.0.name + note_size found.0.unit + note_size found.0.comment ≡ three_texts f at =
+    rw (size_is f _ found.0.name are.name, size_is f _ found.0.unit are.unit, size_is f _ found.0.comment are.comment) refl in
+    subst (λ (n : ℕ). Falls left (bytes_of_texts n) found.1) sizes (sizes_fall f at left found is)
 
 -- one conversion
 abbrev one_conversion : Cost

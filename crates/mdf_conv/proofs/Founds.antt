@@ -18,9 +18,8 @@ use Rattle.mdf_conv.specs.declared.row.SourceInfo.{SourceInfo}
 use Rattle.mdf_conv.specs.declared.row.Conversion.{Conversion}
 use Rattle.mdf_conv.specs.declared.row.Ref.{Ref}
 use Rattle.mdf_conv.specs.declared.row.Ref.TheVariants as refs
-use Rattle.mdf_conv.specs.declared.texts.SourceTexts.{SourceTexts}
 use Rattle.mdf_conv.specs.declared.texts.Texts.{Texts}
-use Rattle.mdf_conv.specs.Conv.{words, block_size, counted, the_source, source_texts, source, the_conversion, texts, ref_by, item_by, conv_of_block, conv_by, conv}
+use Rattle.mdf_conv.specs.Conv.{words, block_size, counted, the_source, source, the_conversion, texts, ref_by, item_by, conv_of_block, conv_by, conv}
 use Rattle.mdf_conv.specs.Standing.{IsSource, IsRefBy, AreRefsBy, IsConversionBy, IsConversion}
 
 pub ok_injective : {A : Type 0} (x y : A) → ◌≡◌ {A = Read A} (Ok x) (Ok y) → x ≡ y
@@ -34,54 +33,13 @@ words_found f at left found is =
     let there = note_found f at left.text text.0.0 text.0.1 text.1 in
     subst (λ (y : Note × Budget). IsNote f at y.0) (ok_injective _ _ text.2) there.0
 
--- the texts of a source
-record AreSourceTexts (f : List ℕ) (at : ℕ) (found : SourceTexts) : Type 0 where
-  name : IsNote f (link_at f at 0) found.name
-  path : IsNote f (link_at f at 1) found.path
-  comment : IsNote f (link_at f at 2) found.comment
+-- the texts of a source or of a conversion
+pub record AreTexts (f : List ℕ) (at : ℕ) (found : Texts) : Type 0 where
+  pub name : IsNote f (link_at f at 0) found.name
+  pub unit : IsNote f (link_at f at 1) found.unit
+  pub comment : IsNote f (link_at f at 2) found.comment
 
-source_texts_found : (f : List ℕ) (at : ℕ) (left : Budget) (found : SourceTexts × Budget) → source_texts f at left ≡ Ok found
-    → AreSourceTexts f at found.0
-unfolding source_texts
-source_texts_found f at left found is =
-    let name = bind_ok (words f (link_at f at 0) left) _ found is in
-    let path = bind_ok (words f (link_at f at 1) name.0.1) _ found name.2 in
-    let comment = bind_ok (words f (link_at f at 2) path.0.1) _ found path.2 in
-    let whole : AreSourceTexts f at (record { name = name.0.0; path = path.0.0; comment = comment.0.0 }) = record {
-      name = words_found f _ left name.0 name.1;
-      path = words_found f _ name.0.1 path.0 path.1;
-      comment = words_found f _ path.0.1 comment.0 comment.1;
-    } in
-    subst (λ (y : SourceTexts × Budget). AreSourceTexts f at y.0) (ok_injective _ _ comment.2) whole
-
--- a source
-pub source_found : (f : List ℕ) (at : ℕ) (left : Budget) (found : SourceInfo × Budget) → source f at left ≡ Ok found → IsSource f at found.0
-unfolding source
-source_found f at left found is =
-    let first = bind_ok (block f at Si) _ found is in
-    let here = block_found f at Si first.0 first.1 in
-    let place : first.0.at ≡ at = ap (λ (b : BlockAt). b.at) here.1 in
-    let body : body_of f first.0 ≡ body_at f at = ap (λ (b : BlockAt). body_of f b) here.1 in
-    let texts = bind_ok (source_texts f first.0.at left) _ found first.2 in
-    let there : AreSourceTexts f at texts.0.0 =
-    subst (λ (a : ℕ). AreSourceTexts f a texts.0.0) place (source_texts_found f first.0.at left texts.0 texts.1) in
-    let whole : IsSource f at (the_source (body_at f at) texts.0.0.name texts.0.0.path texts.0.0.comment) = record {
-      block = here.0;
-      fields = refl;
-      name = there.name;
-      path = there.path;
-      comment = there.comment;
-    } in
-    subst (λ (y : SourceInfo × Budget). IsSource f at y.0) (ok_injective _ _ texts.2)
-    (subst (λ (bytes : List ℕ). IsSource f at (the_source bytes texts.0.0.name texts.0.0.path texts.0.0.comment)) (sym body) whole)
-
--- the texts of a conversion
-record AreTexts (f : List ℕ) (at : ℕ) (found : Texts) : Type 0 where
-  name : IsNote f (link_at f at 0) found.name
-  unit : IsNote f (link_at f at 1) found.unit
-  comment : IsNote f (link_at f at 2) found.comment
-
-texts_found : (f : List ℕ) (at : ℕ) (left : Budget) (found : Texts × Budget) → texts f at left ≡ Ok found → AreTexts f at found.0
+pub texts_found : (f : List ℕ) (at : ℕ) (left : Budget) (found : Texts × Budget) → texts f at left ≡ Ok found → AreTexts f at found.0
 unfolding texts
 texts_found f at left found is =
     let name = bind_ok (words f (link_at f at 0) left) _ found is in
@@ -93,6 +51,27 @@ texts_found f at left found is =
       comment = words_found f _ unit.0.1 comment.0 comment.1;
     } in
     subst (λ (y : Texts × Budget). AreTexts f at y.0) (ok_injective _ _ comment.2) whole
+
+-- a source
+pub source_found : (f : List ℕ) (at : ℕ) (left : Budget) (found : SourceInfo × Budget) → source f at left ≡ Ok found → IsSource f at found.0
+unfolding source
+source_found f at left found is =
+    let first = bind_ok (block f at Si) _ found is in
+    let here = block_found f at Si first.0 first.1 in
+    let place : first.0.at ≡ at = ap (λ (b : BlockAt). b.at) here.1 in
+    let body : body_of f first.0 ≡ body_at f at = ap (λ (b : BlockAt). body_of f b) here.1 in
+    let given = bind_ok (texts f first.0.at left) _ found first.2 in
+    let there : AreTexts f at given.0.0 =
+    subst (λ (a : ℕ). AreTexts f a given.0.0) place (texts_found f first.0.at left given.0 given.1) in
+    let whole : IsSource f at (the_source (body_at f at) given.0.0.name given.0.0.unit given.0.0.comment) = record {
+      block = here.0;
+      fields = refl;
+      name = there.name;
+      path = there.unit;
+      comment = there.comment;
+    } in
+    subst (λ (y : SourceInfo × Budget). IsSource f at y.0) (ok_injective _ _ given.2)
+    (subst (λ (bytes : List ℕ). IsSource f at (the_source bytes given.0.0.name given.0.0.unit given.0.0.comment)) (sym body) whole)
 
 -- what is found by `inner` is what `IsConv` says
 abbrev Sound : (ℕ → Budget → Read (Conversion × Budget)) → (ℕ → Conversion → Type 0) → Type 0

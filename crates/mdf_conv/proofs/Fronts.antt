@@ -1,14 +1,13 @@
 -- Fields of the front of a body are fields of the body.
 use Rattle.std.proofs.Common.{◌≡◌, ◌+◌, ◌*◌, ◌-◌, ◌/◌, ◌≤◌, ◌<◌, ℕ, zero, suc, List, ◌∷◌, get_or, refl, sym, ◌∙◌, ap, arith}
 use Rattle.mdf_format.specs.Number.{le_number, bytes_at}
+use Rattle.mdf_format.specs.Block.{link_at}
 use Rattle.mdf_block.specs.declared.place.BlockAt.{BlockAt}
 use Rattle.mdf_block.specs.Block.{body_of}
 use Rattle.mdf_block.proofs.Parts.{bytes_at-bytes_at, part_same, byte_same}
 use Rattle.mdf_conv.specs.declared.front.ConvFront.{ConvFront}
-use Rattle.mdf_conv.specs.declared.row.Conversion.{Conversion}
-use Rattle.mdf_conv.specs.declared.row.Ref.{Ref}
-use Rattle.mdf_conv.specs.declared.texts.Texts.{Texts}
-use Rattle.mdf_conv.specs.Conv.{HoldsValues, numbers_at, the_front, the_conversion}
+use Rattle.mdf_conv.specs.Left.{link_count}
+use Rattle.mdf_conv.specs.Conv.{HoldsValues, numbers_at, the_front, conv_numbers}
 
 -- numbers of the file are numbers of the body
 pub numbers_same : (f : List ℕ) (place len k count : ℕ) → k + 8 * count ≤ len
@@ -64,31 +63,15 @@ module _ (f front : List ℕ) (b : BlockAt) (least : 24 ≤ b.body_len) (is_fron
       let precision_is = byte_is 1 (omega arith) in
       rw (kind_is, precision_is, flags_is, count_is, low_is, high_is)
 
--- the conversion with this front and these numbers
-abbrev pub conversion_with : ConvFront → List ℕ → Texts → List Ref → Conversion
-conversion_with front numbers texts references = record {
-  kind = front.kind;
-  precision = front.precision;
-  flags = front.flags;
-  low = front.low;
-  high = front.high;
-  numbers = numbers;
-  refs = references;
-  name = texts.name;
-  unit = texts.unit;
-  comment = texts.comment;
-}
-
 module _ (f : List ℕ) (b : BlockAt) (front : ConvFront) (is : front ≡ the_front (body_of f b)) (holds : HoldsValues f b) where
-  pub same_conversion : (texts : Texts) (references : List Ref) (numbers : List ℕ) → numbers ≡ numbers_at f (b.body_at + 24) front.count
-      → the_conversion (body_of f b) texts references ≡ conversion_with front numbers texts references
-  same_conversion texts references numbers is_numbers =
+  pub same_numbers : (numbers : List ℕ) (inverse : ℕ) → numbers ≡ numbers_at f (b.body_at + 24) front.count
+      → inverse ≡ link_count (link_at f b.at 3) → conv_numbers f b ≡ record { front = front; numbers = numbers; inverse = inverse }
+  same_numbers numbers inverse is_numbers is_inverse =
       let count : front.count ≡ le_number (bytes_at 2 (body_of f b) 6) = ap (λ (x : ConvFront). x.count) is in
       let numbers_are : numbers ≡ numbers_at (body_of f b) 24 (le_number (bytes_at 2 (body_of f b) 6)) =
       is_numbers ∙ numbers_same f b.body_at b.body_len 24 front.count (omega (arith, holds, count))
       ∙ ap (numbers_at (body_of f b) 24) count in
-      ap (λ (ns : List ℕ). conversion_with (the_front (body_of f b)) ns texts references) (sym numbers_are)
-      ∙ ap (λ (x : ConvFront). conversion_with x numbers texts references) (sym is)
+      sym (rw (is, numbers_are, is_inverse) refl)
 
   -- more numbers are counted than there is room for
   pub counts_past : 24 ≤ b.body_len → (b.body_len - 24) / 8 < front.count → ⊥

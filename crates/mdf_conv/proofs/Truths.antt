@@ -14,7 +14,7 @@ use Rattle.mdf_block.proofs.Wholes.{block_found}
 use Rattle.mdf_block.proofs.Truths.{Refusing, refusing_none, refusing_one, refusing_then, refusing_if, refusing_each, block_true, note_true}
 use Rattle.mdf_conv.specs.declared.limits.Budget.{Budget}
 use Rattle.mdf_conv.specs.declared.row.Conversion.{Conversion}
-use Rattle.mdf_conv.specs.Conv.{words, block_size, counted, source_texts, source, texts, ref_by, item_by, conv_of_block, conv_by, conv}
+use Rattle.mdf_conv.specs.Conv.{words, block_size, counted, source, texts, ref_by, item_by, conv_of_block, conv_by, conv}
 
 -- all that it refuses is true of the file
 abbrev pub Honest : {A : Type 0} → List ℕ → Read A → Type 0
@@ -24,25 +24,18 @@ pub words_true : (f : List ℕ) (at : ℕ) (left : Budget) → Honest f (words f
 unfolding words
 words_true f at left = refusing_then (IsTrueOf f) (note f at left.text) _ (note_true f at left.text) (λ text _. refusing_none (IsTrueOf f) _)
 
-source_texts_true : (f : List ℕ) (at : ℕ) (left : Budget) → Honest f (source_texts f at left)
-unfolding source_texts
-source_texts_true f at left =
-    refusing_then (IsTrueOf f) (words f (link_at f at 0) left) _ (words_true f _ left) (λ name _.
-    refusing_then (IsTrueOf f) (words f (link_at f at 1) name.1) _ (words_true f _ name.1) (λ path _.
-    refusing_then (IsTrueOf f) (words f (link_at f at 2) path.1) _ (words_true f _ path.1) (λ comment _. refusing_none (IsTrueOf f) _)))
-
-pub source_true : (f : List ℕ) (at : ℕ) (left : Budget) → Honest f (source f at left)
-unfolding source
-source_true f at left =
-    refusing_then (IsTrueOf f) (block f at Si) _ (block_true f at Si (λ none. none)) (λ b _.
-    refusing_then (IsTrueOf f) (source_texts f b.at left) _ (source_texts_true f b.at left) (λ texts _. refusing_none (IsTrueOf f) _))
-
 texts_true : (f : List ℕ) (at : ℕ) (left : Budget) → Honest f (texts f at left)
 unfolding texts
 texts_true f at left =
     refusing_then (IsTrueOf f) (words f (link_at f at 0) left) _ (words_true f _ left) (λ name _.
     refusing_then (IsTrueOf f) (words f (link_at f at 1) name.1) _ (words_true f _ name.1) (λ unit _.
     refusing_then (IsTrueOf f) (words f (link_at f at 2) unit.1) _ (words_true f _ unit.1) (λ comment _. refusing_none (IsTrueOf f) _)))
+
+pub source_true : (f : List ℕ) (at : ℕ) (left : Budget) → Honest f (source f at left)
+unfolding source
+source_true f at left =
+    refusing_then (IsTrueOf f) (block f at Si) _ (block_true f at Si (λ none. none)) (λ b _.
+    refusing_then (IsTrueOf f) (texts f b.at left) _ (texts_true f b.at left) (λ given _. refusing_none (IsTrueOf f) _))
 
 counted_true : (f : List ℕ) (at size : ℕ) (left : Budget) → IsBlock f at Cc → Honest f (counted at size left)
 unfolding counted

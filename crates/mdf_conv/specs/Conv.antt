@@ -16,7 +16,8 @@ use Rattle.mdf_conv.specs.declared.row.Conversion.{Conversion}
 use Rattle.mdf_conv.specs.declared.row.Ref.{Ref}
 use Rattle.mdf_conv.specs.declared.row.Ref.TheVariants as refs
 use Rattle.mdf_conv.specs.declared.front.ConvFront.{ConvFront}
-use Rattle.mdf_conv.specs.declared.texts.SourceTexts.{SourceTexts}
+use Rattle.mdf_conv.specs.declared.front.ConvNumbers.{ConvNumbers}
+use Rattle.mdf_conv.specs.declared.front.SourceFront.{SourceFront}
 use Rattle.mdf_conv.specs.declared.texts.Texts.{Texts}
 use Rattle.mdf_conv.specs.Left.{with_dropped, link_count}
 use Rattle.mdf_conv.specs.declared.fault.ConvFault.{ConvFault}
@@ -60,20 +61,35 @@ the_source body name path comment = record {
   comment = comment;
 }
 
--- the texts of the source at an address: its name, its path and its comment
-unfoldable pub source_texts : List ℕ → ℕ → Budget → Read (SourceTexts × Budget)
-source_texts file at left = do
+-- the numbers in the body of a source
+abbrev pub source_front : List ℕ → SourceFront
+source_front body = record { kind = slice_index body 0; bus = slice_index body 1; flags = slice_index body 2 }
+
+-- the source with these numbers and texts
+abbrev pub source_with : SourceFront → Texts → SourceInfo
+source_with front words = record {
+  kind = front.kind;
+  bus = front.bus;
+  flags = front.flags;
+  name = words.name;
+  path = words.unit;
+  comment = words.comment;
+}
+
+-- the texts of the source or of the conversion at an address: its name, its path or its unit, and its comment
+unfoldable pub texts : List ℕ → ℕ → Budget → Read (Texts × Budget)
+texts file at left = do
   name ← words file (link_at file at 0) left
-  path ← words file (link_at file at 1) name.1
-  comment ← words file (link_at file at 2) path.1
-  Ok (record { name = name.0; path = path.0; comment = comment.0 }, comment.1)
+  unit ← words file (link_at file at 1) name.1
+  comment ← words file (link_at file at 2) unit.1
+  Ok (record { name = name.0; unit = unit.0; comment = comment.0 }, comment.1)
 
 -- a source at an address: its block, and then its texts
 unfoldable pub source : List ℕ → ℕ → Budget → Read (SourceInfo × Budget)
 source file at left = do
   b ← block file at Si
-  texts ← source_texts file b.at left
-  Ok (the_source (body_of file b) texts.0.name texts.0.path texts.0.comment, texts.1)
+  words ← texts file b.at left
+  Ok (the_source (body_of file b) words.0.name words.0.unit words.0.comment, words.1)
 
 -- so many numbers of 8 bytes from a place of a body on
 abbrev pub numbers_at : List ℕ → ℕ → ℕ → List ℕ
@@ -89,6 +105,30 @@ the_front body = record {
   count = le_number (bytes_at 2 body 6);
   low = le_number (bytes_at 8 body 8);
   high = le_number (bytes_at 8 body 16);
+}
+
+-- the numbers of the conversion of a block: those in its body, which counts the numbers behind its first 24 bytes, and
+-- how many inverse conversions its fourth link names
+abbrev pub conv_numbers : List ℕ → BlockAt → ConvNumbers
+conv_numbers file b = record {
+  front = the_front (body_of file b);
+  numbers = numbers_at (body_of file b) 24 (le_number (bytes_at 2 (body_of file b) 6));
+  inverse = link_count (link_at file b.at 3);
+}
+
+-- the conversion with these numbers, texts and references
+abbrev pub conversion_with : ConvNumbers → Texts → List Ref → Conversion
+conversion_with found words references = record {
+  kind = found.front.kind;
+  precision = found.front.precision;
+  flags = found.front.flags;
+  low = found.front.low;
+  high = found.front.high;
+  numbers = found.numbers;
+  refs = references;
+  name = words.name;
+  unit = words.unit;
+  comment = words.comment;
 }
 
 -- a conversion, from its body, which counts the numbers behind its first 24 bytes
@@ -109,14 +149,6 @@ the_conversion body texts references = record {
 -- the body of a conversion holds the numbers that it counts
 abbrev pub HoldsValues : List ℕ → BlockAt → Type 0
 HoldsValues file b = 24 + 8 * le_number (bytes_at 2 (body_of file b) 6) ≤ b.body_len
-
--- the texts of the conversion at an address: its name, its unit and its comment
-unfoldable pub texts : List ℕ → ℕ → Budget → Read (Texts × Budget)
-texts file at left = do
-  name ← words file (link_at file at 0) left
-  unit ← words file (link_at file at 1) name.1
-  comment ← words file (link_at file at 2) unit.1
-  Ok (record { name = name.0; unit = unit.0; comment = comment.0 }, comment.1)
 
 -- what a link of a conversion refers to, where conversions are read by `inner`
 unfoldable pub ref_by : (ℕ → Budget → Read (Conversion × Budget)) → List ℕ → ℕ → Budget → Read (Ref × Budget)

@@ -7,13 +7,12 @@ ghost use Rattle.mdf_block.specs.Block.{body_of, IsInside, IsFilled};
 ghost use Rattle.mdf_block.specs.Each.{each};
 ghost use Rattle.mdf_conv.specs.Left.{with_dropped, link_count};
 ghost use Rattle.mdf_conv.specs.Cost.{Spends, conv_cost};
-ghost use Rattle.mdf_conv.specs.Conv.{HoldsValues, texts, ref_by, item_by, the_conversion, conv_of_block, conv_by, conv, conversion, conv_refusal};
+ghost use Rattle.mdf_conv.specs.Conv.{HoldsValues, ref_by, item_by, the_conversion, conv_of_block, conv_by, conv, conversion, conv_refusal};
 
-use crate::field::conversion_of;
-use crate::link::words_at;
+use crate::field::{conv_numbers_in, conversion_of};
 use crate::lower::{block_with, conv_block_of, is_conv_in, words_in};
-use crate::texts::Texts;
-use crate::{Budget, ConvFault, Conversion, Ref, link_count};
+use crate::texts::{Texts, texts_in};
+use crate::{Budget, ConvFault, Conversion, Ref};
 use mdf_block::{BlockAt, Kind, What, link_in};
 use mdf_num::{Halt, Rows, Span};
 use sqlite_items::Boxed;
@@ -21,33 +20,6 @@ use std::alloc::Global;
 
 /// How many conversions may be open at once.
 const LEVELS: u64 = 4;
-
-/// The name, the unit and the comment of a conversion, and what may still come.
-#[tactic(auto, unfolding(crate::specs::Conv::texts))]
-fn texts_in<P: Span>(
-    alloc: Global,
-    span: &mut P,
-    block: &BlockAt,
-    budget: Budget,
-) -> Result<(Texts, Budget), Halt<ConvFault>>
-    requires inside { IsInside (P.size span.old) block.now }
-    requires linked { 4 ≤ block.now.links }
-    ensures found { (f : List ℕ) → P.bytes span.old ≡ Some f → Gives conv_refusal result (texts f block.now.at budget) }
-    ensures plain { IfErr result (IsPlain conv_refusal) }
-    ensures same { P.bytes span.new ≡ P.bytes span.old }
-    ensures size { P.size span.new ≡ P.size span.old }
-    ensures cause { HaltCause true (P.faults span.old) (P.faults span.new) result }
-{
-    let (name, left) = words_at(alloc, span, block, 0, budget)?;
-    let (unit, left) = words_at(alloc, span, block, 1, left)?;
-    let (comment, left) = words_at(alloc, span, block, 2, left)?;
-    let texts = Texts {
-        name,
-        unit,
-        comment,
-    };
-    Ok((texts, left))
-}
 
 /// What a link of a conversion refers to, with so many levels of conversions below it, and what may still come.
 #[cycle(conv)]
@@ -128,9 +100,9 @@ fn finished_in<P: Span>(
     ensures size { P.size span.new ≡ P.size span.old }
     ensures cause { HaltCause true (P.faults span.old) (P.faults span.new) result }
 {
-    let inverse = link_in(span, block, 3)?;
-    let found = conversion_of(alloc, span, block, texts, refs)?;
-    Ok((found, budget.with_dropped(link_count(inverse))))
+    let found = conv_numbers_in(alloc, span, block)?;
+    let left = budget.with_dropped(found.inverse);
+    Ok((conversion_of(found, texts, refs), left))
 }
 
 /// The conversion of a block, with so many levels of conversions below it, and what may still come.

@@ -3,38 +3,45 @@ ghost use Rattle.mdf_format.specs.declared.kind.Kind.TheVariants.{Cc, Si};
 ghost use Rattle.mdf_num.specs.Halt.{StopCause, HaltCause};
 ghost use Rattle.mdf_block.specs.Refusal.{Gives, IsPlain};
 ghost use Rattle.mdf_block.specs.Block.{body_of, IsInside, IsFilled};
-ghost use Rattle.mdf_conv.specs.Conv.{HoldsValues, numbers_at, the_source, the_front, the_conversion, conv_refusal};
+ghost use Rattle.mdf_conv.specs.Conv.{HoldsValues, numbers_at, source_front, source_with, the_front, conv_numbers, conversion_with, conv_refusal};
 
-use crate::front::ConvFront;
-use crate::texts::{SourceTexts, Texts};
-use crate::{ConvFault, Conversion, Ref, SourceInfo};
-use mdf_block::{BlockAt, Kind, body_in, u16_field, u64_field};
+use crate::front::{ConvFront, ConvNumbers, SourceFront};
+use crate::texts::Texts;
+use crate::{ConvFault, Conversion, Ref, SourceInfo, link_count};
+use mdf_block::{BlockAt, Kind, body_in, link_in, u16_field, u64_field};
 use mdf_num::{Halt, Numbers, Rows, Span, Stop};
 use std::alloc::Global;
 
-/// The source of a block, with these texts.
-pub(crate) fn source_of<P: Span>(
-    span: &mut P,
-    block: &BlockAt,
-    texts: SourceTexts,
-) -> Result<SourceInfo, Stop>
+/// The numbers in the body of a source.
+pub(crate) fn source_front_in<P: Span>(span: &mut P, block: &BlockAt) -> Result<SourceFront, Stop>
     requires inside { IsInside (P.size span.old) block.now }
     requires filled { IsFilled Si block.now }
-    ensures fields { IfOk result (λ source. (f : List ℕ) → P.bytes span.old ≡ Some f → source ≡ the_source (body_of f block.now) texts.name texts.path texts.comment) }
+    ensures front { IfOk result (λ front. (f : List ℕ) → P.bytes span.old ≡ Some f → front ≡ source_front (body_of f block.now)) }
     ensures same { P.bytes span.new ≡ P.bytes span.old }
     ensures size { P.size span.new ≡ P.size span.old }
     ensures cause { StopCause P.may_want (P.faults span.old) (P.faults span.new) result }
 {
     let mut body = [0u8; 8];
     body_in(span, block, &mut body)?;
-    Ok(SourceInfo {
+    Ok(SourceFront {
         kind: body[0],
         bus: body[1],
         flags: body[2],
-        name: texts.name,
-        path: texts.path,
-        comment: texts.comment,
     })
+}
+
+/// The source with these numbers and texts.
+pub(crate) fn source_of(front: SourceFront, texts: Texts) -> SourceInfo
+    ensures { result ≡ source_with front texts }
+{
+    SourceInfo {
+        kind: front.kind,
+        bus: front.bus,
+        flags: front.flags,
+        name: texts.name,
+        path: texts.unit,
+        comment: texts.comment,
+    }
 }
 
 /// So many numbers of 8 bytes, from `start` on.
@@ -80,26 +87,25 @@ fn front_in<P: Span>(span: &mut P, block: &BlockAt) -> Result<ConvFront, Stop>
     })
 }
 
-/// The conversion of a block, with these texts and references.
+/// The numbers of the conversion of a block.
 ///
 /// # Errors
 /// `Bad` where the numbers that the body counts pass its end, which a span does not tell of a whole block.
-pub(crate) fn conversion_of<P: Span>(
+pub(crate) fn conv_numbers_in<P: Span>(
     alloc: Global,
     span: &mut P,
     block: &BlockAt,
-    texts: Texts,
-    refs: Rows<Ref>,
-) -> Result<Conversion, Halt<ConvFault>>
+) -> Result<ConvNumbers, Halt<ConvFault>>
     requires inside { IsInside (P.size span.old) block.now }
     requires filled { IsFilled Cc block.now }
-    ensures fields { (f : List ℕ) → P.bytes span.old ≡ Some f → HoldsValues f block.now →
-        Gives conv_refusal result (Ok (the_conversion (body_of f block.now) texts refs)) }
+    ensures held { (f : List ℕ) → P.bytes span.old ≡ Some f → HoldsValues f block.now →
+        Gives conv_refusal result (Ok (conv_numbers f block.now)) }
     ensures plain { IfErr result (IsPlain conv_refusal) }
     ensures same { P.bytes span.new ≡ P.bytes span.old }
     ensures size { P.size span.new ≡ P.size span.old }
     ensures cause { HaltCause true (P.faults span.old) (P.faults span.new) result }
 {
+    let inverse = link_in(span, block, 3)?;
     let front = front_in(span, block)?;
     let count = front.count as u64;
     if count > (block.body_len - 24) / 8 {
@@ -109,16 +115,28 @@ pub(crate) fn conversion_of<P: Span>(
         }));
     }
     let numbers = numbers_in(alloc, span, block.body_at + 24, count)?;
-    Ok(Conversion {
+    Ok(ConvNumbers {
+        front,
+        numbers,
+        inverse: link_count(inverse),
+    })
+}
+
+/// The conversion with these numbers, texts and references.
+pub(crate) fn conversion_of(found: ConvNumbers, texts: Texts, refs: Rows<Ref>) -> Conversion
+    ensures { result ≡ conversion_with found texts refs }
+{
+    let front = found.front;
+    Conversion {
         kind: front.kind,
         precision: front.precision,
         flags: front.flags,
         low: front.low,
         high: front.high,
-        numbers,
+        numbers: found.numbers,
         refs,
         name: texts.name,
         unit: texts.unit,
         comment: texts.comment,
-    })
+    }
 }

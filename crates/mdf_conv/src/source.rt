@@ -1,45 +1,16 @@
-ghost use Rattle.std.specs.Prelude.{◌≡◌, ◌≤◌, ℕ, List, Some, true, IfOk, IfErr};
+ghost use Rattle.std.specs.Prelude.{◌≡◌, ℕ, List, Some, true, IfOk, IfErr};
 ghost use Rattle.mdf_num.specs.Halt.{HaltCause};
 ghost use Rattle.mdf_block.specs.Refusal.{Gives, IsPlain};
-ghost use Rattle.mdf_block.specs.Block.{IsInside};
 ghost use Rattle.mdf_conv.specs.Cost.{Spends, source_cost};
-ghost use Rattle.mdf_conv.specs.Conv.{source, source_texts, conv_refusal};
+ghost use Rattle.mdf_conv.specs.Conv.{source, conv_refusal};
 
-use crate::field::source_of;
-use crate::link::words_at;
+use crate::field::{source_front_in, source_of};
 use crate::lower::block_with;
-use crate::texts::SourceTexts;
+use crate::texts::texts_in;
 use crate::{Budget, ConvFault, SourceInfo};
-use mdf_block::{BlockAt, Kind};
+use mdf_block::Kind;
 use mdf_num::{Halt, Span};
 use std::alloc::Global;
-
-/// The name, the path and the comment of a source, and what may still come.
-#[tactic(auto, unfolding(crate::specs::Conv::source_texts))]
-fn source_texts_in<P: Span>(
-    alloc: Global,
-    span: &mut P,
-    block: &BlockAt,
-    budget: Budget,
-) -> Result<(SourceTexts, Budget), Halt<ConvFault>>
-    requires inside { IsInside (P.size span.old) block.now }
-    requires linked { 3 ≤ block.now.links }
-    ensures found { (f : List ℕ) → P.bytes span.old ≡ Some f → Gives conv_refusal result (source_texts f block.now.at budget) }
-    ensures plain { IfErr result (IsPlain conv_refusal) }
-    ensures same { P.bytes span.new ≡ P.bytes span.old }
-    ensures size { P.size span.new ≡ P.size span.old }
-    ensures cause { HaltCause true (P.faults span.old) (P.faults span.new) result }
-{
-    let (name, left) = words_at(alloc, span, block, 0, budget)?;
-    let (path, left) = words_at(alloc, span, block, 1, left)?;
-    let (comment, left) = words_at(alloc, span, block, 2, left)?;
-    let texts = SourceTexts {
-        name,
-        path,
-        comment,
-    };
-    Ok((texts, left))
-}
 
 /// The source at `at`, and what may still come.
 #[tactic(auto, unfolding(crate::specs::Conv::source))]
@@ -56,9 +27,9 @@ fn whole_in<P: Span>(
     ensures cause { HaltCause true (P.faults span.old) (P.faults span.new) result }
 {
     let block = block_with(span, at, Kind::Si)?;
-    let (texts, left) = source_texts_in(alloc, span, &block, budget)?;
-    let source = source_of(span, &block, texts)?;
-    Ok((source, left))
+    let front = source_front_in(span, &block)?;
+    let (texts, left) = texts_in(alloc, span, &block, budget)?;
+    Ok((source_of(front, texts), left))
 }
 
 /// The source at `at`, and what may still come.

@@ -1,20 +1,49 @@
-use mdf_block::Note;
+ghost use Rattle.std.specs.Prelude.{◌≡◌, ◌≤◌, ℕ, List, Some, true, IfErr};
+ghost use Rattle.mdf_num.specs.Halt.{HaltCause};
+ghost use Rattle.mdf_block.specs.Refusal.{Gives, IsPlain};
+ghost use Rattle.mdf_block.specs.Block.{IsInside};
+ghost use Rattle.mdf_conv.specs.Conv.{texts, conv_refusal};
 
-/// The texts of a conversion (CCBLOCK).
-#[derive(Debug, Drop)]
+use crate::link::words_at;
+use crate::{Budget, ConvFault};
+use mdf_block::{BlockAt, Note};
+use mdf_num::{Halt, Span};
+use std::alloc::Global;
+
+/// The texts of a conversion (CCBLOCK), or of a source (SIBLOCK).
+#[derive(Drop)]
 pub struct Texts {
     /// The name.
     pub name: Note,
-    /// The unit.
+    /// The unit; of a source the path.
     pub unit: Note,
     /// The comment.
     pub comment: Note,
 }
 
-/// The texts of a source.
-#[derive(Debug, Drop)]
-pub(crate) struct SourceTexts {
-    pub(crate) name: Note,
-    pub(crate) path: Note,
-    pub(crate) comment: Note,
+/// The texts of the source or of the conversion of a block, and what may still come.
+#[tactic(auto, unfolding(crate::specs::Conv::texts))]
+pub(crate) fn texts_in<P: Span>(
+    alloc: Global,
+    span: &mut P,
+    block: &BlockAt,
+    budget: Budget,
+) -> Result<(Texts, Budget), Halt<ConvFault>>
+    requires inside { IsInside (P.size span.old) block.now }
+    requires linked { 3 ≤ block.now.links }
+    ensures found { (f : List ℕ) → P.bytes span.old ≡ Some f → Gives conv_refusal result (texts f block.now.at budget) }
+    ensures plain { IfErr result (IsPlain conv_refusal) }
+    ensures same { P.bytes span.new ≡ P.bytes span.old }
+    ensures size { P.size span.new ≡ P.size span.old }
+    ensures cause { HaltCause true (P.faults span.old) (P.faults span.new) result }
+{
+    let (name, left) = words_at(alloc, span, block, 0, budget)?;
+    let (unit, left) = words_at(alloc, span, block, 1, left)?;
+    let (comment, left) = words_at(alloc, span, block, 2, left)?;
+    let texts = Texts {
+        name,
+        unit,
+        comment,
+    };
+    Ok((texts, left))
 }

@@ -43,21 +43,22 @@ channel_texts file at left = do
   comment ← words file (link_at file at 7) unit.1
   Ok (record { unit = unit.0; comment = comment.0 }, comment.1)
 
--- what all its links lead to: the first and the last
+-- what all its links lead to, from what the first and the last of them do
+abbrev pub links_of : ChannelOrigin → ChannelTexts → ChannelLinks
+links_of origin texts = record {
+  name = origin.name;
+  source = origin.source;
+  conv = origin.conv;
+  unit = texts.unit;
+  comment = texts.comment;
+}
+
+-- the same, read one after the other
 unfoldable pub channel_links : List ℕ → ℕ → Budget → Read (ChannelLinks × Budget)
 channel_links file at left = do
   origin ← channel_origin file at left
   texts ← channel_texts file at origin.1
-  Ok (
-    record {
-      name = origin.0.name;
-      source = origin.0.source;
-      conv = origin.0.conv;
-      unit = texts.0.unit;
-      comment = texts.0.comment;
-    },
-    texts.1,
-  )
+  Ok (links_of origin.0 texts.0, texts.1)
 
 -- what the links of the channel group at an address lead to: its name, its source and its comment
 unfoldable pub group_links : List ℕ → ℕ → Budget → Read (GroupLinks × Budget)

@@ -7,8 +7,8 @@ ghost use Rattle.mdf_group.specs.Link.{channel_origin, channel_texts, channel_li
 ghost use Rattle.mdf_group.specs.Channel.{accepted, passed_of, channel_of_block, channel, channels_from};
 
 use crate::extra::extra_in;
-use crate::field::{channel_front_in, channel_of, kinds_in};
-use crate::lower::{block_of, conv_of, label_in, words_of};
+use crate::field::{channel_front_in, channel_of, kinds_in, links_of};
+use crate::lower::{beside, block_of, conv_of, label_in, words_of};
 use crate::room::{ChannelLinks, ChannelOrigin, ChannelTexts, Passed};
 use crate::{ChannelRow, GroupFault};
 use mdf_block::{BlockAt, Kind, Walk, What, chain_in, link_in};
@@ -33,7 +33,8 @@ fn channel_origin_in<P: Span>(
     ensures cause { HaltCause true (P.faults span.old) (P.faults span.new) result }
 {
     let (label, left) = label_in(alloc, span, block, budget)?;
-    let (conv, left) = conv_of(alloc, span, block, 4, left)?;
+    let conv = conv_of(alloc, span, block, 4, left);
+    let (label, (conv, left)) = beside(label, conv)?;
     let origin = ChannelOrigin {
         name: label.name,
         source: label.source,
@@ -59,7 +60,8 @@ fn channel_texts_in<P: Span>(
     ensures cause { HaltCause true (P.faults span.old) (P.faults span.new) result }
 {
     let (unit, left) = words_of(alloc, span, block, 6, budget)?;
-    let (comment, left) = words_of(alloc, span, block, 7, left)?;
+    let comment = words_of(alloc, span, block, 7, left);
+    let (unit, (comment, left)) = beside(unit, comment)?;
     Ok((ChannelTexts { unit, comment }, left))
 }
 
@@ -80,15 +82,9 @@ fn channel_links_in<P: Span>(
     ensures cause { HaltCause true (P.faults span.old) (P.faults span.new) result }
 {
     let (origin, left) = channel_origin_in(alloc, span, block, budget)?;
-    let (texts, left) = channel_texts_in(alloc, span, block, left)?;
-    let links = ChannelLinks {
-        name: origin.name,
-        source: origin.source,
-        conv: origin.conv,
-        unit: texts.unit,
-        comment: texts.comment,
-    };
-    Ok((links, left))
+    let texts = channel_texts_in(alloc, span, block, left);
+    let (origin, (texts, left)) = beside(origin, texts)?;
+    Ok((links_of(origin, texts), left))
 }
 
 /// Nothing, where the kind and the data type of a channel are read.

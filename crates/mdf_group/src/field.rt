@@ -3,10 +3,13 @@ ghost use Rattle.mdf_format.specs.declared.kind.Kind.TheVariants.{Dg, Cg, Cn};
 ghost use Rattle.mdf_num.specs.Halt.{StopCause};
 ghost use Rattle.mdf_block.specs.Block.{body_of, IsInside, IsFilled};
 ghost use Rattle.mdf_conv.specs.Conv.{numbers_at};
+ghost use Rattle.mdf_group.specs.Link.{links_of};
 ghost use Rattle.mdf_group.specs.Channel.{channel_front, channel_row};
 ghost use Rattle.mdf_group.specs.Group.{group_front, group_row};
 
-use crate::room::{ChannelFront, ChannelLinks, GroupFront, GroupLinks};
+use crate::room::{
+    ChannelFront, ChannelLinks, ChannelOrigin, ChannelTexts, GroupFront, GroupLinks,
+};
 use crate::{ChannelRow, GroupRow};
 use mdf_block::{BlockAt, body_in, u16_field, u32_field, u64_field};
 use mdf_num::{Rows, Span, Stop};
@@ -64,6 +67,19 @@ pub(crate) fn channel_front_in<P: Span>(span: &mut P, block: &BlockAt) -> Result
         precision: body[20],
         ranges: ranges_of(&body),
     })
+}
+
+/// What all links of a channel lead to, from what the first and the last of them do.
+pub(crate) fn links_of(origin: ChannelOrigin, texts: ChannelTexts) -> ChannelLinks
+    ensures { result ≡ links_of origin texts }
+{
+    ChannelLinks {
+        name: origin.name,
+        source: origin.source,
+        conv: origin.conv,
+        unit: texts.unit,
+        comment: texts.comment,
+    }
 }
 
 /// The channel at an address, from the numbers in its body and what its links lead to.

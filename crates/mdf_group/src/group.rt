@@ -8,7 +8,7 @@ ghost use Rattle.mdf_group.specs.Group.{group_numbers, group_contents, group_wit
 
 use crate::channel::channels_in;
 use crate::field::{group_front_in, group_of};
-use crate::lower::{block_of, label_in, words_of};
+use crate::lower::{beside, block_of, label_in, words_of};
 use crate::room::{GroupContents, GroupLinks, GroupNumbers, Room};
 use crate::{GroupFault, GroupRow};
 use mdf_block::{BlockAt, Kind, Walk, What, chain_in, link_in};
@@ -33,7 +33,8 @@ fn group_links_in<P: Span>(
     ensures cause { HaltCause true (P.faults span.old) (P.faults span.new) result }
 {
     let (label, left) = label_in(alloc, span, block, budget)?;
-    let (comment, left) = words_of(alloc, span, block, 5, left)?;
+    let comment = words_of(alloc, span, block, 5, left);
+    let (label, (comment, left)) = beside(label, comment)?;
     let links = GroupLinks {
         name: label.name,
         source: label.source,
@@ -60,7 +61,8 @@ fn group_contents_in<P: Span>(
 {
     let first = link_in(span, block, 1)?;
     let (links, left) = group_links_in(alloc, span, block, room.budget)?;
-    let (rows, channels, budget) = channels_in(alloc, span, first, room.channels, left)?;
+    let found = channels_in(alloc, span, first, room.channels, left);
+    let (links, (rows, channels, budget)) = beside(links, found)?;
     Ok((GroupContents { links, rows }, Room { channels, budget }))
 }
 

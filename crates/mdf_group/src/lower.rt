@@ -1,4 +1,4 @@
-ghost use Rattle.std.specs.Prelude.{◌≡◌, ◌≤◌, ◌<◌, ℕ, List, Some, false, true, IfOk, IfErr};
+ghost use Rattle.std.specs.Prelude.{◌≡◌, ◌≤◌, ◌<◌, ℕ, List, Some, Ok, Err, false, true, IfOk, IfErr, MatchResult};
 ghost use Rattle.mdf_format.specs.Block.{link_at};
 ghost use Rattle.mdf_num.specs.Halt.{HaltCause};
 ghost use Rattle.mdf_block.specs.Refusal.{Gives, IsPlain};
@@ -35,6 +35,19 @@ fn lifted<T>(outcome: Result<T, Halt<ConvFault>>) -> Result<T, Halt<GroupFault>>
         Err(Halt::Fault(ConvFault::Memory)) => Err(Halt::Memory),
         Err(Halt::Failed) => Err(Halt::Failed),
         Err(Halt::Memory) => Err(Halt::Memory),
+    }
+}
+
+/// What was found first, with what is found next.
+pub(crate) fn beside<A: Drop, B>(
+    first: A,
+    next: Result<B, Halt<GroupFault>>,
+) -> Result<(A, B), Halt<GroupFault>>
+    ensures { MatchResult result (λ both. (both.0 ≡ first) × (next ≡ Ok both.1)) (λ halt. next ≡ Err halt) }
+{
+    match next {
+        Ok(found) => Ok((first, found)),
+        Err(halt) => Err(halt),
     }
 }
 
@@ -130,6 +143,7 @@ pub(crate) fn label_in<P: Span>(
     ensures cause { HaltCause true (P.faults span.old) (P.faults span.new) result }
 {
     let (name, left) = words_of(alloc, span, block, 2, budget)?;
-    let (source, left) = source_of(alloc, span, block, 3, left)?;
+    let source = source_of(alloc, span, block, 3, left);
+    let (name, (source, left)) = beside(name, source)?;
     Ok((Label { name, source }, left))
 }

@@ -105,7 +105,7 @@ pub(crate) struct ChannelTexts {
 }
 
 /// What the links of a channel (CNBLOCK) lead to: its name, its source, its conversion, its unit and its comment.
-#[derive(Debug, Drop)]
+#[derive(Drop)]
 pub struct ChannelLinks {
     /// The name.
     pub name: Note,
@@ -120,7 +120,7 @@ pub struct ChannelLinks {
 }
 
 /// What the links of a channel group (CGBLOCK) lead to, the channels left out.
-#[derive(Debug, Drop)]
+#[derive(Drop)]
 pub struct GroupLinks {
     /// The name of the acquisition.
     pub name: Note,

@@ -1,4 +1,5 @@
 pub mod Text
+pub mod Parts
 pub mod Conv
 pub mod Count
 pub mod Places

@@ -6,7 +6,7 @@ ghost use Rattle.mdf_tree.specs.Places.{AreChannelPlaces};
 
 use crate::conv::{conv_link, place_conv_part};
 use crate::count::conv_part_count;
-use crate::number::{next_number, plus, push_words};
+use crate::number::{joined, next_number, plus, push_words};
 use crate::places::ChannelPlaces;
 use crate::source::{place_source_part, source_count, source_link};
 use crate::text::{note_count, note_link, place_note};
@@ -39,12 +39,20 @@ fn channel_body(alloc: Global, row: &ChannelRow) -> Result<Bytes, Memory>
     ensures body { IfOk result (λ body. body ≡ channel_body row.now) }
     ensures sized { OnOk result (IsChannelSized row.now) }
 {
-    let mut body = Bytes::from_slice(alloc, &[row.kind, row.sync, row.data_type, row.bit])?;
-    body.push_slice(&row.byte.to_le_bytes())?;
-    body.push_slice(&row.bits.to_le_bytes())?;
-    body.push_slice(&written_flags(row).to_le_bytes())?;
-    body.push_slice(&row.inval.to_le_bytes())?;
-    body.push_slice(&[row.precision, 0, 0, 0])?;
+    let byte = row.byte;
+    let bits = row.bits;
+    let inval = row.inval;
+    let mut body = joined(
+        alloc,
+        &[
+            &[row.kind, row.sync, row.data_type, row.bit],
+            &byte.to_le_bytes(),
+            &bits.to_le_bytes(),
+            &written_flags(row).to_le_bytes(),
+            &inval.to_le_bytes(),
+            &[row.precision, 0, 0, 0],
+        ],
+    )?;
     push_ranges(&mut body, &row.ranges)?;
     Ok(body)
 }

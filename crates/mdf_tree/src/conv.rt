@@ -3,7 +3,7 @@ ghost use Rattle.mdf_tree.specs.Conv.{conv_body, ref_blocks, ref_link, refs_bloc
 ghost use Rattle.mdf_tree.specs.Group.{conv_part, conv_link};
 
 use crate::count::{LEVELS, ref_count};
-use crate::number::{next_number, plus, push_words};
+use crate::number::{joined, next_number, plus, push_words};
 use crate::text::{note_count, note_link, place_note, place_notes};
 use mdf_block::{Draft, Kind, Link};
 use mdf_conv::{Conversion, Ref};
@@ -16,12 +16,17 @@ fn conv_body(alloc: Global, conv: &Conversion) -> Result<Bytes, Memory>
 {
     let references = (conv.refs.len() % 65_536) as u16;
     let values = (conv.numbers.len() % 65_536) as u16;
-    let mut body = Bytes::from_slice(alloc, &[conv.kind, conv.precision])?;
-    body.push_slice(&conv.flags.to_le_bytes())?;
-    body.push_slice(&references.to_le_bytes())?;
-    body.push_slice(&values.to_le_bytes())?;
-    body.push_slice(&conv.low.to_le_bytes())?;
-    body.push_slice(&conv.high.to_le_bytes())?;
+    let mut body = joined(
+        alloc,
+        &[
+            &[conv.kind, conv.precision],
+            &conv.flags.to_le_bytes(),
+            &references.to_le_bytes(),
+            &values.to_le_bytes(),
+            &conv.low.to_le_bytes(),
+            &conv.high.to_le_bytes(),
+        ],
+    )?;
     push_words(&mut body, conv.numbers.as_slice())?;
     Ok(body)
 }

@@ -5,7 +5,7 @@ ghost use Rattle.mdf_tree.specs.Places.{AreGroupPlaces, counted_row};
 ghost use Rattle.mdf_tree.specs.Sized.{IsRowSized};
 
 use crate::channel::{past_channels, place_channels};
-use crate::number::{next_number, plus};
+use crate::number::{joined, next_number, plus};
 use crate::places::{Counted, GroupPlaces};
 use crate::source::{place_source_part, source_count, source_link};
 use crate::text::{note_count, note_link, place_note};
@@ -20,14 +20,20 @@ fn group_body(alloc: Global, row: &GroupRow, counted: Counted) -> Result<Bytes, 
     ensures body { IfOk result (λ body. body ≡ group_body (counted_row counted row.now)) }
     ensures sized { OnOk result (IsRowSized (counted_row counted row.now)) }
 {
-    let mut body = Bytes::from_slice(alloc, &counted.id.to_le_bytes())?;
-    body.push_slice(&counted.cycles.to_le_bytes())?;
-    body.push_slice(&row.flags.to_le_bytes())?;
-    body.push_slice(&row.separator.to_le_bytes())?;
-    body.push_slice(&[0; 4])?;
-    body.push_slice(&counted.data_bytes.to_le_bytes())?;
-    body.push_slice(&counted.inval_bytes.to_le_bytes())?;
-    Ok(body)
+    let flags = row.flags;
+    let separator = row.separator;
+    joined(
+        alloc,
+        &[
+            &counted.id.to_le_bytes(),
+            &counted.cycles.to_le_bytes(),
+            &flags.to_le_bytes(),
+            &separator.to_le_bytes(),
+            &[0; 4],
+            &counted.data_bytes.to_le_bytes(),
+            &counted.inval_bytes.to_le_bytes(),
+        ],
+    )
 }
 
 /// Where the parts of the channel group at block n stand.

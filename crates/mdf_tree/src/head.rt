@@ -3,7 +3,7 @@ ghost use Rattle.mdf_tree.specs.Text.{note_blocks};
 ghost use Rattle.mdf_tree.specs.Group.{next_if};
 ghost use Rattle.mdf_tree.specs.Head.{entry_body, entry_block, past_entry, head_body, header_block};
 
-use crate::number::next_number;
+use crate::number::{joined, next_number};
 use crate::text::{note_count, note_link, place_note};
 use crate::value::next_if;
 use mdf_block::{Draft, Kind, Link};
@@ -15,11 +15,15 @@ use std::alloc::Global;
 fn entry_body(alloc: Global, entry: &History) -> Result<Bytes, Memory>
     ensures { IfOk result (λ body. body ≡ entry_body entry.now) }
 {
-    let mut body = Bytes::from_slice(alloc, &entry.time.to_le_bytes())?;
-    body.push_slice(&entry.zone.to_le_bytes())?;
-    body.push_slice(&entry.daylight.to_le_bytes())?;
-    body.push_slice(&[entry.flags, 0, 0, 0])?;
-    Ok(body)
+    joined(
+        alloc,
+        &[
+            &entry.time.to_le_bytes(),
+            &entry.zone.to_le_bytes(),
+            &entry.daylight.to_le_bytes(),
+            &[entry.flags, 0, 0, 0],
+        ],
+    )
 }
 
 /// Places the block of an entry of the history alone, with its links to the next one and to its comment behind it.
@@ -56,13 +60,17 @@ pub fn place_entry(
 fn head_body(alloc: Global, head: &Head) -> Result<Bytes, Memory>
     ensures { IfOk result (λ body. body ≡ head_body head.now) }
 {
-    let mut body = Bytes::from_slice(alloc, &head.start.to_le_bytes())?;
-    body.push_slice(&head.zone.to_le_bytes())?;
-    body.push_slice(&head.daylight.to_le_bytes())?;
-    body.push_slice(&[head.time_flags, head.time_class, head.flags, 0])?;
-    body.push_slice(&head.angle.to_le_bytes())?;
-    body.push_slice(&head.distance.to_le_bytes())?;
-    Ok(body)
+    joined(
+        alloc,
+        &[
+            &head.start.to_le_bytes(),
+            &head.zone.to_le_bytes(),
+            &head.daylight.to_le_bytes(),
+            &[head.time_flags, head.time_class, head.flags, 0],
+            &head.angle.to_le_bytes(),
+            &head.distance.to_le_bytes(),
+        ],
+    )
 }
 
 /// Places a header alone, with its links to its comment, to the history and to the data groups.

@@ -1,9 +1,11 @@
 ghost use Rattle.std.specs.Prelude.{◌≡◌, ◌+◌, ◌^◌, ◌<◌, ◌≤◌, ◌++◌, length, IfOk, OnOk};
 ghost use Rattle.std.specs.List.{AllByRecursion};
 ghost use Rattle.mdf_tree.specs.Conv.{words_of};
+ghost use Rattle.mdf_tree.specs.Parts.{joined};
 
 use mdf_block::Draft;
 use mdf_num::{Bytes, Memory};
+use std::alloc::Global;
 
 /// The greatest number of a block that is counted; a tree with more blocks wants memory.
 const MOST: u32 = 1 << 30;
@@ -27,6 +29,17 @@ pub fn plus(a: u32, b: u32) -> Result<u32, Memory>
         return Err(Memory);
     }
     Ok(a + b)
+}
+
+/// The bytes of the parts, one behind the other.
+pub(crate) fn joined(alloc: Global, parts: &[&[u8]]) -> Result<Bytes, Memory>
+    ensures { IfOk result (λ bytes. bytes ≡ joined parts.now) }
+{
+    let mut bytes = Bytes::empty(alloc);
+    for part in parts {
+        bytes.push_slice(part)?;
+    }
+    Ok(bytes)
 }
 
 /// Adds numbers of 8 bytes at the end.

@@ -1,6 +1,7 @@
 ghost use Rattle.std.specs.Prelude.{◌≡◌, ◌≤◌, ◌++◌, length, IfOk, OnOk, OnErr};
 ghost use Rattle.mdf_tree.specs.Text.{text_body, note_blocks, note_link};
 
+use crate::number::joined;
 use mdf_block::{Draft, Kind, Link, Note};
 use mdf_num::{Bytes, Memory};
 use std::alloc::Global;
@@ -11,9 +12,7 @@ fn text_body(alloc: Global, text: &[u8]) -> Result<Bytes, Memory>
 {
     let zeros = [0u8; 8];
     let fill = 8 - text.len() % 8;
-    let mut body = Bytes::from_slice(alloc, text)?;
-    body.push_slice(&zeros[..fill])?;
-    Ok(body)
+    joined(alloc, &[text, &zeros[..fill]])
 }
 
 /// Places the block of a text, if there is one: a TXBLOCK, or an MDBLOCK for XML.
