@@ -1,4 +1,6 @@
 mod Doing
+mod Performing
+mod Pushing
 pub mod Owning
 pub mod Gathering
 pub mod Telling

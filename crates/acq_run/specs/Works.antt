@@ -1,5 +1,5 @@
 -- What the work of a source does to its seat.
-use Rattle.std.specs.Prelude.{ℕ, ◌≡◌, ◌+◌, ◌≤◌, ◌<◌, Bool, true, false, List, [], ◌∷◌, ◌++◌, length, take, drop}
+use Rattle.std.specs.Prelude.{ℕ, ◌≡◌, ◌+◌, ◌≤◌, ◌<◌, Bool, true, false, List, [], ◌∷◌, ◌++◌, length, take, drop, Result, Ok, Err}
 use mathlib.Core.List.{IsPrefix}
 use Rattle.mdf_format.specs.Cause.{Rose}
 use Rattle.mdf_disk.specs.declared.disk.Disk.{Ghosts as DiskOf}
@@ -8,6 +8,8 @@ use Rattle.mdf_layout.specs.Record.{cost_of, history_cost}
 use Rattle.mdf_layout.specs.declared.sample.Sample.{Sample}
 use Rattle.book_owned.specs.Account.{Account, Terms}
 use Rattle.book_owned.specs.Marks.{last_mark}
+use Rattle.book_owned.specs.declared.answer.Append.{Append}
+use Rattle.book_owned.specs.declared.answer.Append.TheVariants as append
 use Rattle.book_owned.specs.declared.mark.Mark.{Mark}
 use Rattle.book_owned.specs.declared.view.Shown.{Ghosts as ViewOf}
 use Rattle.book_shared.specs.Basis.{holding}
@@ -82,6 +84,14 @@ CountsFaults disk view u (Stopped mark) = Unit {0}
 CountsFaults {D} {V} disk view u (DiskFault before after) =
     (old new : Account D V) × Turned u old new × (before ≡ disk.faults old.disk) × (after ≡ disk.faults new.disk)
 CountsFaults disk view u Memory = Unit {0}
+
+-- what an append comes to for its source: how many samples were accepted, or how its work ended
+abbrev pub appended : Append → Result ℕ Ended
+appended (append.Accepted place) = Ok 1
+appended (append.SessionFull held size limit) = Err (SessionFull held size limit)
+appended (append.Stopped mark) = Err (Stopped mark)
+appended (append.DiskFault before after) = Err (DiskFault before after)
+appended append.Memory = Err Memory
 
 -- the seat has seen and kept what it had, and more, knows of a stop where it knew, and is at the same book
 pub record IsLater (v u : View) : Type 0 where

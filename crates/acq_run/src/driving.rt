@@ -1,7 +1,7 @@
 //! How a source works.
 ghost use Rattle.std.specs.Prelude.{◌≡◌, List, [], ◌∷◌, IfOk, IfErr};
 ghost use Rattle.acq_run.specs.Tasks.{IsTask, MayFeed, flushes_of};
-ghost use Rattle.acq_run.specs.Works.{CountsFaults, Does, Ends, HasDriven, HasFed, HasHeard, IsSameSeat};
+ghost use Rattle.acq_run.specs.Works.{CountsFaults, Does, Ends, HasDriven, HasFed, HasHeard, IsSameSeat, appended};
 ghost use Rattle.acq_run.specs.Workers.{IsReady};
 ghost use Rattle.acq_run.specs.declared.tasks.Fed.{Fed};
 
@@ -13,6 +13,19 @@ use book_shared::{SharedBook, SourceSeat};
 use mdf_disk::Disk;
 use std::sync::Wait;
 use std::thread::Threads;
+
+/// What an append comes to for its source: how many samples were accepted, or how its work ended.
+fn appended(answer: Append) -> Result<u64, Ended>
+    ensures { result ≡ appended answer }
+{
+    match answer {
+        Append::Accepted { place: _ } => Ok(1),
+        Append::SessionFull { held, size, limit } => Err(Ended::SessionFull { held, size, limit }),
+        Append::Stopped { mark } => Err(Ended::Stopped { mark }),
+        Append::DiskFault { before, after } => Err(Ended::DiskFault { before, after }),
+        Append::Memory => Err(Ended::Memory),
+    }
+}
 
 /// Does one task of a source, and answers how many samples were accepted.
 fn perform<R: Threads + Wait + Sync, D: Disk, V: Shown, L: Follower<V>>(
@@ -36,15 +49,7 @@ fn perform<R: Threads + Wait + Sync, D: Disk, V: Shown, L: Follower<V>>(
     ensures unheard { IfErr result (λ _. follower.new ≡ follower.old) }
 {
     match task {
-        Fed::Sample(sample) => match book.append(rt, seat, sample) {
-            Append::Accepted { place: _ } => Ok(1),
-            Append::SessionFull { held, size, limit } => {
-                Err(Ended::SessionFull { held, size, limit })
-            }
-            Append::Stopped { mark } => Err(Ended::Stopped { mark }),
-            Append::DiskFault { before, after } => Err(Ended::DiskFault { before, after }),
-            Append::Memory => Err(Ended::Memory),
-        },
+        Fed::Sample(sample) => appended(book.append(rt, seat, sample)),
         Fed::Flush => match book.flush(rt, seat) {
             Flush::Done {
                 through: _,

@@ -5,3 +5,4 @@ mod Begins
 pub mod Runs
 mod Recording
 mod Recovering
+mod Ending

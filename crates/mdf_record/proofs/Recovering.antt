@@ -4,7 +4,7 @@ use Rattle.std.proofs.lemmas.Bool.{cond-false}
 use Rattle.std.specs.Prelude.{nat_eq, is_some, IfSome}
 use Rattle.std.specs.List.{AllByRecursion}
 use Rattle.mdf_format.specs.Number.{bytes_at}
-use Rattle.mdf_disk.specs.Story.{Story, Agrees, LeftSince}
+use Rattle.mdf_disk.specs.Story.{Story, Agrees, IsFresh, LeftSince}
 use Rattle.mdf_disk.specs.Crash.{HoldsSince}
 use Rattle.mdf_disk.specs.State.{DiskState, state_of}
 use Rattle.book_owned.specs.Members.{DiskOf}
@@ -33,7 +33,9 @@ use Rattle.mdf_record.specs.Recovers.{IsFinalizable, MarksRecover, StartRecovers
 use Rattle.mdf_record.specs.declared.record.RecordEnd.{RecordEnd}
 use Rattle.mdf_record.specs.declared.record.RecordEnd.TheVariants.{Refused, Closed}
 use Rattle.mdf_record.proofs.Lengths.{head_short}
-use Rattle.mdf_record.proofs.Recording.{recorded_told}
+use Rattle.mdf_command.specs.declared.fault.Fault.TheVariants as fault
+use Rattle.mdf_record.specs.Created.{IsNotCreated}
+use Rattle.mdf_record.proofs.Recording.{fresh_begun, recorded_told, unmade}
 
 -- two disks of one story are at one moment
 pub one_moment : (story other : Option Story) (content content' : Option (List ℕ)) (clock clock' : ℕ) → Agrees story content clock
@@ -81,6 +83,15 @@ pub none_recovered : (story : Option Story) (start : ℕ) → ((head : List ℕ)
 none_recovered story start begun =
     let none : (file : List ℕ) → LeftSince story start file → IsNotMdf file = λ file may. begun_none file (λ head. begun head file may) in
     record { recovers = λ file may. inl (none file may); finalizable = λ file may. inl (none file may) }
+
+-- on a disk that was asked for nothing no file was created, for want of memory, and a crash leaves no MDF file
+pub not_created : {C : Type 0} (tells : DiskOf C) (name head : List ℕ) (out : C) → tells.asked out ≡ None → Agrees (tells.story out) (tells.content out) (tells.moment out)
+    → IsFresh (tells.story out) → IsNotCreated tells name head out out fault.Memory
+not_created tells name head out asked agrees fresh = record {
+  unmade = unmade tells name head out asked agrees fresh;
+  untouched = λ none. refl;
+  recovers = none_recovered (tells.story out) (tells.moment out) (λ h. fresh_begun h (tells.story out) (tells.content out) (tells.moment out) agrees fresh);
+}
 
 -- what carries samples of no more than the greatest session limit is finalized
 carries_finalizable : CarriedIsRecovered → (start : ℕ) (rows : List GroupRow) (layouts : List Layout) (history : List Sample) (through : ℕ) (file : List ℕ)

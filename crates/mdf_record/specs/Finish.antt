@@ -51,6 +51,15 @@ FinishEnds book live driven (Some (fault.SessionFull held size limit)) = (driven
 FinishEnds book live driven (Some fault.Memory) = ((driven ≡ Err end_.Memory) ⊎ WantsToShow book live driven) × IsAllDurable book
 FinishEnds book live driven (Some _) = ⊥
 
+-- What went wrong by what the tasks ended with, where the disk did not fail: memory was also wanted where all was done, but
+-- fewer samples are shown live than were marked.
+abbrev pub ProblemComes : Result Unit End → Bool → ℕ → ℕ → Option Fault → Type 0
+ProblemComes driven live shown through None = IsOk driven × (live ≡ true → through ≤ shown)
+ProblemComes driven live shown through (Some fault.Device) = driven ≡ Err end_.Stopped
+ProblemComes driven live shown through (Some (fault.SessionFull held size limit)) = driven ≡ Err (end_.SessionFull held size limit)
+ProblemComes driven live shown through (Some fault.Memory) = (driven ≡ Err end_.Memory) ⊎ (IsOk driven × (live ≡ true) × (shown < through))
+ProblemComes driven live shown through (Some _) = ⊥
+
 -- Where nothing went wrong, the note of the last flush tells of what is shown: live, that is all of the history.
 abbrev pub NoteComes : Option Fault → Bool → ℕ → List Sample → Option Note → Type 0
 NoteComes None live which history note =

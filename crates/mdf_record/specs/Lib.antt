@@ -4,4 +4,6 @@ pub mod Script
 pub mod Finish
 pub mod Record
 pub mod Recovers
+pub mod Created
 pub mod Recorded
+pub mod Work

@@ -1,28 +1,28 @@
-ghost use Rattle.std.specs.Prelude.{◌≡◌, ◌≤◌, ◌++◌, [], true, Some, None, Ok, Err, is_some, IfSome, IfOk, IfErr};
-ghost use Rattle.mdf_disk.specs.Crash.{HoldsSince};
+ghost use Rattle.std.specs.Prelude.{◌≡◌, ◌≤◌, ◌++◌, List, [], true, None, Ok, Err, length, IfOk, IfErr};
 ghost use Rattle.mdf_disk.specs.State.{state_of};
-ghost use Rattle.mdf_disk.specs.declared.role.Role.TheVariants.{Create};
-ghost use Rattle.mdf_gate.specs.Images.{IsBegun, head_of};
-ghost use Rattle.book_owned.specs.Begun.{IsNewFile};
+ghost use Rattle.book_owned.specs.Begun.{HasBegun, IsAdmissible, IsNewFile};
 ghost use Rattle.acq_script.specs.Stage.{IsScript};
 ghost use Rattle.script_gen.specs.Generated.{generated_script};
 ghost use Rattle.mdf_spell.specs.Recording.{head_file};
 ghost use Rattle.mdf_group.specs.Recordable.{AreRecordable};
 ghost use Rattle.mdf_record.specs.Script.{SaysScript, ScriptFaultComes};
-ghost use Rattle.mdf_record.specs.Finish.{IsMade, IsUnmade, Finishes};
+ghost use Rattle.mdf_record.specs.Finish.{Finishes, ProblemComes};
+ghost use Rattle.mdf_record.specs.Created.{IsCreated, IsNotCreated};
 ghost use Rattle.mdf_port.specs.State.{sink_state, source_state};
 ghost use Rattle.mdf_command.specs.Texts.{Gives, Prints, numbered};
 ghost use Rattle.mdf_record.specs.Record.{fault_text, live_text, outcome, record_status, record_text, source_line, summary_text};
 ghost use Rattle.mdf_record.specs.Recorded.{RecordComes, Closes, HasRun};
-ghost use Rattle.mdf_record.specs.Recovers.{AreRecovered, StartRecovers};
-ghost use Rattle.mdf_carried.specs.Recovers.{IsReadHead};
+ghost use Rattle.mdf_record.specs.Recovers.{AreRecovered};
+ghost use Rattle.mdf_record.specs.Work.{HasNotWorked, IsPrepared, MayWork, Works, fed_by};
+ghost use Rattle.acq_live.specs.Audience.{count_in, hands_in, shows_in};
+ghost use Rattle.mdf_layout.specs.declared.sample.Sample.{Sample};
 
 use crate::gate::Gate;
 use crate::head::head_for;
-use crate::sources::{Accepted, End, feeds_of, told_all};
-use acq_live::{Audience, Gathered, last_look, record_live};
-use acq_script::{Plan, Script, read_script};
-use book_owned::{Book, Flush, Marks};
+use crate::sources::{Accepted, End, TaskFeed, feeds_of, told_all};
+use acq_live::{Audience, Gathered, Watcher, last_look, record_live};
+use acq_script::{Script, Task, read_script};
+use book_owned::{Book, Flush, Marks, Shown};
 use book_view::Told;
 use mdf_carried::what_is_carried_is_recovered;
 use mdf_command::Piece::{Number, Text};
@@ -30,7 +30,7 @@ use mdf_command::{Fault, give_line, status_after};
 use mdf_disk::{Disk, Role};
 use mdf_gate::GatedFile;
 use mdf_group::GroupRow;
-use mdf_layout::Samples;
+use mdf_layout::{Samples, Shapes};
 use mdf_num::{Bytes, Failed, Memory, Rows};
 use mdf_port::{Sink, Source, take_all};
 use script_gen::generated;
@@ -102,18 +102,8 @@ fn create<C: Disk>(
 ) -> Result<GatedFile<C>, (Fault, C)>
     requires asked { C.asked out ≡ None }
     requires rows { AreRecordable rows.now }
-    ensures created { IfOk result (IsNewFile C.Disk) }
-    ensures head { IfOk result (λ file. IfSome (C.story file.disk) (λ _. head_of (C.story file.disk) file.first ≡ head_file now_ns rows.now)) }
-    ensures asked { IfOk result (λ file. C.asked file.disk ≡ Some (name.now, Create)) }
-    ensures made { IfOk result (λ file. IsMade (head_file now_ns rows.now) (state_of C.Disk file.disk)) }
-    ensures begun { IfOk result (λ file. HoldsSince (C.story file.disk) (C.moment out) (IsBegun (head_file now_ns rows.now))) }
-    ensures told { IfOk result (λ file. is_some (C.story file.disk) ≡ is_some (C.story out)) }
-    ensures start { IfOk result (λ file. IfSome (C.story out) (λ _. file.start ≡ C.moment out)) }
-    ensures faults { IfOk result (λ file. C.faults out ≤ file.faults) }
-    ensures refused { IfErr result (λ refused. IsUnmade name.now (head_file now_ns rows.now) (state_of C.Disk out) (state_of C.Disk refused.1) refused.0) }
-    ensures untouched { IfErr result (λ refused. C.asked refused.1 ≡ None → refused.1 ≡ out) }
-    ensures readable { IfOk result (λ _. IsReadHead now_ns rows.now) }
-    ensures recovers { IfErr result (λ refused. StartRecovers (C.story refused.1) (C.moment out) []) }
+    ensures created { IfOk result (IsCreated C.Disk name.now now_ns rows.now out) }
+    ensures refused { IfErr result (λ refused. IsNotCreated C.Disk name.now (head_file now_ns rows.now) out refused.1 refused.0) }
 {
     what_is_carried_is_recovered();
     let Ok(head) = head_for(alloc, now_ns, rows) else {
@@ -143,6 +133,22 @@ fn room_for(alloc: Global, sources: u64) -> Result<Accepted, Memory>
     Ok(accepted)
 }
 
+/// What went wrong where the disk did not fail: what the tasks ended with, or want of memory where not all that is marked is
+/// shown to those who look at it live.
+fn problem_of(driven: Result<(), End>, live: bool, shown: u64, through: u64) -> Option<Fault>
+    ensures { ProblemComes driven live shown through result }
+{
+    match driven {
+        Ok(()) if live && shown < through => Some(Fault::Memory),
+        Ok(()) => None,
+        Err(End::SessionFull { held, size, limit }) => {
+            Some(Fault::SessionFull { held, size, limit })
+        }
+        Err(End::Stopped) => Some(Fault::Device),
+        Err(End::Memory) => Some(Fault::Memory),
+    }
+}
+
 /// Flushes the book a last time, unless it is stopped, and says what went wrong: a fault of the disk before all else, and want
 /// of memory also where not all is shown to those who look at it live. Hands out the note of the flush where nothing did.
 fn finish<R: Threads + Wait + Sync, C: Disk>(
@@ -160,20 +166,117 @@ fn finish<R: Threads + Wait + Sync, C: Disk>(
             through,
             shown,
             note,
-        } => match driven {
-            Ok(()) if live && shown < through => (Some(Fault::Memory), None),
-            Ok(()) => (None, note),
-            Err(End::SessionFull { held, size, limit }) => {
-                (Some(Fault::SessionFull { held, size, limit }), None)
-            }
-            Err(End::Stopped) => (Some(Fault::Device), None),
-            Err(End::Memory) => (Some(Fault::Memory), None),
+        } => match problem_of(driven, live, shown, through) {
+            None => (None, note),
+            problem => (problem, None),
         },
     }
 }
 
-/// Records the tasks of a script into a file that was just created, each source in a thread of its own, and closes the book.
-/// Where the script says so, each source has a reader, who looks at what is shown after each flush of the source.
+/// What the sources of a recording work with: room for the numbers of each, and a feed and a watcher for each.
+#[derive(Drop)]
+struct Prepared<'a, G> {
+    accepted: Accepted,
+    feeds: Vec<TaskFeed<'a, G>>,
+    watchers: Vec<Watcher>,
+}
+
+/// Prepares the sources that have these lists, and a view, with a reader for each source where the recording is looked at live.
+fn prepare<'a, R: Wait, G: Gate>(
+    rt: &R,
+    alloc: Global,
+    lists: Rows<Rows<Task>>,
+    live: bool,
+    sources: u8,
+    gate: &'a G,
+) -> Result<(Prepared<'a, G>, Audience), Memory>
+    requires few { length lists ≤ 255 }
+    requires sources { (1 ≤ sources) × (sources ≤ 16) }
+    ensures prepared { IfOk result (λ made. IsPrepared lists live sources made.0 made.1) }
+{
+    let accepted = room_for(alloc, lists.len())?;
+    let feeds = feeds_of(alloc, lists.into_vec(), gate)?;
+    let (view, watchers) = Audience::begin(rt, alloc, live, sources)?;
+    Ok((
+        Prepared {
+            accepted,
+            feeds,
+            watchers,
+        },
+        view,
+    ))
+}
+
+/// Begins a book over the file, with this view. Where memory is wanted the view is ended, and the disk handed back.
+fn begin<R: Wait, C: Disk>(
+    rt: &R,
+    alloc: Global,
+    file: GatedFile<C>,
+    shapes: Shapes,
+    block: u32,
+    session: u64,
+    view: Audience,
+) -> Result<Book<C, Audience>, C>
+    requires created { IsNewFile C.Disk file }
+    requires admissible { IsAdmissible shapes block session }
+    requires shown { shows_in view [] × (count_in view ≡ 0) }
+    requires handed { (handed : List Sample) → hands_in view handed → handed ≡ [] }
+    ensures begun { IfOk result (λ book. HasBegun C.Disk ⟦<Audience as Shown>⟧ file shapes block session view book) }
+    ensures back { IfErr result (λ out. out ≡ file.disk) }
+{
+    match Book::begin(alloc, file, shapes, block, session, view) {
+        Ok(book) => Ok(book),
+        Err((_, file, view)) => {
+            view.end(rt);
+            Err(file.into_disk())
+        }
+    }
+}
+
+/// Closes a book with no sample that no source could work at.
+fn give_up<R: Wait, C: Disk>(rt: &R, alloc: Global, book: Book<C, Audience>) -> Recorded<C>
+    ensures { HasNotWorked book result }
+{
+    let (out, _, _, view) = book.close();
+    view.end(rt);
+    refused(alloc, Fault::Memory, out)
+}
+
+/// Lets the sources record into a book with no sample, each in a thread of its own, and closes the book. Each watcher that has
+/// a reader looks at what is shown after each flush of its source.
+fn work<'a, R: Threads + Wait + Sync, C: Disk + Send, G: Gate + Sync>(
+    rt: &R,
+    alloc: Global,
+    book: Book<C, Audience>,
+    owners: &[u8],
+    live: bool,
+    prepared: Prepared<'a, G>,
+) -> Recorded<C>
+    requires may { MayWork owners.now book prepared }
+    ensures works { Works C.Disk owners.now book (fed_by prepared.entry.feeds.items) live result }
+{
+    let Prepared {
+        mut accepted,
+        feeds,
+        watchers,
+    } = prepared;
+    match record_live(rt, alloc, book, owners, feeds, watchers) {
+        Ok(gathered) => {
+            let Gathered {
+                mut book,
+                all,
+                watchers,
+            } = gathered;
+            let driven = told_all(all, &mut accepted);
+            let (fault, note) = finish(rt, &mut book, live, driven);
+            let live = last_look(watchers, note);
+            close(rt, book, accepted, live, fault)
+        }
+        Err((_, book)) => give_up(rt, alloc, book),
+    }
+}
+
+/// Records the tasks of a script into a file that was just created, and closes the book.
 fn record_into<R: Threads + Wait + Sync, C: Disk + Send, G: Gate + Sync>(
     rt: &R,
     alloc: Global,
@@ -186,48 +289,12 @@ fn record_into<R: Threads + Wait + Sync, C: Disk + Send, G: Gate + Sync>(
     ensures recorded { HasRun C.Disk script file (outcome C.Disk result.out result.history.items result.marks.items) result.end }
 {
     let Script { plan, lists } = script;
-    let Plan {
-        shapes,
-        rows: _,
-        owners,
-        sources,
-        block,
-        session,
-        live,
-    } = plan;
-    let Ok(mut accepted) = room_for(alloc, lists.len()) else {
+    let Ok((prepared, view)) = prepare(rt, alloc, lists, plan.live, plan.sources, gate) else {
         return refused(alloc, Fault::Memory, file.into_disk());
     };
-    let Ok(feeds) = feeds_of(alloc, lists.into_vec(), gate) else {
-        return refused(alloc, Fault::Memory, file.into_disk());
-    };
-    let Ok((view, watchers)) = Audience::begin(rt, alloc, live, sources) else {
-        return refused(alloc, Fault::Memory, file.into_disk());
-    };
-    let book = match Book::begin(alloc, file, shapes, block, session, view) {
-        Ok(book) => book,
-        Err((_, file, view)) => {
-            view.end(rt);
-            return refused(alloc, Fault::Memory, file.into_disk());
-        }
-    };
-    match record_live(rt, alloc, book, owners.as_slice(), feeds, watchers) {
-        Ok(gathered) => {
-            let Gathered {
-                mut book,
-                all,
-                watchers,
-            } = gathered;
-            let driven = told_all(all, &mut accepted);
-            let (fault, note) = finish(rt, &mut book, live, driven);
-            let live = last_look(watchers, note);
-            close(rt, book, accepted, live, fault)
-        }
-        Err((_, book)) => {
-            let (out, _, _, view) = book.close();
-            view.end(rt);
-            refused(alloc, Fault::Memory, out)
-        }
+    match begin(rt, alloc, file, plan.shapes, plan.block, plan.session, view) {
+        Ok(book) => work(rt, alloc, book, plan.owners.as_slice(), plan.live, prepared),
+        Err(out) => refused(alloc, Fault::Memory, out),
     }
 }
 
@@ -278,13 +345,12 @@ fn record<R: Threads + Wait + Sync, C: Disk + Send, G: Gate + Sync>(
     ensures recovered { AreRecovered (C.moment out) (outcome C.Disk result.out result.history.items result.marks.items) }
 {
     what_is_carried_is_recovered();
-    let script = match script {
-        Ok(script) => script,
-        Err(fault) => return refused(alloc, fault, out),
-    };
-    match create(alloc, output, now_ns, &script.plan.rows, out) {
-        Ok(file) => record_into(rt, alloc, script, file, gate),
-        Err((fault, out)) => refused(alloc, fault, out),
+    match script {
+        Ok(script) => match create(alloc, output, now_ns, &script.plan.rows, out) {
+            Ok(file) => record_into(rt, alloc, script, file, gate),
+            Err((fault, out)) => refused(alloc, fault, out),
+        },
+        Err(fault) => refused(alloc, fault, out),
     }
 }
 

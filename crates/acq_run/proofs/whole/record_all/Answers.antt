@@ -1,4 +1,5 @@
-use Rattle.std.proofs.Common.{map, sym, subst, arith}
+use Rattle.std.proofs.Common.{◌≤◌, ◌++◌, ◌∙◌, map, length, take, drop, ap, sym, subst, arith, length-take}
+use Rattle.std.proofs.lemmas.List.{length-map}
 use Rattle.std.specs.Prelude.{All}
 use Rattle.acq_run.specs.Ran.{AllMayFeed}
 use Rattle.acq_run.specs.Workers.{IsReady}
@@ -62,3 +63,30 @@ returns-clause-owned g c =
     let shared = c.in_ok-shared.ensures.shared in
     owned_same basis.owners c.args.owners.now shared.owners_are 0 basis.sources _
     (omega (arith, shared.sources_is, c.len-count.ensures, c.args.feeds.ok.0, c.requires.sources.1)) c.close.result.history c.close.ensures.sources
+
+pub begin-requires-clause-sources : goal.begin-requires-clause-sources
+begin-requires-clause-sources g c =
+    let sources = c.requires.sources in
+    (omega (arith, c.len-count.ensures, sources.0, sources.1), omega (arith, c.len-count.ensures, sources.0, sources.1))
+
+pub seat_all-requires-clause-followers : goal.seat_all-requires-clause-followers
+seat_all-requires-clause-followers g c = omega (arith, c.in-Ok-nobodies.ensures, c.len-count.ensures, c.args.feeds.ok.0)
+
+pub seat_all-requires-clause-room : goal.seat_all-requires-clause-room
+seat_all-requires-clause-room g c = omega (arith, c.in-Ok.ensures.capacity, c.len-count.ensures, c.args.feeds.ok.0)
+
+-- there is room for what each worker is taken apart into
+pub part_all-requires-clause-room : goal.part_all-requires-clause-room
+part_all-requires-clause-room g c =
+    let workers = c.seat_all.new.workers in
+    let driven = c.drive_all.new.workers in
+    let after = driven ++ drop (length driven) workers.items in
+    let few : length (take workers.len after) ≤ c.len-count.result =
+    omega (arith, length-take workers.len after, workers.ok.0, length-map workers.items (λ worker. worker.feed), ap length c.seat_all.ensures.feeds, c.len-count.ensures, c.args.feeds.ok.0) in (
+      omega (arith, few, c.in-Ok-with_capacity.ensures.capacity),
+      omega (arith, few, c.in-Ok-with_capacity-2.ensures.capacity),
+      omega (arith, few, c.in-Ok-with_capacity-3.ensures.capacity),
+    )
+
+pub returns-clause-terms : goal.returns-clause-terms
+returns-clause-terms g c = c.close.ensures.terms ∙ c.in_ok-shared.ensures.shared.terms_are

@@ -9,7 +9,7 @@ use Rattle.mdf_record.proofs.record.record.Goals as goal
 
 pub returns-in-Err : goal.returns-in-Err
 returns-in-Err g c =
-    let k = c.refused.ensures in
+    let k = c.refused-in-Err.ensures in
     let story = g.C.Disk.story c.args.out in
     let met = g.met.C.Disk g.world.𝓛 g.world.𝓜 g.world.𝓡 ((λ s x. x), (λ x. x), (λ x. x), λ x. x) in
     record {
@@ -32,9 +32,12 @@ returns-in-Err g c =
       });
     }
 
+pub record_into-requires-clause-created : goal.record_into-requires-clause-created
+record_into-requires-clause-created g c κs within = c.in-Ok-create.ensures.created.created
+
 pub returns-in-Ok-create : goal.returns-in-Ok-create
 returns-in-Ok-create g c =
-    let h = c.in-Ok-create.ensures in
+    let h = c.in-Ok-create.ensures.created in
     record {
       comes = record_comes g.C.Disk (λ said. c.args.script ≡ Ok said) (λ problem. c.args.script ≡ Err problem) _ c.args.now_ns c.args.out c.in-Ok.script c.in-Ok-create.file _ _
           c.in-Ok.is (of_ok IsScript c.args.script c.in-Ok.script c.requires.script c.in-Ok.is) h.readable h.asked h.begun h.head h.told h.start h.faults h.made c.record_into.ensures.recorded;
@@ -46,7 +49,7 @@ returns-in-Ok-create g c =
 pub returns-in-Err-create : goal.returns-in-Err-create
 returns-in-Err-create g c =
     let h = c.in-Err-create.ensures.refused in
-    let k = c.refused-in-Err-create.ensures in
+    let k = c.refused.ensures in
     record {
       comes = rw k.end (record {
         history = k.history;
@@ -54,14 +57,14 @@ returns-in-Err-create g c =
         comes = inr (record {
           script = c.in-Ok.script;
           says = c.in-Ok.is;
-          begun = rw k.out h.begun;
-          comes = rw k.out h.comes;
-          asked_is = rw k.out h.asked_is;
+          begun = rw k.out h.unmade.begun;
+          comes = rw k.out h.unmade.comes;
+          asked_is = rw k.out h.unmade.asked_is;
         });
       });
-      untouched = λ none. k.out ∙ c.in-Err-create.ensures.untouched (ap g.C.Disk.asked (sym k.out) ∙ none);
+      untouched = λ none. k.out ∙ h.untouched (ap g.C.Disk.asked (sym k.out) ∙ none);
       recovered = rw (k.out, k.history, k.marks) (record {
         marks_recover = λ n mark within. absurd (omega (arith, within));
-        start_recovers = c.in-Err-create.ensures.recovers;
+        start_recovers = h.recovers;
       });
     }

@@ -1,0 +1,160 @@
+-- What an append and a flush come to for the source that asked for them.
+use Rattle.std.proofs.Common.{◌≡◌, ℕ, List, [], ◌∷◌, take, Result, Ok, Err, refl, sym, ◌∙◌, ap, subst, append-nil}
+use Rattle.std.specs.Prelude.{IfOk, IfErr}
+use mathlib.Core.List.{IsPrefix}
+use Rattle.mdf_gate.proofs.Carrying.{prefix_trans}
+use Rattle.mdf_disk.specs.declared.disk.Disk.{Ghosts as DiskOf}
+use Rattle.mdf_layout.specs.History.{source_samples}
+use Rattle.mdf_layout.specs.declared.sample.Sample.{Sample}
+use Rattle.book_owned.specs.declared.answer.Append.{Append}
+use Rattle.book_owned.specs.declared.answer.Append.TheVariants as append
+use Rattle.book_owned.specs.declared.answer.Flush.TheVariants as flush
+use Rattle.book_owned.specs.declared.mark.Mark.{Mark}
+use Rattle.book_owned.specs.declared.view.Shown.{Ghosts as ViewOf}
+use Rattle.book_shared.specs.Basis.{Basis, holding}
+use Rattle.book_shared.specs.Place.{IsSingle, own_part}
+use Rattle.book_shared.specs.Rule.{AreOwn}
+use Rattle.book_shared.specs.Told.{Appends, AppendsBook, Flushes, FlushesBook}
+use Rattle.book_shared.specs.Turns.{Served}
+use Rattle.book_shared.specs.declared.view.View.{View}
+use Rattle.acq_run.specs.Works.{CountsFaults, Does, Ends, IsLater, appended}
+use Rattle.acq_run.specs.declared.tasks.Fed.{Fed}
+use Rattle.acq_run.specs.declared.tasks.Fed.TheVariants as fed
+use Rattle.acq_run.specs.declared.work.Ended.{Ended}
+use Rattle.acq_run.specs.declared.work.Ended.TheVariants.{DiskFault, Stopped}
+
+-- what holds in any case holds of an answer that is `Ok`, and of a fault
+pub any_ok : {A E : Type 0} (P : Type 0) (answer : Result A E) → P → IfOk answer (λ x. P)
+any_ok P (Ok x) holds = holds
+any_ok P (Err e) holds = tt
+
+pub any_err : {A E : Type 0} (P : Type 0) (answer : Result A E) → P → IfErr answer (λ e. P)
+any_err P (Ok x) holds = tt
+any_err P (Err e) holds = holds
+
+-- one turn of a seat
+module _ (v u : View) (history added : List Sample) (served : Served v u history added) where
+  pub served_later : IsLater v u
+  served_later = record {
+    seen = prefix_trans v.seen history u.seen served.later (added, sym served.seen);
+    kept = served.kept;
+    knows = served.knows;
+    basis_is = served.basis_is;
+  }
+
+  -- who follows it goes on to
+  pub follows_on : {L : Type 0} (follows : L → ℕ → List Sample → Type 0)
+      (stays : (follower : L) (which : ℕ) (seen more : List Sample) → follows follower which seen → IsPrefix seen more → follows follower which more) (follower : L)
+      → follows follower v.basis.terms.which v.seen → follows follower u.basis.terms.which u.seen
+  follows_on follows stays follower now =
+      subst (λ (b : Basis). follows follower b.terms.which u.seen) (sym served.basis_is) (stays follower v.basis.terms.which v.seen u.seen now served_later.seen)
+
+  -- all that the source has are its own samples in the history
+  own_seen : (number : ℕ) → IsSingle u number → source_samples u.basis.owners u.seen number ≡ own_part u.mine
+  own_seen number single = sym (subst (AreOwn u.basis.owners u.seen) single served.own).0
+
+-- nothing was accepted in it
+pub does_nothing : (v u : View) (history : List Sample) (source : ℕ) → Served v u history [] → Does v u source [] 0
+does_nothing v u history source served = record { later = served_later v u history [] served; mine = served.mine; marked = tt; counted = refl }
+
+-- an append
+module _ (v u : View) (source : ℕ) (sample : Sample) where
+  done_by : (answer : Append) → Appends v u sample answer → IfOk (appended answer) (λ accepted. Does v u source (fed.Sample sample ∷ []) accepted)
+  done_by (append.Accepted place) (history, served, told) =
+      record { later = served_later v u history (sample ∷ []) served; mine = served.mine; marked = tt; counted = refl }
+  done_by (append.SessionFull held size limit) appends = tt
+  done_by (append.Stopped mark) appends = tt
+  done_by (append.DiskFault before after) appends = tt
+  done_by append.Memory appends = tt
+
+  module _ {D V N : Type 0} (disk : DiskOf D) (view : ViewOf V N) (number : ℕ) (single : IsSingle u number) where
+    ended_by : (answer : Append) → Appends v u sample answer → AppendsBook disk view u sample answer
+        → IfErr (appended answer) (λ ended. Does v u source [] 0 × ((rest : List Fed) → Ends u number (fed.Sample sample ∷ rest) ended))
+    ended_by (append.Accepted place) appends book = tt
+    ended_by (append.SessionFull held size limit) (history, served, told) book = (
+      does_nothing v u history source served,
+      λ rest. (
+        record {
+          sample = sample;
+          next = record { later = rest; rest_is = refl };
+          held_is = told.0;
+          size_is = told.1;
+          limit_is = told.2;
+          over = told.3;
+        },
+        own_seen v u history [] served number single,
+      ),
+    )
+    ended_by (append.Stopped mark) (history, served, told) book = (
+      does_nothing v u history source served,
+      λ rest. (told.0, told.1, (book.old.history, book.old.marks, book.turned.found ∙ ap (holding book.old.history book.old.marks) book.answers.stopped)),
+    )
+    ended_by (append.DiskFault before after) (history, served, told) book = (
+      does_nothing v u history source served,
+      λ rest. (told.0, told.1, (book.old.history, book.old.marks, book.turned.found ∙ ap (holding book.old.history book.old.marks) book.answers.1.going)),
+    )
+    ended_by append.Memory (history, served, told) book = (
+      does_nothing v u history source served,
+      λ rest. (
+        told.0,
+        record { sample = sample; next = record { later = rest; rest_is = refl }; room = told.1 },
+        own_seen v u history [] served number single,
+      ),
+    )
+
+    counted_by : (answer : Append) → AppendsBook disk view u sample answer → IfErr (appended answer) (CountsFaults disk view u)
+    counted_by (append.Accepted place) book = tt
+    counted_by (append.SessionFull held size limit) book = tt
+    counted_by (append.Stopped mark) book = tt
+    counted_by (append.DiskFault before after) book = (book.old, book.new, book.turned, book.answers.1.before_is, book.answers.1.after_is)
+    counted_by append.Memory book = tt
+
+    -- as the task and what came of it are given
+    pub append_ended : (task : Fed) (answer : Append) (result : Result ℕ Ended) → task ≡ fed.Sample sample → result ≡ appended answer → Appends v u sample answer
+        → AppendsBook disk view u sample answer → IfErr result (λ ended. Does v u source [] 0 × ((rest : List Fed) → Ends u number (task ∷ rest) ended))
+    append_ended task answer result is same appends book =
+        subst (λ r. IfErr r (λ ended. Does v u source [] 0 × ((rest : List Fed) → Ends u number (task ∷ rest) ended))) (sym same)
+        (subst (λ t. IfErr (appended answer) (λ ended. Does v u source [] 0 × ((rest : List Fed) → Ends u number (t ∷ rest) ended))) (sym is) (ended_by answer appends book))
+
+    pub append_counted : (answer : Append) (result : Result ℕ Ended) → result ≡ appended answer → AppendsBook disk view u sample answer → IfErr result (CountsFaults disk view u)
+    append_counted answer result same book = subst (λ r. IfErr r (CountsFaults disk view u)) (sym same) (counted_by answer book)
+
+  pub append_done : (task : Fed) (answer : Append) (result : Result ℕ Ended) → task ≡ fed.Sample sample → result ≡ appended answer → Appends v u sample answer
+      → IfOk result (λ accepted. Does v u source (task ∷ []) accepted)
+  append_done task answer result is same appends =
+      subst (λ r. IfOk r (λ accepted. Does v u source (task ∷ []) accepted)) (sym same)
+      (subst (λ t. IfOk (appended answer) (λ accepted. Does v u source (t ∷ []) accepted)) (sym is) (done_by answer appends))
+
+-- a flush
+module _ {D V N : Type 0} (disk : DiskOf D) (view : ViewOf V N) (v u : View) (source number : ℕ) (same : number ≡ source) (single : IsSingle u number) where
+  pub flush_done : (through shown : ℕ) (note : N) → Flushes {N = N} v u (flush.Done through shown note) → Does v u source (fed.Flush ∷ []) 0
+  flush_done through shown note (history, served, told) =
+      let own = served.mine ∙ append-nil (own_part v.mine) in
+      record {
+        later = served_later v u history [] served;
+        mine = served.mine;
+        marked = (
+          record {
+            through = through;
+            mark = told.1;
+            within = told.0;
+            own_is = sym (subst (AreOwn u.basis.owners (take through u.seen)) (subst (IsSingle u) same single) told.2).0 ∙ own;
+          },
+          tt,
+        );
+        counted = refl;
+      }
+
+  pub flush_stopped : (mark : Mark) → Flushes {N = N} v u (flush.Stopped mark) → FlushesBook disk view u (flush.Stopped mark)
+      → Does v u source [] 0 × ((rest : List Fed) → Ends u number rest (Stopped mark))
+  flush_stopped mark (history, served, told) book = (
+    does_nothing v u history source served,
+    λ rest. (told.0, told.1, (book.old.history, book.old.marks, book.turned.found ∙ ap (holding book.old.history book.old.marks) book.answers.stopped)),
+  )
+
+  pub flush_failed : (before after : ℕ) → Flushes {N = N} v u (flush.DiskFault before after) → FlushesBook disk view u (flush.DiskFault before after)
+      → Does v u source [] 0 × ((rest : List Fed) → Ends u number rest (DiskFault before after))
+  flush_failed before after (history, served, told) book = (
+    does_nothing v u history source served,
+    λ rest. (told.0, told.1, (book.old.history, book.old.marks, book.turned.found ∙ ap (holding book.old.history book.old.marks) book.answers.0.going)),
+  )

@@ -1,0 +1,72 @@
+use Rattle.std.proofs.Common.{◌∙◌, ap, arith, inl, inr, refl}
+use Rattle.mdf_record.proofs.Begins.{note_of}
+use Rattle.mdf_record.proofs.Ending.{tasks_fed, tasks_of}
+use Rattle.mdf_record.proofs.Feeding.{ran_lists}
+use Rattle.mdf_record.proofs.Runs.{all-length, ran_all, stopped_told}
+use Rattle.std.proofs.lemmas.List.{length-map}
+use Rattle.mdf_record.proofs.record.work.Goals as goal
+
+pub record_live-requires-clause-sources : goal.record_live-requires-clause-sources
+record_live-requires-clause-sources g c κs within =
+    let feeds = c.args.prepared.feeds in
+    (omega (arith, c.requires.may.some, feeds.ok.0), omega (arith, c.requires.may.few, feeds.ok.0))
+
+pub told_all-driven-requires-clause-room : goal.told_all-driven-requires-clause-room
+told_all-driven-requires-clause-room g c =
+    let owners = c.args.owners.now in
+    let feeds = c.args.prepared.feeds.items in
+    let book = c.in-Ok.gathered.book in
+    let all = c.in-Ok.gathered.all.items in
+    let ran = ran_lists owners owners book feeds (tasks_of feeds) all refl (tasks_fed feeds) c.in-Ok.ensures.ran in
+    omega (arith, all-length owners book 0 (tasks_of feeds) all ran, length-map feeds (λ feed. feed.tasks.rest.items), c.requires.may.room)
+
+pub finish-fault-requires-clause-stopped : goal.finish-fault-requires-clause-stopped
+finish-fault-requires-clause-stopped g c κs within =
+    let owners = c.args.owners.now in
+    let feeds = c.args.prepared.feeds.items in
+    let book = c.in-Ok.gathered.book in
+    let all = c.in-Ok.gathered.all.items in
+    let accepted = c.told_all-driven.new.accepted.items in
+    let result = c.told_all-driven.result in
+    let ran = ran_lists owners owners book feeds (tasks_of feeds) all refl (tasks_fed feeds) c.in-Ok.ensures.ran in
+    stopped_told owners book (tasks_of feeds) accepted result
+    (ran_all owners book (tasks_of feeds) accepted result all ran c.told_all-driven.ensures.accepted c.told_all-driven.ensures.told)
+
+pub last_look-live-requires : goal.last_look-live-requires
+last_look-live-requires g c =
+    let which = c.args.book.terms.which in
+    let finishes = c.finish-fault.ensures.finishes in (
+      which,
+      c.in-Ok.gathered.book.history,
+      c.in-Ok.ensures.follow,
+      note_of c.finish-fault.result.0 c.args.live which c.finish-fault.new.book.terms.which c.finish-fault.new.book.history c.finish-fault.result.1
+          (ap (λ t. t.which) (finishes.steps.terms ∙ c.in-Ok.ensures.terms)) finishes.noted,
+    )
+
+pub returns-in-Ok : goal.returns-in-Ok
+returns-in-Ok g c = record {
+  works = inr (record {
+    driven = c.in-Ok.gathered.book;
+    flushed = c.finish-fault.new.book;
+    all = c.in-Ok.gathered.all.items;
+    accepted = c.told_all-driven.new.accepted;
+    ended = c.told_all-driven.result;
+    fault = c.finish-fault.result.0;
+    note = c.finish-fault.result.1;
+    shown = c.last_look-live.result;
+    terms = c.in-Ok.ensures.terms;
+    ran = c.in-Ok.ensures.ran;
+    accepted_is = c.told_all-driven.ensures.accepted;
+    told = c.told_all-driven.ensures.told;
+    finishes = c.finish-fault.ensures.finishes;
+    shown_is = c.last_look-live.ensures;
+    closes = c.close.ensures.closes;
+  });
+}
+
+pub returns-in-Err : goal.returns-in-Err
+returns-in-Err g c =
+    let up = c.give_up.ensures in
+    record {
+      works = inl (record { end_is = up.end_is; disk = up.disk ∙ ap (λ book. book.disk) c.in-Err.ensures.back; history = up.history; marks = up.marks });
+    }
