@@ -84,6 +84,16 @@ fresh_readers which (reader ∷ readers) each zero d within = record {
 }
 fresh_readers which (reader ∷ readers) each (suc k) d within = fresh_readers which readers (λ j e less. each (suc j) e (omega (arith, less))) k d (omega (arith, within))
 
+-- watchers with no reader follow a book that nobody looks at, and no flush has told them anything
+pub watch_nobody : (watchers : List Watcher) → All (λ watcher. watcher ≡ record { reader = None; told = 0; flushes = 0 }) watchers
+    → All (λ (watcher : Watcher). Watches watcher 0 []) watchers
+watch_nobody watchers each k d within =
+    subst (λ watcher. Watches watcher 0 []) (sym (each k d within)) (record { within = omega arith; of_view = refl; knows = λ other is. absurd (cc is) })
+
+pub fresh_nobody : (watchers : List Watcher) → All (λ watcher. watcher ≡ record { reader = None; told = 0; flushes = 0 }) watchers → All IsFresh watchers
+fresh_nobody watchers each k d within =
+    subst IsFresh (sym (each k d within)) (record { told = refl; flushes = refl; looks = λ other is. absurd (cc is) })
+
 -- a reader that learnt a note looked once
 has_looked : (before : Known) (note : Note) (now : Known) → Looks before note now → HasLooked before 1 now
 has_looked before note now looks =

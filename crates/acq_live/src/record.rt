@@ -1,5 +1,5 @@
 //! A recording that readers may look at, with all sources at work.
-ghost use Rattle.std.specs.Prelude.{ℕ, ◌≡◌, ◌≤◌, ◌<◌, [], length, map, vec_len, All, IfOk, IfErr};
+ghost use Rattle.std.specs.Prelude.{ℕ, ◌≡◌, ◌≤◌, ◌<◌, [], length, map, vec_capacity, vec_len, All, IfOk, IfErr};
 ghost use Rattle.std.specs.List.{slice_index_or};
 ghost use Rattle.acq_run.specs.Ran.{AllHeard, AllRan, AllMayFeed, AreOwned};
 ghost use Rattle.acq_run.specs.Works.{HasDriven, HasHeard};
@@ -9,7 +9,7 @@ ghost use Rattle.acq_live.specs.Watching.{Hears, Watches};
 use crate::{Audience, Watcher};
 use acq_run::{Driven, Feed, Worker, drive, part_all, seat_all};
 use book_owned::Book;
-use book_shared::SharedBook;
+use book_shared::{SharedBook, SourceSeat};
 use mdf_disk::Disk;
 use mdf_num::Memory;
 use std::alloc::Global;
@@ -52,6 +52,33 @@ pub fn drive_all_live<R: Threads + Wait + Sync, D: Disk + Send, F: Feed + Send>(
     );
 }
 
+/// Room for the sources of a recording: at their work, and for what they leave.
+struct Room<F: Drop> {
+    workers: Vec<Worker<F, Watcher>>,
+    back: Vec<SourceSeat>,
+    all: Vec<Driven>,
+    followed: Vec<Watcher>,
+}
+
+/// Room for so many sources, with nothing in it.
+fn room_for<F: Drop>(alloc: Global, count: usize) -> Result<Room<F>, Memory>
+    ensures workers { IfOk result (λ room. (room.workers.items ≡ []) × (count ≤ vec_capacity room.workers)) }
+    ensures empty { IfOk result (λ room. (room.back.items ≡ []) × (room.all.items ≡ []) × (room.followed.items ≡ [])) }
+    ensures wide { IfOk result (λ room. (count ≤ vec_capacity room.back) × (count ≤ vec_capacity room.all)
+        × (count ≤ vec_capacity room.followed)) }
+{
+    let workers = Vec::with_capacity(alloc, count)?;
+    let back = Vec::with_capacity(alloc, count)?;
+    let all = Vec::with_capacity(alloc, count)?;
+    let followed = Vec::with_capacity(alloc, count)?;
+    Ok(Room {
+        workers,
+        back,
+        all,
+        followed,
+    })
+}
+
 /// What a recording of several sources leaves: the book, and what each source did and who looked for it, in order.
 pub struct Gathered<D: Disk> {
     pub book: Book<D, Audience>,
@@ -89,18 +116,15 @@ pub fn record_live<R: Threads + Wait + Sync, D: Disk + Send, F: Feed + Send + Dr
     ensures back { IfErr result (λ refused. refused.1 ≡ book) }
 {
     let count = feeds.len();
-    let Ok(mut workers) = Vec::with_capacity(alloc, count) else {
+    let Ok(room) = room_for(alloc, count) else {
         return Err((Memory, book));
     };
-    let Ok(mut back) = Vec::with_capacity(alloc, count) else {
-        return Err((Memory, book));
-    };
-    let Ok(mut all) = Vec::with_capacity(alloc, count) else {
-        return Err((Memory, book));
-    };
-    let Ok(mut followed) = Vec::with_capacity(alloc, count) else {
-        return Err((Memory, book));
-    };
+    let Room {
+        mut workers,
+        mut back,
+        mut all,
+        mut followed,
+    } = room;
     let (shared, seats) = SharedBook::begin(alloc, book, owners, count as u8)?;
     seat_all(&mut workers, seats, feeds, watchers);
     drive_all_live(rt, &shared, workers.as_mut_slice());

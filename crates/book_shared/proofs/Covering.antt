@@ -22,6 +22,11 @@ use Rattle.book_shared.specs.declared.view.View.{View}
 use Rattle.book_shared.proofs.Lists.{counts_first, old_later}
 use Rattle.book_shared.proofs.Ends.{times-append, ends}
 
+-- where a source has a seat, there is one
+pub some_seat : (number : ℕ) (seats : List Place) → HasNumber number seats → 0 < length seats
+some_seat number [] has = absurd has
+some_seat number (seat ∷ seats) has = omega arith
+
 -- the lists of both, taken apart
 own_left : (owners : List ℕ) (history : List Sample) (xs ys : List (ℕ × List Sample)) → AreOwn owners history (xs ++ ys) → AreOwn owners history xs
 own_left owners history [] ys both = tt

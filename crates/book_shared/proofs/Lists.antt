@@ -1,5 +1,5 @@
 -- The lists of a seat, and a history that goes on.
-use Rattle.std.proofs.Common.{◌≡◌, ℕ, ◌<◌, List, [], ◌∷◌, ◌++◌, refl, sym, ap, ◌∙◌, subst, arith, append-nil}
+use Rattle.std.proofs.Common.{◌≡◌, ℕ, ◌<◌, List, [], ◌∷◌, ◌++◌, length, length-append, refl, sym, ap, ◌∙◌, subst, arith, append-nil}
 use Rattle.std.specs.Prelude.{◌==◌, slice_index, cond, Bool}
 use Rattle.std.proofs.lemmas.Bool.{cond-false, eq-eqb, ne_eqb}
 use Rattle.std.proofs.lemmas.List.Elements.{filter-append}
@@ -64,3 +64,8 @@ old_later seen seen' kept kept' (old ∷ olds) s k are =
 pub names_none : (w : World) (v : View) (t : Turn) → holds_turn t ≡ 0 → Names w v t
 names_none w v idle none = tt
 names_none w v (holding history marks stopped) none = absurd (omega (arith, none))
+
+-- a list of one without its last
+pub alone : {A : Type 0} (rest : List A) (last first : A) → first ∷ [] ≡ rest ++ last ∷ [] → (first ≡ last) × (rest ≡ [])
+alone [] last first is = (cc, refl)
+alone (x ∷ rest) last first is = absurd (omega (arith, ap length is, length-append rest (last ∷ [])))

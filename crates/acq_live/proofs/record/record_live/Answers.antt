@@ -123,9 +123,9 @@ part_all-requires-clause-room g c =
     let followers = map (λ w. w.follower) after in
     let count = worked_count left book.table book.basis lent news after c.args.feeds.items worked followers refl in
     let long = length-map after (λ w. w.follower) in (
-      omega (arith, count, long, c.in-Ok-with_capacity.ensures.capacity, c.len-count.ensures, c.args.feeds.ok.0),
-      omega (arith, count, long, c.in-Ok-with_capacity-2.ensures.capacity, c.len-count.ensures, c.args.feeds.ok.0),
-      omega (arith, count, long, c.in-Ok-with_capacity-3.ensures.capacity, c.len-count.ensures, c.args.feeds.ok.0),
+      omega (arith, count, long, c.in-Ok.ensures.wide.0, c.len-count.ensures, c.args.feeds.ok.0),
+      omega (arith, count, long, c.in-Ok.ensures.wide.1, c.len-count.ensures, c.args.feeds.ok.0),
+      omega (arith, count, long, c.in-Ok.ensures.wide.2, c.len-count.ensures, c.args.feeds.ok.0),
     )
 
 pub returns-clause-owned : goal.returns-clause-owned

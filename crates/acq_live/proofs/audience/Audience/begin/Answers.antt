@@ -1,6 +1,7 @@
-use Rattle.std.proofs.Common.{suc, [], All, sym, subst}
+use Rattle.std.proofs.Common.{length, ap, ◌∙◌, suc, [], All, sym, subst}
+use Rattle.std.proofs.lemmas.List.{length-map}
 use Rattle.acq_live.specs.Watching.{IsFresh, Watches}
-use Rattle.acq_live.proofs.Later.{fresh_readers, watch_first}
+use Rattle.acq_live.proofs.Later.{fresh_nobody, fresh_readers, watch_first, watch_nobody}
 use Rattle.acq_live.proofs.audience.Audience.begin.Goals as goal
 
 pub returns-in-Ok-clause-watch : goal.returns-in-Ok-clause-watch
@@ -11,3 +12,12 @@ returns-in-Ok-clause-watch g c =
 pub returns-in-Ok-clause-fresh : goal.returns-in-Ok-clause-fresh
 returns-in-Ok-clause-fresh g c = subst (All IsFresh) (sym c.in-Ok.ensures)
     (fresh_readers c.in_ok-view.view.which c.in_ok-view.readers.items c.in_ok-view.ensures.each)
+
+pub returns-then-not-live-clause-watch : goal.returns-then-not-live-clause-watch
+returns-then-not-live-clause-watch g c = watch_nobody c.in_ok-watchers.watchers.items c.in_ok-watchers.ensures.made
+
+pub returns-then-not-live-clause-fresh : goal.returns-then-not-live-clause-fresh
+returns-then-not-live-clause-fresh g c = fresh_nobody c.in_ok-watchers.watchers.items c.in_ok-watchers.ensures.made
+
+pub returns-in-Ok-clause-count : goal.returns-in-Ok-clause-count
+returns-in-Ok-clause-count g c = ap length c.in-Ok.ensures ∙ length-map c.in_ok-view.readers.items _ ∙ c.in_ok-view.ensures.count

@@ -5,7 +5,7 @@ use Rattle.book_shared.specs.Fixed.{basis_of}
 use Rattle.book_shared.specs.Place.{Common}
 use Rattle.book_shared.specs.Rule.{AreOfSources}
 use Rattle.book_shared.specs.Seats.{Closes}
-use Rattle.book_shared.proofs.Covering.{finished, closes, same_book}
+use Rattle.book_shared.proofs.Covering.{finished, some_seat, closes, same_book}
 use Rattle.book_shared.proofs.shared.SharedBook.close.Goals as goal
 
 pub book_of-requires-clause-book : goal.book_of-requires-clause-book
@@ -50,3 +50,9 @@ returns-clause-sources g c =
     (λ number less. c.requires.all number (subst (λ (b : Common). number < b.basis.sources) c.self.view_is less)) c.close_with.ensures.values.2 in
     subst (λ (b : Common). AreOfSources b.basis c.book_of.result.history) c.self.view_is
     (subst (λ (a : Account g.row.D.Denot g.row.V.Denot). AreOfSources basis a.history) (same_book slots ended.book c.book_of.result ended.slot_is c.book_of.ensures) ended.only)
+
+pub gather-whole-requires : goal.gather-whole-requires
+gather-whole-requires g c = record {
+  table = c.requires.table;
+  some_seat = some_seat 0 c.args.seats.items (c.requires.all 0 (subst (λ (b : Common). 0 < b.basis.sources) c.self.view_is c.self.invariant.2));
+}
