@@ -1,9 +1,10 @@
 //! Files that are cut to each length, and files whose blocks lead back to themselves or reach too far.
 
-use crate::finalizing::{FINALIZE, SORT, finalized, made_of};
-use crate::foreign::engine_and_gearbox;
-use crate::recordings::{Part, put, recording};
-use crate::runs::{COUNTING, Given, recorded, told};
+use crate::files::{
+    Asked, FINALIZE, FINALIZE_WORDS, FLAGS, File, MARK, SORT, all_are_told, bytes_of,
+};
+use crate::recordings::Part;
+use crate::runs::{COUNTING, Given, told};
 use crate::told::is_told;
 use mdf_disk::MemoryDisk;
 use mdf_num::Bytes;
@@ -12,8 +13,12 @@ use std::sync::Wait;
 use std::test::Fail;
 use std::thread::Threads;
 
+const CHECK_WORDS: &[&str] = &["check", "in.mf4"];
+
+const OPENED_WORDS: &[&str] = &["opened", "in.mf4"];
+
 const CHECK: Given<'static> = Given {
-    words: &["check", "in.mf4"],
+    words: CHECK_WORDS,
     ..FINALIZE
 };
 
@@ -23,7 +28,7 @@ const INFO: Given<'static> = Given {
 };
 
 const OPENED: Given<'static> = Given {
-    words: &["opened", "in.mf4"],
+    words: OPENED_WORDS,
     ..FINALIZE
 };
 
@@ -89,7 +94,7 @@ const COUNTED: [Cuts; 8] = [
 ];
 
 // And what `finalize` says of it, which reads the whole head.
-const RECORDED: [Cuts; 13] = [
+const RECORDED: [Cuts; 14] = [
     (0, 64, "3 not MDF\n"),
     (64, 168, "3 block at 64 is not ##HD\n"),
     (168, 224, "3 block at 168 is not ##FH\n"),
@@ -103,6 +108,7 @@ const RECORDED: [Cuts; 13] = [
     (769, 810, "3 block at 768 is not ##DT\n"),
     (810, 817, "0 groups 1 samples 2 dropped 0\n"),
     (817, 849, "3 block at 816 is not ##DT\n"),
+    (849, 858, "0 groups 1 samples 3 dropped 0\n"),
 ];
 
 /// What a command says of the first bytes of a file, so many of them.
@@ -127,6 +133,7 @@ where
     Ok(())
 }
 
+/// Asserts what a command says of a file that is cut to each length.
 fn all_cut_as_told<R>(rt: &R, given: Given<'_>, file: &Bytes, table: &[Cuts]) -> Result<(), Fail>
 where
     R: AllocGlobal + Threads + Wait + Sync + Abort,
@@ -137,116 +144,96 @@ where
     Ok(())
 }
 
-/// The sorted file of a finished one.
-fn sorted<R>(rt: &R, file: &Bytes) -> Result<Bytes, Fail>
-where
-    R: AllocGlobal + Threads + Wait + Sync,
-{
-    let (_, sorted) = made_of(rt, SORT, file.copy()?, &[])?;
-    Ok(sorted)
-}
+/// A file, commands, and what each of them says of it, cut to each length.
+type Said = (File, &'static [Given<'static>], &'static [Cuts]);
 
-/// What these commands say of the finished file and of the sorted one, cut to each length.
-fn all_said_of_cuts<R>(rt: &R, commands: &[Given<'static>]) -> Result<(), Fail>
+/// Asserts that of a row.
+fn row_as_told<R>(rt: &R, row: &Said) -> Result<(), Fail>
 where
     R: AllocGlobal + Threads + Wait + Sync + Abort,
 {
-    let (_, file) = finalized(rt, recorded(rt, COUNTING)?, &[])?;
-    let sorted = sorted(rt, &file)?;
-    for given in commands {
-        all_cut_as_told(rt, *given, &file, &FINISHED)?;
-        all_cut_as_told(rt, *given, &sorted, &SORTED)?;
+    let (file, commands, table) = row;
+    let file = bytes_of(rt, file)?;
+    for given in *commands {
+        all_cut_as_told(rt, *given, &file, *table)?;
     }
-    all_cut_as_told(rt, CHECK, &file, &[(1027, 1033, "0 valid\n")])?;
-    all_cut_as_told(rt, CHECK, &sorted, &[(1232, 1233, "0 valid\n")])
+    Ok(())
 }
+
+/// And of each row.
+fn rows_as_told<R>(rt: &R, rows: &[Said]) -> Result<(), Fail>
+where
+    R: AllocGlobal + Threads + Wait + Sync + Abort,
+{
+    for row in rows {
+        row_as_told(rt, row)?;
+    }
+    Ok(())
+}
+
+const READ: &[Said] = &[
+    (File::Finished(COUNTING), &[CHECK, INFO], &FINISHED),
+    (File::Sorted(COUNTING), &[CHECK, INFO], &SORTED),
+    (
+        File::Finished(COUNTING),
+        &[CHECK],
+        &[(1027, 1033, "0 valid\n")],
+    ),
+    (
+        File::Sorted(COUNTING),
+        &[CHECK],
+        &[(1232, 1233, "0 valid\n")],
+    ),
+];
 
 #[test]
 fn a_finished_file_is_cut_to_each_length(rt: HostRuntime) -> Result<(), Fail> {
-    all_said_of_cuts(&rt, &[CHECK, INFO])
+    rows_as_told(&rt, READ)
 }
+
+const MADE: &[Said] = &[
+    (File::Finished(COUNTING), &[SORT, CUT, EXPORT], &FINISHED),
+    (File::Sorted(COUNTING), &[SORT, CUT, EXPORT], &SORTED),
+];
 
 #[test]
 fn a_finished_file_is_cut_to_each_length_before_another_is_made(
     rt: HostRuntime,
 ) -> Result<(), Fail> {
-    all_said_of_cuts(&rt, &[SORT, CUT, EXPORT])
+    rows_as_told(&rt, MADE)
 }
+
+const RECORDINGS: &[Said] = &[
+    (File::Recorded(COUNTING), &[OPENED], &COUNTED),
+    (File::Recorded(COUNTING), &[FINALIZE], &RECORDED),
+];
 
 #[test]
 fn a_recording_is_cut_to_each_length(rt: HostRuntime) -> Result<(), Fail> {
-    let file = recorded(&rt, COUNTING)?;
-    all_cut_as_told(&rt, OPENED, &file, &COUNTED)?;
-    all_cut_as_told(&rt, FINALIZE, &file, &RECORDED)?;
-    let whole = (849, 858, "0 groups 1 samples 3 dropped 0\n");
-    all_cut_as_told(&rt, FINALIZE, &file, &[whole])
+    rows_as_told(&rt, RECORDINGS)
 }
 
-// A block of the sorted file whose next link names the block itself: a history and a channel group without an end.
-const LOOPS: &[(Looped, &str)] = &[
-    (Looped((192, b"\xA8\0")), "3 too many FH at 168\n"),
-    (Looped((880, b"\x58\x03")), "3 too many CG at 856\n"),
-];
-
-// And channels without an end, whose rows take 500 MB before there are too many.
-const CHANNELS: &[(Looped, &str)] = &[(Looped((1016, b"\xE0\x03")), "3 too many CN at 992\n")];
-
-/// What a command says of a file with these parts put in.
-fn said_of_changed<R>(
-    rt: &R,
-    given: Given<'_>,
-    mut file: Vec<u8>,
-    parts: &[Part],
-) -> Result<String, Fail>
-where
-    R: AllocGlobal + Threads + Wait + Sync,
-{
-    for part in parts {
-        put(&mut file, *part);
-    }
-    told(
-        rt,
-        given,
-        MemoryDisk::holding(rt.alloc(), Bytes::from_vec(file)),
-    )
-}
-
-/// What is changed in the sorted file of the recording of three samples.
-struct Looped(Part);
-
-// What `check` says of it.
-impl Looped {
-    fn told<R>(&self, rt: &R) -> Result<String, Fail>
-    where
-        R: AllocGlobal + Threads + Wait + Sync,
-    {
-        let (_, file) = finalized(rt, recorded(rt, COUNTING)?, &[])?;
-        let sorted = sorted(rt, &file)?;
-        let file = Vec::from_slice(rt.alloc(), sorted.as_slice())?;
-        said_of_changed(rt, CHECK, file, &[self.0])
-    }
-}
-
-#[test]
-fn blocks_that_name_themselves_are_too_many(rt: HostRuntime) -> Result<(), Fail> {
-    for (row, want) in LOOPS {
-        is_told(&rt, row.told(&rt), *want)?;
-    }
-    Ok(())
-}
+// Channels of the sorted file without an end, whose rows take 500 MB before there are too many.
+const CHANNELS: &[(Asked, &str)] = &[(
+    Asked(
+        CHECK_WORDS,
+        File::Sorted(COUNTING),
+        &[(1016, b"\xE0\x03")],
+        &[],
+        &[],
+    ),
+    "3 too many CN at 992\n",
+)];
 
 #[test]
 fn a_channel_that_names_itself_is_too_many(rt: HostRuntime) -> Result<(), Fail> {
-    for (row, want) in CHANNELS {
-        is_told(&rt, row.told(&rt), *want)?;
-    }
-    Ok(())
+    all_are_told(&rt, CHANNELS)
 }
 
 // A finished file without history, whose data link names a DL at 232 of 32 bytes, which is its own next one.
 const LOOP_OF_DATA: [Part; 5] = [
-    (0, b"MDF     "),
-    (60, b"\0\0\0\0"),
+    MARK,
+    FLAGS,
     (232, b"##DL"),
     (240, b"\x20\0\0\0\0\0\0\0\x01"),
     (256, b"\xE8\0\0\0\0\0\0\0"),
@@ -255,34 +242,6 @@ const LOOP_OF_DATA: [Part; 5] = [
 // The second opened block of the recording of two says that it is 1,000 bytes longer.
 const LONGER: [Part; 1] = [(280, b"\x10\x04")];
 
-// What is changed in the recording of two blocks, and what a command says of it.
-const CHANGED: &[(Changed, &str)] = &[
-    (Changed(CHECK, &LOOP_OF_DATA), "3 too many block at 232\n"),
-    (Changed(OPENED, &LONGER), "3 block at 272 is not ##DT\n"),
-    (Changed(FINALIZE, &LONGER), "3 block at 272 is not ##DT\n"),
-];
-
-/// A command, and what is changed in the recording of two blocks.
-struct Changed(Given<'static>, &'static [Part]);
-
-impl Changed {
-    fn told<R>(&self, rt: &R) -> Result<String, Fail>
-    where
-        R: AllocGlobal + Threads + Wait + Sync,
-    {
-        let file = recording(rt.alloc(), 313, (0, b""))?;
-        said_of_changed(rt, self.0, file, self.1)
-    }
-}
-
-#[test]
-fn data_without_an_end_and_a_block_behind_the_end_are_refused(rt: HostRuntime) -> Result<(), Fail> {
-    for (row, want) in CHANGED {
-        is_told(&rt, row.told(&rt), *want)?;
-    }
-    Ok(())
-}
-
 // The conversion at 904 of the file of two groups has a fifth link, which names the conversion itself.
 const NESTED: [Part; 3] = [
     (920, b"\x05"),
@@ -290,12 +249,48 @@ const NESTED: [Part; 3] = [
     (968, b"\x01\0\0\0\x01\0\0\0"),
 ];
 
-#[test]
-fn a_conversion_inside_itself_is_too_deep(rt: HostRuntime) -> Result<(), Fail> {
-    let file = engine_and_gearbox(rt.alloc(), &NESTED)?;
-    is_told(
-        &rt,
-        said_of_changed(&rt, CHECK, file, &[]),
+// What is changed in a file, and what a command says of it.
+const CHANGED: &[(Asked, &str)] = &[
+    // a block of the sorted file whose next link names the block itself: a history and a channel group without an end
+    (
+        Asked(
+            CHECK_WORDS,
+            File::Sorted(COUNTING),
+            &[(192, b"\xA8\0")],
+            &[],
+            &[],
+        ),
+        "3 too many FH at 168\n",
+    ),
+    (
+        Asked(
+            CHECK_WORDS,
+            File::Sorted(COUNTING),
+            &[(880, b"\x58\x03")],
+            &[],
+            &[],
+        ),
+        "3 too many CG at 856\n",
+    ),
+    (
+        Asked(CHECK_WORDS, File::TwoBlocks(313), &LOOP_OF_DATA, &[], &[]),
+        "3 too many block at 232\n",
+    ),
+    (
+        Asked(OPENED_WORDS, File::TwoBlocks(313), &LONGER, &[], &[]),
+        "3 block at 272 is not ##DT\n",
+    ),
+    (
+        Asked(FINALIZE_WORDS, File::TwoBlocks(313), &LONGER, &[], &[]),
+        "3 block at 272 is not ##DT\n",
+    ),
+    (
+        Asked(CHECK_WORDS, File::TwoGroups, &NESTED, &[], &[]),
         "3 deep at 904\n",
-    )
+    ),
+];
+
+#[test]
+fn what_has_no_end_and_a_block_behind_the_end_are_refused(rt: HostRuntime) -> Result<(), Fail> {
+    all_are_told(&rt, CHANGED)
 }

@@ -2,15 +2,16 @@
 ghost use Rattle.std.specs.Prelude.{◌≡◌, None, IfOk};
 
 use crate::cuts::CUT;
-use crate::finalizing::{FINALIZE, SORT, finalized, made_of};
+use crate::files::{FINALIZE, FINALIZE_WORDS, File, SORT, bytes_of};
 use crate::joined::CONCAT;
-use crate::runs::{COUNTING, Given, failing_disk, left_by, numbers, ran, record, recorded};
+use crate::runs::{
+    COUNTING, Given, Kept, asking, disk_with, failing_disk, file_made, left_by, ran, record, said,
+};
 use crate::told::is_status;
 use book_owned::Marks;
 use mdf_disk::{Disk, Fuse, MemoryDisk};
 use mdf_num::Bytes;
 use mdf_run::Finished;
-use std::alloc::Global;
 use std::process::Abort;
 use std::sync::Wait;
 use std::test::Fail;
@@ -27,6 +28,16 @@ const SAMPLES: [&str; 4] = [
     "0 groups 1 samples 3 dropped 0\n",
 ];
 
+/// The number of samples that this text is printed of.
+fn count_of(text: &str) -> Option<u64> {
+    for count in 0u64..4 {
+        if SAMPLES[count as usize] == text {
+            return Some(count);
+        }
+    }
+    None
+}
+
 /// How many samples are found in what a crash left: none in a file that is no MDF file. None where it is not finalized.
 fn found<R>(rt: &R, left: Bytes) -> Result<Option<u64>, Fail>
 where
@@ -35,13 +46,8 @@ where
     if !left.as_slice().starts_with(b"UnFinMF ") {
         return Ok(Some(0));
     }
-    let (text, _) = finalized(rt, left, &[])?;
-    for count in 0u64..4 {
-        if SAMPLES[count as usize] == text.as_str() {
-            return Ok(Some(count));
-        }
-    }
-    Ok(None)
+    let text = said(rt, FINALIZE_WORDS, left)?;
+    Ok(count_of(text.as_str()))
 }
 
 /// How many samples were marked before this call of the disk: its first call attaches the file, and each other writes or syncs.
@@ -64,51 +70,131 @@ where
     Ok(samples.is_some_and(|count| marked <= count && count <= accepted))
 }
 
-/// So does each that a crash inside a call of the disk may leave.
-fn images_hold<R>(rt: &R, disk: &MemoryDisk, marks: &Marks, accepted: u64) -> Result<(), Fail>
+/// Whether a file is the whole, or no MDF file.
+fn is_sealed(left: &[u8], whole: &[u8]) -> bool {
+    left.len() <= 1 || left[0] != b'M' || left == whole
+}
+
+/// What is said of each file that a crash inside a call of the disk may leave: that it holds what was marked, where so many calls
+/// reach the disk at most; or that it is sealed, where this is the whole.
+#[derive(Drop)]
+enum Images<'a> {
+    Hold(u64),
+    AreSealed(&'a [u8]),
+}
+
+/// Whether a file that a crash inside this call left is so.
+fn image_stands<R, A, C>(
+    rt: &R,
+    finished: &Finished<A, C>,
+    images: &Images<'_>,
+    call: u64,
+    left: Bytes,
+) -> Result<bool, Fail>
+where
+    R: AllocGlobal + Threads + Wait + Sync,
+{
+    match images {
+        Images::Hold(_) => holds(
+            rt,
+            left,
+            marked(&finished.marks, call),
+            finished.history.len(),
+        ),
+        Images::AreSealed(whole) => Ok(is_sealed(left.as_slice(), *whole)),
+    }
+}
+
+/// Asserts what stands of what a crash inside this call left, by this pick.
+fn is_so<R: Abort>(rt: &R, stands: bool, call: u64, pick: u8) {
+    assert!(rt; stands, "call {call} pick {pick}");
+}
+
+/// Asserts that each file is so that a crash inside a call of the disk may leave.
+fn images_stand<R, A, C>(
+    rt: &R,
+    finished: &Finished<A, C>,
+    disk: &MemoryDisk,
+    images: &Images<'_>,
+) -> Result<(), Fail>
 where
     R: AllocGlobal + Threads + Wait + Sync + Abort,
 {
     for call in 0..disk.calls() {
         for pick in 0u8..4 {
             let left = disk.image(call, pick)?;
-            assert!(rt;
-                holds(rt, left, marked(marks, call), accepted)?,
-                "call {call} pick {pick}"
+            is_so(
+                rt,
+                image_stands(rt, finished, images, call, left)?,
+                call,
+                pick,
             );
         }
     }
     Ok(())
 }
 
-/// The status of a run over a disk that so many calls reach at most, all of whose images hold.
-fn status_where_images_hold<R, A>(
+/// Asserts that of a run, whose disk so many calls reach at most.
+fn run_stands<R, A, C: Kept>(
     rt: &R,
-    finished: &Finished<A, Fuse<MemoryDisk>>,
-    most: u64,
+    finished: &Finished<A, C>,
+    images: &Images<'_>,
+) -> Result<(), Fail>
+where
+    R: AllocGlobal + Threads + Wait + Sync + Abort,
+{
+    let disk = finished.out.kept();
+    if let Images::Hold(most) = images {
+        assert!(rt; disk.calls() <= *most);
+    }
+    images_stand(rt, finished, disk, images)
+}
+
+/// The status of a run of which that is so.
+fn status_where_it_stands<R, A, C: Kept>(
+    rt: &R,
+    finished: &Finished<A, C>,
+    images: &Images<'_>,
 ) -> Result<u8, Fail>
 where
     R: AllocGlobal + Threads + Wait + Sync + Abort,
 {
-    let disk = finished.out.disk();
-    assert!(rt; disk.calls() <= most);
-    images_hold(rt, disk, &finished.marks, finished.history.len())?;
+    run_stands(rt, finished, images)?;
     Ok(finished.status)
 }
 
-/// The status of a recording over this disk, which so many calls reach at most. All of its images hold.
-fn status_over<R>(rt: &R, out: Fuse<MemoryDisk>, most: u64) -> Result<u8, Fail>
+/// The status of a run over these disks, all of whose images are so.
+fn status_over<R, A, C>(
+    rt: &R,
+    given: Given<'_>,
+    first: A,
+    out: C,
+    images: &Images<'_>,
+) -> Result<u8, Fail>
 where
     R: AllocGlobal + Threads + Wait + Sync + Abort,
-    requires { ⟦<Fuse<MemoryDisk> as Disk>⟧.asked out ≡ None }
+    A: Disk + Drop,
+    C: Disk + Kept + Send + Drop,
+    requires first { A.asked first ≡ None }
+    requires out { C.asked out ≡ None }
 {
-    let ended = ran(
+    let ended = ran(rt, given, first, out)?;
+    status_where_it_stands(rt, &ended.finished, images)
+}
+
+/// The status of a recording over this disk, which passes so many calls on at most. All of its images hold.
+fn recorded_status<R>(rt: &R, disk: MemoryDisk, most: u64) -> Result<u8, Fail>
+where
+    R: AllocGlobal + Threads + Wait + Sync + Abort,
+    requires { ⟦<MemoryDisk as Disk>⟧.asked disk ≡ None }
+{
+    status_over(
         rt,
         record(COUNTING, &[], &[]),
         MemoryDisk::new(rt.alloc()),
-        out,
-    )?;
-    status_where_images_hold(rt, &ended.finished, most)
+        Fuse::new(disk, most),
+        &Images::Hold(most),
+    )
 }
 
 /// The status of a recording over a disk that fails at this call.
@@ -117,7 +203,7 @@ where
     R: AllocGlobal + Threads + Wait + Sync + Abort,
 {
     let disk = failing_disk(rt.alloc(), &[call])?;
-    status_over(rt, Fuse::new(disk, u64::MAX), u64::MAX)
+    recorded_status(rt, disk, u64::MAX)
 }
 
 #[test]
@@ -133,8 +219,7 @@ fn status_stopped_after<R>(rt: &R, calls: u64) -> Result<u8, Fail>
 where
     R: AllocGlobal + Threads + Wait + Sync + Abort,
 {
-    let disk = MemoryDisk::new(rt.alloc());
-    status_over(rt, Fuse::new(disk, calls), calls)
+    recorded_status(rt, MemoryDisk::new(rt.alloc()), calls)
 }
 
 #[test]
@@ -145,67 +230,34 @@ fn a_recording_stands_a_stop_at_each_call_of_its_disk(rt: HostRuntime) -> Result
     is_status(&rt, status_stopped_after(&rt, CALLS), 0)
 }
 
-/// Whether a file is the whole, or no MDF file.
-fn is_sealed(left: &[u8], whole: &[u8]) -> bool {
-    left.len() <= 1 || left[0] != b'M' || left == whole
-}
-
-/// So is each file that a crash inside a call of the disk may leave.
-fn images_are_sealed<R>(rt: &R, disk: &MemoryDisk, whole: &[u8]) -> Result<(), Fail>
-where
-    R: Abort,
-{
-    for call in 0..disk.calls() {
-        for pick in 0u8..4 {
-            let image = disk.image(call, pick)?;
-            assert!(rt;
-                is_sealed(image.as_slice(), whole),
-                "call {call} pick {pick}"
-            );
-        }
-    }
-    Ok(())
-}
-
-/// The status of a run, all of whose images are sealed.
-fn status_where_sealed<R, A>(
-    rt: &R,
-    finished: &Finished<A, MemoryDisk>,
-    whole: &[u8],
-) -> Result<u8, Fail>
-where
-    R: Abort,
-{
-    images_are_sealed(rt, &finished.out, whole)?;
-    Ok(finished.status)
-}
-
 /// The status of a command that makes a file of this one, over a disk that fails at this call. Its images are sealed.
 fn made_status<R>(
     rt: &R,
     given: Given<'_>,
     input: &Bytes,
-    whole: &[u8],
+    whole: &Bytes,
     call: u64,
 ) -> Result<u8, Fail>
 where
     R: AllocGlobal + Threads + Wait + Sync + Abort,
 {
-    let file = input.copy()?;
+    let first = MemoryDisk::holding(rt.alloc(), input.copy()?);
     let out = failing_disk(rt.alloc(), &[call])?;
-    let ended = ran(rt, given, MemoryDisk::holding(rt.alloc(), file), out)?;
-    status_where_sealed(rt, &ended.finished, whole)
+    status_over(rt, given, first, out, &Images::AreSealed(whole.as_slice()))
 }
 
-// The commands that make a file of a file, and whether that is a finished one; `concat` has it for both of its inputs.
-const MAKING: [(Given<'static>, bool); 4] = [
-    (FINALIZE, false),
-    (SORT, true),
-    (CUT, true),
-    (CONCAT, true),
-];
+/// Asserts that a command stands a fault of each call of its output's disk, where this is its input and its second input, and that
+/// the file it makes. These calls are an attach, the closed first byte, a sync, the rest, a sync, the first byte, and a sync.
+fn stands_faults<R>(rt: &R, given: Given<'_>, input: &Bytes, whole: &Bytes) -> Result<(), Fail>
+where
+    R: AllocGlobal + Threads + Wait + Sync + Abort,
+{
+    for call in 0u64..7 {
+        is_status(rt, made_status(rt, given, input, whole, call), 4)?;
+    }
+    is_status(rt, made_status(rt, given, input, whole, 7), 0)
+}
 
-// The calls of the output's disk are an attach, the closed first byte, a sync, the rest, a sync, the first byte, and a sync.
 fn stands_faults_of_its_output<R>(rt: &R, given: Given<'_>, input: &Bytes) -> Result<(), Fail>
 where
     R: AllocGlobal + Threads + Wait + Sync + Abort,
@@ -214,64 +266,56 @@ where
         second: input.as_slice(),
         ..given
     };
-    let (_, whole) = made_of(rt, given, input.copy()?, &[])?;
-    for call in 0u64..7 {
-        is_status(rt, made_status(rt, given, input, whole.as_slice(), call), 4)?;
-    }
-    is_status(rt, made_status(rt, given, input, whole.as_slice(), 7), 0)
+    let whole = file_made(rt, given, input.copy()?)?;
+    stands_faults(rt, given, input, &whole)
 }
+
+/// The same of this file.
+fn stands_faults_over<R>(rt: &R, given: Given<'_>, file: &File) -> Result<(), Fail>
+where
+    R: AllocGlobal + Threads + Wait + Sync + Abort,
+{
+    stands_faults_of_its_output(rt, given, &bytes_of(rt, file)?)
+}
+
+const COUNTED: File = File::Recorded(COUNTING);
+
+const FINISHED: File = File::Finished(COUNTING);
+
+// The commands that make a file of a file, and that; `concat` has it for both of its inputs.
+const MAKING: &[(Given<'static>, File)] = &[
+    (FINALIZE, COUNTED),
+    (SORT, FINISHED),
+    (CUT, FINISHED),
+    (CONCAT, FINISHED),
+];
 
 #[test]
 fn a_made_file_stands_a_fault_of_each_call_of_its_disk(rt: HostRuntime) -> Result<(), Fail> {
-    for (given, is_finished) in MAKING {
-        stands_faults_of_its_output(&rt, given, &input(&rt, is_finished)?)?;
+    for (given, file) in MAKING {
+        stands_faults_over(&rt, *given, file)?;
     }
     Ok(())
 }
 
-// The commands that read a file, and whether that is a finished one.
-const READING: [(&[&str], bool); 8] = [
-    (&["opened", "in.mf4"], false),
-    (&["finalize", "in.mf4", "out.mf4"], false),
-    (&["check", "in.mf4"], true),
-    (&["info", "in.mf4"], true),
-    (&["sort", "in.mf4", "out.mf4"], true),
-    (&["cut", "in.mf4", "out.mf4", "1", "3"], true),
-    (&["concat", "in.mf4", "in.mf4", "out.mf4"], true),
-    (&["export", "in.mf4", "0"], true),
+// The commands that read a file, and that.
+const READING: &[(&[&str], File)] = &[
+    (&["opened", "in.mf4"], COUNTED),
+    (&["finalize", "in.mf4", "out.mf4"], COUNTED),
+    (&["check", "in.mf4"], FINISHED),
+    (&["info", "in.mf4"], FINISHED),
+    (&["sort", "in.mf4", "out.mf4"], FINISHED),
+    (&["cut", "in.mf4", "out.mf4", "1", "3"], FINISHED),
+    (&["concat", "in.mf4", "in.mf4", "out.mf4"], FINISHED),
+    (&["export", "in.mf4", "0"], FINISHED),
 ];
 
 /// A command without a script over this second input, whose sink fails at these calls.
 fn command<'a>(words: &'a [&'a str], second: &'a Bytes, failing: &'a [u64]) -> Given<'a> {
     Given {
-        words,
         second: second.as_slice(),
-        failing,
-        ..FINALIZE
+        ..asking(words, failing)
     }
-}
-
-/// The recording of three samples, or its finished file.
-fn input<R>(rt: &R, is_finished: bool) -> Result<Bytes, Fail>
-where
-    R: AllocGlobal + Threads + Wait + Sync,
-{
-    let recording = recorded(rt, COUNTING)?;
-    if !is_finished {
-        return Ok(recording);
-    }
-    let (_, file) = finalized(rt, recording, &[])?;
-    Ok(file)
-}
-
-/// A disk with this file that fails at these calls.
-fn disk_of(alloc: Global, file: &Bytes, faults: &[u64]) -> Result<MemoryDisk, Fail>
-    ensures { IfOk result (λ disk. ⟦<MemoryDisk as Disk>⟧.asked disk ≡ None) }
-{
-    let calls = numbers(alloc, faults)?;
-    let mut disk = MemoryDisk::holding(alloc, file.copy()?);
-    disk.fail_at(calls);
-    Ok(disk)
 }
 
 /// The status of a command over a disk with this file that fails at these calls.
@@ -279,49 +323,93 @@ fn status_of<R>(rt: &R, given: Given<'_>, file: &Bytes, faults: &[u64]) -> Resul
 where
     R: AllocGlobal + Threads + Wait + Sync,
 {
-    let alloc = rt.alloc();
-    let first = disk_of(alloc, file, faults)?;
-    let left = left_by(rt, given, first, MemoryDisk::new(alloc))?;
+    let first = disk_with(rt.alloc(), file.copy()?, faults)?;
+    let left = left_by(rt, given, first)?;
     Ok(left.status)
 }
 
-// An input is attached, its size is asked for, and it is read.
-#[test]
-fn a_fault_of_each_call_of_an_input_is_told(rt: HostRuntime) -> Result<(), Fail> {
-    for (words, is_finished) in &READING {
-        let file = input(&rt, *is_finished)?;
-        for call in 0u64..4 {
-            let want = if call < 3 { 4 } else { 0 };
-            let status = status_of(&rt, command(*words, &file, &[]), &file, &[call]);
-            is_status(&rt, status, want)?;
-        }
+/// The status of a command, whose second input is the same file, where this call of the input's disk fails.
+fn input_status<R>(rt: &R, words: &[&str], file: &Bytes, call: u64) -> Result<u8, Fail>
+where
+    R: AllocGlobal + Threads + Wait + Sync,
+{
+    let second = file.copy()?;
+    status_of(rt, command(words, &second, &[]), file, &[call])
+}
+
+/// Asserts that a fault of each call of an input is told. It is attached, its size is asked for, and it is read.
+fn tells_faults_of_input<R>(rt: &R, words: &[&str], file: &Bytes) -> Result<(), Fail>
+where
+    R: AllocGlobal + Threads + Wait + Sync + Abort,
+{
+    for call in 0u64..4 {
+        let want = if call < 3 { 4 } else { 0 };
+        is_status(rt, input_status(rt, words, file, call), want)?;
     }
     Ok(())
+}
+
+/// The same of this file.
+fn tells_faults_over<R>(rt: &R, words: &[&str], file: &File) -> Result<(), Fail>
+where
+    R: AllocGlobal + Threads + Wait + Sync + Abort,
+{
+    tells_faults_of_input(rt, words, &bytes_of(rt, file)?)
+}
+
+#[test]
+fn a_fault_of_each_call_of_an_input_is_told(rt: HostRuntime) -> Result<(), Fail> {
+    for (words, file) in READING {
+        tells_faults_over(&rt, *words, file)?;
+    }
+    Ok(())
+}
+
+/// A `concat` with this second input, whose disk fails at these calls.
+fn losing<'a>(second: &'a Bytes, lost: &'a [u64]) -> Given<'a> {
+    Given {
+        second: second.as_slice(),
+        lost,
+        ..CONCAT
+    }
+}
+
+/// The status of that, where this file is both inputs and this call of the second one's disk fails.
+fn second_status<R>(rt: &R, file: &Bytes, call: u64) -> Result<u8, Fail>
+where
+    R: AllocGlobal + Threads + Wait + Sync,
+{
+    let second = file.copy()?;
+    let lost = [call];
+    status_of(rt, losing(&second, &lost), file, &[])
 }
 
 #[test]
 fn a_fault_of_each_call_of_the_second_input_is_told(rt: HostRuntime) -> Result<(), Fail> {
-    let file = input(&rt, true)?;
+    let file = bytes_of(&rt, &FINISHED)?;
     for call in 0u64..4 {
-        let given = Given {
-            second: file.as_slice(),
-            lost: &[call],
-            ..CONCAT
-        };
         let want = if call < 3 { 4 } else { 0 };
-        is_status(&rt, status_of(&rt, given, &file, &[]), want)?;
+        is_status(&rt, second_status(&rt, &file, call), want)?;
     }
     Ok(())
+}
+
+/// The status of a recording where this call of the source fails.
+fn source_status<R>(rt: &R, call: u64) -> Result<u8, Fail>
+where
+    R: AllocGlobal + Threads + Wait + Sync,
+{
+    let broken = [call];
+    let file = Bytes::empty(rt.alloc());
+    status_of(rt, record(COUNTING, &broken, &[]), &file, &[])
 }
 
 // The script is taken at once, and then its end.
 #[test]
 fn a_fault_of_each_call_of_the_source_is_told(rt: HostRuntime) -> Result<(), Fail> {
-    let file = Bytes::empty(rt.alloc());
     for call in 0u64..3 {
         let want = if call < 2 { 2 } else { 0 };
-        let status = status_of(&rt, record(COUNTING, &[call], &[]), &file, &[]);
-        is_status(&rt, status, want)?;
+        is_status(&rt, source_status(&rt, call), want)?;
     }
     Ok(())
 }
@@ -351,10 +439,18 @@ where
     Ok(64)
 }
 
+/// The same of this file.
+fn gives_over<R>(rt: &R, words: &[&str], file: &File) -> Result<u64, Fail>
+where
+    R: AllocGlobal + Threads + Wait + Sync + Abort,
+{
+    gives(rt, words, &bytes_of(rt, file)?)
+}
+
 #[test]
 fn a_fault_of_each_call_of_the_sink_is_told(rt: HostRuntime) -> Result<(), Fail> {
-    for (words, is_finished) in &READING {
-        let calls = gives(&rt, *words, &input(&rt, *is_finished)?)?;
+    for (words, file) in READING {
+        let calls = gives_over(&rt, *words, file)?;
         assert!(rt; 0 < calls && calls < 64);
     }
     Ok(())

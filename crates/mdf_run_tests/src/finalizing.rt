@@ -1,58 +1,14 @@
 //! What `finalize` makes of a recording, and `sort` of a finished file.
 
+use crate::files::{FINALIZE, File, SORT, bytes_of, sorted};
 use crate::kinds::EMPTY;
 use crate::recordings::Part;
-use crate::runs::{COUNTING, Given, all_stand, failing_disk, made, recorded};
-use mdf_disk::MemoryDisk;
+use crate::runs::{COUNTING, Given, Left, all_stand, made_of};
 use mdf_num::Bytes;
 use std::process::Abort;
 use std::sync::Wait;
 use std::test::Fail;
 use std::thread::Threads;
-
-pub const FINALIZE: Given<'static> = Given {
-    words: &["finalize", "in.mf4", "out.mf4"],
-    script: "",
-    second: &[],
-    broken: &[],
-    lost: &[],
-    failing: &[],
-};
-
-pub const SORT: Given<'static> = Given {
-    words: &["sort", "in.mf4", "out.mf4"],
-    ..FINALIZE
-};
-
-// What is printed of the finished file of a recording, and the file: before its data group, at 584, it has the identification,
-// HD at 64, FH at 168 with its MD at 224, and FH at 376 with its MD at 432. The group's cycle count stands at 728, and its
-// records in the DT at 976.
-const FINISHED: [(&str, &str, usize, &[Part]); 2] = [
-    (
-        EMPTY,
-        "0 groups 1 samples 0 dropped 0\n",
-        1000,
-        &[
-            (0, b"MDF     4.10    mdf4rec "),
-            (584, b"##DG"),
-            (728, b"\0\0\0\0\0\0\0\0"),
-            (976, b"##DT\0\0\0\0\x18\0\0\0\0\0\0\0"),
-        ],
-    ),
-    (
-        COUNTING,
-        "0 groups 1 samples 3 dropped 0\n",
-        1032,
-        &[
-            (0, b"MDF     4.10    mdf4rec "),
-            (728, b"\x03\0\0\0\0\0\0\0"),
-            (976, b"##DT\0\0\0\0\x33\0\0\0\0\0\0\0"),
-            (1000, b"\x01\x01\0\0\0\0\0\0\0"),
-            (1009, b"\x01\x02\0\0\0\0\0\0\0"),
-            (1018, b"\x01\x03\0\0\0\0\0\0\0\0\0\0\0\0"),
-        ],
-    ),
-];
 
 // The sorted file of the finished one of three samples: its history has a third entry, at 584 with its MD at 640; then come DG at
 // 792, CG at 856 with its name at 960, CN at 992 with its name at 1152, and the records, without ids, in the DT at 1184.
@@ -70,72 +26,86 @@ const SORTED: [Part; 11] = [
     (1224, b"\x03\0\0\0\0\0\0\0"),
 ];
 
-/// What is printed, and the bytes that are made, of this input where these calls of the output's disk fail.
-pub fn made_of<R>(
-    rt: &R,
-    given: Given<'_>,
-    file: Bytes,
-    failing: &[u64],
-) -> Result<(String, Bytes), Fail>
-where
-    R: AllocGlobal + Threads + Wait + Sync,
-{
-    let alloc = rt.alloc();
-    let out = failing_disk(alloc, failing)?;
-    made(rt, given, MemoryDisk::holding(alloc, file), out)
-}
+// A command and its input; what is printed, how many bytes the file has that is made, and parts of it. The finished file of a
+// recording has before its data group, at 584, the identification, HD at 64, FH at 168 with its MD at 224, and FH at 376 with its
+// MD at 432. The group's cycle count stands at 728, and its records in the DT at 976.
+type Makes = (Given<'static>, File, &'static str, usize, &'static [Part]);
 
-/// The same of `finalize`.
-pub fn finalized<R>(rt: &R, file: Bytes, failing: &[u64]) -> Result<(String, Bytes), Fail>
-where
-    R: AllocGlobal + Threads + Wait + Sync,
-{
-    made_of(rt, FINALIZE, file, failing)
-}
-
-/// Asserts what is printed, how long the file is that was made, and parts of it.
-fn is_made<R: Abort>(rt: &R, made: &(String, Bytes), want: &str, length: usize, parts: &[Part]) {
-    let (text, file) = made;
-    assert_eq!(rt; text.as_str(), want);
-    assert_eq!(rt; file.as_slice().len(), length);
-    all_stand(rt, file.as_slice(), parts);
-}
-
-#[test]
-fn a_recording_is_finalized(rt: HostRuntime) -> Result<(), Fail> {
-    for (script, want, length, parts) in &FINISHED {
-        let made = finalized(&rt, recorded(&rt, *script)?, &[])?;
-        is_made(&rt, &made, *want, *length, *parts);
-    }
-    Ok(())
-}
-
-#[test]
-fn what_is_no_recording_is_not_finalized(rt: HostRuntime) -> Result<(), Fail> {
-    let (_, file) = finalized(&rt, recorded(&rt, COUNTING)?, &[])?;
-    let made = finalized(&rt, file, &[])?;
-    is_made(&rt, &made, "3 not a recording 0 0\n", 0, &[]);
-    Ok(())
-}
-
-#[test]
-fn a_finished_file_is_sorted(rt: HostRuntime) -> Result<(), Fail> {
-    let (_, file) = finalized(&rt, recorded(&rt, COUNTING)?, &[])?;
-    let made = made_of(&rt, SORT, file, &[])?;
-    is_made(
-        &rt,
-        &made,
+const MADE: &[Makes] = &[
+    (
+        FINALIZE,
+        File::Recorded(EMPTY),
+        "0 groups 1 samples 0 dropped 0\n",
+        1000,
+        &[
+            (0, b"MDF     4.10    mdf4rec "),
+            (584, b"##DG"),
+            (728, b"\0\0\0\0\0\0\0\0"),
+            (976, b"##DT\0\0\0\0\x18\0\0\0\0\0\0\0"),
+        ],
+    ),
+    (
+        FINALIZE,
+        File::Recorded(COUNTING),
+        "0 groups 1 samples 3 dropped 0\n",
+        1032,
+        &[
+            (0, b"MDF     4.10    mdf4rec "),
+            (728, b"\x03\0\0\0\0\0\0\0"),
+            (976, b"##DT\0\0\0\0\x33\0\0\0\0\0\0\0"),
+            (1000, b"\x01\x01\0\0\0\0\0\0\0"),
+            (1009, b"\x01\x02\0\0\0\0\0\0\0"),
+            (1018, b"\x01\x03\0\0\0\0\0\0\0\0\0\0\0\0"),
+        ],
+    ),
+    // what is no recording is not finalized
+    (
+        FINALIZE,
+        File::Finished(COUNTING),
+        "3 not a recording 0 0\n",
+        0,
+        &[],
+    ),
+    (
+        SORT,
+        File::Finished(COUNTING),
         "0 groups 1 samples 3 dropped 0\n",
         1232,
         &SORTED,
-    );
+    ),
+    // a recording is not sorted
+    (
+        SORT,
+        File::Recorded(COUNTING),
+        "3 unfinalized 33 1\n",
+        0,
+        &[],
+    ),
+];
+
+/// Asserts what is printed, how long the file is that was made, and parts of it.
+fn is_made<R: Abort>(rt: &R, made: &Left, want: &str, length: usize, parts: &[Part]) {
+    assert_eq!(rt; made.line.as_str(), want);
+    assert_eq!(rt; made.file.as_slice().len(), length);
+    all_stand(rt, made.file.as_slice(), parts);
+}
+
+/// Asserts that of a row.
+fn row_is_made<R>(rt: &R, row: &Makes) -> Result<(), Fail>
+where
+    R: AllocGlobal + Threads + Wait + Sync + Abort,
+{
+    let (given, file, want, length, parts) = row;
+    let made = made_of(rt, *given, bytes_of(rt, file)?)?;
+    is_made(rt, &made, *want, *length, *parts);
     Ok(())
 }
 
 #[test]
-fn a_recording_is_not_sorted(rt: HostRuntime) -> Result<(), Fail> {
-    let made = made_of(&rt, SORT, recorded(&rt, COUNTING)?, &[])?;
-    is_made(&rt, &made, "3 unfinalized 33 1\n", 0, &[]);
+fn recordings_are_finalized_and_finished_files_are_sorted(rt: HostRuntime) -> Result<(), Fail> {
+    for row in MADE {
+        row_is_made(&rt, row)?;
+    }
     Ok(())
 }
 
@@ -170,9 +140,7 @@ where
     R: AllocGlobal + Threads + Wait + Sync,
 {
     let script = format!(in rt.alloc(); "{TWO_GROUPS}{order}end\n")?;
-    let (_, file) = finalized(rt, recorded(rt, script.as_str())?, &[])?;
-    let (_, sorted) = made_of(rt, SORT, file, &[])?;
-    Ok(sorted)
+    sorted(rt, script.as_str())
 }
 
 /// Whether that is this file.
@@ -183,13 +151,20 @@ where
     Ok(sorted_of(rt, order)?.as_slice() == want.as_slice())
 }
 
-#[test]
-fn six_orders_one_sorted_file(rt: HostRuntime) -> Result<(), Fail> {
-    let want = sorted_of(&rt, ORDERS[0])?;
+/// Asserts that this is the sorted file of each order.
+fn is_two_sorted<R>(rt: &R, want: &Bytes) -> Result<(), Fail>
+where
+    R: AllocGlobal + Threads + Wait + Sync + Abort,
+{
     assert!(rt; want.as_slice().len() == 1696);
-    all_stand(&rt, want.as_slice(), &TWO_SORTED);
+    all_stand(rt, want.as_slice(), &TWO_SORTED);
     for order in &ORDERS {
-        assert!(rt; is_sorted_to(&rt, *order, &want)?);
+        assert!(rt; is_sorted_to(rt, *order, want)?);
     }
     Ok(())
+}
+
+#[test]
+fn six_orders_one_sorted_file(rt: HostRuntime) -> Result<(), Fail> {
+    is_two_sorted(&rt, &sorted_of(&rt, ORDERS[0])?)
 }

@@ -1,19 +1,16 @@
 //! Finalized files of another hand: what `check` and `info` say of them.
 
-use crate::recordings::{Part, put, recording};
-use crate::runs::said;
-use crate::told::is_told;
+use crate::files::{Asked, FLAGS, File, MARK, all_are_told};
+use crate::recordings::{Part, put};
 use mdf_num::Bytes;
 use std::alloc::Global;
-use std::sync::Wait;
 use std::test::Fail;
-use std::thread::Threads;
 
 // A file of two data groups without record ids, each block behind the one before at the next multiple of 8. The group
 // engine has a time (a float of 64 bits) and rpm (16 bits, with a comment and a linear conversion), and two records of 10
 // bytes; the group gearbox has a time and gear (8 bits), and one record of 9 bytes. Of each block stand here the name, the
 // length and the number of its links, its links that name something, and what of its body is not 0.
-const ENGINE_AND_GEARBOX: [Part; 78] = [
+const ENGINE_AND_GEARBOX: &[Part] = &[
     (0, b"MDF     4.10    foreign "),
     (28, b"\x9A\x01"),
     // HD
@@ -138,88 +135,84 @@ const INFO: &[&str] = &["info", "in.mf4"];
 
 // The command, what is changed in the file, and the status and what is printed.
 const READ: &[(Asked, &str)] = &[
-    (Asked(CHECK, &[]), "0 valid\n"),
+    (Asked(CHECK, File::TwoGroups, &[], &[], &[]), "0 valid\n"),
     (
-        Asked(INFO, &[]),
+        Asked(INFO, File::TwoGroups, &[], &[], &[]),
         "0 version 410\ngroup 0 engine channels 2 samples 2\ngroup 1 gearbox channels 2 samples 1\ngroups 2 samples 3 dropped 0\n",
     ),
     // the cycle count of the first group
     (
-        Asked(CHECK, &[(432, b"\x03")]),
+        Asked(CHECK, File::TwoGroups, &[(432, b"\x03")], &[], &[]),
         "3 cycles group 0 said 3 found 2\n",
     ),
-    (Asked(CHECK, &[(432, b"\x01")]), "0 readable\n"),
     (
-        Asked(INFO, &[(432, b"\x01")]),
+        Asked(CHECK, File::TwoGroups, &[(432, b"\x01")], &[], &[]),
+        "0 readable\n",
+    ),
+    (
+        Asked(INFO, File::TwoGroups, &[(432, b"\x01")], &[], &[]),
         "0 version 410\ngroup 0 engine channels 2 samples 1\ngroup 1 gearbox channels 2 samples 1\ngroups 2 samples 2 dropped 0\n",
     ),
-    (Asked(CHECK, &TWO_DATA_BLOCKS), "0 valid\n"),
     (
-        Asked(INFO, &TWO_DATA_BLOCKS),
+        Asked(CHECK, File::TwoGroups, &TWO_DATA_BLOCKS, &[], &[]),
+        "0 valid\n",
+    ),
+    (
+        Asked(INFO, File::TwoGroups, &TWO_DATA_BLOCKS, &[], &[]),
         "0 version 410\ngroup 0 engine channels 2 samples 2\ngroup 1 gearbox channels 2 samples 2\ngroups 2 samples 4 dropped 0\n",
     ),
 ];
 
-/// The bytes of the file of the data groups engine and gearbox, with these parts put in.
-pub fn engine_and_gearbox(alloc: Global, changes: &[Part]) -> Result<Vec<u8>, Fail> {
+/// The bytes of the file of the data groups engine and gearbox.
+pub fn engine_and_gearbox(alloc: Global) -> Result<Bytes, Fail> {
     let mut file = vec![in alloc; 0u8; 1936]?;
-    for part in &ENGINE_AND_GEARBOX {
+    for part in ENGINE_AND_GEARBOX {
         put(&mut file, *part);
     }
-    for part in changes {
-        put(&mut file, *part);
-    }
-    Ok(file)
-}
-
-/// A command, and what is changed in the file.
-struct Asked(&'static [&'static str], &'static [Part]);
-
-impl Asked {
-    fn told<R>(&self, rt: &R) -> Result<String, Fail>
-    where
-        R: AllocGlobal + Threads + Wait + Sync,
-    {
-        let file = engine_and_gearbox(rt.alloc(), self.1)?;
-        said(rt, self.0, Bytes::from_vec(file))
-    }
+    Ok(Bytes::from_vec(file))
 }
 
 #[test]
 fn files_of_other_tools_are_read(rt: HostRuntime) -> Result<(), Fail> {
-    for (row, want) in READ {
-        is_told(&rt, row.told(&rt), *want)?;
-    }
-    Ok(())
+    all_are_told(&rt, READ)
 }
 
 // What is changed in a finalized file whose data group at 168 names the block at 232, and what `check` says: the data are
 // compressed, the version is 4.20, and the data group is its own next one.
-const REFUSED: &[(Refused, &str)] = &[
-    (Refused((232, b"##DZ")), "3 compressed at 232\n"),
-    (Refused((28, b"\xA4\x01")), "3 version 420\n"),
-    (Refused((192, b"\xA8")), "3 too many DG at 168\n"),
+const REFUSED: &[(Asked, &str)] = &[
+    (
+        Asked(
+            CHECK,
+            File::TwoBlocks(313),
+            &[(232, b"##DZ"), MARK, FLAGS],
+            &[],
+            &[],
+        ),
+        "3 compressed at 232\n",
+    ),
+    (
+        Asked(
+            CHECK,
+            File::TwoBlocks(313),
+            &[(28, b"\xA4\x01"), MARK, FLAGS],
+            &[],
+            &[],
+        ),
+        "3 version 420\n",
+    ),
+    (
+        Asked(
+            CHECK,
+            File::TwoBlocks(313),
+            &[(192, b"\xA8"), MARK, FLAGS],
+            &[],
+            &[],
+        ),
+        "3 too many DG at 168\n",
+    ),
 ];
-
-/// What is changed in that file.
-struct Refused(Part);
-
-impl Refused {
-    fn told<R>(&self, rt: &R) -> Result<String, Fail>
-    where
-        R: AllocGlobal + Threads + Wait + Sync,
-    {
-        let mut file = recording(rt.alloc(), 313, self.0)?;
-        put(&mut file, (0, b"MDF     "));
-        put(&mut file, (60, b"\0\0\0\0"));
-        said(rt, CHECK, Bytes::from_vec(file))
-    }
-}
 
 #[test]
 fn compressed_data_a_later_version_and_a_loop_are_refused(rt: HostRuntime) -> Result<(), Fail> {
-    for (row, want) in REFUSED {
-        is_told(&rt, row.told(&rt), *want)?;
-    }
-    Ok(())
+    all_are_told(&rt, REFUSED)
 }

@@ -1,24 +1,12 @@
 //! Recordings of the generated script.
 
-use crate::finalizing::{SORT, finalized, made_of};
-use crate::runs::{Given, made, record, told};
+use crate::files::{finalized, sorted_from};
+use crate::runs::{Given, asking, file_made, record, said};
 use crate::told::is_told;
-use mdf_disk::MemoryDisk;
 use mdf_num::Bytes;
 use std::sync::Wait;
 use std::test::Fail;
 use std::thread::Threads;
-
-const fn generating<'a>(words: &'a [&'a str]) -> Given<'a> {
-    Given {
-        words,
-        script: "",
-        second: &[],
-        broken: &[],
-        lost: &[],
-        failing: &[],
-    }
-}
 
 // The generated script of ten samples, as a source has it: the number of sample i is (1664525 i + 1013904223) mod 2^32.
 const TEN: &str = "group 0 g0
@@ -51,24 +39,37 @@ end
 const TEN_TOLD: &str =
     "0 source 0 accepted 3\nsource 1 accepted 3\nsource 2 accepted 2\nsource 3 accepted 2\nsamples 10 durable 10\n";
 
-/// What is printed of a recording, and the sorted file of it. That is one whatever the order in which the sources ran.
-fn sorted_of<R>(rt: &R, given: Given<'_>) -> Result<(String, Bytes), Fail>
+const GEN_TEN: &[&str] = &["gen", "10", "out.mf4"];
+
+/// The sorted file of a recording. That is one whatever the order in which the sources ran.
+fn sorted_of<R>(rt: &R, given: Given<'_>) -> Result<Bytes, Fail>
 where
     R: AllocGlobal + Threads + Wait + Sync,
 {
-    let alloc = rt.alloc();
-    let (text, file) = made(rt, given, MemoryDisk::new(alloc), MemoryDisk::new(alloc))?;
-    let (_, file) = finalized(rt, file, &[])?;
-    let (_, sorted) = made_of(rt, SORT, file, &[])?;
-    Ok((text, sorted))
+    let recording = file_made(rt, given, Bytes::empty(rt.alloc()))?;
+    sorted_from(rt, finalized(rt, recording)?)
+}
+
+/// Whether the sorted file of the generated recording is this one.
+fn is_generated<R>(rt: &R, file: &Bytes) -> Result<bool, Fail>
+where
+    R: AllocGlobal + Threads + Wait + Sync,
+{
+    Ok(sorted_of(rt, asking(GEN_TEN, &[]))?.as_slice() == file.as_slice())
+}
+
+/// Whether it is that of the script.
+fn is_same<R>(rt: &R) -> Result<bool, Fail>
+where
+    R: AllocGlobal + Threads + Wait + Sync,
+{
+    is_generated(rt, &sorted_of(rt, record(TEN, &[], &[]))?)
 }
 
 #[test]
 fn ten_samples_are_generated(rt: HostRuntime) -> Result<(), Fail> {
-    let (text, file) = sorted_of(&rt, generating(&["gen", "10", "out.mf4"]))?;
-    let (_, same) = sorted_of(&rt, record(TEN, &[], &[]))?;
-    assert!(rt; file.as_slice() == same.as_slice());
-    is_told(&rt, Ok(text), TEN_TOLD)
+    assert!(rt; is_same(&rt)?);
+    is_told(&rt, said(&rt, GEN_TEN, Bytes::empty(rt.alloc())), TEN_TOLD)
 }
 
 // Behind each thousandth sample of a source stands a flush: of 4,004 samples each source has 1,001.
@@ -77,13 +78,6 @@ const FLUSHED: &str =
 
 #[test]
 fn a_thousandth_sample_is_flushed(rt: HostRuntime) -> Result<(), Fail> {
-    is_told(
-        &rt,
-        told(
-            &rt,
-            generating(&["gen", "4004", "out.mf4"]),
-            MemoryDisk::new(rt.alloc()),
-        ),
-        FLUSHED,
-    )
+    let words = ["gen", "4004", "out.mf4"];
+    is_told(&rt, said(&rt, &words, Bytes::empty(rt.alloc())), FLUSHED)
 }

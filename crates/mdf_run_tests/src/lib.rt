@@ -6,6 +6,8 @@ mod cuts;
 #[cfg(test)]
 mod faults;
 #[cfg(test)]
+mod files;
+#[cfg(test)]
 mod finalizing;
 #[cfg(test)]
 mod foreign;

@@ -1,10 +1,7 @@
 //! What the line `live` of a script adds to what is printed of its recording. The file is the same.
 
-use crate::runs::{failing_disk, record, record_told};
-use crate::told::is_told;
-use std::sync::Wait;
+use crate::runs::{Recording, all_are_recorded};
 use std::test::Fail;
-use std::thread::Threads;
 
 // A script of three samples with a flush after the second; one of two sources; and one with room for one sample alone, of
 // 145 bytes.
@@ -17,63 +14,38 @@ const SHORT_SESSION: &str =
     "session 200\nlive\ngroup 0 g\nchannel t u64 master\nbegin\n0 1\n0 2\n! 0\n0 3\nend\n";
 
 // A script; which calls of the disk and of the sink fail; the status and what is printed, with what is left.
-const LIVE: [(&str, &[u64], &[u64], &str); 7] = [
+const LIVE: &[(Recording, &str)] = &[
     (
-        COUNTING,
-        &[],
-        &[],
+        Recording(COUNTING, &[], &[], &[]),
         "0 source 0 accepted 3\nsamples 3 durable 3\nlive 3\nfile 857 history 3 marks [0, 2, 3]",
     ),
     (
-        TWO_SOURCES,
-        &[],
-        &[],
+        Recording(TWO_SOURCES, &[], &[], &[]),
         "0 source 0 accepted 2\nsource 1 accepted 2\nsamples 4 durable 4\nlive 4\nfile 1129 history 4 marks [0, 4]",
     ),
     (
-        SHORT_SESSION,
-        &[],
-        &[],
+        Recording(SHORT_SESSION, &[], &[], &[]),
         "5 source 0 accepted 1\nsamples 1 durable 1\nsession full 145 145 200\nfile 809 history 1 marks [0, 1]",
     ),
     (
-        COUNTING,
-        &[8],
-        &[],
+        Recording(COUNTING, &[], &[8], &[]),
         "4 source 0 accepted 2\nsamples 2 durable 0\ndevice fault\nfile 769 history 2 marks [0]",
     ),
     (
-        COUNTING,
-        &[12],
-        &[],
+        Recording(COUNTING, &[], &[12], &[]),
         "4 source 0 accepted 3\nsamples 3 durable 2\ndevice fault\nfile 817 history 3 marks [0, 2]",
     ),
     (
-        COUNTING,
-        &[],
-        &[10],
+        Recording(COUNTING, &[], &[], &[10]),
         "6 source 0 accepted 3\nsamples 3 durable 3\nfile 857 history 3 marks [0, 2, 3]",
     ),
     (
-        COUNTING,
-        &[],
-        &[11],
+        Recording(COUNTING, &[], &[], &[11]),
         "6 source 0 accepted 3\nsamples 3 durable 3\nlive file 857 history 3 marks [0, 2, 3]",
     ),
 ];
 
-fn told<R>(rt: &R, script: &str, faults: &[u64], failing: &[u64]) -> Result<String, Fail>
-where
-    R: AllocGlobal + Threads + Wait + Sync,
-{
-    let out = failing_disk(rt.alloc(), faults)?;
-    record_told(rt, record(script, &[], failing), out)
-}
-
 #[test]
 fn live_line(rt: HostRuntime) -> Result<(), Fail> {
-    for (script, faults, failing, want) in LIVE {
-        is_told(&rt, told(&rt, script, faults, failing), want)?;
-    }
-    Ok(())
+    all_are_recorded(&rt, LIVE)
 }

@@ -1,16 +1,16 @@
 use crate::told::is_told;
 use mdf_gate::opened;
+use mdf_num::Bytes;
 use std::alloc::Global;
-use std::sync::Wait;
+use std::process::Abort;
 use std::test::Fail;
-use std::thread::Threads;
 
 /// Bytes that stand at a place of a file.
 pub type Part = (usize, &'static [u8]);
 
 // A recording without history: the header at 64, the data group at 168, the places from 232 on. A block of 10 bytes
 // stands at 232, one of 16 at 272, and the place at 312 is closed. All other bytes are 0.
-const TWO_BLOCKS: [Part; 17] = [
+const TWO_BLOCKS: &[Part] = &[
     (0, b"UnFinMF 4.10    mdf4rec "),
     (28, b"\x9A\x01"),
     (60, b"\x21\x00\x01\x00"),
@@ -37,32 +37,42 @@ pub fn put(file: &mut Vec<u8>, (at, part): Part) {
 }
 
 /// The recording of two blocks, so many bytes of it, with another part put in.
-pub fn recording(alloc: Global, length: usize, change: Part) -> Result<Vec<u8>, Fail> {
+pub fn recording(alloc: Global, length: usize, change: Part) -> Result<Bytes, Fail> {
     let mut file = vec![in alloc; 0u8; 313]?;
-    for part in &TWO_BLOCKS {
+    for part in TWO_BLOCKS {
         put(&mut file, *part);
     }
     put(&mut file, change);
     file.truncate(length);
-    Ok(file)
+    Ok(Bytes::from_vec(file))
+}
+
+/// What is opened of a file that is short.
+fn opened_told(alloc: Global, file: &[u8]) -> Result<String, Fail> {
+    if file.len() > 313 {
+        return Err("too long".into());
+    }
+    let answer = opened(file);
+    Ok(format!(in alloc; "{answer:?}")?)
 }
 
 /// So many bytes of that recording, with this part put in.
 struct Changed(usize, Part);
 
 // Its opened blocks, their bytes and their first and last place; or why it is none.
-impl Changed {
-    fn told<R>(&self, rt: &R) -> Result<String, Fail>
-    where
-        R: AllocGlobal + Threads + Wait + Sync,
-    {
-        let file = recording(rt.alloc(), self.0, self.1)?;
-        if file.len() > 313 {
-            return Err("too long".into());
-        }
-        let answer = opened(&file);
-        Ok(format!(in rt.alloc(); "{answer:?}")?)
+fn changed_told(alloc: Global, row: &Changed) -> Result<String, Fail> {
+    let file = recording(alloc, row.0, row.1)?;
+    opened_told(alloc, file.as_slice())
+}
+
+fn all_are_told<R>(rt: &R, rows: &[(Changed, &str)]) -> Result<(), Fail>
+where
+    R: AllocGlobal + Abort,
+{
+    for (row, want) in rows {
+        is_told(rt, changed_told(rt.alloc(), row), *want)?;
     }
+    Ok(())
 }
 
 // The length of the file and the part that is put into it; what is told.
@@ -96,10 +106,7 @@ const OPENED: &[(Changed, &str)] = &[
 
 #[test]
 fn opened_blocks_and_their_places(rt: HostRuntime) -> Result<(), Fail> {
-    for (row, want) in OPENED {
-        is_told(&rt, row.told(&rt), *want)?;
-    }
-    Ok(())
+    all_are_told(&rt, OPENED)
 }
 
 // The same of what is broken.
@@ -165,8 +172,5 @@ const REFUSED: &[(Changed, &str)] = &[
 
 #[test]
 fn what_is_no_recording_is_refused(rt: HostRuntime) -> Result<(), Fail> {
-    for (row, want) in REFUSED {
-        is_told(&rt, row.told(&rt), *want)?;
-    }
-    Ok(())
+    all_are_told(&rt, REFUSED)
 }

@@ -1,9 +1,10 @@
 ghost use Rattle.std.specs.Prelude.{◌≡◌, None, IfOk};
 
-use crate::recordings::{Part, recording};
+use crate::files::{Asked, File, all_are_told};
+use crate::recordings::Part;
 use crate::told::is_told;
 use book_owned::Marks;
-use mdf_disk::{Disk, MemoryDisk, Role};
+use mdf_disk::{Disk, Fuse, MemoryDisk, Role};
 use mdf_num::{Bytes, Failed, FaultCount, Memory, Numbers, Rows};
 use mdf_port::{MemorySink, MemorySource};
 use mdf_run::{Finished, Gate, Open, run};
@@ -25,11 +26,11 @@ pub struct Given<'a> {
     pub failing: &'a [u64],
 }
 
-/// What a run left, and what it printed.
+/// What a run left, and what it was given, of which the sink has what it printed.
 #[derive(Drop)]
 pub struct Ended<A, C> {
     pub finished: Finished<A, C>,
-    pub sink: MemorySink,
+    inputs: Inputs,
 }
 
 fn words(alloc: Global, texts: &[&str]) -> Result<Rows<Bytes>, Fail> {
@@ -50,13 +51,13 @@ fn source_of(alloc: Global, given: Given<'_>) -> Result<MemorySource, Fail> {
     Ok(MemorySource::new(script, broken))
 }
 
-/// The disk of the second input.
-fn second_of(alloc: Global, given: Given<'_>) -> Result<MemoryDisk, Fail>
+/// A disk with this file that fails at these calls.
+pub fn disk_with(alloc: Global, file: Bytes, failing: &[u64]) -> Result<MemoryDisk, Fail>
     ensures { IfOk result (λ disk. ⟦<MemoryDisk as Disk>⟧.asked disk ≡ None) }
 {
-    let lost = numbers(alloc, given.lost)?;
-    let mut disk = MemoryDisk::holding(alloc, Bytes::from_slice(alloc, given.second)?);
-    disk.fail_at(lost);
+    let failing = numbers(alloc, failing)?;
+    let mut disk = MemoryDisk::holding(alloc, file);
+    disk.fail_at(failing);
     Ok(disk)
 }
 
@@ -78,6 +79,23 @@ fn streams_of(alloc: Global, given: Given<'_>) -> Result<Streams, Fail> {
     })
 }
 
+/// Those, and the disk of the second input.
+#[derive(Drop)]
+struct Inputs {
+    streams: Streams,
+    second: MemoryDisk,
+}
+
+fn inputs_of(alloc: Global, given: Given<'_>) -> Result<Inputs, Fail>
+    ensures { IfOk result (λ inputs. ⟦<MemoryDisk as Disk>⟧.asked inputs.second ≡ None) }
+{
+    let second = disk_with(alloc, Bytes::from_slice(alloc, given.second)?, given.lost)?;
+    Ok(Inputs {
+        streams: streams_of(alloc, given)?,
+        second,
+    })
+}
+
 /// Runs what is given over these disks, with this gate for the sources of a recording.
 pub fn ran_under<R, A, C, G>(
     rt: &R,
@@ -95,25 +113,20 @@ where
     requires out { C.asked out ≡ None }
 {
     let alloc = rt.alloc();
-    let mut second = second_of(alloc, given)?;
-    let Streams {
-        words,
-        mut source,
-        mut sink,
-    } = streams_of(alloc, given)?;
+    let mut inputs = inputs_of(alloc, given)?;
     let finished = run(
         rt,
         alloc,
-        &words,
+        &inputs.streams.words,
         0,
-        &mut source,
-        &mut sink,
+        &mut inputs.streams.source,
+        &mut inputs.streams.sink,
         first,
-        &mut second,
+        &mut inputs.second,
         out,
         gate,
     );
-    Ok(Ended { finished, sink })
+    Ok(Ended { finished, inputs })
 }
 
 /// Runs what is given over these disks.
@@ -129,10 +142,28 @@ where
 }
 
 /// The status and the printed text.
-pub fn line<A, C>(alloc: Global, ended: &Ended<A, C>) -> Result<String, Fail> {
+fn line<A, C>(alloc: Global, ended: &Ended<A, C>) -> Result<String, Fail> {
     let status = ended.finished.status;
-    let text = str::from_utf8(ended.sink.bytes())?;
+    let text = str::from_utf8(ended.inputs.streams.sink.bytes())?;
     Ok(format!(in alloc; "{status} {text}")?)
+}
+
+/// A disk in memory, or one behind a fuse.
+pub trait Kept {
+    /// The disk in memory.
+    fn kept(&self) -> &MemoryDisk;
+}
+
+impl Kept for MemoryDisk {
+    fn kept(&self) -> &MemoryDisk {
+        self
+    }
+}
+
+impl Kept for Fuse<MemoryDisk> {
+    fn kept(&self) -> &MemoryDisk {
+        self.disk()
+    }
 }
 
 /// How many samples each mark has.
@@ -146,10 +177,10 @@ fn marked(alloc: Global, marks: &Marks) -> Result<Vec<u64>, Fail> {
 
 /// That line; how many bytes the file that was made has, and how many samples were accepted; and how many samples each
 /// mark has.
-fn record_line<A>(alloc: Global, ended: &Ended<A, MemoryDisk>) -> Result<String, Fail> {
+fn record_line<A, C: Kept>(alloc: Global, ended: &Ended<A, C>) -> Result<String, Fail> {
     let line = line(alloc, ended)?;
     let marks = marked(alloc, &ended.finished.marks)?;
-    let length = ended.finished.out.bytes().len();
+    let length = ended.finished.out.kept().bytes().len();
     let accepted = ended.finished.history.len();
     Ok(format!(in alloc; "{line}file {length} history {accepted} marks {marks:?}")?)
 }
@@ -163,10 +194,10 @@ pub struct Left {
     pub file: Bytes,
 }
 
-fn left_of<A>(alloc: Global, ended: &Ended<A, MemoryDisk>) -> Result<Left, Fail> {
+fn left_of<A, C: Kept>(alloc: Global, ended: &Ended<A, C>) -> Result<Left, Fail> {
     let line = line(alloc, ended)?;
     let recorded = record_line(alloc, ended)?;
-    let file = Bytes::from_slice(alloc, ended.finished.out.bytes())?;
+    let file = Bytes::from_slice(alloc, ended.finished.out.kept().bytes())?;
     Ok(Left {
         status: ended.finished.status,
         line,
@@ -175,16 +206,34 @@ fn left_of<A>(alloc: Global, ended: &Ended<A, MemoryDisk>) -> Result<Left, Fail>
     })
 }
 
-/// Runs what is given over these disks, and answers what that left.
-pub fn left_by<R, A>(rt: &R, given: Given<'_>, first: A, out: MemoryDisk) -> Result<Left, Fail>
+/// Runs what is given over these disks, with this gate, and answers what that left.
+pub fn left_under<R, A, C, G>(
+    rt: &R,
+    given: Given<'_>,
+    first: A,
+    out: C,
+    gate: &G,
+) -> Result<Left, Fail>
 where
     R: AllocGlobal + Threads + Wait + Sync,
     A: Disk + Drop,
+    C: Disk + Kept + Send + Drop,
+    G: Gate + Sync,
     requires first { A.asked first ≡ None }
-    requires out { ⟦<MemoryDisk as Disk>⟧.asked out ≡ None }
+    requires out { C.asked out ≡ None }
 {
-    let ended = ran(rt, given, first, out)?;
+    let ended = ran_under(rt, given, first, out, gate)?;
     left_of(rt.alloc(), &ended)
+}
+
+/// Runs what is given over this disk, and answers what that left.
+pub fn left_by<R, A>(rt: &R, given: Given<'_>, first: A) -> Result<Left, Fail>
+where
+    R: AllocGlobal + Threads + Wait + Sync,
+    A: Disk + Drop,
+    requires { A.asked first ≡ None }
+{
+    left_under(rt, given, first, MemoryDisk::new(rt.alloc()), &Open)
 }
 
 pub fn told<R, A>(rt: &R, given: Given<'_>, first: A) -> Result<String, Fail>
@@ -193,29 +242,25 @@ where
     A: Disk + Drop,
     requires { A.asked first ≡ None }
 {
-    let left = left_by(rt, given, first, MemoryDisk::new(rt.alloc()))?;
+    let left = left_by(rt, given, first)?;
     Ok(left.line)
 }
 
-/// What is printed, and the bytes of the file that was made.
-pub fn made<R>(
-    rt: &R,
-    given: Given<'_>,
-    first: MemoryDisk,
-    out: MemoryDisk,
-) -> Result<(String, Bytes), Fail>
+/// What is left of a command over this file.
+pub fn made_of<R>(rt: &R, given: Given<'_>, file: Bytes) -> Result<Left, Fail>
 where
     R: AllocGlobal + Threads + Wait + Sync,
-    requires first { ⟦<MemoryDisk as Disk>⟧.asked first ≡ None }
-    requires out { ⟦<MemoryDisk as Disk>⟧.asked out ≡ None }
 {
-    let Left {
-        status: _,
-        line,
-        recorded: _,
-        file,
-    } = left_by(rt, given, first, out)?;
-    Ok((line, file))
+    left_by(rt, given, MemoryDisk::holding(rt.alloc(), file))
+}
+
+/// The file that a command makes of this one.
+pub fn file_made<R>(rt: &R, given: Given<'_>, file: Bytes) -> Result<Bytes, Fail>
+where
+    R: AllocGlobal + Threads + Wait + Sync,
+{
+    let left = made_of(rt, given, file)?;
+    Ok(left.file)
 }
 
 /// What a command prints of this file.
@@ -223,15 +268,11 @@ pub fn said<R>(rt: &R, words: &[&str], file: Bytes) -> Result<String, Fail>
 where
     R: AllocGlobal + Threads + Wait + Sync,
 {
-    let given = Given {
-        words,
-        script: "",
-        second: &[],
-        broken: &[],
-        lost: &[],
-        failing: &[],
-    };
-    told(rt, given, MemoryDisk::holding(rt.alloc(), file))
+    told(
+        rt,
+        asking(words, &[]),
+        MemoryDisk::holding(rt.alloc(), file),
+    )
 }
 
 pub fn record_told<R>(rt: &R, given: Given<'_>, out: MemoryDisk) -> Result<String, Fail>
@@ -239,13 +280,14 @@ where
     R: AllocGlobal + Threads + Wait + Sync,
     requires { ⟦<MemoryDisk as Disk>⟧.asked out ≡ None }
 {
-    let left = left_by(rt, given, MemoryDisk::new(rt.alloc()), out)?;
+    let left = left_under(rt, given, MemoryDisk::new(rt.alloc()), out, &Open)?;
     Ok(left.recorded)
 }
 
-const fn opened(failing: &[u64]) -> Given<'_> {
+/// A command of these words, whose sink fails at these calls.
+pub const fn asking<'a>(words: &'a [&'a str], failing: &'a [u64]) -> Given<'a> {
     Given {
-        words: &["opened", "in.mf4"],
+        words,
         script: "",
         second: &[],
         broken: &[],
@@ -265,69 +307,66 @@ pub const fn record<'a>(script: &'a str, broken: &'a [u64], failing: &'a [u64]) 
     }
 }
 
-/// A disk that holds so many bytes of the recording of two blocks, with this part put in, and fails at these calls.
-fn two_blocks(
-    alloc: Global,
-    length: usize,
-    change: Part,
-    failing: &[u64],
-) -> Result<MemoryDisk, Fail>
-    ensures { IfOk result (λ disk. ⟦<MemoryDisk as Disk>⟧.asked disk ≡ None) }
-{
-    let failing = numbers(alloc, failing)?;
-    let file = recording(alloc, length, change)?;
-    let mut disk = MemoryDisk::holding(alloc, Bytes::from_vec(file));
-    disk.fail_at(failing);
-    Ok(disk)
-}
+const OPEN: &[&str] = &["opened", "in.mf4"];
 
-// The length of the recording of two blocks and the part that is put into it; which calls of its disk and of the sink
-// fail; the status and what is printed.
-const OPENED: &[(Opening, &str)] = &[
-    (Opening(233, (232, b"\0"), &[], &[]), "0 blocks 0 bytes 0\n"),
-    (Opening(313, (0, b""), &[], &[]), "0 blocks 2 bytes 26\n"),
+// The recording of two blocks, of which the length is given and the parts that are put into it; which calls of its disk and of the
+// sink fail; the status and what is printed.
+const OPENED: &[(Asked, &str)] = &[
     (
-        Opening(313, (272, b"\""), &[], &[]),
+        Asked(OPEN, File::TwoBlocks(233), &[(232, b"\0")], &[], &[]),
+        "0 blocks 0 bytes 0\n",
+    ),
+    (
+        Asked(OPEN, File::TwoBlocks(313), &[], &[], &[]),
+        "0 blocks 2 bytes 26\n",
+    ),
+    (
+        Asked(OPEN, File::TwoBlocks(313), &[(272, b"\"")], &[], &[]),
         "0 blocks 1 bytes 10\n",
     ),
-    (Opening(312, (0, b""), &[], &[]), "0 blocks 2 bytes 26\n"),
-    (Opening(313, (0, b"\0"), &[], &[]), "3 not MDF\n"),
     (
-        Opening(313, (274, b"X"), &[], &[]),
+        Asked(OPEN, File::TwoBlocks(312), &[], &[], &[]),
+        "0 blocks 2 bytes 26\n",
+    ),
+    (
+        Asked(OPEN, File::TwoBlocks(313), &[(0, b"\0")], &[], &[]),
+        "3 not MDF\n",
+    ),
+    (
+        Asked(OPEN, File::TwoBlocks(313), &[(274, b"X")], &[], &[]),
         "3 block at 272 is not ##DT\n",
     ),
-    (Opening(313, (28, b"\xA4"), &[], &[]), "3 version 420\n"),
     (
-        Opening(313, (62, b"\x02"), &[], &[]),
+        Asked(OPEN, File::TwoBlocks(313), &[(28, b"\xA4")], &[], &[]),
+        "3 version 420\n",
+    ),
+    (
+        Asked(OPEN, File::TwoBlocks(313), &[(62, b"\x02")], &[], &[]),
         "3 not a recording 33 2\n",
     ),
-    (Opening(313, (0, b""), &[0], &[]), "4 device fault\n"),
-    (Opening(313, (0, b""), &[1], &[]), "4 device fault\n"),
-    (Opening(313, (0, b""), &[2], &[]), "4 device fault\n"),
-    (Opening(313, (0, b""), &[], &[0]), "6 "),
-    (Opening(313, (0, b""), &[], &[3]), "6 blocks 2 bytes "),
-    (Opening(0, (0, b""), &[], &[0]), "3 "),
+    (
+        Asked(OPEN, File::TwoBlocks(313), &[], &[0], &[]),
+        "4 device fault\n",
+    ),
+    (
+        Asked(OPEN, File::TwoBlocks(313), &[], &[1], &[]),
+        "4 device fault\n",
+    ),
+    (
+        Asked(OPEN, File::TwoBlocks(313), &[], &[2], &[]),
+        "4 device fault\n",
+    ),
+    (Asked(OPEN, File::TwoBlocks(313), &[], &[], &[0]), "6 "),
+    (
+        Asked(OPEN, File::TwoBlocks(313), &[], &[], &[3]),
+        "6 blocks 2 bytes ",
+    ),
+    (Asked(OPEN, File::TwoBlocks(0), &[], &[], &[0]), "3 "),
 ];
-
-/// So many bytes of the recording of two blocks, with this part put in; and which calls of its disk and of the sink fail.
-struct Opening(usize, Part, &'static [u64], &'static [u64]);
-
-impl Opening {
-    fn told<R>(&self, rt: &R) -> Result<String, Fail>
-    where
-        R: AllocGlobal + Threads + Wait + Sync,
-    {
-        let first = two_blocks(rt.alloc(), self.0, self.1, self.2)?;
-        told(rt, opened(self.3), first)
-    }
-}
 
 #[test]
 fn opened_prints_its_line(rt: HostRuntime) -> Result<(), Fail> {
-    for (row, want) in OPENED {
-        is_told(&rt, row.told(&rt), *want)?;
-    }
-    Ok(())
+    all_are_told(&rt, OPENED)
 }
 
 const USAGE: &str =
@@ -372,16 +411,28 @@ fn words_of(alloc: Global, line: &'static str) -> Result<Vec<&'static str>, Memo
     Ok(words)
 }
 
+/// What is printed where these are the words.
+fn words_told<R>(rt: &R, words: &[&str]) -> Result<String, Fail>
+where
+    R: AllocGlobal + Threads + Wait + Sync,
+{
+    said(rt, words, Bytes::empty(rt.alloc()))
+}
+
+/// What is printed where the words are those of this line.
+fn line_told<R>(rt: &R, line: &'static str) -> Result<String, Fail>
+where
+    R: AllocGlobal + Threads + Wait + Sync,
+{
+    let words = words_of(rt.alloc(), line)?;
+    words_told(rt, words.as_slice())
+}
+
 #[test]
 fn wrong_words_print_the_usage(rt: HostRuntime) -> Result<(), Fail> {
-    is_told(&rt, said(&rt, &[], Bytes::empty(rt.alloc())), USAGE)?;
+    is_told(&rt, words_told(&rt, &[]), USAGE)?;
     for line in WRONG.lines() {
-        let words = words_of(rt.alloc(), line)?;
-        is_told(
-            &rt,
-            said(&rt, words.as_slice(), Bytes::empty(rt.alloc())),
-            USAGE,
-        )?;
+        is_told(&rt, line_told(&rt, line), USAGE)?;
     }
     Ok(())
 }
@@ -453,7 +504,7 @@ fn an_input_over_the_limit_is_refused(rt: HostRuntime) -> Result<(), Fail> {
     };
     is_told(
         &rt,
-        told(&rt, opened(&[]), first),
+        told(&rt, asking(OPEN, &[]), first),
         "5 input over 536870913 536870912\n",
     )
 }
@@ -581,24 +632,35 @@ pub fn failing_disk(alloc: Global, failing: &[u64]) -> Result<MemoryDisk, Fail>
 }
 
 /// A script, and which calls of the source, of the disk and of the sink fail.
-struct Recording(&'static str, &'static [u64], &'static [u64], &'static [u64]);
+pub struct Recording(
+    pub &'static str,
+    pub &'static [u64],
+    pub &'static [u64],
+    pub &'static [u64],
+);
 
-impl Recording {
-    fn told<R>(&self, rt: &R) -> Result<String, Fail>
-    where
-        R: AllocGlobal + Threads + Wait + Sync,
-    {
-        let out = failing_disk(rt.alloc(), self.2)?;
-        record_told(rt, record(self.0, self.1, self.3), out)
+fn recording_told<R>(rt: &R, row: &Recording) -> Result<String, Fail>
+where
+    R: AllocGlobal + Threads + Wait + Sync,
+{
+    let out = failing_disk(rt.alloc(), row.2)?;
+    record_told(rt, record(row.0, row.1, row.3), out)
+}
+
+/// Asserts of each row that its recording is told as the text beside it.
+pub fn all_are_recorded<R>(rt: &R, rows: &[(Recording, &str)]) -> Result<(), Fail>
+where
+    R: AllocGlobal + Threads + Wait + Sync + Abort,
+{
+    for (row, want) in rows {
+        is_told(rt, recording_told(rt, row), *want)?;
     }
+    Ok(())
 }
 
 #[test]
 fn a_script_is_recorded(rt: HostRuntime) -> Result<(), Fail> {
-    for (row, want) in RECORDED {
-        is_told(&rt, row.told(&rt), *want)?;
-    }
-    Ok(())
+    all_are_recorded(&rt, RECORDED)
 }
 
 #[test]
@@ -617,14 +679,7 @@ pub fn recorded<R>(rt: &R, script: &str) -> Result<Bytes, Fail>
 where
     R: AllocGlobal + Threads + Wait + Sync,
 {
-    let alloc = rt.alloc();
-    let (_, file) = made(
-        rt,
-        record(script, &[], &[]),
-        MemoryDisk::new(alloc),
-        MemoryDisk::new(alloc),
-    )?;
-    Ok(file)
+    file_made(rt, record(script, &[], &[]), Bytes::empty(rt.alloc()))
 }
 
 // The blocks of the head of that recording and the names in them, its two blocks of data, and the closed place behind

@@ -1,9 +1,10 @@
 //! The sources of a recording at work at once.
 
-use crate::runs::{TWO_SOURCES, line, ran_under, record, record_told};
+use crate::runs::{TWO_SOURCES, left_under, record, record_told};
 use crate::told::is_told;
 use mdf_disk::MemoryDisk;
 use mdf_run::Gate;
+use std::process::Abort;
 use std::sync::Wait;
 use std::sync::atomic::AtomicBool;
 use std::sync::atomic::Ordering::SeqCst;
@@ -45,14 +46,14 @@ where
     R: AllocGlobal + Threads + Wait + Sync,
 {
     let alloc = rt.alloc();
-    let ended = ran_under(
+    let left = left_under(
         rt,
         record(TWO_SOURCES, &[], &[]),
         MemoryDisk::new(alloc),
         MemoryDisk::new(alloc),
         meeting,
     )?;
-    line(alloc, &ended)
+    Ok(left.line)
 }
 
 #[test]
@@ -82,10 +83,15 @@ const ENDS: [&str; 2] = [
     "5 source 0 accepted 2\nsource 1 accepted 1\nsamples 3 durable 3\nsession full 428 145 430\nfile 1145 history 3 marks [0, 3]",
 ];
 
+/// Asserts that this is one of the two.
+fn is_an_end<R: Abort>(rt: &R, text: &str) {
+    assert!(rt; ENDS.contains(&text), "{text}");
+}
+
 #[test]
 fn a_source_without_room_does_not_end_the_others(rt: HostRuntime) -> Result<(), Fail> {
     let out = MemoryDisk::new(rt.alloc());
     let text = record_told(&rt, record(FIRST_FULL, &[], &[]), out)?;
-    assert!(rt; ENDS.contains(&text.as_str()), "{text}");
+    is_an_end(&rt, text.as_str());
     Ok(())
 }
