@@ -1,15 +1,14 @@
-use Rattle.std.proofs.Common.{◌≡◌, ◌+◌, ◌<◌, ◌≤◌, ℕ, length, sym, ◌∙◌, ap, subst, arith}
+use Rattle.std.proofs.Common.{◌≡◌, ◌+◌, ◌<◌, ◌≤◌, ℕ, length, ◌∙◌, ap, arith}
 use Rattle.mdf_format.specs.Number.{le_number, bytes_at}
 use Rattle.mdf_stream.specs.Parts.{stream_of, stream_size}
-use Rattle.mdf_content.proofs.Rooms.{all_at}
+use Rattle.mdf_content.proofs.Rooms.{one_fits}
 use Rattle.mdf_session.proofs.Counts.{values_more, values_done}
 use Rattle.mdf_session.proofs.counted.values_total_in.Goals as goal
 
 pub u32_near-requires-clause-within : goal.u32_near-requires-clause-within
 u32_near-requires-clause-within g c =
     let below : c.loop-row.row < length c.args.places.now = omega (arith, c.loop-row-test.true, c.len.ensures) in
-    subst (λ (place : ℕ). place + 4 ≤ stream_size c.args.view.now) (sym c.place_at.ensures)
-    (all_at (λ (place : ℕ). place + 4 ≤ stream_size c.args.view.now) c.args.places.now c.loop-row.row 0 below c.requires.room)
+    one_fits 4 (stream_size c.args.view.now) c.args.places.now c.loop-row.row c.place_at.result below c.place_at.ensures c.requires.room
 
 pub loop-row-preserved : goal.loop-row-preserved
 loop-row-preserved g c =
