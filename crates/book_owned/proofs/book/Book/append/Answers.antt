@@ -4,7 +4,7 @@ use Rattle.book_owned.specs.Answers.{PassesBlock, Turns}
 use Rattle.book_owned.specs.Halves.{account_of}
 use Rattle.mdf_layout.specs.Record.{cost_of, encoded_size}
 use Rattle.book_owned.specs.declared.in_memory.InMemory.{InMemory}
-use Rattle.book_owned.proofs.Putting.{book_put}
+use Rattle.book_owned.proofs.Putting.{book_put, book_reserved}
 use Rattle.book_owned.proofs.Flushing.{passes, turned}
 use Rattle.book_owned.proofs.Happening.{append_happens, fault_happens}
 use Rattle.book_owned.proofs.book.Book.append.Goals as goal
@@ -71,3 +71,28 @@ returns-clause-events g c =
     (subst (λ a. durable a.marks ≤ length a.history) c.self.view_is c.self.invariant.pending.through)
     (subst (λ a. g.V.Shown.count a.view ≤ durable a.marks) c.self.view_is c.self.invariant.shown.most)
     c.len-place.result (returns-clause-answer g c)
+
+pub invariant_of-self : goal.invariant_of-self
+invariant_of-self g c =
+    book_reserved g.D.Disk g.V.Shown c.self.inside.front c.reserve.new.front c.self.inside.file
+    c.reserve.ensures.rest c.reserve.ensures.history c.reserve.ensures.marks c.reserve.ensures.spare c.self.invariant
+
+pub make_room-requires-clause-book : goal.make_room-requires-clause-book
+make_room-requires-clause-book g c = λ κs outlives.
+    book_reserved g.D.Disk g.V.Shown c.self.inside.front c.reserve.new.front c.self.inside.file
+    c.reserve.ensures.rest c.reserve.ensures.history c.reserve.ensures.marks c.reserve.ensures.spare c.self.invariant
+
+pub returns-in_default-reserve-clause-kept : goal.returns-in_default-reserve-clause-kept
+returns-in_default-reserve-clause-kept g c = (invariant_of-self g c).back.kept
+
+pub returns-in_default-reserve-clause-shown : goal.returns-in_default-reserve-clause-shown
+returns-in_default-reserve-clause-shown g c = (invariant_of-self g c).shown
+
+pub invariant_of-self-in-Err : goal.invariant_of-self-in-Err
+invariant_of-self-in-Err g c = c.make_room.ensures.book
+
+pub returns-in-Err-clause-kept : goal.returns-in-Err-clause-kept
+returns-in-Err-clause-kept g c = c.make_room.ensures.book.back.kept
+
+pub returns-in-Err-clause-shown : goal.returns-in-Err-clause-shown
+returns-in-Err-clause-shown g c = c.make_room.ensures.book.shown

@@ -38,3 +38,12 @@ returns-clause-events g c =
     (subst (λ a. durable a.marks ≤ length a.history) c.self.view_is c.self.invariant.pending.through)
     (subst (λ a. g.V.Shown.count a.view ≤ durable a.marks) c.self.view_is c.self.invariant.shown.most)
     (returns-clause-answer g c)
+
+pub invariant_of-self : goal.invariant_of-self
+invariant_of-self g c = c.write_pending.ensures.book
+
+pub returns-in-Err-clause-kept : goal.returns-in-Err-clause-kept
+returns-in-Err-clause-kept g c = c.write_pending.ensures.book.back.kept
+
+pub returns-in-Err-clause-shown : goal.returns-in-Err-clause-shown
+returns-in-Err-clause-shown g c = c.write_pending.ensures.book.shown

@@ -31,3 +31,14 @@ returns-clause-kept g c = (invariant_of-self-2 g c).back.kept
 
 pub returns-clause-shown : goal.returns-clause-shown
 returns-clause-shown g c = (invariant_of-self-2 g c).shown
+
+pub invariant_of-self : goal.invariant_of-self
+invariant_of-self g c =
+    book_reserved g.D.Disk g.V.Shown c.self.inside.front c.reserve.new.front c.self.inside.file
+    c.reserve.ensures.rest c.reserve.ensures.history c.reserve.ensures.marks c.reserve.ensures.spare c.self.invariant
+
+pub returns-in_default-reserve-clause-kept : goal.returns-in_default-reserve-clause-kept
+returns-in_default-reserve-clause-kept g c = (invariant_of-self g c).back.kept
+
+pub returns-in_default-reserve-clause-shown : goal.returns-in_default-reserve-clause-shown
+returns-in_default-reserve-clause-shown g c = (invariant_of-self g c).shown
