@@ -1,8 +1,8 @@
 -- What holds of every stage of a script.
-use Rattle.std.proofs.Common.{◌≡◌, ◌∙◌, sym, ap, subst, ℕ, ◌<◌, ◌≤◌, inl, inr, Bool, true, Option, Some, List, [], ◌∷◌, ◌++◌, length, get_or, refl, arith, false}
+use Rattle.std.proofs.Common.{◌≡◌, ◌∙◌, sym, ap, subst, ℕ, ◌<◌, ◌≤◌, inl, inr, Bool, true, Option, Some, None, List, [], ◌∷◌, ◌++◌, length, get_or, refl, arith, false}
 use Rattle.std.specs.Prelude.{nat_lt, nat_le, ◌&&◌, All, slice_get, slice_index, is_none}
-use Rattle.std.specs.Option.{option_map}
-use Rattle.std.proofs.lemmas.Bool.{leb-true, ltb-true, and_parts, cases_eq}
+use Rattle.std.specs.Option.{option_and_then, option_map}
+use Rattle.std.proofs.lemmas.Bool.{leb-true, le-leb, lt-leb, ltb-true, and_parts, cases_eq, cond-true, cond-false}
 use Rattle.std.proofs.lemmas.Option.{slice_get_within}
 use Rattle.std.proofs.lemmas.List.{length-set, get_or-set_same, get_or-set_other}
 use Rattle.std.proofs.lemmas.List.Elements.{All-append}
@@ -60,6 +60,26 @@ owner_there script sample is fits =
     let long : length script.plan.shapes ≡ length script.plan.rows = ap length is.plan.shapes ∙ long_mapped layout_of script.plan.rows in
     let less = is.plan.owned sample.group 0 (omega (arith, within, long, is.plan.owners)) in
     omega (arith, less, is.lists)
+
+-- what comes of a sample: it is none, or its records are longer than a block, or it is handed in
+module _ (script : Script) (group : ℕ) (words : List (List ℕ)) where
+  pub sample_none : None ≡ sample_of script.plan.shapes group words → with_sample script group words ≡ None
+  sample_none is = ap (option_and_then (admitted script)) (sym is)
+
+  module _ (sample : Sample) (is : Some sample ≡ sample_of script.plan.shapes group words) where
+    abbrev handed : Option Script
+    handed = Some (with_task script (slice_index script.plan.owners sample.group) (task.Sample sample))
+
+    pub sample_long : script.plan.block < encoded_size script.plan.shapes sample → with_sample script group words ≡ None
+    sample_long long =
+        ap (option_and_then (admitted script)) (sym is) ∙ cond-false _ handed None (lt-leb (encoded_size script.plan.shapes sample) script.plan.block long)
+
+    pub sample_done : encoded_size script.plan.shapes sample ≤ script.plan.block → with_sample script group words ≡ handed
+    sample_done short =
+        ap (option_and_then (admitted script)) (sym is) ∙ cond-true _ handed None (le-leb (encoded_size script.plan.shapes sample) script.plan.block short)
+
+    pub sample_there : IsScript script → slice_index script.plan.owners sample.group < length script.lists
+    sample_there whole = owner_there script sample whole (sample_fits script.plan.shapes group words sample (sym is))
 
 sample_more : (script changed : Script) (group : ℕ) (words : List (List ℕ)) → IsScript script → with_sample script group words ≡ Some changed → IsScript changed
 sample_more script changed group words is e =
