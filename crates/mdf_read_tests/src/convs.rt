@@ -20,8 +20,8 @@ const KIND_5: [u8; 24] = [
     5, 0, 0, 0, 0, 0, 0, 0, 0, 0, 0, 0, 0, 0, 0, 0, 0, 0, 0, 0, 0, 0, 0, 0,
 ];
 
-// A file: how many bytes it has, and its blocks.
-type File = (usize, &'static [Piece]);
+// How many bytes a file has, and its blocks.
+type Blocks = (usize, &'static [Piece]);
 
 // What may be read of a file: so many bytes of texts, and so many conversions.
 const TEXT: u64 = 67_108_864;
@@ -29,7 +29,7 @@ const TEXT: u64 = 67_108_864;
 const CONVERSIONS: u64 = 1_048_576;
 
 // A conversion with a unit, an inverse and three references: a text, nothing and a conversion of two numbers.
-const OUTER: File = (
+const OUTER: Blocks = (
     328,
     &[
         (64, b"##CC", &[0, 264, 0, 168, 296, 0, 168], &PLAIN),
@@ -40,7 +40,7 @@ const OUTER: File = (
 );
 
 // Five conversions, each but the last referring to the next one.
-const NESTED: File = (
+const NESTED: Blocks = (
     504,
     &[
         (64, b"##CC", &[0, 0, 0, 0, 152], &KIND_5),
@@ -52,7 +52,7 @@ const NESTED: File = (
 );
 
 // The same, where the last one refers to itself.
-const ITSELF: File = (
+const ITSELF: Blocks = (
     504,
     &[
         (64, b"##CC", &[0, 0, 0, 0, 152], &KIND_5),
@@ -64,7 +64,7 @@ const ITSELF: File = (
 );
 
 // A conversion with a name, and a reference to a text.
-const TEXTS: File = (
+const TEXTS: Blocks = (
     224,
     &[
         (64, b"##CC", &[152, 0, 0, 0, 184], &[0; 24]),
@@ -74,13 +74,13 @@ const TEXTS: File = (
 );
 
 // A conversion whose unit is itself.
-const NO_UNIT: File = (152, &[(64, b"##CC", &[0, 64, 0, 0, 0], &[0; 24])]);
+const NO_UNIT: Blocks = (152, &[(64, b"##CC", &[0, 64, 0, 0, 0], &[0; 24])]);
 
 // A conversion that refers to no block.
-const NO_TEXT: File = (152, &[(64, b"##CC", &[0, 0, 0, 0, 72], &[0; 24])]);
+const NO_TEXT: Blocks = (152, &[(64, b"##CC", &[0, 0, 0, 0, 72], &[0; 24])]);
 
 // A conversion that refers to one that is cut short.
-const CUT: File = (
+const CUT: Blocks = (
     240,
     &[
         (64, b"##CC", &[0, 0, 0, 0, 152], &[0; 24]),
@@ -88,63 +88,114 @@ const CUT: File = (
     ],
 );
 
+// A source with a name and a path.
+const SOURCE: Blocks = (
+    152,
+    &[
+        (64, b"##SI", &[120, 120, 0], &[2, 3, 1, 0, 0, 0, 0, 0]),
+        (120, b"##TX", &[], b"engine\0\0"),
+    ],
+);
+
+// The same, whose comment is itself.
+const NO_COMMENT: Blocks = (
+    152,
+    &[
+        (64, b"##SI", &[120, 120, 64], &[2, 3, 1, 0, 0, 0, 0, 0]),
+        (120, b"##TX", &[], b"engine\0\0"),
+    ],
+);
+
+/// One of these files.
+enum File {
+    Outer,
+    Nested,
+    Itself,
+    Texts,
+    NoUnit,
+    NoText,
+    Cut,
+    Source,
+    NoComment,
+}
+
+fn blocks_of(file: &File) -> Blocks {
+    match file {
+        File::Outer => OUTER,
+        File::Nested => NESTED,
+        File::Itself => ITSELF,
+        File::Texts => TEXTS,
+        File::NoUnit => NO_UNIT,
+        File::NoText => NO_TEXT,
+        File::Cut => CUT,
+        File::Source => SOURCE,
+        File::NoComment => NO_COMMENT,
+    }
+}
+
+/// The bytes of a file.
+fn bytes_of(alloc: Global, file: &File) -> Result<Vec<u8>, Memory> {
+    let (size, pieces) = blocks_of(file);
+    file_of(alloc, size, pieces)
+}
+
 // A file, the address of a conversion, how many bytes of texts and how many conversions may come, and what is answered
 // with what may still come.
 const CONVS: &[(Converted, &str)] = &[
     (
-        Converted(OUTER, 64, TEXT, CONVERSIONS),
+        Converted(File::Outer, 64, TEXT, CONVERSIONS),
         "Ok(Conversion { kind: 7, precision: 3, flags: 33026, low: 9223372036854775809, high: 9, numbers: Rows { items: [] }, refs: Rows { items: [Words(Xml(Bytes { items: [60, 112, 47, 62] })), Nothing, Conv(Boxed { inner: Conversion { kind: 1, precision: 255, flags: 0, low: 0, high: 0, numbers: Rows { items: [5, 4607182418800017408] }, refs: Rows { items: [] }, name: Plain(Bytes { items: [107, 109, 47, 104] }), unit: Nothing, comment: Nothing } })] }, name: Nothing, unit: Plain(Bytes { items: [107, 109, 47, 104] }), comment: Nothing }) Budget { text: 67108852, conversions: 1048574, conversion_bytes: 134217528, dropped: 1 }",
     ),
     (
-        Converted(NESTED, 152, TEXT, CONVERSIONS),
+        Converted(File::Nested, 152, TEXT, CONVERSIONS),
         "Ok(Conversion { kind: 5, precision: 0, flags: 0, low: 0, high: 0, numbers: Rows { items: [] }, refs: Rows { items: [Conv(Boxed { inner: Conversion { kind: 5, precision: 0, flags: 0, low: 0, high: 0, numbers: Rows { items: [] }, refs: Rows { items: [Conv(Boxed { inner: Conversion { kind: 5, precision: 0, flags: 0, low: 0, high: 0, numbers: Rows { items: [] }, refs: Rows { items: [Conv(Boxed { inner: Conversion { kind: 5, precision: 0, flags: 0, low: 0, high: 0, numbers: Rows { items: [] }, refs: Rows { items: [Nothing] }, name: Nothing, unit: Nothing, comment: Nothing } })] }, name: Nothing, unit: Nothing, comment: Nothing } })] }, name: Nothing, unit: Nothing, comment: Nothing } })] }, name: Nothing, unit: Nothing, comment: Nothing }) Budget { text: 67108864, conversions: 1048572, conversion_bytes: 134217376, dropped: 0 }",
     ),
     (
-        Converted(NESTED, 64, TEXT, CONVERSIONS),
+        Converted(File::Nested, 64, TEXT, CONVERSIONS),
         "Err(Deep { at: 416 }) Budget { text: 67108864, conversions: 1048576, conversion_bytes: 134217728, dropped: 0 }",
     ),
     (
-        Converted(NESTED, 64, TEXT, 4),
+        Converted(File::Nested, 64, TEXT, 4),
         "Err(Deep { at: 416 }) Budget { text: 67108864, conversions: 4, conversion_bytes: 134217728, dropped: 0 }",
     ),
     (
-        Converted(NESTED, 64, TEXT, 3),
+        Converted(File::Nested, 64, TEXT, 3),
         "Err(TooMany { what: Cc, at: 328 }) Budget { text: 67108864, conversions: 3, conversion_bytes: 134217728, dropped: 0 }",
     ),
     (
-        Converted(ITSELF, 416, TEXT, 9),
+        Converted(File::Itself, 416, TEXT, 9),
         "Err(Deep { at: 416 }) Budget { text: 67108864, conversions: 9, conversion_bytes: 134217728, dropped: 0 }",
     ),
     (
-        Converted(TEXTS, 64, 16, 1),
+        Converted(File::Texts, 64, 16, 1),
         "Ok(Conversion { kind: 0, precision: 0, flags: 0, low: 0, high: 0, numbers: Rows { items: [] }, refs: Rows { items: [Words(Xml(Bytes { items: [60, 112, 62, 102, 97, 115, 116, 60, 47, 112, 62] }))] }, name: Plain(Bytes { items: [115, 112, 101, 101, 100] }), unit: Nothing, comment: Nothing }) Budget { text: 0, conversions: 0, conversion_bytes: 134217640, dropped: 0 }",
     ),
     (
-        Converted(TEXTS, 64, 15, 1),
+        Converted(File::Texts, 64, 15, 1),
         "Err(TooMany { what: Text, at: 184 }) Budget { text: 15, conversions: 1, conversion_bytes: 134217728, dropped: 0 }",
     ),
     (
-        Converted(TEXTS, 64, 4, 1),
+        Converted(File::Texts, 64, 4, 1),
         "Err(TooMany { what: Text, at: 152 }) Budget { text: 4, conversions: 1, conversion_bytes: 134217728, dropped: 0 }",
     ),
     (
-        Converted(NO_UNIT, 64, TEXT, CONVERSIONS),
+        Converted(File::NoUnit, 64, TEXT, CONVERSIONS),
         "Err(Bad { at: 64, want: Tx }) Budget { text: 67108864, conversions: 1048576, conversion_bytes: 134217728, dropped: 0 }",
     ),
     (
-        Converted(NO_TEXT, 64, TEXT, CONVERSIONS),
+        Converted(File::NoText, 64, TEXT, CONVERSIONS),
         "Err(Bad { at: 72, want: Tx }) Budget { text: 67108864, conversions: 1048576, conversion_bytes: 134217728, dropped: 0 }",
     ),
     (
-        Converted(CUT, 64, TEXT, CONVERSIONS),
+        Converted(File::Cut, 64, TEXT, CONVERSIONS),
         "Err(Bad { at: 152, want: Cc }) Budget { text: 67108864, conversions: 1048576, conversion_bytes: 134217728, dropped: 0 }",
     ),
     (
-        Converted(CUT, 152, TEXT, CONVERSIONS),
+        Converted(File::Cut, 152, TEXT, CONVERSIONS),
         "Err(Bad { at: 152, want: Cc }) Budget { text: 67108864, conversions: 1048576, conversion_bytes: 134217728, dropped: 0 }",
     ),
     (
-        Converted(TEXTS, 152, TEXT, CONVERSIONS),
+        Converted(File::Texts, 152, TEXT, CONVERSIONS),
         "Err(Bad { at: 152, want: Cc }) Budget { text: 67108864, conversions: 1048576, conversion_bytes: 134217728, dropped: 0 }",
     ),
 ];
@@ -163,7 +214,7 @@ struct Converted(File, u64, u64, u64);
 
 impl Told for Converted {
     fn told(&self, alloc: Global) -> Result<String, Memory> {
-        let bytes = file_of(alloc, self.0.0, self.0.1)?;
+        let bytes = bytes_of(alloc, &self.0)?;
         let mut budget = budget_of(self.2, self.3);
         let answer = read_conv(alloc, bytes.as_slice(), self.1, &mut budget);
         both_shown(alloc, &answer, &budget)
@@ -181,7 +232,7 @@ struct Roomed(u64);
 
 impl Told for Roomed {
     fn told(&self, alloc: Global) -> Result<String, Memory> {
-        let bytes = file_of(alloc, OUTER.0, OUTER.1)?;
+        let bytes = bytes_of(alloc, &File::Outer)?;
         let mut budget = Budget {
             conversion_bytes: self.0,
             ..Budget::of_file()
@@ -203,44 +254,26 @@ fn conversions_of_more_bytes_than_may_come_want_memory(rt: HostRuntime) -> Resul
     all_are_told(&rt, ROOMED)
 }
 
-// A source with a name and a path.
-const SOURCE: File = (
-    152,
-    &[
-        (64, b"##SI", &[120, 120, 0], &[2, 3, 1, 0, 0, 0, 0, 0]),
-        (120, b"##TX", &[], b"engine\0\0"),
-    ],
-);
-
-// The same, whose comment is itself.
-const NO_COMMENT: File = (
-    152,
-    &[
-        (64, b"##SI", &[120, 120, 64], &[2, 3, 1, 0, 0, 0, 0, 0]),
-        (120, b"##TX", &[], b"engine\0\0"),
-    ],
-);
-
 // The same of a source.
 const SOURCES: &[(Sourced, &str)] = &[
     (
-        Sourced(SOURCE, 64, TEXT, CONVERSIONS),
+        Sourced(File::Source, 64, TEXT, CONVERSIONS),
         "Ok(SourceInfo { kind: 2, bus: 3, flags: 1, name: Plain(Bytes { items: [101, 110, 103, 105, 110, 101] }), path: Plain(Bytes { items: [101, 110, 103, 105, 110, 101] }), comment: Nothing }) Budget { text: 67108852, conversions: 1048576, conversion_bytes: 134217728, dropped: 0 }",
     ),
     (
-        Sourced(SOURCE, 64, 11, 0),
+        Sourced(File::Source, 64, 11, 0),
         "Err(TooMany { what: Text, at: 120 }) Budget { text: 11, conversions: 0, conversion_bytes: 134217728, dropped: 0 }",
     ),
     (
-        Sourced(SOURCE, 64, 5, 0),
+        Sourced(File::Source, 64, 5, 0),
         "Err(TooMany { what: Text, at: 120 }) Budget { text: 5, conversions: 0, conversion_bytes: 134217728, dropped: 0 }",
     ),
     (
-        Sourced(NO_COMMENT, 64, 12, 0),
+        Sourced(File::NoComment, 64, 12, 0),
         "Err(Bad { at: 64, want: Tx }) Budget { text: 12, conversions: 0, conversion_bytes: 134217728, dropped: 0 }",
     ),
     (
-        Sourced(SOURCE, 120, TEXT, CONVERSIONS),
+        Sourced(File::Source, 120, TEXT, CONVERSIONS),
         "Err(Bad { at: 120, want: Si }) Budget { text: 67108864, conversions: 1048576, conversion_bytes: 134217728, dropped: 0 }",
     ),
 ];
@@ -250,7 +283,7 @@ struct Sourced(File, u64, u64, u64);
 
 impl Told for Sourced {
     fn told(&self, alloc: Global) -> Result<String, Memory> {
-        let bytes = file_of(alloc, self.0.0, self.0.1)?;
+        let bytes = bytes_of(alloc, &self.0)?;
         let mut budget = budget_of(self.2, self.3);
         let answer = read_source(alloc, bytes.as_slice(), self.1, &mut budget);
         both_shown(alloc, &answer, &budget)
@@ -350,7 +383,7 @@ struct ConvReader;
 // Why nothing is answered, whether all may still come, and how many faults the span counts.
 impl Stopped for ConvReader {
     fn told(&self, alloc: Global, calls: u64, stop: Stop) -> Result<String, Memory> {
-        let bytes = file_of(alloc, OUTER.0, OUTER.1)?;
+        let bytes = bytes_of(alloc, &File::Outer)?;
         let mut budget = Budget::of_file();
         let mut span = span_over(bytes.as_slice(), calls, stop);
         let fault = read_conv_in(alloc, &mut span, 64, &mut budget).err();
@@ -364,7 +397,7 @@ struct SourceReader;
 
 impl Stopped for SourceReader {
     fn told(&self, alloc: Global, calls: u64, stop: Stop) -> Result<String, Memory> {
-        let bytes = file_of(alloc, SOURCE.0, SOURCE.1)?;
+        let bytes = bytes_of(alloc, &File::Source)?;
         let mut budget = Budget::of_file();
         let mut span = span_over(bytes.as_slice(), calls, stop);
         let fault = read_source_in(alloc, &mut span, 64, &mut budget).err();

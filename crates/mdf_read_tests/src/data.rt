@@ -721,19 +721,33 @@ fn places_without_ids_are_told(rt: HostRuntime) -> Result<(), Memory> {
 // Places around the last one that takes 4 bytes; one that is smaller follows one that is not.
 const FAR: &[u64] = &[4_294_967_295, 4_294_967_296, 5];
 
-// How many they are, each and the one past the end, and the steps of these and of places without ids.
-fn far_told(alloc: Global) -> Result<String, Memory> {
+fn far(alloc: Global) -> Result<Places, Memory> {
     let mut places = Places::empty(alloc);
     for place in FAR {
         places.push(*place)?;
     }
+    Ok(places)
+}
+
+// The step of places.
+fn step_of(places: Places) -> Option<u64> {
+    places.step()
+}
+
+// How many they are, each and the one past the end, and the steps of these and of places without ids.
+fn far_line(alloc: Global, places: &Places) -> Result<String, Memory> {
     let found = (places.get(0), places.get(1), places.get(2), places.get(3));
     let steps = (
         places.step(),
-        Places::empty(alloc).step(),
-        places_alone(alloc, 20, Size::Fixed(9), 0).step(),
+        step_of(Places::empty(alloc)),
+        step_of(places_alone(alloc, 20, Size::Fixed(9), 0)),
     );
     three_shown(alloc, &places.len(), &found, &steps)
+}
+
+fn far_told(alloc: Global) -> Result<String, Memory> {
+    let places = far(alloc)?;
+    far_line(alloc, &places)
 }
 
 #[test]

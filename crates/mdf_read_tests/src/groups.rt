@@ -6,8 +6,8 @@ use mdf_group::{read_groups, read_groups_in};
 use mdf_num::{Memory, Span, Stop};
 use std::alloc::Global;
 
-// A file: how many bytes it has, and its blocks.
-type File = (usize, &'static [Piece]);
+// How many bytes a file has, and its blocks.
+type Blocks = (usize, &'static [Piece]);
 
 // The bodies of a channel group, of a group of values, and of two channels.
 const GROUP: [u8; 32] = [
@@ -34,7 +34,7 @@ const LAST: [u8; 72] = [
 // A data group with two channel groups, the first with two channels of one source. The first channel has a conversion
 // that refers to a text and to a conversion, a composition and a tenth link; the second has its values in the second
 // group.
-const TWO_GROUPS: File = (
+const TWO_GROUPS: Blocks = (
     936,
     &[
         (64, b"##DG", &[0, 128, 0, 0], &[2, 0, 0, 0, 0, 0, 0, 0]),
@@ -55,7 +55,7 @@ const TWO_GROUPS: File = (
 );
 
 // A data group, a channel group and a channel, a conversion and a text, which goes on nowhere.
-const STRAIGHT: File = (
+const STRAIGHT: Blocks = (
     512,
     &[
         (64, b"##DG", &[0, 128, 7, 0], &[0; 8]),
@@ -65,6 +65,22 @@ const STRAIGHT: File = (
         (480, b"##TX", &[], b"km/h/s/s"),
     ],
 );
+
+/// One of the two files.
+enum File {
+    TwoGroups,
+    Straight,
+}
+
+impl File {
+    fn bytes(&self, alloc: Global) -> Result<Vec<u8>, Memory> {
+        let (size, pieces) = match self {
+            File::TwoGroups => TWO_GROUPS,
+            File::Straight => STRAIGHT,
+        };
+        file_of(alloc, size, pieces)
+    }
+}
 
 // Where its numbers of 8 bytes stand: links, the flags of the group, and the front of the channel's body, whose first byte is
 // the kind and whose third is the data type.
@@ -102,64 +118,69 @@ const CONVERSIONS: u64 = 1_048_576;
 // answered with what may still come.
 const TOLD: &[(Grouped, &str)] = &[
     (
-        Grouped(TWO_GROUPS, &[], TEXT, CONVERSIONS),
+        Grouped(File::TwoGroups, &[], TEXT, CONVERSIONS),
         "Ok(Rows { items: [DataRow { at: 64, id_size: 2, comment: Nothing, content: 0, groups: Rows { items: [GroupRow { at: 128, id: 9, cycles: 72057594037927944, flags: 0, separator: 46, data_bytes: 825373492, inval_bytes: 6, name: Nothing, source: None, comment: Nothing, channels: Rows { items: [ChannelRow { at: 336, kind: 2, sync: 1, data_type: 4, bit: 3, byte: 16909060, bits: 286397204, flags: 2147483906, inval: 555885348, precision: 7, ranges: [1, 2, 3, 4, 5, 9223372036854775808], name: Nothing, source: Some(SourceInfo { kind: 2, bus: 3, flags: 1, name: Nothing, path: Nothing, comment: Nothing }), conv: Some(Conversion { kind: 0, precision: 0, flags: 0, low: 0, high: 0, numbers: Rows { items: [] }, refs: Rows { items: [Words(Plain(Bytes { items: [107, 109, 47, 104] })), Conv(Boxed { inner: Conversion { kind: 0, precision: 0, flags: 0, low: 0, high: 0, numbers: Rows { items: [] }, refs: Rows { items: [] }, name: Nothing, unit: Nothing, comment: Nothing } })] }, name: Nothing, unit: Nothing, comment: Nothing }), unit: Nothing, comment: Nothing, values: 0, extra: 1 }, ChannelRow { at: 512, kind: 1, sync: 0, data_type: 14, bit: 0, byte: 0, bits: 0, flags: 0, inval: 0, precision: 0, ranges: [0, 0, 0, 0, 0, 0], name: Nothing, source: Some(SourceInfo { kind: 2, bus: 3, flags: 1, name: Nothing, path: Nothing, comment: Nothing }), conv: None, unit: Nothing, comment: Nothing, values: 232, extra: 0 }] } }, GroupRow { at: 232, id: 10, cycles: 0, flags: 3, separator: 0, data_bytes: 0, inval_bytes: 0, name: Nothing, source: None, comment: Nothing, channels: Rows { items: [] } }] } }] }) Budget { text: 67108860, conversions: 1048574, conversion_bytes: 134217552, dropped: 3 }",
     ),
     (
-        Grouped(STRAIGHT, &[], TEXT, CONVERSIONS),
+        Grouped(File::Straight, &[], TEXT, CONVERSIONS),
         "Ok(Rows { items: [DataRow { at: 64, id_size: 0, comment: Nothing, content: 7, groups: Rows { items: [GroupRow { at: 128, id: 0, cycles: 0, flags: 0, separator: 0, data_bytes: 0, inval_bytes: 0, name: Nothing, source: None, comment: Nothing, channels: Rows { items: [ChannelRow { at: 232, kind: 0, sync: 0, data_type: 0, bit: 0, byte: 0, bits: 0, flags: 0, inval: 0, precision: 0, ranges: [0, 0, 0, 0, 0, 0], name: Nothing, source: None, conv: None, unit: Nothing, comment: Nothing, values: 0, extra: 0 }] } }] } }] }) Budget { text: 67108864, conversions: 1048576, conversion_bytes: 134217728, dropped: 0 }",
     ),
     (
-        Grouped(STRAIGHT, &[(UNIT, 392)], TEXT, CONVERSIONS),
+        Grouped(File::Straight, &[(UNIT, 392)], TEXT, CONVERSIONS),
         "Err(Bad { at: 392, want: Tx }) Budget { text: 67108864, conversions: 1048576, conversion_bytes: 134217728, dropped: 0 }",
     ),
     (
-        Grouped(STRAIGHT, &[(NEXT_DATA, 128)], TEXT, CONVERSIONS),
+        Grouped(File::Straight, &[(NEXT_DATA, 128)], TEXT, CONVERSIONS),
         "Err(Bad { at: 128, want: Dg }) Budget { text: 67108864, conversions: 1048576, conversion_bytes: 134217728, dropped: 0 }",
     ),
     (
-        Grouped(STRAIGHT, &[(NEXT_GROUP, 232)], TEXT, CONVERSIONS),
+        Grouped(File::Straight, &[(NEXT_GROUP, 232)], TEXT, CONVERSIONS),
         "Err(Bad { at: 232, want: Cg }) Budget { text: 67108864, conversions: 1048576, conversion_bytes: 134217728, dropped: 0 }",
     ),
     (
-        Grouped(STRAIGHT, &[(FIRST_CHANNEL, 128)], TEXT, CONVERSIONS),
+        Grouped(File::Straight, &[(FIRST_CHANNEL, 128)], TEXT, CONVERSIONS),
         "Err(Bad { at: 128, want: Cn }) Budget { text: 67108864, conversions: 1048576, conversion_bytes: 134217728, dropped: 0 }",
     ),
     (
-        Grouped(STRAIGHT, &[(SOURCE, 392)], TEXT, CONVERSIONS),
+        Grouped(File::Straight, &[(SOURCE, 392)], TEXT, CONVERSIONS),
         "Err(Bad { at: 392, want: Si }) Budget { text: 67108864, conversions: 1048576, conversion_bytes: 134217728, dropped: 0 }",
     ),
     (
-        Grouped(STRAIGHT, &[(CONVERSION, 480)], TEXT, CONVERSIONS),
+        Grouped(File::Straight, &[(CONVERSION, 480)], TEXT, CONVERSIONS),
         "Err(Bad { at: 480, want: Cc }) Budget { text: 67108864, conversions: 1048576, conversion_bytes: 134217728, dropped: 0 }",
     ),
     (
-        Grouped(STRAIGHT, &[(CONVERSION, 392), (REFERENCE, 392)], TEXT, 4),
+        Grouped(
+            File::Straight,
+            &[(CONVERSION, 392), (REFERENCE, 392)],
+            TEXT,
+            4,
+        ),
         "Err(Deep { at: 392 }) Budget { text: 67108864, conversions: 4, conversion_bytes: 134217728, dropped: 0 }",
     ),
     (
-        Grouped(STRAIGHT, &[(CONVERSION, 392)], TEXT, 0),
+        Grouped(File::Straight, &[(CONVERSION, 392)], TEXT, 0),
         "Err(TooMany { what: Cc, at: 392 }) Budget { text: 67108864, conversions: 0, conversion_bytes: 134217728, dropped: 0 }",
     ),
     (
-        Grouped(STRAIGHT, &[(UNIT, 480)], 7, CONVERSIONS),
+        Grouped(File::Straight, &[(UNIT, 480)], 7, CONVERSIONS),
         "Err(TooMany { what: Text, at: 480 }) Budget { text: 7, conversions: 1048576, conversion_bytes: 134217728, dropped: 0 }",
     ),
     (
-        Grouped(STRAIGHT, &[(FRONT, 4 | 15 << 16)], TEXT, CONVERSIONS),
+        Grouped(File::Straight, &[(FRONT, 4 | 15 << 16)], TEXT, CONVERSIONS),
         "Err(ChannelKind { at: 232, kind: 4 }) Budget { text: 67108864, conversions: 1048576, conversion_bytes: 134217728, dropped: 0 }",
     ),
     (
-        Grouped(STRAIGHT, &[(FRONT, 5 | 15 << 16)], TEXT, CONVERSIONS),
+        Grouped(File::Straight, &[(FRONT, 5 | 15 << 16)], TEXT, CONVERSIONS),
         "Err(ChannelKind { at: 232, kind: 5 }) Budget { text: 67108864, conversions: 1048576, conversion_bytes: 134217728, dropped: 0 }",
     ),
     (
-        Grouped(STRAIGHT, &[(FRONT, 7 | 15 << 16)], TEXT, CONVERSIONS),
+        Grouped(File::Straight, &[(FRONT, 7 | 15 << 16)], TEXT, CONVERSIONS),
         "Err(ChannelKind { at: 232, kind: 7 }) Budget { text: 67108864, conversions: 1048576, conversion_bytes: 134217728, dropped: 0 }",
     ),
     (
         Grouped(
-            STRAIGHT,
+            File::Straight,
             &[(FRONT, 6 | 15 << 16), (UNIT, 392)],
             TEXT,
             CONVERSIONS,
@@ -168,7 +189,7 @@ const TOLD: &[(Grouped, &str)] = &[
     ),
     (
         Grouped(
-            STRAIGHT,
+            File::Straight,
             &[(NEXT_CHANNEL, 232), (UNIT, 480)],
             807,
             CONVERSIONS,
@@ -177,7 +198,7 @@ const TOLD: &[(Grouped, &str)] = &[
     ),
     (
         Grouped(
-            STRAIGHT,
+            File::Straight,
             &[(FRONT, 1), (VALUES_AT, 128), (GROUP_FLAGS, 1)],
             TEXT,
             CONVERSIONS,
@@ -189,15 +210,15 @@ const TOLD: &[(Grouped, &str)] = &[
 // The same of loops: of data groups, of channel groups and of channels.
 const LOOPS: &[(Grouped, &str)] = &[
     (
-        Grouped(STRAIGHT, &[(NEXT_DATA, 64)], TEXT, CONVERSIONS),
+        Grouped(File::Straight, &[(NEXT_DATA, 64)], TEXT, CONVERSIONS),
         "Err(TooMany { what: Dg, at: 64 }) Budget { text: 67108864, conversions: 1048576, conversion_bytes: 134217728, dropped: 0 }",
     ),
     (
-        Grouped(STRAIGHT, &[(NEXT_GROUP, 128)], TEXT, CONVERSIONS),
+        Grouped(File::Straight, &[(NEXT_GROUP, 128)], TEXT, CONVERSIONS),
         "Err(TooMany { what: Cg, at: 128 }) Budget { text: 67108864, conversions: 1048576, conversion_bytes: 134217728, dropped: 0 }",
     ),
     (
-        Grouped(STRAIGHT, &[(NEXT_CHANNEL, 232)], TEXT, CONVERSIONS),
+        Grouped(File::Straight, &[(NEXT_CHANNEL, 232)], TEXT, CONVERSIONS),
         "Err(TooMany { what: Cn, at: 232 }) Budget { text: 67108864, conversions: 1048576, conversion_bytes: 134217728, dropped: 0 }",
     ),
 ];
@@ -207,7 +228,7 @@ struct Grouped(File, &'static [(usize, u64)], u64, u64);
 
 // The file with its numbers set.
 fn bytes_of(alloc: Global, row: &Grouped) -> Result<Vec<u8>, Memory> {
-    let mut bytes = file_of(alloc, row.0.0, row.0.1)?;
+    let mut bytes = row.0.bytes(alloc)?;
     put_numbers(bytes.as_mut_slice(), row.1);
     Ok(bytes)
 }
@@ -241,7 +262,7 @@ struct Counted(u64);
 
 impl Told for Counted {
     fn told(&self, alloc: Global) -> Result<String, Memory> {
-        let mut bytes = file_of(alloc, TWO_GROUPS.0, TWO_GROUPS.1)?;
+        let mut bytes = File::TwoGroups.bytes(alloc)?;
         put_number(bytes.as_mut_slice(), SECOND_CONVERSION, 728);
         let mut budget = Budget {
             conversion_bytes: self.0,
@@ -265,7 +286,7 @@ struct GroupReader;
 // Why nothing is answered, whether all may still come, and how many faults the span counts.
 impl Stopped for GroupReader {
     fn told(&self, alloc: Global, calls: u64, stop: Stop) -> Result<String, Memory> {
-        let bytes = file_of(alloc, TWO_GROUPS.0, TWO_GROUPS.1)?;
+        let bytes = File::TwoGroups.bytes(alloc)?;
         let mut budget = Budget::of_file();
         let mut span = span_over(bytes.as_slice(), calls, stop);
         let fault = read_groups_in(alloc, &mut span, 64, &mut budget).err();

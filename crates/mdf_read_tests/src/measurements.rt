@@ -4,6 +4,7 @@ use mdf_model::Measurement;
 use mdf_num::{Bytes, Memory, Rows};
 use mdf_valid::read_file;
 use std::alloc::Global;
+use std::fmt::Debug;
 
 // A finalized file of two data groups. The first has one channel group with a master of 32 bits, and no ids. The second has
 // ids of one byte, a channel group with one channel of variable length, and the group that holds its values.
@@ -56,60 +57,76 @@ pub(crate) const FILE: [Piece; 10] = [
 ];
 
 // The numbers of 8 bytes that are changed in the file, and what is told then.
-const TOLD: &[(FileWith, &str)] = &[
+const TOLD: &[(Measured, &str)] = &[
     (
-        FileWith(&[]),
+        Measured(&[], Asked::Parts),
         "2 0 true 2 [7, 0, 0, 0, 8, 0, 0, 0] 0 [] 2 [0, 0, 0, 0, 0, 0, 0, 0, 7, 0, 0, 0, 0, 0, 0, 0] 1 [3, 0, 0, 0, 97, 98, 99, 0, 0, 0, 0]",
     ),
-    (FileWith(&[(0, 0)]), "NotMdf"),
+    (Measured(&[(0, 0)], Asked::Parts), "NotMdf"),
     (
-        FileWith(&[(0, 0x20464d6e69466e55)]),
+        Measured(&[(0, 0x20464d6e69466e55)], Asked::Parts),
         "Unfinalized { std: 0, custom: 0 }",
     ),
-    (FileWith(&[(24, 0x1a4_0000_0000)]), "Version { ver: 420 }"),
     (
-        FileWith(&[(24, 0x1a4_0000_0000), (0, 0x20464d6e69466e55)]),
+        Measured(&[(24, 0x1a4_0000_0000)], Asked::Parts),
         "Version { ver: 420 }",
     ),
-    (FileWith(&[(88, 160)]), "Block { at: 160, want: Dg }"),
+    (
+        Measured(
+            &[(24, 0x1a4_0000_0000), (0, 0x20464d6e69466e55)],
+            Asked::Parts,
+        ),
+        "Version { ver: 420 }",
+    ),
+    (
+        Measured(&[(88, 160)], Asked::Parts),
+        "Block { at: 160, want: Dg }",
+    ),
     // the cycle count of the first group
     (
-        FileWith(&[(376, 3)]),
+        Measured(&[(376, 3)], Asked::Parts),
         "Cycles { group: 0, said: 3, found: 2 }",
     ),
     (
-        FileWith(&[(376, 1)]),
+        Measured(&[(376, 1)], Asked::Parts),
         "2 0 false 1 [7, 0, 0, 0] 0 [] 2 [0, 0, 0, 0, 0, 0, 0, 0, 7, 0, 0, 0, 0, 0, 0, 0] 1 [3, 0, 0, 0, 97, 98, 99, 0, 0, 0, 0]",
     ),
     // and of the second, with an offset that meets no value
     (
-        FileWith(&[(480, 3)]),
+        Measured(&[(480, 3)], Asked::Parts),
         "Cycles { group: 1, said: 3, found: 2 }",
     ),
     (
-        FileWith(&[(1007, 8)]),
+        Measured(&[(1007, 8)], Asked::Parts),
         "Offset { channel: 0, row: 1, offset: 8 }",
     ),
     (
-        FileWith(&[(480, 3), (1007, 8)]),
+        Measured(&[(480, 3), (1007, 8)], Asked::Parts),
         "Cycles { group: 1, said: 3, found: 2 }",
     ),
     (
-        FileWith(&[(376, 3), (288, 3)]),
+        Measured(&[(376, 3), (288, 3)], Asked::Parts),
         "Cycles { group: 0, said: 3, found: 2 }",
     ),
     // the id size of the second data group, and how many bits its channel has
-    (FileWith(&[(288, 3)]), "Layout { at: 232 }"),
-    (FileWith(&[(864, 65), (968, 54)]), "Layout { at: 768 }"),
-    (FileWith(&[(968, 54)]), "Cut { at: 22 }"),
-    (FileWith(&[(984, 9)]), "UnknownId { id: 9, at: 0 }"),
+    (Measured(&[(288, 3)], Asked::Parts), "Layout { at: 232 }"),
+    (
+        Measured(&[(864, 65), (968, 54)], Asked::Parts),
+        "Layout { at: 768 }",
+    ),
+    (Measured(&[(968, 54)], Asked::Parts), "Cut { at: 22 }"),
+    (
+        Measured(&[(984, 9)], Asked::Parts),
+        "UnknownId { id: 9, at: 0 }",
+    ),
 ];
 
 // The parts of a measurement: how many groups, links that were passed over, and whether the file is as the standard has it;
 // and of each group how many samples, its records, how many streams, and the first stream.
-fn group_told(alloc: Global, text: &str, m: &Measurement, group: u32) -> Result<String, Memory> {
+fn push_group(text: &mut String, m: &Measurement, group: u32) -> Result<(), Memory> {
     if group >= m.groups() {
-        return Ok(format!(in alloc; "no group")?);
+        write!(text, " no group")?;
+        return Ok(());
     }
     let part = m.part(group);
     let first = match part.streams.get(0) {
@@ -119,15 +136,21 @@ fn group_told(alloc: Global, text: &str, m: &Measurement, group: u32) -> Result<
     let samples = m.samples(group);
     let content = part.content.as_slice();
     let count = part.streams.len();
-    Ok(format!(in alloc; "{text} {samples} {content:?} {count} {first:?}")?)
+    write!(text, " {samples} {content:?} {count} {first:?}")?;
+    Ok(())
+}
+
+fn push_groups(text: &mut String, m: &Measurement) -> Result<(), Memory> {
+    for group in 0..m.groups() {
+        push_group(text, m, group)?;
+    }
+    Ok(())
 }
 
 fn parts_told(alloc: Global, m: &Measurement) -> Result<String, Memory> {
     let (groups, dropped, strict) = (m.groups(), m.dropped(), m.strict());
     let mut text = format!(in alloc; "{groups} {dropped} {strict}")?;
-    for group in 0..groups {
-        text = group_told(alloc, text.as_str(), m, group)?;
-    }
+    push_groups(&mut text, m)?;
     Ok(text)
 }
 
@@ -139,16 +162,39 @@ pub(crate) fn changed(alloc: Global, changes: &[(usize, u64)]) -> Result<Vec<u8>
     Ok(file)
 }
 
-/// The file with these numbers.
-struct FileWith(&'static [(usize, u64)]);
+/// What is asked of a measurement: its parts, a sample of a group, or its parts where the records of a group are taken away.
+enum Asked {
+    Parts,
+    Sample(u32, u64),
+    Emptied(u32),
+}
 
-impl Told for FileWith {
+fn asked_told(alloc: Global, m: &mut Measurement, asked: &Asked) -> Result<String, Memory> {
+    match asked {
+        Asked::Parts => parts_told(alloc, m),
+        Asked::Sample(group, i) => sample_told(alloc, m, *group, *i),
+        Asked::Emptied(group) => emptied_told(alloc, m, *group),
+    }
+}
+
+/// The numbers of the file, and what is asked of it.
+struct Measured(&'static [(usize, u64)], Asked);
+
+fn answer_told<F: Debug>(
+    alloc: Global,
+    answer: &mut Result<Measurement, F>,
+    asked: &Asked,
+) -> Result<String, Memory> {
+    match answer {
+        Ok(m) => asked_told(alloc, m, asked),
+        Err(fault) => shown(alloc, fault),
+    }
+}
+
+impl Told for Measured {
     fn told(&self, alloc: Global) -> Result<String, Memory> {
         let file = changed(alloc, self.0)?;
-        match read_file(alloc, file.as_slice()) {
-            Ok(m) => parts_told(alloc, &m),
-            Err(fault) => shown(alloc, &fault),
-        }
+        answer_told(alloc, &mut read_file(alloc, file.as_slice()), &self.1)
     }
 }
 
@@ -158,24 +204,24 @@ fn measurements_are_told(rt: HostRuntime) -> Result<(), Memory> {
 }
 
 // The group, the sample, and its entries. The values of variable length are abc and nothing.
-const SAMPLES: &[(SampleOf, &str)] = &[
+const SAMPLES: &[(Measured, &str)] = &[
     (
-        SampleOf(0, 0),
+        Measured(&[], Asked::Sample(0, 0)),
         "[Entry { value: Unsigned(7), valid: true }]",
     ),
     (
-        SampleOf(0, 1),
+        Measured(&[], Asked::Sample(0, 1)),
         "[Entry { value: Unsigned(8), valid: true }]",
     ),
     (
-        SampleOf(1, 0),
+        Measured(&[], Asked::Sample(1, 0)),
         "[Entry { value: Bytes(Bytes { items: [97, 98, 99] }), valid: true }]",
     ),
     (
-        SampleOf(1, 1),
+        Measured(&[], Asked::Sample(1, 1)),
         "[Entry { value: Bytes(Bytes { items: [] }), valid: true }]",
     ),
-    (SampleOf(1, 2), "no sample"),
+    (Measured(&[], Asked::Sample(1, 2)), "no sample"),
 ];
 
 fn sample_told(alloc: Global, m: &Measurement, group: u32, i: u64) -> Result<String, Memory> {
@@ -186,52 +232,34 @@ fn sample_told(alloc: Global, m: &Measurement, group: u32, i: u64) -> Result<Str
     shown(alloc, &entries.as_slice())
 }
 
-/// A group, and a sample of it.
-struct SampleOf(u32, u64);
-
-impl Told for SampleOf {
-    fn told(&self, alloc: Global) -> Result<String, Memory> {
-        let file = changed(alloc, &[])?;
-        match read_file(alloc, file.as_slice()) {
-            Ok(m) => sample_told(alloc, &m, self.0, self.1),
-            Err(fault) => shown(alloc, &fault),
-        }
-    }
-}
-
 #[test]
 fn samples_are_told(rt: HostRuntime) -> Result<(), Memory> {
     all_are_told(&rt, SAMPLES)
 }
 
 // The group whose records are taken away, and what is told then; a group with values of variable length needs streams.
-const EMPTIED: &[(WithoutRecords, &str)] = &[
+const EMPTIED: &[(Measured, &str)] = &[
     (
-        WithoutRecords(0),
+        Measured(&[], Asked::Emptied(0)),
         "2 0 true 0 [] 0 [] 2 [0, 0, 0, 0, 0, 0, 0, 0, 7, 0, 0, 0, 0, 0, 0, 0] 1 [3, 0, 0, 0, 97, 98, 99, 0, 0, 0, 0]",
     ),
-    (WithoutRecords(1), "streams are wanted"),
+    (Measured(&[], Asked::Emptied(1)), "streams are wanted"),
 ];
 
-fn emptied(alloc: Global, measurement: Measurement, group: u32) -> Result<String, Memory> {
-    let mut m = measurement;
+// Whether the records of the group were taken away.
+fn is_emptied(alloc: Global, m: &mut Measurement, group: u32) -> bool {
     if group >= m.groups() || m.shape(group).variable_count() > 0 {
-        return Ok(format!(in alloc; "streams are wanted")?);
+        return false;
     }
     m.replace(group, 0, Bytes::empty(alloc), Rows::empty(alloc));
-    parts_told(alloc, &m)
+    true
 }
 
-/// A group whose records are taken away.
-struct WithoutRecords(u32);
-
-impl Told for WithoutRecords {
-    fn told(&self, alloc: Global) -> Result<String, Memory> {
-        let file = changed(alloc, &[])?;
-        match read_file(alloc, file.as_slice()) {
-            Ok(m) => emptied(alloc, m, self.0),
-            Err(fault) => shown(alloc, &fault),
-        }
+fn emptied_told(alloc: Global, m: &mut Measurement, group: u32) -> Result<String, Memory> {
+    if is_emptied(alloc, m, group) {
+        parts_told(alloc, m)
+    } else {
+        Ok(format!(in alloc; "streams are wanted")?)
     }
 }
 

@@ -100,6 +100,8 @@ fn channels(alloc: Global) -> Result<Rows<ChannelRow>, Memory>
 fn groups(alloc: Global) -> Result<Rows<GroupRow>, Memory>
     ensures { IfOk result (λ rows. rows ≡ group ∷ []) }
 {
+    let name = text(alloc, b"g")?;
+    let channels = channels(alloc)?;
     let mut rows = Rows::empty(alloc);
     rows.push(GroupRow {
         at: 0,
@@ -109,10 +111,10 @@ fn groups(alloc: Global) -> Result<Rows<GroupRow>, Memory>
         separator: 0,
         data_bytes: 8,
         inval_bytes: 0,
-        name: text(alloc, b"g")?,
+        name,
         source: None,
         comment: Note::Nothing,
-        channels: channels(alloc)?,
+        channels,
     })?;
     Ok(rows)
 }
@@ -125,12 +127,16 @@ fn recordable(alloc: Global) -> Result<Rows<GroupRow>, Memory>
     groups(alloc)
 }
 
+// The head of their recording.
+fn head(alloc: Global) -> Result<Bytes, Memory> {
+    let rows = recordable(alloc)?;
+    recording_head(alloc, 0x0807_0605_0403_0201, &rows)
+}
+
 // Whether the head is the one of the tables of the blocks.
 fn is_expected(alloc: Global) -> Result<bool, Memory> {
-    let rows = recordable(alloc)?;
-    let head = recording_head(alloc, 0x0807_0605_0403_0201, &rows)?;
     let want = marked_file(alloc, 768, &IDENT, &[BLOCKS])?;
-    Ok(head.as_slice() == want.as_slice())
+    Ok(head(alloc)?.as_slice() == want.as_slice())
 }
 
 #[test]

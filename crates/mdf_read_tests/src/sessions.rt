@@ -5,6 +5,7 @@ use crate::told::{Told, all_are_told, shown};
 use mdf_num::{Bytes, Memory};
 use mdf_session::{Session, read_session, session_of};
 use std::alloc::Global;
+use std::fmt::Debug;
 
 // The numbers 1 and 2, the number 3, a record that ends too early, and one of a group that is not there.
 const TWO: &[u8; 18] = b"\x01\x01\0\0\0\0\0\0\0\x01\x02\0\0\0\0\0\0\0";
@@ -21,31 +22,50 @@ const MIXED: &[u8; 25] = b"\x02\x03\0\0\0abc\x01\0\0\0\0\0\0\0\0\0\0\0\0\0\0\0\0
 // A header that names no data group.
 const ALONE: Piece = (64, b"##HD", &[0, 168, 0, 0, 0, 0], &[0; 32]);
 
-// The first 64 bytes of a file, its head, its blocks of data, its size, and what it is told as: how many records its groups
-// have, how many bytes their values, the records, and the dropped links; or why it is no recording.
+/// The front of a file: of a recording of one group; the same where the file is finalized; one whose header names no data group;
+/// and one of a recording of two channels of variable length.
+enum Front {
+    Counted,
+    Finalized,
+    Alone,
+    Variable,
+}
+
+/// The first 64 bytes of a file, and its head.
+type Head = (&'static [u8; 64], &'static [Piece]);
+
+fn head_of(front: &Front) -> Head {
+    match front {
+        Front::Counted => (&IDENT, BLOCKS),
+        Front::Finalized => (FINALIZED, BLOCKS),
+        Front::Alone => (&IDENT, &[ALONE, FH, MD]),
+        Front::Variable => (&IDENT, VARIABLE),
+    }
+}
+
+// The front of a file, its blocks of data, its size, and what it is told as: how many records its groups have, how many bytes
+// their values, the records, and the dropped links; or why it is no recording.
 const TOLD: &[(Recorded, &str)] = &[
-    (Recorded(&IDENT, BLOCKS, &[], 769), "[0] [0] [] 0"),
+    (Recorded(Front::Counted, &[], 769), "[0] [0] [] 0"),
     (
         Recorded(
-            &IDENT,
-            BLOCKS,
+            Front::Counted,
             &[(768, b"##DT", &[], TWO), (816, b"##DT", &[], THIRD)],
             857,
         ),
         "[3] [0] [1, 1, 0, 0, 0, 0, 0, 0, 0, 1, 2, 0, 0, 0, 0, 0, 0, 0, 1, 3, 0, 0, 0, 0, 0, 0, 0] 0",
     ),
     (
-        Recorded(FINALIZED, BLOCKS, &[], 769),
+        Recorded(Front::Finalized, &[], 769),
         "NotRecording { std: 0, custom: 0 }",
     ),
     (
-        Recorded(&IDENT, &[ALONE, FH, MD], &[], 769),
+        Recorded(Front::Alone, &[], 769),
         "Block { at: 0, want: Dg }",
     ),
     (
         Recorded(
-            &IDENT,
-            BLOCKS,
+            Front::Counted,
             &[(768, b"##DT", &[], TWO), (816, b"#\0\0\0", &[], &[])],
             857,
         ),
@@ -53,8 +73,7 @@ const TOLD: &[(Recorded, &str)] = &[
     ),
     (
         Recorded(
-            &IDENT,
-            BLOCKS,
+            Front::Counted,
             &[(768, b"##DT", &[], TWO), (816, b"##DT", &[], SHORT)],
             857,
         ),
@@ -62,35 +81,31 @@ const TOLD: &[(Recorded, &str)] = &[
     ),
     (
         Recorded(
-            &IDENT,
-            BLOCKS,
+            Front::Counted,
             &[(768, b"##DT", &[], TWO), (816, b"##DT", &[], OTHER)],
             857,
         ),
         "UnknownId { id: 2, at: 18 }",
     ),
     (
-        Recorded(&IDENT, VARIABLE, &[(968, b"##DT", &[], MIXED)], 1025),
+        Recorded(Front::Variable, &[(968, b"##DT", &[], MIXED)], 1025),
         "Offset { channel: 1, row: 0, offset: 0 }",
     ),
 ];
 
-/// The first 64 bytes of a file, its head, its blocks of data, and its size.
-struct Recorded(&'static [u8; 64], &'static [Piece], &'static [Piece], usize);
+/// The front of a file, its blocks of data, and its size.
+struct Recorded(Front, &'static [Piece], usize);
 
 // The bytes of the file.
 fn bytes_of(alloc: Global, row: &Recorded) -> Result<Vec<u8>, Memory> {
-    let Recorded(ident, head, blocks, size) = *row;
-    marked_file(alloc, size, ident, &[head, blocks])
+    let (ident, head) = head_of(&row.0);
+    marked_file(alloc, row.2, ident, &[head, row.1])
 }
 
 impl Told for Recorded {
     fn told(&self, alloc: Global) -> Result<String, Memory> {
         let file = bytes_of(alloc, self)?;
-        match read_session(alloc, file.as_slice()) {
-            Ok(session) => parts_told(alloc, &session),
-            Err(fault) => shown(alloc, &fault),
-        }
+        answer_told(alloc, &read_session(alloc, file.as_slice()))
     }
 }
 
@@ -100,8 +115,7 @@ struct Taken(Recorded);
 // A recording of two blocks, and what it is told as.
 const TAKEN: &[(Taken, &str)] = &[(
     Taken(Recorded(
-        &IDENT,
-        BLOCKS,
+        Front::Counted,
         &[(768, b"##DT", &[], TWO), (816, b"##DT", &[], THIRD)],
         857,
     )),
@@ -111,10 +125,7 @@ const TAKEN: &[(Taken, &str)] = &[(
 impl Told for Taken {
     fn told(&self, alloc: Global) -> Result<String, Memory> {
         let file = bytes_of(alloc, &self.0)?;
-        match session_of(alloc, Bytes::from_vec(file)) {
-            Ok(session) => parts_told(alloc, &session),
-            Err(fault) => shown(alloc, &fault),
-        }
+        answer_told(alloc, &session_of(alloc, Bytes::from_vec(file)))
     }
 }
 
@@ -126,6 +137,13 @@ fn parts_told(alloc: Global, session: &Session) -> Result<String, Memory> {
         session.content().as_slice(),
         session.dropped()
     )?)
+}
+
+fn answer_told<F: Debug>(alloc: Global, answer: &Result<Session, F>) -> Result<String, Memory> {
+    match answer {
+        Ok(session) => parts_told(alloc, session),
+        Err(fault) => shown(alloc, fault),
+    }
 }
 
 #[test]

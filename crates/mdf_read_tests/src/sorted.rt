@@ -41,7 +41,7 @@ type Row = (
     &'static [Piece],
 );
 
-const FILES: [Row; 2] = [
+const FILES: &[Row] = &[
     (
         1032,
         &[FRONT, COUNTED],
@@ -116,11 +116,17 @@ fn is_sorted(
     Ok(spelled(alloc, measurement, done)?.as_slice() == want.as_slice())
 }
 
+// Whether that of a row is.
+fn is_row_sorted(alloc: Global, row: &Row) -> Result<bool, Memory> {
+    let (size, tables, done, long, pieces) = *row;
+    let file = marked_file(alloc, size, IDENT, tables)?;
+    is_sorted(alloc, file.as_slice(), done, long, pieces)
+}
+
 #[test]
 fn measurements_are_sorted(rt: HostRuntime) -> Result<(), Memory> {
-    for (size, tables, done, long, pieces) in &FILES {
-        let file = marked_file(rt.alloc(), *size, IDENT, *tables)?;
-        assert!(rt; is_sorted(rt.alloc(), file.as_slice(), *done, *long, *pieces)?);
+    for row in FILES {
+        assert!(rt; is_row_sorted(rt.alloc(), row)?);
     }
     Ok(())
 }
@@ -148,7 +154,7 @@ const TWO_GROUPS: &[Piece] = &[
 ];
 
 // The records of 1 and 2 in the first group and of 7 and 8 in the second, in each order in which two sources may come.
-const ORDERS: [&[u8; 8]; 6] = [
+const ORDERS: &[&[u8; 8]] = &[
     b"\x01\x01\x01\x02\x02\x07\x02\x08",
     b"\x01\x01\x02\x07\x01\x02\x02\x08",
     b"\x01\x01\x02\x07\x02\x08\x01\x02",
@@ -186,7 +192,7 @@ fn is_apart(alloc: Global, content: &'static [u8]) -> Result<bool, Memory> {
 
 #[test]
 fn recordings_in_six_orders_have_one_sorted_file(rt: HostRuntime) -> Result<(), Memory> {
-    for content in &ORDERS {
+    for content in ORDERS {
         assert!(rt; is_apart(rt.alloc(), *content)?, "{content:?}");
     }
     Ok(())

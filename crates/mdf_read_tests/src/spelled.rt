@@ -2,7 +2,7 @@ use crate::files::{Piece, file_of};
 use mdf_block::{Draft, Kind, Link};
 use mdf_conv::Budget;
 use mdf_group::{DataRow, GroupRow, read_groups};
-use mdf_num::{Bytes, Memory};
+use mdf_num::{Bytes, Memory, Rows};
 use mdf_tree::{Counted, place_group};
 use std::alloc::Global;
 
@@ -85,17 +85,29 @@ fn written(alloc: Global, row: &DataRow) -> Result<Bytes, Memory> {
     draft.bytes(&[0; 64])
 }
 
-// Whether the rows that are read of the tree are written as it stands, so that they are read back equal.
-fn is_kept(alloc: Global) -> Result<bool, Memory> {
-    let file = file_of(alloc, 1464, TREE)?;
-    let mut budget = Budget::of_file();
-    let Ok(rows) = read_groups(alloc, file.as_slice(), 64, &mut budget) else {
-        return Ok(false);
-    };
+// Whether a row is written as it stands in the file.
+fn is_row_kept(alloc: Global, row: &DataRow, file: &[u8]) -> Result<bool, Memory> {
+    Ok(written(alloc, row)?.as_slice() == file)
+}
+
+fn are_rows_kept(alloc: Global, rows: &Rows<DataRow>, file: &[u8]) -> Result<bool, Memory> {
     match rows.get(0) {
-        Some(row) => Ok(written(alloc, row)?.as_slice() == file.as_slice()),
+        Some(row) => is_row_kept(alloc, row, file),
         None => Ok(false),
     }
+}
+
+// Whether the rows that are read of the tree are written as it stands, so that they are read back equal.
+fn is_file_kept(alloc: Global, file: &[u8]) -> Result<bool, Memory> {
+    match read_groups(alloc, file, 64, &mut Budget::of_file()) {
+        Ok(rows) => are_rows_kept(alloc, &rows, file),
+        Err(_) => Ok(false),
+    }
+}
+
+fn is_kept(alloc: Global) -> Result<bool, Memory> {
+    let file = file_of(alloc, 1464, TREE)?;
+    is_file_kept(alloc, file.as_slice())
 }
 
 #[test]

@@ -16,8 +16,17 @@ fn three_values(alloc: Global) -> Result<([u64; 3], ValueStream), Memory> {
 fn three_told(alloc: Global) -> Result<String, Memory> {
     let (offsets, stream) = three_values(alloc)?;
     let values = offsets_told(alloc, &stream, offsets)?;
+    let streams = listed(alloc, stream)?;
+    values_told(alloc, values.as_str(), &streams)
+}
+
+fn listed(alloc: Global, stream: ValueStream) -> Result<Streams, Memory> {
     let mut streams = Streams::empty(alloc);
     streams.push(stream)?;
+    Ok(streams)
+}
+
+fn values_told(alloc: Global, values: &str, streams: &Streams) -> Result<String, Memory> {
     let len = streams.get(0).map(|stream| stream.len());
     Ok(format!(in alloc; "{values} {len:?}")?)
 }

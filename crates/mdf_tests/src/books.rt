@@ -23,7 +23,7 @@ use std::test::Fail;
 use std::thread::Threads;
 
 // A head without history: the header at 64, the data group at 168, and the first place at 232. All other bytes are 0.
-const HEAD: [(usize, &[u8]); 13] = [
+const HEAD: &[(usize, &[u8])] = &[
     (0, b"UnFinMF 4.10    mdf4rec "),
     (28, b"\x9A\x01"),
     (60, b"\x21\x00\x01\x00"),
@@ -42,8 +42,8 @@ const HEAD: [(usize, &[u8]); 13] = [
 fn head() -> [u8; 232] {
     let mut head = [0; 232];
     for (at, part) in HEAD {
-        if at <= 232 && part.len() <= 232 - at {
-            head[at..at + part.len()].copy_from_slice(part);
+        if *at <= 232 && part.len() <= 232 - *at {
+            head[*at..*at + part.len()].copy_from_slice(*part);
         }
     }
     head
@@ -385,7 +385,7 @@ impl Recording {
 
 // Recordings and what is told of them. Calls 0 to 7 of the disk make the file, which is moment 7, and each hand-over
 // makes four. In a block of 18 bytes the third record has no room: the append hands the first two over.
-const TOLD: [(Recording, &str); 7] = [
+const TOLD: &[(Recording, &str)] = &[
     (
         TWO_BLOCKS,
         "Accepted { place: 0 }\nAccepted { place: 1 }\nDone { through: 2, shown: 2, note: () }\n\
@@ -457,7 +457,7 @@ const TOLD: [(Recording, &str); 7] = [
 
 #[test]
 fn recordings_are_told(rt: HostRuntime) -> Result<(), Fail> {
-    for (recording, want) in &TOLD {
+    for (recording, want) in TOLD {
         is_told(&rt, recording.told(&rt), *want)?;
     }
     Ok(())

@@ -69,7 +69,7 @@ fn make<D: Disk>(name: Bytes, disk: &mut D) -> Result<(), Failed>
 
 // The call, the pick and the image. The file is made by a write of `ab` (call 1), a sync (2), a write of `x` over its
 // first byte (3) and a sync (4).
-const IMAGES: [(u64, u8, &[u8]); 12] = [
+const IMAGES: &[(u64, u8, &[u8])] = &[
     (1, 0, b""),
     (1, 1, b"ab"),
     (1, 2, b"\xFF\xFF"),
@@ -89,7 +89,7 @@ fn images_of_writes_and_syncs(rt: HostRuntime) -> Result<(), Fail> {
     let name = name(rt.alloc())?;
     let mut disk = MemoryDisk::new(rt.alloc());
     let _made = make(name, &mut disk);
-    images_are(&rt, &disk, &IMAGES)
+    images_are(&rt, &disk, IMAGES)
 }
 
 /// A file that is made on a disk that fails at this call.
@@ -120,7 +120,7 @@ impl Told for Made {
 }
 
 // The call that fails, and what is told. A call that failed counts once, and a write that failed as one in flight.
-const MADE: [(Made, &str); 6] = [
+const MADE: &[(Made, &str)] = &[
     (Made(0), "(false, 1, 1, 0) [] []"),
     (Made(1), "(false, 1, 2, 1) [] [255, 255]"),
     (Made(2), "(false, 1, 3, 2) [97, 98] [255, 255]"),
@@ -131,7 +131,7 @@ const MADE: [(Made, &str); 6] = [
 
 #[test]
 fn each_call_can_fail(rt: HostRuntime) -> Result<(), Fail> {
-    all_are_told(&rt, &MADE)
+    all_are_told(&rt, MADE)
 }
 
 /// A file that is attached and read, where this one is there, for this role and up to a limit of bytes.
@@ -194,7 +194,7 @@ impl Told for Loaded {
 }
 
 // What is told of each: a taken name and a missing file are faults.
-const LOADED: [(Loaded, &str); 6] = [
+const LOADED: &[(Loaded, &str)] = &[
     (
         Loaded(Some(b"#b"), Role::Read, 2),
         "Ok(Bytes { items: [35, 98] }) (0, 3)",
@@ -217,5 +217,5 @@ const LOADED: [(Loaded, &str); 6] = [
 
 #[test]
 fn files_are_attached_and_read(rt: HostRuntime) -> Result<(), Fail> {
-    all_are_told(&rt, &LOADED)
+    all_are_told(&rt, LOADED)
 }

@@ -49,16 +49,21 @@ fn has(rt: &HostRuntime, name: Bytes, want: &[u8]) -> Result<bool, LoadFault> {
     Ok(read(rt.alloc(), name, &mut disk)?.as_slice() == want)
 }
 
-#[test]
-fn a_real_file_is_made_and_read(rt: HostRuntime) -> Result<(), Fail> {
-    let made = made(&rt, name(rt.alloc())?)?;
-    let taken = faults(&rt, name(rt.alloc())?, Role::Create);
+/// The size and the clock of the file that is made, and the faults where its name is taken and where a file is missing.
+fn counts(rt: &HostRuntime) -> Result<((u64, u64), u64, u64), Fail> {
+    let made = made(rt, name(rt.alloc())?)?;
+    let taken = faults(rt, name(rt.alloc())?, Role::Create);
     let missing = faults(
-        &rt,
+        rt,
         Bytes::from_slice(rt.alloc(), b"missing.mf4")?,
         Role::Read,
     );
-    assert_eq!(rt; (made, taken, missing), ((5, 5), 1, 1));
+    Ok((made, taken, missing))
+}
+
+#[test]
+fn a_real_file_is_made_and_read(rt: HostRuntime) -> Result<(), Fail> {
+    assert_eq!(rt; counts(&rt)?, ((5, 5), 1, 1));
     assert!(rt; has(&rt, name(rt.alloc())?, b"abxyz")?);
     Ok(())
 }

@@ -62,7 +62,7 @@ impl Told for Layout {
 }
 
 // Of each layout the least channel that breaks a rule, and whether the channels lie apart.
-const LAYOUTS: [(Layout, &str); 20] = [
+const LAYOUTS: &[(Layout, &str)] = &[
     (Layout(&[(U, false, 0, 3, 7, None)], 2, 0), "(None, true)"),
     (
         Layout(&[(U, false, 0, 3, 7, None)], 1, 0),
@@ -159,7 +159,7 @@ const LAYOUTS: [(Layout, &str); 20] = [
 
 #[test]
 fn layouts_and_their_least_bad_channel(rt: HostRuntime) -> Result<(), Fail> {
-    all_are_told(&rt, &LAYOUTS)
+    all_are_told(&rt, LAYOUTS)
 }
 
 /// Channels, the data bytes and the invalidation bytes of a record, and the stream of the first channel of variable length.
@@ -174,7 +174,7 @@ struct Record(
 const STREAM: &[u8] = b"\0\0\0\0\x02\0\0\0ab\x01\0\0\0c";
 
 // Of each record its sample, where it has the index 7.
-const RECORDS: [(Record, &str); 10] = [
+const RECORDS: &[(Record, &str)] = &[
     (
         Record(
             &[(U, false, 0, 3, 7, None), (U, true, 0, 3, 7, None)],
@@ -292,5 +292,5 @@ impl Told for Record {
 
 #[test]
 fn records_and_their_samples(rt: HostRuntime) -> Result<(), Fail> {
-    all_are_told(&rt, &RECORDS)
+    all_are_told(&rt, RECORDS)
 }

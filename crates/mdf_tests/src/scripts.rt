@@ -194,15 +194,32 @@ fn told(alloc: Global, text: &str) -> Result<String, Fail> {
     }
 }
 
+// A script of these texts, whose lines end in `/`.
+fn whole(alloc: Global, before: &str, text: &str) -> Result<String, Fail> {
+    Ok(format!(in alloc; "{before}{text}")?.replace(alloc, '/', "\n")?)
+}
+
+// Asserts what was told of a script.
+fn text_is<R: Abort>(rt: &R, told: &str, want: &str, whole: &str) {
+    assert_eq!(rt; told, want, "{whole}");
+}
+
+// Asserts what is told of a script.
+fn whole_is_told<R>(rt: &R, whole: &str, want: &str) -> Result<(), Fail>
+where
+    R: AllocGlobal + Abort,
+{
+    let told = told(rt.alloc(), whole)?;
+    text_is(rt, told.as_str(), want, whole);
+    Ok(())
+}
+
 // Asserts what is told of a script, whose lines end in `/`.
 fn script_is_told<R>(rt: &R, before: &str, text: &str, want: &str) -> Result<(), Fail>
 where
     R: AllocGlobal + Abort,
 {
-    let whole = format!(in rt.alloc(); "{before}{text}")?.replace(rt.alloc(), '/', "\n")?;
-    let told = told(rt.alloc(), &whole)?;
-    assert_eq!(rt; told.as_str(), want, "{whole}");
-    Ok(())
+    whole_is_told(rt, whole(rt.alloc(), before, text)?.as_str(), want)
 }
 
 // Asserts what is told of the scripts of a table, a line each, where each stands behind this text.
@@ -432,7 +449,7 @@ fn a_value_has_at_most_65535_bytes(rt: HostRuntime) -> Result<(), Fail> {
 }
 
 // How many samples are generated, with what is told of the script.
-const GENERATED: [(u64, &str); 3] = [
+const GENERATED: &[(u64, &str)] = &[
     (0, "[0, 1, 2, 3] 4 65536 268435456 false 12:"),
     (1, "[0, 1, 2, 3] 4 65536 268435456 false 12: 0,1013904223"),
     (
@@ -451,7 +468,7 @@ fn generated_told(alloc: Global, samples: u64) -> Result<String, Fail> {
 
 #[test]
 fn the_generated_script_is_told(rt: HostRuntime) -> Result<(), Fail> {
-    for (samples, want) in &GENERATED {
+    for (samples, want) in GENERATED {
         is_told(&rt, generated_told(rt.alloc(), *samples), *want)?;
     }
     Ok(())

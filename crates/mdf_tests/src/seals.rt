@@ -30,7 +30,7 @@ fn make_sealed<D: Disk>(name: Bytes, file: &Pieces, disk: &mut D) -> Result<(), 
 
 // The call, the pick and the image. The file is made by an attach (call 0), a write of the closed byte (1), a sync (2), a
 // write of the rest (3), a sync (4), a write of the first byte (5) and a sync (6).
-const IMAGES: [(u64, u8, &[u8]); 17] = [
+const IMAGES: &[(u64, u8, &[u8])] = &[
     (1, 0, b""),
     (1, 1, b"\0"),
     (1, 2, b"\xFF"),
@@ -56,7 +56,7 @@ fn images_of_a_sealed_file(rt: HostRuntime) -> Result<(), Fail> {
     let file = pieces(rt.alloc())?;
     let mut disk = MemoryDisk::new(rt.alloc());
     let _made = make_sealed(name, &file, &mut disk);
-    images_are(&rt, &disk, &IMAGES)
+    images_are(&rt, &disk, IMAGES)
 }
 
 /// A file that is made under a seal by so many calls, behind which the disk is out of reach.
@@ -88,7 +88,7 @@ impl Told for Stopped {
 }
 
 // How many calls are passed on, and what is told.
-const STOPPED: [(Stopped, &str); 9] = [
+const STOPPED: &[(Stopped, &str)] = &[
     (Stopped(0), "(false, 0, 1) []"),
     (Stopped(1), "(false, 1, 1) []"),
     (Stopped(2), "(false, 2, 1) [0]"),
@@ -102,5 +102,5 @@ const STOPPED: [(Stopped, &str); 9] = [
 
 #[test]
 fn each_call_of_a_seal_can_fail(rt: HostRuntime) -> Result<(), Fail> {
-    all_are_told(&rt, &STOPPED)
+    all_are_told(&rt, STOPPED)
 }

@@ -11,6 +11,7 @@ use book_view::{LiveReader, LiveView};
 use mdf_disk::MemoryDisk;
 use mdf_layout::{Sample, Shape, Shapes};
 use mdf_num::Memory;
+use std::alloc::Global;
 use std::process::Abort;
 use std::sync::Wait;
 use std::test::Fail;
@@ -142,44 +143,59 @@ fn look(watched: Watched) -> (Watched, u64)
     }
 }
 
+/// What the reader sees, and what it sees after a flush.
+fn looked_twice<R: Threads + Wait + Sync>(rt: &R, watched: Watched) -> (Watched, [u64; 2])
+    ensures { result.0.book.terms ≡ watched.book.terms }
+{
+    let (watched, before) = look(watched);
+    let (watched, after) = look(flush(rt, watched));
+    (watched, [before, after])
+}
+
+/// Closes the book.
+fn close<R: Wait>(rt: &R, watched: Watched) {
+    let Watched { book, reader: _ } = watched;
+    let (_, _, _, view) = book.close();
+    view.end(rt);
+}
+
 /// What the reader sees before the first flush, after two samples, after their flush, after one sample more, and after its
 /// flush.
-fn seen<R>(
-    rt: &R,
-    shape: &Shape,
-    watched: Watched,
-    first: Sample,
-    second: Sample,
-    third: Sample,
-) -> [u64; 5]
+fn seen<R>(rt: &R, shape: &Shape, watched: Watched, samples: (Sample, Sample, Sample)) -> [u64; 5]
 where
     R: AllocGlobal + Abort + Threads + Wait + Sync,
     requires { watched.book.terms.layouts ≡ shape.now ∷ [] }
 {
+    let (first, second, third) = samples;
     let (mut watched, nothing) = look(watched);
     append(rt, shape, &mut watched, first);
     append(rt, shape, &mut watched, second);
-    let (watched, pending) = look(watched);
-    let (mut watched, two) = look(flush(rt, watched));
+    let (mut watched, [pending, two]) = looked_twice(rt, watched);
     append(rt, shape, &mut watched, third);
-    let (watched, still_two) = look(watched);
-    let (watched, three) = look(flush(rt, watched));
-    let Watched { book, reader: _ } = watched;
-    let (_, _, _, view) = book.close();
-    view.end(rt);
+    let (watched, [still_two, three]) = looked_twice(rt, watched);
+    close(rt, watched);
     [nothing, pending, two, still_two, three]
+}
+
+/// The samples 1, 2 and 3.
+fn three(alloc: Global) -> Result<(Sample, Sample, Sample), Memory> {
+    let first = sample(alloc, &[1])?;
+    let second = sample(alloc, &[2])?;
+    Ok((first, second, sample(alloc, &[3])?))
+}
+
+/// The layout of a channel, and a book of it with a reader of its view.
+fn watched_of<R: AllocGlobal + Abort + Wait>(rt: &R) -> Result<(Shape, Watched), Fail>
+    ensures { IfOk result (λ begun. begun.1.book.terms.layouts ≡ begun.0 ∷ []) }
+{
+    let (shape, shapes) = shapes(rt)?;
+    Ok((shape, begin_watched(rt, shapes)?))
 }
 
 #[test]
 fn a_view_after_the_first_note(rt: HostRuntime) -> Result<(), Fail> {
-    let first = sample(rt.alloc(), &[1])?;
-    let second = sample(rt.alloc(), &[2])?;
-    let third = sample(rt.alloc(), &[3])?;
-    let (shape, shapes) = shapes(&rt)?;
-    let watched = begin_watched(&rt, shapes)?;
-    assert_eq!(rt;
-        seen(&rt, &shape, watched, first, second, third),
-        [0, 0, 2, 2, 3]
-    );
+    let samples = three(rt.alloc())?;
+    let (shape, watched) = watched_of(&rt)?;
+    assert_eq!(rt; seen(&rt, &shape, watched, samples), [0, 0, 2, 2, 3]);
     Ok(())
 }
