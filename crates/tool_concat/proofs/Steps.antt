@@ -1,9 +1,20 @@
 -- What holds up to a place, and at it.
-use Rattle.std.proofs.Common.{◌≡◌, ◌<◌, ◌+◌, ℕ, subst, arith, inl, inr}
+use Rattle.std.proofs.Common.{◌≡◌, ◌<◌, ◌+◌, ℕ, List, length, get_or, sym, subst, arith, inl, inr}
 use Rattle.std.proofs.lemmas.Bool.{cases_lt}
+use Rattle.std.proofs.lemmas.List.{get_or_read}
 
 pub each_more : (P : ℕ → Type 0) (i : ℕ) → ((k : ℕ) → k < i → P k) → P i → (k : ℕ) → k < i + 1 → P k
 each_more P i before here k within = elim (cases_lt k i) [
   | inl below ↦ before k below
   | inr not ↦ let same : i ≡ k = omega arith in subst P same here
 ]
+
+-- what holds of two items holds at their place, and the other way round
+module _ {A : Type 0} (P : A → A → Type 0) (xs ys : List A) (k : ℕ) (x y d : A) (below : k < length xs) (within : k < length ys)
+    (first : x ≡ get_or xs k x) (second : y ≡ get_or ys k y) where
+  pub at_place : P x y → P (get_or xs k d) (get_or ys k d)
+  at_place is = subst (λ (v : A). P v (get_or ys k d)) (get_or_read xs k x below first d) (subst (λ (v : A). P x v) (get_or_read ys k y within second d) is)
+
+  pub of_place : P (get_or xs k d) (get_or ys k d) → P x y
+  of_place is = subst (λ (v : A). P v y) (sym (get_or_read xs k x below first d))
+      (subst (λ (v : A). P (get_or xs k d) v) (sym (get_or_read ys k y within second d)) is)

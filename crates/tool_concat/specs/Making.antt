@@ -9,10 +9,13 @@ use Rattle.mdf_model.specs.Measurement.{HasSamples, Measured, measurement}
 use Rattle.mdf_sorted.specs.Kept.{IsSortedOf, StandsIn}
 use Rattle.mdf_sorted.specs.Made.{report_for}
 use Rattle.mdf_sorted.specs.Sorted.{sorted_file}
+use Rattle.mdf_disk.specs.State.{DiskState}
+use Rattle.mdf_tool.specs.declared.fault.ToolFault.{ToolFault}
+use Rattle.mdf_tool.specs.declared.fault.ToolFault.TheVariants as tool
 use Rattle.mdf_tool.specs.declared.made.Made.{Made}
 use Rattle.tool_concat.specs.declared.fault.ConcatFault.{ConcatFault}
 use Rattle.tool_concat.specs.declared.fault.ConcatFault.TheVariants as faults
-use Rattle.tool_concat.specs.Concat.{dropped_of}
+use Rattle.tool_concat.specs.Concat.{ConcatEnds, IsConcatOf, Joining, dropped_of}
 use Rattle.tool_concat.specs.Difference.{AreAlike, IsFirstDifference}
 use Rattle.tool_concat.specs.Joined.{IsJoined}
 use Rattle.tool_concat.specs.Wide.{IsFirstWide, NoneWideTo}
@@ -57,3 +60,16 @@ pub record IsMadeFrom (one other : Measured) (now : ℕ) (made : Made) : Type 0 
   pub bytes_are : made.bytes ≡ sorted_file joined (codes "concat") now
   pub keeps : (file : List ℕ) → StandsIn file one → IsSortedOf joined (codes "concat") now made.bytes
   pub report_is : made.report ≡ record (report_for joined) { dropped = dropped_of one other }
+
+-- what is to be written: the joined file, and what is told of it
+abbrev pub IsMadeOf : Joining → Made → Type 0
+IsMadeOf asked made = IsConcatOf asked made.bytes made.report
+
+-- the fault with which it ends before the disk of the output is touched
+abbrev pub IsRefusal : Joining → ConcatFault → Type 0
+IsRefusal asked fault = (state : DiskState) → ConcatEnds asked state state (Err fault)
+
+-- the fault where that was not written
+abbrev pub unwritten : ToolFault → ConcatFault
+unwritten tool.Failed = faults.Failed
+unwritten _ = faults.Memory

@@ -5,7 +5,7 @@ ghost use Rattle.mdf_disk.specs.State.{state_of};
 ghost use Rattle.mdf_seal.specs.Seal.{IsBlank};
 ghost use Rattle.mdf_sorted.specs.Kept.{StandsIn};
 ghost use Rattle.tool_concat.specs.Concat.{ConcatEnds, IsConcatImage};
-ghost use Rattle.tool_concat.specs.Making.{CanJoin, FirstRead, IsLaid, IsMadeFrom, IsRefused, SecondRead};
+ghost use Rattle.tool_concat.specs.Making.{CanJoin, FirstRead, IsLaid, IsMadeFrom, IsMadeOf, IsRefusal, IsRefused, SecondRead, unwritten};
 ghost use Rattle.tool_concat.specs.Joined.{IsJoined};
 
 use crate::difference::first_difference;
@@ -63,6 +63,19 @@ fn can_join(one: &Measurement, other: &Measurement) -> Result<(), ConcatFault>
     Ok(())
 }
 
+/// Joins the second measurement behind the first.
+fn join(alloc: Global, one: &mut Measurement, other: &Measurement) -> Result<(), ConcatFault>
+    requires one { AllByRecursion IsLaid one.old.groups }
+    requires other { AllByRecursion IsLaid other.now.groups }
+    ensures can { OnOk result (CanJoin one.old other.now) }
+    ensures joined { OnOk result (IsJoined one.old other.now one.new) }
+    ensures refused { IfErr result (IsRefused one.old other.now) }
+{
+    can_join(one, other)?;
+    join_all(alloc, one, other)?;
+    Ok(())
+}
+
 /// The joined measurement.
 fn joined_of(
     alloc: Global,
@@ -75,9 +88,8 @@ fn joined_of(
     ensures joined { IfOk result (IsJoined one other) }
     ensures refused { IfErr result (IsRefused one other) }
 {
-    can_join(&one, &other)?;
     let mut joined = one;
-    join_all(alloc, &mut joined, &other)?;
+    join(alloc, &mut joined, &other)?;
     Ok(joined)
 }
 
@@ -102,6 +114,26 @@ fn made_of(
         dropped,
     };
     Ok(Made { bytes, report })
+}
+
+/// The sorted file of the joined measurement of two files, with what is told of it.
+fn made_from(alloc: Global, first: Bytes, second: Bytes, now_ns: u64) -> Result<Made, ConcatFault>
+    ensures made { IfOk result (IsMadeOf (record { first = first; second = second; now = now_ns })) }
+    ensures refused { IfErr result (IsRefusal (record { first = first; second = second; now = now_ns })) }
+{
+    let one = first_of(alloc, first)?;
+    let other = second_of(alloc, second)?;
+    made_of(alloc, one, other, now_ns)
+}
+
+/// The fault of a file that was made and is not written.
+fn unwritten(fault: ToolFault) -> ConcatFault
+    ensures { result ≡ unwritten fault }
+{
+    match fault {
+        ToolFault::Failed => ConcatFault::Failed,
+        ToolFault::Memory | ToolFault::Read(_) => ConcatFault::Memory,
+    }
 }
 
 /// Joins two finalized files: writes the sorted file of their joined measurement at `now_ns` (ns since 1970) under a seal, on a
@@ -133,13 +165,9 @@ pub fn concat<C: Disk>(
     ensures moment { C.moment out.old ≤ C.moment out.new }
     ensures told { is_some (C.story out.new) ≡ is_some (C.story out.old) }
 {
-    let one = first_of(alloc, first)?;
-    let other = second_of(alloc, second)?;
-    let made = made_of(alloc, one, other, now_ns)?;
+    let made = made_from(alloc, first, second, now_ns)?;
     match write_made(out, made) {
         Ok(report) => Ok(report),
-        Err(ToolFault::Failed) => Err(ConcatFault::Failed),
-        Err(ToolFault::Memory) => Err(ConcatFault::Memory),
-        Err(ToolFault::Read(_)) => Err(ConcatFault::Memory),
+        Err(fault) => Err(unwritten(fault)),
     }
 }

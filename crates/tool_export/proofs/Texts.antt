@@ -65,6 +65,10 @@ gives_none text old = record {
   cause = record { later = omega arith; reason = tt };
 }
 
+-- lines that were given behind others
+pub lines_given : (before made text lines : List ℕ) → lines ≡ before ++ made → text ≡ made → lines ≡ before ++ text
+lines_given before made text lines are given = are ∙ ap (λ (all : List ℕ). before ++ all) (sym given)
+
 -- the lines of samples begin with those of the first so many
 module _ (sample : ℕ → Option (List Entry)) where
   behind_more : (i d : ℕ) → (rest : List ℕ) × (sample_lines sample (d + i) ≡ sample_lines sample i ++ rest)
@@ -88,9 +92,8 @@ module _ (sample : ℕ → Option (List Entry)) where
       (found.0, ap (sample_lines sample) same ∙ found.1)
 
   -- the lines up to a sample, and its line
-  pub lines_more : (i : ℕ) (entries : List Entry) → sample i ≡ Some entries
-      → sample_lines sample (i + 1) ≡ sample_lines sample i ++ line_at i (Some entries)
+  pub lines_more : (i : ℕ) → sample_lines sample (i + 1) ≡ sample_lines sample i ++ line_at i (sample i)
   unfolding sample_lines
-  lines_more i entries is =
+  lines_more i =
       let next : i + 1 ≡ suc i = omega arith in
-      ap (sample_lines sample) next ∙ ap (λ (found : Option (List Entry)). sample_lines sample i ++ line_at i found) is
+      ap (sample_lines sample) next

@@ -1,7 +1,8 @@
-ghost use Rattle.std.specs.Prelude.{◌≡◌, ◌≤◌, ◌++◌, IfOk};
+ghost use Rattle.std.specs.Prelude.{◌≡◌, ◌<◌, ◌≤◌, ◌++◌, false, IfOk, OnOk};
+ghost use Rattle.csv.specs.Writing.{default_writer, fields_written, has_written, writer_pending, writer_setup, writer_under};
 ghost use Rattle.mdf_port.specs.State.{sink_state};
 ghost use Rattle.tool_export.specs.Export.{GivesText};
-ghost use Rattle.tool_export.specs.Table.{line_of, names_line, sample_lines, table_text};
+ghost use Rattle.tool_export.specs.Table.{line_at, line_of, names_line, sample_lines, table_text};
 
 use crate::line::{Line, text_of};
 use crate::samples::SampleList;
@@ -49,6 +50,30 @@ fn give_names<K: Sink>(
     give_line(alloc, sink, line)
 }
 
+/// Writes the line of a sample behind what a CSV writer with its defaults made in memory. The scratch takes texts of values.
+fn write_sample<L: SampleList>(
+    alloc: Global,
+    line: &mut Line,
+    field: &mut Vec<u8>,
+    writer: &mut Writer<Vec<u8>>,
+    list: &L,
+    index: u64,
+) -> Result<(), Memory>
+    requires index { index < L.count list.now }
+    requires fields { fields_written writer.old ≡ 0 }
+    requires clean { has_written writer.old ≡ false }
+    requires setup { writer_setup writer.old ≡ default_writer }
+    ensures text { OnOk result ((writer_under writer.new).items ++ writer_pending writer.new
+        ≡ (writer_under writer.old).items ++ writer_pending writer.old ++ line_at index (L.sample list.now index)) }
+    ensures fields { OnOk result (fields_written writer.new ≡ 0) }
+    ensures clean { OnOk result (has_written writer.new ≡ false) }
+    ensures setup { OnOk result (writer_setup writer.new ≡ default_writer) }
+{
+    let entries = list.sample(alloc, index)?;
+    line.set_sample(alloc, field, index, entries.as_slice())?;
+    line.write(writer)
+}
+
 /// The lines of the samples from one on, up to another.
 fn lines_between<L: SampleList>(
     alloc: Global,
@@ -65,9 +90,7 @@ fn lines_between<L: SampleList>(
     let mut field = Vec::new(alloc);
     let mut index = from;
     while index < to {
-        let entries = list.sample(alloc, index)?;
-        line.set_sample(alloc, &mut field, index, entries.as_slice())?;
-        line.write(&mut writer)?;
+        write_sample(alloc, line, &mut field, &mut writer, list, index)?;
         index += 1;
     }
     text_of(writer)

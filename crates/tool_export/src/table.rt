@@ -1,5 +1,7 @@
-ghost use Rattle.std.specs.Prelude.{◌≡◌, ◌≤◌, ◌<◌, length, slice_index_or, IfOk, IfErr};
+ghost use Rattle.std.specs.Prelude.{ℕ, ◌≡◌, ◌≤◌, ◌<◌, List, length, slice_index_or, Ok, IfOk, IfErr};
 ghost use Rattle.mdf_model.specs.declared.part.Measure.{Measure};
+ghost use Rattle.mdf_model.specs.Measurement.{measurement};
+ghost use Rattle.mdf_valid.specs.Measurement.{IsMeasurement};
 ghost use Rattle.mdf_port.specs.State.{sink_state};
 ghost use Rattle.tool_export.specs.Export.{ExportEnds, GivesText, NamesNone};
 ghost use Rattle.tool_export.specs.Table.{table_of};
@@ -40,6 +42,22 @@ fn give_group<K: Sink>(
     give_table(alloc, sink, channels, &list)
 }
 
+/// Gives the table of the group of this number, if there is one. It answers how many samples it has.
+fn give_numbered<K: Sink>(
+    alloc: Global,
+    sink: &mut K,
+    found: &Measurement,
+    said: u64,
+) -> Result<u64, ExportFault>
+    ensures ends { (file : List ℕ) → measurement file ≡ Ok found.now → IsMeasurement file found.now.head found.now.history found.now.groups
+        → ExportEnds file said (sink_state K.Sink sink.old) (sink_state K.Sink sink.new) result }
+    ensures later { K.faults sink.old ≤ K.faults sink.new }
+{
+    let group = group_in(found, said)?;
+    give_group(alloc, sink, found, group)?;
+    Ok(found.samples(group))
+}
+
 /// Prints a channel group of a finalized file, counted from 0 over the groups whose records are samples, as a table in CSV.
 /// Its first line is `index` and the names of the channels. Then each sample has a line: its index, and its values, numbers
 /// in decimal and bytes as `x` and two digits for each, with `?` behind an invalid one. It answers how many samples there are.
@@ -58,7 +76,5 @@ pub fn export<K: Sink>(
     ensures later { K.faults sink.old ≤ K.faults sink.new }
 {
     let found = take_file(alloc, file)?;
-    let group = group_in(&found, group)?;
-    give_group(alloc, sink, &found, group)?;
-    Ok(found.samples(group))
+    give_numbered(alloc, sink, &found, group)
 }
