@@ -121,13 +121,20 @@ where
     Ok(())
 }
 
-// The words and the script; what is printed, and what `check` and `export` say of the file that is made. The range of a cut is
-// one of the master, whose numbers are 1, 2 and 3.
-const MADE: &[(Made, &str)] = &[
-    (
-        Made(&["sort", "in.mf4", "out.mf4"], COUNTING),
-        "0 groups 1 samples 3 dropped 0\n0 valid\n0 index,t\n0,1\n1,2\n2,3\n",
-    ),
+// The words and the script; what is printed, and what `check` and `export` say of the file that is made.
+const SORTED: &[(Made, &str)] = &[(
+    Made(&["sort", "in.mf4", "out.mf4"], COUNTING),
+    "0 groups 1 samples 3 dropped 0\n0 valid\n0 index,t\n0,1\n1,2\n2,3\n",
+)];
+
+#[test]
+fn finalized_checked_sorted_exported(rt: HostRuntime) -> Result<(), Fail> {
+    all_are_made(&rt, SORTED)
+}
+
+// The range of the master, whose numbers are 1, 2 and 3; what is printed, and what `check` and `export` say of the file that
+// is made.
+const CUTS: &[(Made, &str)] = &[
     (
         Made(&["cut", "in.mf4", "out.mf4", "2", "2"], COUNTING),
         "0 groups 1 samples 0 dropped 0\n0 valid\n0 index,t\n",
@@ -153,6 +160,6 @@ const MADE: &[(Made, &str)] = &[
 ];
 
 #[test]
-fn sorted_and_cut_to_nothing_and_to_two(rt: HostRuntime) -> Result<(), Fail> {
-    all_are_made(&rt, MADE)
+fn cut_to_nothing_and_to_two(rt: HostRuntime) -> Result<(), Fail> {
+    all_are_made(&rt, CUTS)
 }
