@@ -1,7 +1,8 @@
 mod Doing
+pub mod Gathering
+pub mod Later
+pub mod Looks
+pub mod Owning
 mod Performing
 mod Pushing
-pub mod Owning
-pub mod Gathering
 pub mod Telling
-pub mod Later

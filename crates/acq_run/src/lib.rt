@@ -1,20 +1,26 @@
 //! The sources of a recording at work: each hands its samples and its flushes to the shared book, in a thread of its own.
 //!
 //! A feed says what a source hands in next. `drive` does it over the source's seat, up to the feed's end or to the first
-//! answer of the book that is neither an acceptance nor a flush that was done, and `record_all` drives all sources at once. A
-//! follower is told of each flush of its source that was done; over a view that shows nobody anything it is `Nobody`.
+//! answer of the book that is neither an acceptance nor a flush that was done, and a follower is told of each flush of its
+//! source that was done. `drive_all` drives all workers at once, and `record_live` is a recording with all sources at work. A
+//! recording has an audience: nobody, or a reader for each source. After each flush of its source the reader learns the note of
+//! the flush, takes a view and leaves it.
 #![tactic(auto)]
 
+mod audience;
 mod driving;
 mod following;
-mod nobody;
+mod record;
 mod tasks;
+mod watcher;
 mod whole;
 mod work;
 
+pub use audience::Audience;
 pub use driving::{drive, drive_with};
 pub use following::Follower;
-pub use nobody::{Nobody, drive_all};
+pub use record::{Gathered, drive_all, record_live};
 pub use tasks::{Fed, Feed, ScriptFeed};
-pub use whole::{part_all, record_all, seat_all};
+pub use watcher::{Watcher, last_look, look};
+pub use whole::{part_all, seat_all};
 pub use work::{Driven, Ended, Worker};

@@ -1,8 +1,10 @@
-pub mod Steps
-pub mod Layings
 pub mod Drafts
+mod Fits
+pub mod Layings
+pub mod Lines
+mod PlanText
+pub mod Respelled
 pub mod Sketches
 pub mod Sounds
 pub mod Spells
-pub mod Respelled
-pub mod Lines
+pub mod Steps

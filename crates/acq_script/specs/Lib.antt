@@ -6,3 +6,4 @@ pub mod Sketch
 pub mod Stage
 pub mod Script
 pub mod Spelled
+pub mod Generated

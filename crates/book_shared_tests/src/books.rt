@@ -60,7 +60,10 @@ fn is_head(bytes: &[u8]) -> bool
 pub type TestDisk = Slow<MemoryDisk>;
 
 /// A recording of that head, on a disk whose syncs wait at the gate.
-fn recording<R: AllocGlobal + Abort>(rt: &R, gate: Arc<Gate>) -> Result<GatedFile<TestDisk>, Fail>
+pub fn recording<R: AllocGlobal + Abort>(
+    rt: &R,
+    gate: Arc<Gate>,
+) -> Result<GatedFile<TestDisk>, Fail>
     ensures { IfOk result (λ file. IsNewFile ⟦<TestDisk as Disk>⟧ file) }
 {
     let head = head();
@@ -140,11 +143,7 @@ fn listed_twice<R: AllocGlobal + Abort>(rt: &R) -> Result<(Shapes, Shapes), Fail
 pub type TestBook = Book<TestDisk, NoView>;
 
 /// A book over a new file, on a disk whose syncs wait at the gate.
-pub fn book<R: AllocGlobal + Abort>(
-    rt: &R,
-    shapes: Shapes,
-    gate: Arc<Gate>,
-) -> Result<TestBook, Fail>
+fn book<R: AllocGlobal + Abort>(rt: &R, shapes: Shapes, gate: Arc<Gate>) -> Result<TestBook, Fail>
     requires { AreGroups shapes }
     ensures layouts { IfOk result (λ book. book.terms.layouts ≡ shapes) }
     ensures limit { IfOk result (λ book. book.terms.block_limit ≡ 9) }

@@ -66,7 +66,7 @@ fn share(alloc: Global, book: TestBook) -> Result<(Shared, Seats), Fail>
 }
 
 /// A book that is not shared, for want of memory.
-pub fn given_up(book: TestBook) -> Fail {
+fn given_up(book: TestBook) -> Fail {
     let (_disk, _history, _marks, _view) = book.close();
     AllocError.into()
 }

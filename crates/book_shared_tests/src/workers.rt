@@ -1,13 +1,14 @@
 //! Two sources at work at once.
 ghost use Rattle.std.specs.Prelude.{◌≡◌, ◌≤◌, ◌<◌, ◌^◌, [], ◌∷◌, length, All, IfOk};
+ghost use Rattle.acq_run.specs.Watching.{Watches};
 ghost use Rattle.book_shared_tests.specs.Lists.{IsOf};
 ghost use Rattle.book_shared_tests.specs.Words.{AreGroups};
 
-use crate::books::{TestBook, book, fits, listed, sample};
+use crate::books::{TestDisk, fits, listed, recording, sample};
 use crate::gates::{Gate, LOOKS, wait_for};
-use crate::seats::given_up;
 use crate::told::is_told;
-use acq_run::{Driven, Fed, Feed, ScriptFeed, record_all};
+use acq_run::{Audience, Driven, Fed, Feed, Gathered, ScriptFeed, Watcher, record_live};
+use book_owned::Book;
 use mdf_layout::{Samples, Shapes};
 use mdf_num::{Memory, Rows};
 use std::alloc::Global;
@@ -153,20 +154,44 @@ fn told(alloc: Global, all: &[Driven], history: &Samples, in_vain: bool) -> Resu
     Ok(told)
 }
 
-/// Closes the book of the sources that did all this, and tells it.
-fn worked(
-    alloc: Global,
-    book: TestBook,
-    all: Vec<Driven>,
-    meeting: &Meeting,
-) -> Result<String, Memory> {
-    let (_, history, _, _) = book.close();
-    told(
-        alloc,
-        all.as_slice(),
-        &history,
-        meeting.in_vain.load(SeqCst),
-    )
+/// A book that readers may look at.
+type WatchedBook = Book<TestDisk, Audience>;
+
+/// A book of these layouts over a new file, at which nobody looks, and the watchers of its two sources.
+fn watched_book<R: AllocGlobal + Abort + Wait>(
+    rt: &R,
+    shapes: Shapes,
+) -> Result<(WatchedBook, Vec<Watcher>), Fail>
+    requires { AreGroups shapes }
+    ensures layouts { IfOk result (λ begun. begun.0.terms.layouts ≡ shapes) }
+    ensures limit { IfOk result (λ begun. begun.0.terms.block_limit ≡ 9) }
+    ensures empty { IfOk result (λ begun. begun.0.history ≡ []) }
+    ensures count { IfOk result (λ begun. length begun.1.items ≡ 2) }
+    ensures watch { IfOk result (λ begun. All (λ watcher. Watches watcher begun.0.terms.which []) begun.1.items) }
+{
+    let file = recording(rt, Gate::new(rt.alloc(), LOOKS)?)?;
+    let (audience, watchers) = match Audience::begin(rt, rt.alloc(), false, 2) {
+        Ok(begun) => begun,
+        Err(memory) => {
+            drop(file.into_disk());
+            return Err(memory.into());
+        }
+    };
+    match Book::begin(rt.alloc(), file, shapes, 9, 4096, audience) {
+        Ok(book) => Ok((book, watchers)),
+        Err((memory, file, audience)) => {
+            audience.end(rt);
+            drop(file.into_disk());
+            Err(memory.into())
+        }
+    }
+}
+
+/// Closes the book, ends its audience, and hands back the samples.
+fn close<R: Wait>(rt: &R, book: WatchedBook) -> Samples {
+    let (_, history, _, audience) = book.close();
+    audience.end(rt);
+    history
 }
 
 /// Two sources at work over a book of these layouts, with these feeds. Tells what they did.
@@ -185,11 +210,23 @@ where
     requires few { (length first.list < 2 ^ 64) × (length second.list < 2 ^ 64) }
 {
     let feeds = pair(rt.alloc(), first, second)?;
-    let gate = Gate::new(rt.alloc(), LOOKS)?;
-    let book = book(rt, listed, gate)?;
-    match record_all(rt, rt.alloc(), book, &[0, 1], feeds) {
-        Ok((book, all)) => Ok(worked(rt.alloc(), book, all, meeting)?),
-        Err((_, book)) => Err(given_up(book)),
+    let (book, watchers) = watched_book(rt, listed)?;
+    match record_live(rt, rt.alloc(), book, &[0, 1], feeds, watchers) {
+        Ok(
+            Gathered {
+                book,
+                all,
+                watchers: _watchers,
+            },
+        ) => {
+            let history = close(rt, book);
+            let in_vain = meeting.in_vain.load(SeqCst);
+            Ok(told(rt.alloc(), all.as_slice(), &history, in_vain)?)
+        }
+        Err((memory, book)) => {
+            drop(close(rt, book));
+            Err(memory.into())
+        }
     }
 }
 

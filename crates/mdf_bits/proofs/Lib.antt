@@ -4,4 +4,3 @@ mod Masks
 mod Orders
 mod Powers
 pub mod Spots
-mod Steps

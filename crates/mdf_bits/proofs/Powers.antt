@@ -1,16 +1,9 @@
 -- Powers of two: a number below more of its bits, and the two halves of the numbers of so many bits.
-use Rattle.std.proofs.Common.{◌≡◌, ◌≢◌, ◌≤◌, ◌+◌, ◌-◌, ◌*◌, ◌/◌, ◌^◌, ◌%◌, ℕ, ◌∙◌, ap, arith, inl, inr}
+use Rattle.std.proofs.Common.{◌≡◌, ◌≢◌, ◌≤◌, ◌+◌, ◌-◌, ◌*◌, ◌/◌, ◌^◌, ℕ, ◌∙◌, ap, arith, inl, inr}
 use Rattle.std.proofs.Math.Nat.{pow-le-pow_right, div-eq_of_lt}
 use Rattle.std.proofs.lemmas.Bool.{cases_lt}
-use Rattle.std.proofs.lemmas.Nat.{mod-pow-add, pow-add}
+use Rattle.std.proofs.lemmas.Nat.{pow-add}
 use Rattle.std.proofs.lemmas.Nat.Bits.{ones_shr}
-use Rattle.std.specs.Int.{bit_at}
-
--- one bit more of a number
-pub mod-pow-more : (n k : ℕ) → n % 2 ^ (k + 1) ≡ bit_at n k * 2 ^ k + n % 2 ^ k
-mod-pow-more n k =
-    let turned : k + 1 ≡ 1 + k = omega arith in
-    rw turned (mod-pow-add n 1 k)
 
 -- numbers of so many bits, at most 64
 pub record HasHalves (bits : ℕ) : Type 0 where

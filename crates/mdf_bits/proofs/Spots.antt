@@ -118,10 +118,6 @@ apart true byte n i j first second differ same =
     differ (omega arith)
 apart false byte n i j first second differ same = differ (omega arith)
 
--- two bits of the bytes that the field touches lie at two places
-pub place_of-apart : (s : Spot) (i j : ℕ) → i < 8 * covered_size s → j < 8 * covered_size s → i ≢ j → place_of s i ≢ place_of s j
-place_of-apart s i j = apart s.big s.byte (covered_size s) i j
-
 -- the record after a write to the part of it that the field touches
 module _ (s : Spot) (old part : List ℕ) (size : ℕ) (inside : covered_end s ≤ length old) (is : size ≡ covered_size s)
     (long : length part ≡ length (take (s.byte + size - s.byte) (drop s.byte old))) where

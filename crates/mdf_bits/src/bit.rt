@@ -19,13 +19,3 @@ pub(crate) fn set(bytes: &mut [u8], position: usize)
 {
     bytes[position / 8] |= 1 << (position % 8);
 }
-
-/// Makes bit `position` 0. No other bit changes.
-pub(crate) fn clear(bytes: &mut [u8], position: usize)
-    requires { position / 8 < length bytes.old }
-    ensures cleared { bit_of bytes.new position ≡ 0 }
-    ensures other_bits { (p : ℕ) → p ≢ position → bit_of bytes.new p ≡ bit_of bytes.old p }
-    ensures len { length bytes.new ≡ length bytes.old }
-{
-    bytes[position / 8] &= !(1 << (position % 8));
-}

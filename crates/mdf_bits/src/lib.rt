@@ -7,7 +7,6 @@
 #![tactic(auto)]
 
 mod bit;
-pub mod bit_by_bit;
 mod invalidation;
 mod number;
 mod place;

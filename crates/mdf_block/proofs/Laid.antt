@@ -1,5 +1,5 @@
 -- The items of a draft stand one behind the other.
-use Rattle.std.proofs.Common.{◌≡◌, ◌+◌, ◌<◌, ◌≤◌, ◌^◌, ℕ, zero, suc, List, [], ◌∷◌, ◌++◌, length, get_or, take, set, replicate, map, refl, sym, ◌∙◌, ap, subst, arith, length-set}
+use Rattle.std.proofs.Common.{◌≡◌, ◌+◌, ◌<◌, ◌≤◌, ◌^◌, ℕ, zero, suc, List, [], ◌∷◌, ◌++◌, length, get_or, take, set, map, refl, sym, ◌∙◌, ap, subst, arith, length-set}
 use Rattle.std.proofs.lemmas.List.{take_all, map-append, flat_map_more}
 use Rattle.std.proofs.lemmas.List.Sums.{sum_by-cons, sum_by-append}
 use Rattle.std.specs.Prelude.{sum_by}
@@ -9,11 +9,10 @@ use Rattle.mdf_block.specs.declared.link.Link.{Link}
 use Rattle.mdf_block.specs.declared.link.Link.TheVariants as links
 use Rattle.mdf_format.specs.Number.{aligned}
 use Rattle.mdf_format.specs.Block.{header_size}
-use Rattle.mdf_block.specs.Draft.{Placed, unlinked, size_of, room_of, block_bytes, HasLink, with_link}
+use Rattle.mdf_block.specs.Draft.{Placed, size_of, room_of, block_bytes, HasLink, with_link}
 use Rattle.mdf_block.specs.Item.{placed_of, at_of, AreLaidOut}
 use Rattle.mdf_block.specs.Places.{AreAddresses}
 use Rattle.mdf_block.specs.declared.places.Places.{Places}
-use Rattle.mdf_format.specs.declared.kind.Kind.{Kind}
 use Rattle.mdf_block.proofs.Laying.{le_room}
 
 pub laid_end : (at : ℕ) (items : List Item) (end : ℕ) → AreLaidOut at items end → end ≡ at + sum_by room_of (map placed_of items)
@@ -93,11 +92,6 @@ pub has_link : (items : List Item) (n k : ℕ) (d : Item) → HasLink (map place
 has_link [] n k d has = absurd has
 has_link (item ∷ items) zero k d has = has
 has_link (item ∷ items) (suc n) k d has = has_link items n k d has
-
--- a block as it is placed
-pub unlinked_is : (kind : Kind) (count : ℕ) (body : List ℕ) (xs : List Link) → xs ≡ replicate count links.Nothing
-    → ◌≡◌ {A = Placed} (record { kind = kind; links = xs; body = body }) (unlinked kind count body)
-unlinked_is kind count body xs is = ap {B = Placed} (λ (ys : List Link). record { kind = kind; links = ys; body = body }) is
 
 -- other links, and as many of them, take as much room
 pub room_of-set : (b : Placed) (k : ℕ) (link : Link) → room_of (record b { links = set b.links k link }) ≡ room_of b

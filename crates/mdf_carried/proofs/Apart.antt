@@ -11,10 +11,10 @@ use Rattle.mdf_group.specs.declared.row.DataRow.{DataRow}
 use Rattle.mdf_group.specs.Recordable.{AreRecordable}
 use Rattle.mdf_group.specs.Standing.{AreDistinct, AreDataGroups}
 use Rattle.mdf_group.proofs.Uniques.{data_groups_unique}
-use Rattle.mdf_valid.proofs.Cases.{some_injective}
-use Rattle.mdf_valid.proofs.Onces.{none_behind, head_unique}
+use Rattle.mdf_model.proofs.Cases.{some_injective}
+use Rattle.mdf_model.proofs.Onces.{none_behind, head_unique}
 use Rattle.mdf_spell.specs.Recording.{recorded_row, recorded_head, recorded_history, IsRecordingTree}
-use Rattle.mdf_recovered.specs.Recovered.{Recovery, IsRecovery, AreIdsApart}
+use Rattle.mdf_carried.specs.Recovered.{Recovery, IsRecovery, AreIdsApart}
 use Rattle.mdf_carried.proofs.Numbers.{AreNumbered}
 use Rattle.mdf_carried.proofs.Placed.{RulesAgree, is_recorded}
 

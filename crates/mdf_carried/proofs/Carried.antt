@@ -7,7 +7,7 @@ use Rattle.mdf_data.specs.Split.{IsRecordSplit}
 use Rattle.mdf_content.specs.Layouts.{layout_of}
 use Rattle.mdf_spell.specs.Recording.{recorded_row, recorded_head, recorded_history, IsRecordingTree}
 use Rattle.mdf_gate.specs.Carried.{IsCarried}
-use Rattle.mdf_recovered.specs.Samples.{IsRecovered}
+use Rattle.mdf_carried.specs.Samples.{IsRecovered}
 use Rattle.mdf_carried.proofs.Lists.{all_along}
 use Rattle.mdf_carried.proofs.Records.{record_of, known, records_split}
 use Rattle.mdf_carried.proofs.Holds.{groups_hold}

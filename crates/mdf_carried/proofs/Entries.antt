@@ -26,7 +26,7 @@ use Rattle.mdf_layout.specs.declared.sample.Value.{Value}
 use Rattle.mdf_layout.specs.declared.sample.Value.TheVariants as values
 use Rattle.mdf_layout.specs.declared.sample.Entry.{Entry}
 use Rattle.mdf_layout.specs.declared.sample.Sample.{Sample}
-use Rattle.mdf_valid.proofs.Cases.{two_ways}
+use Rattle.mdf_model.proofs.Cases.{two_ways}
 use Rattle.mdf_carried.proofs.Records.{own, is_own}
 use Rattle.mdf_carried.proofs.Lists.{zip_both}
 

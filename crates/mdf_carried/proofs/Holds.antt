@@ -26,11 +26,11 @@ use Rattle.mdf_content.specs.declared.contents.Contents.{Contents}
 use Rattle.mdf_content.specs.Layouts.{field_of}
 use Rattle.mdf_content.specs.Samples.{record_at, AreSamples}
 use Rattle.mdf_content.specs.Values.{values_group}
-use Rattle.mdf_valid.specs.Bodies.{bodies, joined}
-use Rattle.mdf_valid.specs.Contents.{IsValuesOf, IsChannelStream, is_of_samples, sample_groups}
+use Rattle.mdf_model.specs.Bodies.{bodies, joined}
+use Rattle.mdf_model.specs.Contents.{IsValuesOf, IsChannelStream, is_of_samples, sample_groups}
 use Rattle.mdf_block.specs.declared.note.Note.TheVariants as notes
-use Rattle.mdf_valid.proofs.Cases.{two_ways}
-use Rattle.mdf_recovered.specs.Recovered.{IsGroupContents}
+use Rattle.mdf_model.proofs.Cases.{two_ways}
+use Rattle.mdf_carried.specs.Recovered.{IsGroupContents}
 use Rattle.mdf_carried.proofs.Lists.{zip_along, length-joined, joined_at}
 use Rattle.mdf_carried.proofs.Rows.{NameFrom, values_in, all_values, AreFronts, AreBacks, IsRecorded, fronts_many, front_at, back_at, found_at}
 use Rattle.mdf_carried.proofs.Records.{record_of, own, own_bodies, value_bodies, own_long, groups_many, back_get, no_layout}

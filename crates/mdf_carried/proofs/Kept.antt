@@ -28,11 +28,11 @@ use Rattle.mdf_content.specs.Values.{has_value, offsets_met, DataStream, values_
 use Rattle.mdf_content.proofs.Rooms.{all_at}
 use Rattle.mdf_session.specs.Counted.{group_streams, all_streams}
 use Rattle.mdf_session.specs.Counted as counted
-use Rattle.mdf_valid.specs.Bodies.{bodies, joined}
-use Rattle.mdf_valid.specs.Contents.{MeetsValue, IsChannelStream, IsValuesOf}
-use Rattle.mdf_valid.proofs.Bodies.{bodies_at}
-use Rattle.mdf_valid.proofs.Channels.{HoldBodies, held_by, values_of, take_less}
-use Rattle.mdf_valid.proofs.Cases.{two_ways}
+use Rattle.mdf_model.specs.Bodies.{bodies, joined}
+use Rattle.mdf_model.specs.Contents.{MeetsValue, IsChannelStream, IsValuesOf}
+use Rattle.mdf_model.proofs.Bodies.{bodies_at}
+use Rattle.mdf_model.proofs.Channels.{HoldBodies, held_by, values_of, take_less}
+use Rattle.mdf_model.proofs.Cases.{two_ways}
 use Rattle.mdf_carried.proofs.Laid.{every_found}
 
 -- an offset that meets a value passes the test

@@ -15,7 +15,7 @@ use Rattle.mdf_layout.specs.Rule.{breaks_row_rule, BreaksRule}
 use Rattle.mdf_layout.specs.declared.field.FieldRow.{FieldRow}
 use Rattle.mdf_block.specs.Every.{every}
 use Rattle.mdf_content.specs.Layouts.{field_of, placed_channels, layout_of, first_unplaced, layout_unless, layout, laid_group, has_id_size, layouts}
-use Rattle.mdf_valid.specs.Contents.{KeepsRules}
+use Rattle.mdf_model.specs.Contents.{KeepsRules}
 use Rattle.mdf_tree.proofs.Placing.{all_append}
 use Rattle.mdf_carried.proofs.Rows.{values_in, AreFronts, AreBacks, IsRecorded}
 

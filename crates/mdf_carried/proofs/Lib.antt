@@ -1,16 +1,23 @@
-pub mod Numbers
-pub mod Lists
-pub mod Rows
-pub mod Records
-pub mod Entries
-pub mod Holds
-pub mod Sampled
-pub mod Placed
-pub mod Carried
 pub mod Apart
-pub mod Splits
-pub mod Opened
-pub mod Laid
+pub mod Carried
+mod Counts
+pub mod Entries
+pub mod Founds
+pub mod Grouped
+pub mod Holds
 pub mod Kept
-pub mod Trees
+pub mod Laid
+pub mod Lists
+pub mod Numbers
+pub mod Onces
+pub mod Opened
+mod Opens
+pub mod Placed
+pub mod Records
+pub mod Rows
+pub mod Sampled
+pub mod Samplings
 pub mod Sessions
+pub mod Splits
+pub mod Trees
+mod Values

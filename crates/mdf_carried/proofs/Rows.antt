@@ -20,7 +20,7 @@ use Rattle.mdf_content.specs.Layouts.{layout_of}
 use Rattle.mdf_content.specs.Records.{record_size, size_of}
 use Rattle.mdf_content.specs.Values.{values_group}
 use Rattle.mdf_content.proofs.Rooms.{all_at}
-use Rattle.mdf_valid.specs.Contents.{KeepsRules}
+use Rattle.mdf_model.specs.Contents.{KeepsRules}
 use Rattle.mdf_carried.proofs.Numbers.{AreNumbered}
 use Rattle.mdf_carried.proofs.Lists.{both_false}
 

@@ -32,11 +32,11 @@ use Rattle.mdf_spell.specs.Recording.{recorded_row, recorded_head, recorded_hist
 use Rattle.mdf_session.specs.declared.session.Kept.{Kept}
 use Rattle.mdf_session.specs.Opened.{opened_parts}
 use Rattle.mdf_session.specs.Session.{SessionParts, kept_by, kept_of, kept, first_kept, session}
-use Rattle.mdf_valid.specs.Bodies.{bodies}
-use Rattle.mdf_valid.specs.Contents.{IsChannelStream}
-use Rattle.mdf_valid.proofs.Bodies.{AreSplitAt, places_found}
-use Rattle.mdf_valid.proofs.Channels.{HoldBodies}
-use Rattle.mdf_valid.proofs.Founds.{hold_by}
+use Rattle.mdf_model.specs.Bodies.{bodies}
+use Rattle.mdf_model.specs.Contents.{IsChannelStream}
+use Rattle.mdf_model.proofs.Bodies.{AreSplitAt, places_found}
+use Rattle.mdf_model.proofs.Channels.{HoldBodies}
+use Rattle.mdf_model.proofs.Founds.{hold_by}
 use Rattle.mdf_gate.specs.Recording.{first_place}
 use Rattle.mdf_gate.specs.Carried.{IsCarried}
 use Rattle.mdf_carried.proofs.Lists.{all_along}

@@ -1,1 +1,3 @@
 pub mod Recovers
+pub mod Recovered
+pub mod Samples

@@ -6,8 +6,8 @@ use Rattle.mdf_layout.specs.declared.sample.Sample.{Sample}
 use Rattle.mdf_session.specs.Session.{SessionParts, session}
 use Rattle.mdf_spell.specs.Recording.{head_file, IsRecordingTree, FindsHead, FindsGroups}
 use Rattle.mdf_gate.specs.Images.{IsNotMdf}
-use Rattle.mdf_recovered.specs.Recovered.{Recovery, IsRecovery, AreIdsApart}
-use Rattle.mdf_recovered.specs.Samples.{IsRecovered}
+use Rattle.mdf_carried.specs.Recovered.{Recovery, IsRecovery, AreIdsApart}
+use Rattle.mdf_carried.specs.Samples.{IsRecovered}
 
 -- the file is read as a recording
 pub record IsReadable (file : List ℕ) : Type 0 where

@@ -7,8 +7,8 @@ ghost use Rattle.mdf_content.specs.Layouts.{layout_of};
 ghost use Rattle.mdf_session.specs.Session.{SessionParts, session};
 ghost use Rattle.mdf_spell.specs.Recording.{head_file, FindsHead, FindsGroups, IsRecordingTree};
 ghost use Rattle.mdf_gate.specs.Carried.{Carries, IsCarried};
-ghost use Rattle.mdf_recovered.specs.Recovered.{Recovery, IsRecovery, AreIdsApart};
-ghost use Rattle.mdf_recovered.specs.Samples.{IsRecovered};
+ghost use Rattle.mdf_carried.specs.Recovered.{Recovery, IsRecovery, AreIdsApart};
+ghost use Rattle.mdf_carried.specs.Samples.{IsRecovered};
 ghost use Rattle.mdf_carried.specs.Recovers.{IsReadHead, Recovers};
 
 use mdf_layout::rules_are_tested;

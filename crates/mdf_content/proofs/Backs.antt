@@ -14,7 +14,7 @@ use Rattle.mdf_stream.specs.declared.part.Part.{Part}
 use Rattle.mdf_stream.specs.Link.{data_parts}
 use Rattle.mdf_stream.specs.Parts.{ArePartsInside, stream_of, stream_size}
 use Rattle.mdf_stream.proofs.Joins.{length-stream}
-use Rattle.mdf_data.specs.Places.{HaveRoom}
+use Rattle.mdf_data.specs.Places.{HaveRoom, places}
 use Rattle.mdf_data.specs.Record.{least_size}
 use Rattle.mdf_data.specs.declared.known.Size.{Size}
 use Rattle.mdf_data.specs.declared.known.Size.TheVariants as sizes
@@ -25,7 +25,7 @@ use Rattle.mdf_content.specs.declared.contents.Contents.{Contents}
 use Rattle.mdf_content.specs.declared.contents.DataContents.{DataContents}
 use Rattle.mdf_content.specs.Contents.{HaveSamples, all_contents, content_of, contents, count_of, data_of, found_of, group_item, records_at}
 use Rattle.mdf_content.specs.Layouts.{has_id_size, layout, layouts}
-use Rattle.mdf_content.specs.Records.{counted, known_of, places_of, record_size, size_of}
+use Rattle.mdf_content.specs.Records.{counted, known_of, places_of, places_of_one, places_without_ids, record_size, said_by, size_of}
 use Rattle.mdf_content.specs.Left.{IsLeft, without}
 use Rattle.mdf_content.specs.Values.{DataStream, streams}
 use Rattle.mdf_content.proofs.Rooms.{rooms}
@@ -182,6 +182,19 @@ module _ (file : List ℕ) (row : DataRow) (found whole : DataContents) (left : 
             absurd (omega (arith, ap length no, length-append rest (last ∷ [])))
         | inr one ↦ (one, last_alone rest last (without true one.one) (sym is ∙ groups_left ∙ ap (map (without true)) one.found_is))
       ]
+
+  -- the places of its records are all that there are
+  pub one_list : IsOne file parts lists row.groups whole.groups → (alone : List ℕ) × (lists ≡ alone ∷ [])
+  unfolding places_of
+  one_list one =
+      let stream = stream_of file parts in
+      let total = stream_size parts in
+      let here : places_without_ids total true (one.group ∷ []) ≡ Ok lists =
+      ap (places_without_ids total true) (sym one.groups_are)
+      ∙ ap (λ (n : ℕ). if nat_eq n 0 then places_without_ids total true row.groups else places stream total row.id_size (map known_of row.groups)) (sym alone)
+      ∙ listed in
+      let found = bind_ok (places_of_one total (said_by true one.group) one.group) _ lists here in
+      (found.0, sym (ok_is (found.0 ∷ []) lists found.2))
 
   pub whole_so : (back : DataContents) (one : IsOne file parts lists row.groups whole.groups) → back.groups ≡ one.one ∷ [] → back.strict ≡ found.strict
       → back ≡ whole

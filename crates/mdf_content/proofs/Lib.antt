@@ -3,6 +3,7 @@ pub mod Rooms
 pub mod Offsets
 pub mod Tables
 pub mod Takes
+pub mod Causes
 pub mod Spots
 pub mod Strictness
 pub mod Samples

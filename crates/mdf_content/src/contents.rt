@@ -1,4 +1,4 @@
-ghost use Rattle.std.specs.Prelude.{◌≡◌, ◌+◌, ◌*◌, ◌≤◌, ◌<◌, ◌++◌, ◌||◌, not, nat_eq, if◌then◌else◌, ℕ, List, [], Some, length, map, take, true, false, IfOk, IfErr, OnOk};
+ghost use Rattle.std.specs.Prelude.{◌≡◌, ◌+◌, ◌*◌, ◌≤◌, ◌<◌, ◌++◌, ◌||◌, not, nat_eq, if◌then◌else◌, ℕ, List, [], Some, slice_index_or, length, map, take, true, false, IfOk, IfErr, OnOk};
 ghost use Rattle.std.specs.List.{AllByRecursion};
 ghost use Rattle.std.specs.Ordering.{nat_cmp};
 ghost use Rattle.std.specs.BTreeSet.{contains};
@@ -9,7 +9,7 @@ ghost use Rattle.mdf_stream.specs.Parts.{stream_of, stream_size, ArePartsInside}
 ghost use Rattle.mdf_data.specs.Places.{HaveRoom, steps};
 ghost use Rattle.mdf_group.specs.Group.{is_variable};
 ghost use Rattle.mdf_content.specs.Fault.{read_refusal};
-ghost use Rattle.mdf_content.specs.Records.{known_of, record_size};
+ghost use Rattle.mdf_content.specs.Records.{HasRoom, known_of, record_size};
 ghost use Rattle.mdf_content.specs.Values.{IsHeld, held_of};
 ghost use Rattle.mdf_content.specs.Contents.{
   AllHaveSamples,
@@ -295,6 +295,40 @@ struct Groups<'a> {
     left: bool,
 }
 
+/// What is read of group `k` of the data group, which holds no values.
+fn group_in<P: Span>(
+    alloc: Global,
+    span: &mut P,
+    groups: &Groups,
+    k: usize,
+    group: &GroupRow,
+    room: &mut Room,
+) -> Result<Contents, Halt<ReadFault>>
+    requires held { IsHeld (P.size span.old) groups.now.held.now }
+    requires other { is_variable group.now ≡ false }
+    requires room { HasRoom (stream_size groups.now.held.now.view.now) groups.now.held.now.lists.now k group.now }
+    ensures found { (f : List ℕ) → P.bytes span.old ≡ Some f → Gives read_refusal result
+        (contents_without groups.now.left f (held_of groups.now.held.now) groups.now.believed group.now (slice_index_or groups.now.held.now.lists.now k [])) }
+    ensures samples { (f : List ℕ) → P.bytes span.old ≡ Some f → groups.now.left ≡ false → IfOk result HaveSamples }
+    ensures plain { IfErr result (IsPlain read_refusal) }
+    ensures same { P.bytes span.new ≡ P.bytes span.old }
+    ensures size { P.size span.new ≡ P.size span.old }
+    ensures cause { HaltCause true (P.faults span.old) (P.faults span.new) result }
+{
+    let none = Places::empty(alloc);
+    let places = places_or(groups.held.lists, k, &none);
+    contents_in(
+        alloc,
+        span,
+        groups.held,
+        groups.believed,
+        group,
+        places,
+        groups.left,
+        room,
+    )
+}
+
 impl Visit for Groups<'_> {
     ghost use Rattle.mdf_stream.specs.Parts.{stream_size};
     ghost use Rattle.mdf_content.specs.Records.{HasRoom};
@@ -335,18 +369,7 @@ impl Visit for Groups<'_> {
         if is_variable(item) {
             return Ok((None, state));
         }
-        let none = Places::empty(alloc);
-        let places = places_or(self.held.lists, k, &none);
-        let found = contents_in(
-            alloc,
-            span,
-            self.held,
-            self.believed,
-            item,
-            places,
-            self.left,
-            room,
-        )?;
+        let found = group_in(alloc, span, self, k, item, room)?;
         Ok((Some(found), state))
     }
 }

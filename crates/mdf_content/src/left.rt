@@ -14,7 +14,6 @@ use crate::Room;
 use crate::contents::{Contents, DataContents, content_in};
 use crate::lower::view_of;
 use crate::records::{record_size, records_in};
-use crate::values::places_or;
 use mdf_block::Kind;
 use mdf_data::{DataView, Places};
 use mdf_group::{DataRow, GroupRow};
@@ -118,9 +117,8 @@ fn put_back_at(
             strict,
         });
     };
-    let none = Places::empty(alloc);
-    let places = places_or(lists, 0, &none);
     let group = &row.groups.as_slice()[0];
+    let places = &lists[0];
     groups.push(group_from(alloc, file, view, group, places, left)?)?;
     Ok(DataContents {
         groups: Rows::from_vec(groups),

@@ -1,4 +1,4 @@
-ghost use Rattle.std.specs.Prelude.{◌≡◌, ◌+◌, ◌-◌, ◌^◌, ◌≤◌, ◌<◌, ◌++◌, if◌then◌else◌, ◌&&◌, nat_eq, ℕ, List, Some, length, min, sum_by, slice_index_or, true, false, None, IfOk, IfErr, OnOk};
+ghost use Rattle.std.specs.Prelude.{◌≡◌, ◌+◌, ◌-◌, ◌^◌, ◌≤◌, ◌<◌, ◌++◌, if◌then◌else◌, ◌&&◌, nat_eq, [], ℕ, List, Some, length, min, sum_by, slice_index_or, true, false, None, IfOk, IfErr, OnOk};
 ghost use Rattle.std.specs.List.{AllByRecursion};
 ghost use Rattle.std.specs.BTreeMap.{get};
 ghost use Rattle.std.specs.Ordering.{nat_cmp};
@@ -229,6 +229,27 @@ fn linked_values_in<P: Span>(
     Ok(values)
 }
 
+/// The bytes of the values in the records of group `k`.
+fn group_values_in<P: Span>(
+    alloc: Global,
+    span: &mut P,
+    held: &Held,
+    k: u64,
+    room: &mut Room,
+) -> Result<Bytes, Stop>
+    requires held { IsHeld (P.size span.old) held.now }
+    requires room { AllByRecursion (λ place. place + 4 ≤ stream_size held.now.view.now) (slice_index_or held.now.lists.now k []) }
+    ensures values { IfOk result (λ values. (f : List ℕ) → P.bytes span.old ≡ Some f →
+        values ≡ stream_of f (values_at f held.now.view.now (slice_index_or held.now.lists.now k []))) }
+    ensures same { P.bytes span.new ≡ P.bytes span.old }
+    ensures size { P.size span.new ≡ P.size span.old }
+    ensures cause { StopCause true (P.faults span.old) (P.faults span.new) result }
+{
+    let none = Places::empty(alloc);
+    let places = places_or(held.lists, k as usize, &none);
+    values_in(alloc, span, held.view, places, room)
+}
+
 /// The bytes of the values of a channel whose own link is `at`: those in the records of a group that stands there, or
 /// those where the link leads to.
 #[tactic(auto, unfolding(crate::specs::Values::channel_values))]
@@ -250,9 +271,7 @@ fn channel_values_in<P: Span>(
     let Some(k) = values_group(held, at) else {
         return linked_values_in(alloc, span, at, room);
     };
-    let none = Places::empty(alloc);
-    let places = places_or(held.lists, k as usize, &none);
-    let values = values_in(alloc, span, held.view, places, room)?;
+    let values = group_values_in(alloc, span, held, k, room)?;
     Ok(values)
 }
 

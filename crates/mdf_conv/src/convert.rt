@@ -1,4 +1,4 @@
-ghost use Rattle.std.specs.Prelude.{◌≡◌, ◌-◌, ◌≤◌, ℕ, List, Some, Ok, true, IfOk, IfErr};
+ghost use Rattle.std.specs.Prelude.{◌≡◌, ◌-◌, ℕ, List, Some, Ok, true, IfOk, IfErr};
 ghost use Rattle.mdf_format.specs.Block.{link_at};
 ghost use Rattle.mdf_format.specs.declared.kind.Kind.TheVariants.{Cc};
 ghost use Rattle.mdf_num.specs.Halt.{HaltCause};

@@ -7,8 +7,8 @@ use Rattle.mdf_head.specs.Ident.{identify}
 use Rattle.mdf_content.specs.declared.fault.ReadFault.{ReadFault}
 use Rattle.mdf_content.specs.Fault.{read_refusal}
 use Rattle.mdf_model.specs.Measurement.{measurement}
-use Rattle.mdf_valid.specs.Truth.{IsTrueOfFile}
-use Rattle.mdf_valid.proofs.Files.{identify_refused, measurement_true}
+use Rattle.mdf_model.specs.Truth.{IsTrueOfFile}
+use Rattle.mdf_model.proofs.Files.{identify_refused, measurement_true}
 use Rattle.mdf_disk.specs.State.{DiskState}
 use Rattle.mdf_command.specs.Faults.{INPUT_LIMIT}
 use Rattle.mdf_command.specs.declared.fault.Fault.TheVariants.{Read}

@@ -5,8 +5,8 @@ use Rattle.mdf_head.specs.Ident.{identify}
 use Rattle.mdf_content.specs.declared.fault.ReadFault.{ReadFault}
 use Rattle.mdf_content.specs.Fault.{read_refusal}
 use Rattle.mdf_model.specs.Measurement.{measurement}
-use Rattle.mdf_valid.specs.Measurement.{IsMeasurement, IsValidFile}
-use Rattle.mdf_valid.specs.Truth.{IsTrueOfFile}
+use Rattle.mdf_model.specs.InWords.{IsMeasurement, IsValidFile}
+use Rattle.mdf_model.specs.Truth.{IsTrueOfFile}
 use Rattle.mdf_disk.specs.State.{DiskState}
 use Rattle.mdf_port.specs.State.{SinkState}
 use Rattle.mdf_command.specs.Texts.{Prints}

@@ -1,7 +1,7 @@
 ghost use Rattle.std.specs.Prelude.{◌≡◌, ◌⊎◌, ◌↔◌, IsTrue, IfOk, Some, None};
 ghost use Rattle.mdf_block.specs.Refusal.{GivesOf};
 ghost use Rattle.mdf_head.specs.Ident.{identify};
-ghost use Rattle.mdf_valid.specs.Measurement.{IsMeasurement, IsValidFile};
+ghost use Rattle.mdf_model.specs.InWords.{IsMeasurement, IsValidFile};
 ghost use Rattle.mdf_content.specs.Fault.{read_refusal};
 ghost use Rattle.mdf_disk.specs.State.{state_of};
 ghost use Rattle.mdf_disk.specs.declared.role.Role.TheVariants.{Read};
@@ -11,9 +11,8 @@ use mdf_command::{Fault, load};
 use mdf_content::ReadFault;
 use mdf_disk::Disk;
 use mdf_head::{Ident, IdentFault, ident};
-use mdf_model::Measurement;
+use mdf_model::{Measurement, take_file};
 use mdf_num::Bytes;
-use mdf_valid::take_file;
 use std::alloc::Global;
 
 /// What is read of a finalized file.

@@ -1,4 +1,23 @@
+pub mod Alone
+mod Answers
+pub mod Bodies
+pub mod Cases
+pub mod Channels
+mod Counted
+pub mod Files
+pub mod Founds
 pub mod Fronts
-mod Samples
-pub mod Taken
+pub mod Insides
 pub mod Lefts
+pub mod Onces
+pub mod Picks
+mod Rests
+pub mod Ruled
+pub mod Sames
+mod Samples
+pub mod Stricts
+pub mod Taken
+mod Truths
+mod Undefined
+mod Walks
+pub mod Wholes

@@ -2,3 +2,8 @@ pub mod Tree
 pub mod Whole
 pub mod Measurement
 pub mod Left
+pub mod Bodies
+pub mod Contents
+pub mod InWords
+pub mod Truth
+pub mod Same

@@ -339,7 +339,7 @@ impl Told for Added {
         view.add(4, 3)?;
         view.add(0, 2)?;
         let bytes = [4, 5, 9, 9, 1, 2, 3, 9];
-        let number = view.u32_in(&mut SliceSpan::new(&bytes), self.0);
+        let number = view.u32_near(&mut SliceSpan::new(&bytes), self.0, &mut 0);
         both_shown(alloc, &number, &view)
     }
 }
@@ -358,61 +358,6 @@ const ADDED: &[(Added, &str)] = &[
 #[test]
 fn parts_that_are_added_are_read(rt: HostRuntime) -> Result<(), Memory> {
     all_are_told(&rt, ADDED)
-}
-
-// A range of a stream of three parts of 13, 0 and 5 bytes, and what is told of a part of 2 bytes with that range behind it.
-const RANGES: &[(Ranged, &str)] = &[
-    (
-        Ranged(0, 18),
-        "DataView { items: [Stretch { part: Part { at: 1, len: 2 }, end: 2 }, Stretch { part: Part { at: 144, len: 13 }, end: 15 }, Stretch { part: Part { at: 208, len: 5 }, end: 20 }], end: 20 }",
-    ),
-    (
-        Ranged(12, 3),
-        "DataView { items: [Stretch { part: Part { at: 1, len: 2 }, end: 2 }, Stretch { part: Part { at: 156, len: 1 }, end: 3 }, Stretch { part: Part { at: 208, len: 2 }, end: 5 }], end: 5 }",
-    ),
-    (
-        Ranged(9, 4),
-        "DataView { items: [Stretch { part: Part { at: 1, len: 2 }, end: 2 }, Stretch { part: Part { at: 153, len: 4 }, end: 6 }], end: 6 }",
-    ),
-    (
-        Ranged(13, 1),
-        "DataView { items: [Stretch { part: Part { at: 1, len: 2 }, end: 2 }, Stretch { part: Part { at: 208, len: 1 }, end: 3 }], end: 3 }",
-    ),
-    (
-        Ranged(18, 0),
-        "DataView { items: [Stretch { part: Part { at: 1, len: 2 }, end: 2 }], end: 2 }",
-    ),
-];
-
-fn three_parts(alloc: Global) -> Result<DataView, Memory>
-    ensures { IfOk result (λ view. stream_size view ≡ 18) }
-{
-    let mut view = DataView::empty(alloc);
-    view.add(144, 13)?;
-    view.add(184, 0)?;
-    view.add(208, 5)?;
-    Ok(view)
-}
-
-/// A range of that stream.
-struct Ranged(u64, u64);
-
-impl Told for Ranged {
-    fn told(&self, alloc: Global) -> Result<String, Memory> {
-        if self.0 > 18 || self.1 > 18 - self.0 {
-            return Err(Memory);
-        }
-        let view = three_parts(alloc)?;
-        let mut range = DataView::empty(alloc);
-        range.add(1, 2)?;
-        range.add_part(&view, self.0, self.1)?;
-        shown(alloc, &range)
-    }
-}
-
-#[test]
-fn ranges_are_told(rt: HostRuntime) -> Result<(), Memory> {
-    all_are_told(&rt, RANGES)
 }
 
 // A block of one byte at 64, and at 96 a DLBLOCK that names it so many times.

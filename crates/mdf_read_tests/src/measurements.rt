@@ -1,8 +1,7 @@
 use crate::files::{Piece, file_of, put, put_numbers};
 use crate::told::{Told, all_are_told, shown};
-use mdf_model::Measurement;
+use mdf_model::{Measurement, read_file};
 use mdf_num::{Bytes, Memory, Rows};
-use mdf_valid::read_file;
 use std::alloc::Global;
 use std::fmt::Debug;
 

@@ -6,8 +6,8 @@ use crate::measurements::{FILE, MASTER as SHORT_MASTER, TEXT};
 use crate::recorded::{FH, HD, MD};
 use mdf_model::{Measurement, read_measurement};
 use mdf_num::{Bytes, Memory};
-use mdf_sorted::spell_sorted;
 use std::alloc::Global;
+use tool_sort::spell_sorted;
 
 // The body of the new entry of the history, whose time is 0x1112131415161718 ns, and its comments.
 const NOW: &[u8; 16] = b"\x18\x17\x16\x15\x14\x13\x12\x11\0\0\0\0\0\0\0\0";

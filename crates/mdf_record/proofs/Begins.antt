@@ -7,8 +7,8 @@ use Rattle.mdf_layout.specs.Stored.{IsStored}
 use Rattle.mdf_layout.specs.declared.sample.Sample.{Sample}
 use Rattle.book_owned.specs.Begun.{IsAdmissible}
 use Rattle.book_view.specs.Known.{Note}
-use Rattle.acq_live.specs.Watching.{Watches}
-use Rattle.acq_live.specs.declared.watcher.Watcher.{Watcher}
+use Rattle.acq_run.specs.Watching.{Watches}
+use Rattle.acq_run.specs.declared.watcher.Watcher.{Watcher}
 use Rattle.acq_script.specs.Plan.{IsGroup, IsPlan}
 use Rattle.acq_script.specs.declared.script.Plan.{Plan}
 use Rattle.mdf_command.specs.declared.fault.Fault.{Fault}

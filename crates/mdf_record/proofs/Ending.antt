@@ -13,8 +13,8 @@ use Rattle.book_owned.specs.Begun.{HasBegun}
 use Rattle.book_owned.specs.Marks.{durable}
 use Rattle.book_owned.specs.declared.mark.Mark.{Mark}
 use Rattle.book_view.specs.Known.{Note}
-use Rattle.acq_live.specs.Audience.{count_in, tells_of}
-use Rattle.acq_live.specs.declared.audience.Audience.{Audience}
+use Rattle.acq_run.specs.Audience.{count_in, tells_of}
+use Rattle.acq_run.specs.declared.audience.Audience.{Audience}
 use Rattle.acq_script.specs.declared.script.Script.{Script}
 use Rattle.acq_script.specs.declared.script.Task.{Task}
 use Rattle.mdf_command.specs.declared.fault.Fault.{Fault}

@@ -26,8 +26,8 @@ use Rattle.book_owned.specs.Kept.{HoldsDurable, IsKept}
 use Rattle.mdf_gate.specs.Carried.{IsCarried, IsEncoded}
 use Rattle.book_owned.specs.Marks.{durable}
 use Rattle.book_view.specs.Known.{Note}
-use Rattle.acq_live.specs.Watching.{counted}
-use Rattle.acq_live.specs.declared.audience.Audience.{Audience}
+use Rattle.acq_run.specs.Watching.{counted}
+use Rattle.acq_run.specs.declared.audience.Audience.{Audience}
 use Rattle.acq_script.specs.Tasks.{samples_of}
 use Rattle.acq_script.specs.Stage.{IsScript}
 use Rattle.acq_script.specs.declared.script.Script.{Script}

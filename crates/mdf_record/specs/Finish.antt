@@ -5,8 +5,8 @@ use Rattle.mdf_disk.specs.State.{DiskState}
 use Rattle.mdf_disk.specs.Crash.{HoldsSince}
 use Rattle.mdf_layout.specs.declared.sample.Sample.{Sample}
 use Rattle.book_view.specs.Known.{Note}
-use Rattle.acq_live.specs.Audience.{count_in, tells_of}
-use Rattle.acq_live.specs.declared.audience.Audience.{Audience}
+use Rattle.acq_run.specs.Audience.{count_in, tells_of}
+use Rattle.acq_run.specs.declared.audience.Audience.{Audience}
 use Rattle.mdf_disk.specs.declared.role.Role.TheVariants.{Create}
 use Rattle.mdf_gate.specs.Images.{IsBegun}
 use Rattle.book_owned.specs.Marks.{durable}

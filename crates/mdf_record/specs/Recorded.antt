@@ -12,12 +12,12 @@ use Rattle.mdf_gate.specs.Gated.{Gated}
 use Rattle.mdf_gate.specs.Images.{IsBegun, head_of}
 use Rattle.book_owned.specs.Account.{Account}
 use Rattle.book_owned.specs.Kept.{HoldsDurable, IsKept}
-use Rattle.acq_live.specs.declared.audience.Audience.{Audience}
+use Rattle.acq_run.specs.declared.audience.Audience.{Audience}
 use Rattle.book_owned.specs.Marks.{durable}
 use Rattle.acq_script.specs.Stage.{IsScript}
 use Rattle.acq_script.specs.declared.script.Script.{Script}
 use Rattle.mdf_carried.specs.Recovers.{IsReadHead}
-use Rattle.script_gen.specs.Generated.{generated_script}
+use Rattle.acq_script.specs.Generated.{generated_script}
 use Rattle.mdf_record.specs.Head.{script_head}
 use Rattle.mdf_record.specs.Script.{SaysScript, ScriptFaultComes}
 use Rattle.mdf_record.specs.Finish.{FileFaultComes}

@@ -8,9 +8,9 @@ use Rattle.book_view.specs.Known.{Note}
 use Rattle.acq_run.specs.Ran.{AllMayFeed, AllRan}
 use Rattle.acq_run.specs.declared.tasks.Fed.{Fed}
 use Rattle.acq_run.specs.declared.work.Driven.{Driven}
-use Rattle.acq_live.specs.Audience.{count_in, hands_in, shows_in, which_in}
-use Rattle.acq_live.specs.Watching.{Watches, counted}
-use Rattle.acq_live.specs.declared.audience.Audience.{Audience}
+use Rattle.acq_run.specs.Audience.{count_in, hands_in, shows_in, which_in}
+use Rattle.acq_run.specs.Watching.{Watches, counted}
+use Rattle.acq_run.specs.declared.audience.Audience.{Audience}
 use Rattle.acq_script.specs.declared.script.Task.{Task}
 use Rattle.mdf_command.specs.declared.fault.Fault.{Fault}
 use Rattle.mdf_command.specs.declared.fault.Fault.TheVariants.{Memory}

@@ -2,7 +2,7 @@ ghost use Rattle.std.specs.Prelude.{◌≡◌, ◌≤◌, ◌++◌, List, [], tr
 ghost use Rattle.mdf_disk.specs.State.{state_of};
 ghost use Rattle.book_owned.specs.Begun.{HasBegun, IsAdmissible, IsNewFile};
 ghost use Rattle.acq_script.specs.Stage.{IsScript};
-ghost use Rattle.script_gen.specs.Generated.{generated_script};
+ghost use Rattle.acq_script.specs.Generated.{generated_script};
 ghost use Rattle.mdf_spell.specs.Recording.{head_file};
 ghost use Rattle.mdf_group.specs.Recordable.{AreRecordable};
 ghost use Rattle.mdf_record.specs.Script.{SaysScript, ScriptFaultComes};
@@ -14,14 +14,14 @@ ghost use Rattle.mdf_record.specs.Record.{fault_text, live_text, outcome, record
 ghost use Rattle.mdf_record.specs.Recorded.{RecordComes, Closes, HasRun};
 ghost use Rattle.mdf_record.specs.Recovers.{AreRecovered};
 ghost use Rattle.mdf_record.specs.Work.{HasNotWorked, IsPrepared, MayWork, Works, fed_by};
-ghost use Rattle.acq_live.specs.Audience.{count_in, hands_in, shows_in};
+ghost use Rattle.acq_run.specs.Audience.{count_in, hands_in, shows_in};
 ghost use Rattle.mdf_layout.specs.declared.sample.Sample.{Sample};
 
 use crate::gate::Gate;
 use crate::head::head_for;
 use crate::sources::{Accepted, End, TaskFeed, feeds_of, told_all};
-use acq_live::{Audience, Gathered, Watcher, last_look, record_live};
-use acq_script::{Script, Task, read_script};
+use acq_run::{Audience, Gathered, Watcher, last_look, record_live};
+use acq_script::{Script, Task, generated, read_script};
 use book_owned::{Book, Flush, Marks, Shown};
 use book_view::Told;
 use mdf_carried::what_is_carried_is_recovered;
@@ -33,7 +33,6 @@ use mdf_group::GroupRow;
 use mdf_layout::{Samples, Shapes};
 use mdf_num::{Bytes, Failed, Memory, Rows};
 use mdf_port::{Sink, Source, take_all};
-use script_gen::generated;
 use std::alloc::Global;
 use std::sync::Wait;
 use std::thread::Threads;

@@ -13,7 +13,7 @@ use Rattle.mdf_command.specs.Texts.{Prints, unwritten_status}
 use Rattle.mdf_command.specs.Faults.{fault_line, fault_status, refused_status}
 use Rattle.mdf_command.specs.declared.fault.Fault.{Fault}
 use Rattle.mdf_command.specs.declared.fault.Fault.TheVariants as fault
-use Rattle.mdf_make.specs.Making.{EndsMaking, Inputs, MakingComes, making_status, making_text}
+use Rattle.mdf_run.specs.Making.{EndsMaking, Inputs, MakingComes, making_status, making_text}
 use Rattle.mdf_inspect.specs.Opened.{EndsOpened, OpenedComes, OpenedFaultComes, opened_status, opened_text}
 use Rattle.mdf_inspect.specs.Reading.{EndsReading, ReadingComes, ReadingFaultComes, answer_text, reading_status}
 use Rattle.mdf_inspect.specs.Export.{EndsExport, PrintsEnd, TableComes, TableFaultComes}

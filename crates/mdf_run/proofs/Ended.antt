@@ -6,15 +6,15 @@ use Rattle.mdf_disk.specs.declared.disk.Disk.{Ghosts}
 use Rattle.mdf_disk.specs.declared.role.Role.{Role}
 use Rattle.mdf_disk.specs.declared.role.Role.TheVariants.{Read, Create}
 use Rattle.acq_script.specs.declared.script.Script.{Script}
-use Rattle.script_gen.specs.Generated.{generated_script}
+use Rattle.acq_script.specs.Generated.{generated_script}
 use Rattle.mdf_inspect.specs.Question.{text_for}
 use Rattle.mdf_inspect.specs.declared.answer.Question.{Question}
 use Rattle.mdf_inspect.specs.declared.answer.Question.TheVariants.{Verdict, Contents}
-use Rattle.mdf_make.specs.Cut.{Cuts}
-use Rattle.mdf_make.specs.Concat.{AreNotJoined, Joins, two_inputs}
-use Rattle.mdf_make.specs.Finalize.{Finalizes, IsNoRecording}
-use Rattle.mdf_make.specs.Making.{one_input}
-use Rattle.mdf_make.specs.Sort.{IsNotMeasured, Sorts}
+use Rattle.mdf_run.specs.Cut.{Cuts}
+use Rattle.mdf_run.specs.Concat.{AreNotJoined, Joins, two_inputs}
+use Rattle.mdf_run.specs.Finalize.{Finalizes, IsNoRecording}
+use Rattle.mdf_run.specs.Making.{one_input}
+use Rattle.mdf_run.specs.Sort.{IsNotMeasured, Sorts}
 use Rattle.mdf_record.specs.Recovers.{AreRecovered}
 use Rattle.mdf_command.specs.Texts.{Prints, usage_line}
 use Rattle.mdf_carried.specs.Recovers.{IsReadable}

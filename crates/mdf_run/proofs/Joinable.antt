@@ -13,7 +13,7 @@ use Rattle.mdf_command.proofs.Pieces.{first_of}
 use Rattle.mdf_command.specs.Faults.{INPUT_LIMIT, fault_status}
 use Rattle.mdf_command.specs.declared.fault.Fault.{Fault}
 use Rattle.mdf_command.specs.declared.fault.Fault.TheVariants as fault
-use Rattle.mdf_make.specs.Concat.{AreBothLoaded, AreNotJoined, EndsConcat, Joins, OneIsOver, two_inputs}
+use Rattle.mdf_run.specs.Concat.{AreBothLoaded, AreNotJoined, EndsConcat, Joins, OneIsOver, two_inputs}
 use Rattle.mdf_run.specs.Kept.{AreJoinable, IsDoneOrLacked}
 use Rattle.mdf_run.proofs.Sound.{loaded_is, making_well, not_over, not_refused, one_read}
 

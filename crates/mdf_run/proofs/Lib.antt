@@ -2,6 +2,7 @@ mod Causes
 mod Ended
 mod Joinable
 mod Keeps
+pub mod Leaving
 mod Recovered
 mod Requests
 mod Scripts

@@ -3,7 +3,7 @@ use Rattle.std.proofs.Common.{◌≡◌, ◌⊎◌, ◌-◌, ◌<◌, ◌≤◌,
 use Rattle.mdf_disk.specs.Story.{Story, LeftSince}
 use Rattle.mdf_disk.specs.Crash.{HoldsSince}
 use Rattle.mdf_layout.specs.declared.sample.Sample.{Sample}
-use Rattle.mdf_recovered.specs.Samples.{IsRecovered}
+use Rattle.mdf_carried.specs.Samples.{IsRecovered}
 use Rattle.book_owned.specs.Marks.{last_mark, durable}
 use Rattle.book_owned.specs.declared.mark.Mark.{Mark}
 use Rattle.mdf_port.specs.State.{SinkState}

@@ -12,10 +12,10 @@ use Rattle.mdf_inspect.specs.Check.{EndsCheck}
 use Rattle.mdf_inspect.specs.Info.{EndsInfo}
 use Rattle.mdf_inspect.specs.Export.{EndsExport}
 use Rattle.mdf_inspect.specs.declared.answer.Question.TheVariants.{Verdict, Contents}
-use Rattle.mdf_make.specs.Finalize.{EndsFinalize}
-use Rattle.mdf_make.specs.Sort.{EndsSort}
-use Rattle.mdf_make.specs.Cut.{EndsCut}
-use Rattle.mdf_make.specs.Concat.{EndsConcat}
+use Rattle.mdf_run.specs.Finalize.{EndsFinalize}
+use Rattle.mdf_run.specs.Sort.{EndsSort}
+use Rattle.mdf_run.specs.Cut.{EndsCut}
+use Rattle.mdf_run.specs.Concat.{EndsConcat}
 use Rattle.mdf_record.specs.Recorded.{EndsGenerated, EndsRecord}
 use Rattle.mdf_command.specs.Words.{Asks, Request, arguments_of, input_of, name_of, name_text, output_of, second_of}
 use Rattle.mdf_command.specs.Words as words

@@ -4,7 +4,7 @@ use Rattle.std.specs.Fmt.{decimal}
 use Rattle.std.proofs.lemmas.Fmt.{decimal_injective}
 use Rattle.acq_script.specs.Script.{script_of}
 use Rattle.acq_script.specs.declared.script.Script.{Script}
-use Rattle.script_gen.specs.Generated.{generated_script}
+use Rattle.acq_script.specs.Generated.{generated_script}
 use Rattle.mdf_command.specs.Words.{AsksGenerated, AsksRecord, IsUsage, generated, recorded}
 use Rattle.mdf_run.specs.Kept.{IfRecorded, OfRecording}
 

@@ -15,9 +15,9 @@ use Rattle.mdf_command.specs.Load.{IsLoaded, IsOver}
 use Rattle.mdf_command.specs.Texts.{unwritten_status}
 use Rattle.mdf_command.specs.declared.fault.Fault.{Fault}
 use Rattle.mdf_command.specs.declared.fault.Fault.TheVariants as fault
-use Rattle.mdf_make.specs.Finalize.{IsNoRecording}
-use Rattle.mdf_make.specs.Sort.{IsNotMeasured}
-use Rattle.mdf_make.specs.Making.{EndsMaking, Inputs, MakingComes, making_text, making_status, one_input}
+use Rattle.mdf_run.specs.Finalize.{IsNoRecording}
+use Rattle.mdf_run.specs.Sort.{IsNotMeasured}
+use Rattle.mdf_run.specs.Making.{EndsMaking, Inputs, MakingComes, making_text, making_status, one_input}
 use Rattle.mdf_inspect.specs.Export.{EndsExport, LacksGroup, PrintsEnd, TableComes, TableFaultComes}
 use Rattle.mdf_inspect.specs.declared.table.TableEnd.{TableEnd}
 use Rattle.mdf_inspect.specs.declared.table.TableEnd.TheVariants.{Given, Unwritten, Refused}

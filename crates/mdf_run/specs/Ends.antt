@@ -6,7 +6,7 @@ use Rattle.mdf_disk.specs.State.{DiskState}
 use Rattle.mdf_disk.specs.Crash.{HoldsSince}
 use Rattle.acq_script.specs.Script.{script_of}
 use Rattle.acq_script.specs.declared.script.Script.{Script}
-use Rattle.script_gen.specs.Generated.{generated_script}
+use Rattle.acq_script.specs.Generated.{generated_script}
 use Rattle.tool_final.specs.Finalize.{IsFinalizeImage}
 use Rattle.tool_sort.specs.Sort.{IsSortImage}
 use Rattle.tool_cut.specs.Cut.{IsCutImage}
@@ -16,10 +16,10 @@ use Rattle.mdf_inspect.specs.Opened.{EndsOpened}
 use Rattle.mdf_inspect.specs.Reading.{EndsReading}
 use Rattle.mdf_inspect.specs.Question.{text_for}
 use Rattle.mdf_inspect.specs.Export.{EndsExport}
-use Rattle.mdf_make.specs.Finalize.{EndsFinalize}
-use Rattle.mdf_make.specs.Sort.{EndsSort}
-use Rattle.mdf_make.specs.Cut.{EndsCut}
-use Rattle.mdf_make.specs.Concat.{EndsConcat}
+use Rattle.mdf_run.specs.Finalize.{EndsFinalize}
+use Rattle.mdf_run.specs.Sort.{EndsSort}
+use Rattle.mdf_run.specs.Cut.{EndsCut}
+use Rattle.mdf_run.specs.Concat.{EndsConcat}
 use Rattle.mdf_record.specs.Record.{Outcome}
 use Rattle.mdf_record.specs.Recorded.{EndsGenerated, EndsRecord}
 use Rattle.mdf_record.specs.Recovers.{AreRecovered}

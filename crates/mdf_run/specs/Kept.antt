@@ -12,7 +12,7 @@ use Rattle.book_owned.specs.declared.mark.Mark.{Mark}
 use Rattle.acq_script.specs.Script.{script_of}
 use Rattle.acq_script.specs.Tasks.{samples_of}
 use Rattle.acq_script.specs.declared.script.Script.{Script}
-use Rattle.script_gen.specs.Generated.{generated_script}
+use Rattle.acq_script.specs.Generated.{generated_script}
 use Rattle.mdf_command.specs.Words.{AsksConcat, AsksGenerated, AsksRecord}
 use Rattle.mdf_model.specs.Measurement.{Measured, measurement}
 use Rattle.tool_concat.specs.Difference.{AreAlike}

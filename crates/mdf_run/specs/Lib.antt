@@ -1,3 +1,9 @@
 pub mod Kept
 pub mod Asked
 pub mod Ends
+pub mod Tool
+pub mod Making
+pub mod Finalize
+pub mod Sort
+pub mod Cut
+pub mod Concat

@@ -6,8 +6,8 @@ ghost use Rattle.mdf_run.specs.Asked.{AreBounds, IsOnlyMade, IsOnlyRead, second_
 ghost use Rattle.mdf_run.specs.Ends.{EndsMake, Leaves};
 
 use crate::asked::Tool;
+use crate::{run_concat, run_cut, run_finalize, run_sort};
 use mdf_disk::Disk;
-use mdf_make::{run_concat, run_cut, run_finalize, run_sort};
 use mdf_num::Bytes;
 use mdf_port::Sink;
 use std::alloc::Global;

@@ -5,7 +5,7 @@ ghost use Rattle.mdf_port.specs.State.{sink_state, source_state};
 ghost use Rattle.mdf_disk.specs.State.{state_of};
 ghost use Rattle.acq_script.specs.Script.{script_of};
 ghost use Rattle.acq_script.specs.declared.script.Script.{Script};
-ghost use Rattle.script_gen.specs.Generated.{generated_script};
+ghost use Rattle.acq_script.specs.Generated.{generated_script};
 ghost use Rattle.mdf_record.specs.Record.{outcome};
 ghost use Rattle.mdf_record.specs.Recorded.{EndsGenerated, EndsRecord};
 ghost use Rattle.mdf_record.specs.Recovers.{AreRecovered};

@@ -1,5 +1,5 @@
 //! Every fault and every stop: each test goes up to the first call that a run does not make.
-ghost use Rattle.std.specs.Prelude.{◌≡◌, None, IfOk};
+ghost use Rattle.std.specs.Prelude.{◌≡◌, None};
 
 use crate::cuts::CUT;
 use crate::files::{FINALIZE, FINALIZE_WORDS, File, SORT, bytes_of};

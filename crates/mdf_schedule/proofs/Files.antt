@@ -19,7 +19,7 @@ use Rattle.acq_script.specs.Stage.{IsScript}
 use Rattle.acq_script.specs.declared.script.Script.{Script}
 use Rattle.mdf_record.specs.Head.{script_head}
 use Rattle.mdf_record.specs.Record.{Outcome}
-use Rattle.mdf_same.specs.Schedules.{IsRecordingOf}
+use Rattle.mdf_schedule.specs.Schedules.{IsRecordingOf}
 use Rattle.mdf_schedule.specs.Outcomes.{LeavesWhole}
 
 -- the layouts of a plan's rows

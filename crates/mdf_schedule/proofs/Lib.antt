@@ -1,3 +1,12 @@
-mod Groups
-mod Files
+pub mod Bits
+pub mod Chunks
 mod Closed
+mod Contents
+pub mod Fields
+mod Files
+mod Found
+mod Groups
+mod Measures
+pub mod Owns
+pub mod Pieces
+mod Stored

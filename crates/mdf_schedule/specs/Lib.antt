@@ -1,1 +1,3 @@
 pub mod Outcomes
+pub mod Records
+pub mod Schedules

@@ -8,7 +8,7 @@ ghost use Rattle.tool_sort.specs.Sort.{IsSorting};
 ghost use Rattle.mdf_record.specs.Record.{Outcome};
 ghost use Rattle.mdf_schedule.specs.Outcomes.{AgreeScripts, IsRecordedTo, LeavesWhole};
 
-use mdf_same::one_sorted_file_of_each_schedule;
+use crate::histories::one_sorted_file_of_each_schedule;
 
 /// A law: two scripts of one plan that hand in the same samples of each group were recorded at one time, each whole. Then both
 /// recordings give the same bytes where both are finalized at one time and then sorted at one time, however the sources were

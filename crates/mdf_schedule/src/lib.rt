@@ -1,8 +1,14 @@
-//! However the sources of a script were served, its recording gives one sorted file.
+//! However the sources of a script were served, its recording gives one sorted file: the records of a recording, group by
+//! group, follow from the samples of each group, and so recordings whose histories agree group by group give one sorted file,
+//! however the groups were mixed.
 #![tactic(auto)]
 
+mod histories;
 mod law;
+mod records;
 
+pub use histories::{one_measurement_of_each_schedule, one_sorted_file_of_each_schedule};
 pub use law::{
     recordings_that_agree_give_one_sorted_file, scripts_that_agree_give_one_sorted_file,
 };
+pub use records::{a_sample_has_one_record, groups_have_one_content};

@@ -1,5 +1,5 @@
 -- A range of a stream: its first part, its bytes, its size, and where its parts lie.
-use Rattle.std.proofs.Common.{◌≡◌, ◌+◌, ◌-◌, ◌<◌, ◌≤◌, ℕ, zero, suc, List, [], ◌∷◌, ◌++◌, length, get_or, take, refl, sym, ◌∙◌, ap, subst, arith, append-nil, inl, inr}
+use Rattle.std.proofs.Common.{◌≡◌, ◌+◌, ◌-◌, ◌<◌, ◌≤◌, ℕ, zero, suc, List, [], ◌∷◌, ◌++◌, length, get_or, take, refl, sym, ◌∙◌, ap, arith, append-nil, inl, inr}
 use Rattle.std.specs.Prelude.{min}
 use Rattle.std.proofs.lemmas.List.{take_all, drop_all}
 use Rattle.std.proofs.lemmas.List.Concat.{flat_map-append}
@@ -35,13 +35,6 @@ unfolding parts_between
 range_here part parts at len n is some =
     ap (λ (m : ℕ). part_at (part.at + at) m ++ parts_between parts (at - part.len) (len - m)) is
     ∙ ap (λ (xs : List Part). xs ++ parts_between parts (at - part.len) (len - n)) (part_at_some (part.at + at) n some)
-
--- no bytes are no parts
-pub range_none : (parts : List Part) (at : ℕ) → parts_between parts at 0 ≡ []
-unfolding parts_between
-range_none [] at = refl
-range_none (part ∷ parts) at =
-    let none : shared part at 0 ≡ 0 = omega arith in range_past part parts at 0 none ∙ range_none parts (at - part.len)
 
 -- the range begins in the part that has its place, and goes on behind it
 module _ (place len : ℕ) (d : Stretch) where
@@ -181,18 +174,3 @@ range_inside size (part ∷ parts) at len inside =
     all_more (IsPartInside size) (part_at (part.at + at) n) (parts_between parts (at - part.len) (len - n))
     (part_at_inside size (part.at + at) n (λ some. omega (arith, some, inside.0)))
     (range_inside size parts (at - part.len) (len - n) inside.1)
-
--- the first parts of a stream, to their end
-pub joined_front : (at : ℕ) (stretches : List Stretch) (end n : ℕ) → AreJoined at stretches end
-    → AreJoined at (take n stretches) (at + stream_size (parts_of (take n stretches)))
-unfolding AreJoined
-joined_front at stretches end zero joined = let same : at + 0 ≡ at = omega arith in same
-joined_front at [] end (suc n) joined = let same : at + 0 ≡ at = omega arith in same
-joined_front at (stretch ∷ stretches) end (suc n) joined =
-    let rest = parts_of (take n stretches) in
-    let same : stretch.end + stream_size rest ≡ at + stream_size (stretch.part ∷ rest) =
-    omega (arith, joined.0, sum_by-cons (λ (p : Part). p.len) stretch.part rest) in (
-      joined.0,
-      joined.1,
-      subst (AreJoined stretch.end (take n stretches)) same (joined_front stretch.end stretches end n joined.2),
-    )

@@ -1,4 +1,4 @@
-ghost use Rattle.std.specs.Prelude.{◌≡◌, ◌+◌, ◌-◌, ◌^◌, ◌≤◌, ◌<◌, ◌↔◌, ◌++◌, ◌∷◌, [], ℕ, List, Some, length, take, IsTrue, IfOk, OnOk, OnErr};
+ghost use Rattle.std.specs.Prelude.{◌≡◌, ◌+◌, ◌-◌, ◌^◌, ◌≤◌, ◌<◌, ◌↔◌, ◌++◌, ◌∷◌, [], ℕ, List, Some, length, IsTrue, IfOk, OnOk, OnErr};
 ghost use Rattle.mdf_format.specs.Number.{le_number, bytes_at};
 ghost use Rattle.mdf_num.specs.Halt.{StopCause};
 ghost use Rattle.mdf_stream.specs.Parts.{AreBehind, stream_of, stream_size, ArePartsInside};
@@ -81,58 +81,6 @@ impl DataView {
         Ok(())
     }
 
-    /// Adds the parts of a range of a stream, one by one.
-    ///
-    /// # Errors
-    /// Want of memory. The parts that were there are still the first.
-    fn add_range(&mut self, view: &DataView, at: u64, len: u64) -> Result<(), Memory>
-        requires within { at + len ≤ stream_size view.now }
-        requires room { stream_size self.old + len < 2 ^ 62 }
-        ensures ok { OnOk result (self.new ≡ self.old ++ parts_between view.now at len) }
-        ensures err { OnErr result (take (length self.old) self.new ≡ self.old) }
-    {
-        let mut place = at;
-        let mut left = len;
-        let mut near = 0;
-        while left > 0 {
-            let part = front_of(view.items.as_slice(), view.end, place, left, &mut near);
-            self.add(part.at, part.len)?;
-            place += part.len;
-            left -= part.len;
-        }
-        Ok(())
-    }
-
-    /// Takes away all but the first parts, of which the last ends at `end`.
-    fn truncate(&mut self, count: usize, end: u64)
-        requires ends { stream_size (take count self.old) ≡ end }
-        ensures { self.new ≡ take count self.old }
-    {
-        self.items.truncate(count);
-        self.end = end;
-    }
-
-    /// Adds the `len` bytes of another stream from `at` on at the end of this one: of each of its parts what lies in that
-    /// range. Nothing is copied.
-    ///
-    /// # Errors
-    /// Want of memory. The stream is as before.
-    pub fn add_part(&mut self, view: &DataView, at: u64, len: u64) -> Result<(), Memory>
-        requires within { at + len ≤ stream_size view.now }
-        requires room { stream_size self.old + len < 2 ^ 62 }
-        ensures ok { OnOk result (self.new ≡ self.old ++ parts_between view.now at len) }
-        ensures err { OnErr result (self.new ≡ self.old) }
-        ensures inside { (size : ℕ) → ArePartsInside size self.old → ArePartsInside size view.now → OnOk result (ArePartsInside size self.new) }
-    {
-        let count = self.items.len();
-        let end = self.end;
-        if let Err(memory) = self.add_range(view, at, len) {
-            self.truncate(count, end);
-            return Err(memory);
-        }
-        Ok(())
-    }
-
     /// The first part of the range of `len` bytes from a place of the stream on: where in the file its next bytes stand. Part `near`
     /// of the stream and the next are tried first: any number will do, and it becomes the number of the part that has it.
     pub fn first_part(&self, at: u64, len: u64, near: &mut usize) -> Part
@@ -199,24 +147,9 @@ impl DataView {
         }
     }
 
-    /// The number in the 4 bytes of the stream from `at` on.
-    ///
-    /// # Errors
-    /// The span's own. It is as before in what it tells.
-    pub fn u32_in<P: Span>(&self, span: &mut P, at: u64) -> Result<u32, Stop>
-        requires inside { ArePartsInside (P.size span.old) self.now }
-        requires within { at + 4 ≤ stream_size self.now }
-        ensures number { IfOk result (λ n. (f : List ℕ) → P.bytes span.old ≡ Some f → n ≡ le_number (bytes_at 4 (stream_of f self.now) at)) }
-        ensures same { P.bytes span.new ≡ P.bytes span.old }
-        ensures size { P.size span.new ≡ P.size span.old }
-        ensures cause { StopCause P.may_want (P.faults span.old) (P.faults span.new) result }
-    {
-        let mut near = 0;
-        self.u32_near(span, at, &mut near)
-    }
-
-    /// As `u32_in`, where part `near` of the stream and the next are tried first: any number will do, and it becomes the
-    /// number of the part that was read last. Places that rise are found so without a search.
+    /// The number in the 4 bytes of the stream from `at` on. Part `near` of the stream and the next are tried first: any
+    /// number will do, and it becomes the number of the part that was read last. Places that rise are found so without a
+    /// search.
     ///
     /// # Errors
     /// The span's own. It is as before in what it tells.

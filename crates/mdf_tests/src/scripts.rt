@@ -1,10 +1,9 @@
 use crate::told::is_told;
-use acq_script::{Plan, Script, ScriptFault, Task, read_script};
+use acq_script::{Plan, Script, ScriptFault, Task, generated, read_script};
 use mdf_block::Note;
 use mdf_group::{ChannelRow, GroupRow};
 use mdf_layout::{Entry, Sample, Value};
 use mdf_num::{Memory, Rows};
-use script_gen::generated;
 use std::alloc::Global;
 use std::process::Abort;
 use std::test::Fail;

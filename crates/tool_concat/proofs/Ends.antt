@@ -5,7 +5,7 @@ use Rattle.mdf_disk.specs.State.{DiskState}
 use Rattle.mdf_disk.specs.Story.{Story}
 use Rattle.mdf_disk.proofs.Crash.{adds_more}
 use Rattle.mdf_model.specs.Measurement.{Measured, measurement}
-use Rattle.mdf_sorted.specs.Kept.{StandsIn}
+use Rattle.tool_sort.specs.Kept.{StandsIn}
 use Rattle.mdf_tool.specs.Tool.{IsToolImage, WriteEnds}
 use Rattle.mdf_tool.specs.declared.fault.ToolFault.{ToolFault}
 use Rattle.mdf_tool.specs.declared.fault.ToolFault.TheVariants as tool

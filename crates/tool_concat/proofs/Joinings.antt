@@ -6,7 +6,7 @@ use Rattle.mdf_data.proofs.Pieces.{length-bytes}
 use Rattle.mdf_content.specs.Samples.{AreSamples, record_at}
 use Rattle.mdf_layout.specs.Layout.{Layout, record_size}
 use Rattle.mdf_vlsd.specs.Value.{value_at}
-use Rattle.mdf_sorted.proofs.Behind.{HasSample, more_samples, record_inside}
+use Rattle.tool_sort.proofs.Behind.{HasSample, more_samples, record_inside}
 use Rattle.tool_concat.specs.Joined.{joined_streams}
 use Rattle.tool_concat.specs.Moved.{AreMoved, IsMoved, offset_in}
 use Rattle.tool_concat.proofs.Finds.{first_finds, joined_length, sample_too, second_finds}

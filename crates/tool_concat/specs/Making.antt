@@ -6,9 +6,9 @@ use Rattle.mdf_content.specs.Layouts.{layout_of}
 use Rattle.mdf_group.specs.Group.{is_variable}
 use Rattle.mdf_model.specs.declared.part.Measure.{Measure}
 use Rattle.mdf_model.specs.Measurement.{HasSamples, Measured, measurement}
-use Rattle.mdf_sorted.specs.Kept.{IsSortedOf, StandsIn}
-use Rattle.mdf_sorted.specs.Made.{report_for}
-use Rattle.mdf_sorted.specs.Sorted.{sorted_file}
+use Rattle.tool_sort.specs.Kept.{IsSortedOf, StandsIn}
+use Rattle.tool_sort.specs.Made.{report_for}
+use Rattle.tool_sort.specs.Sorted.{sorted_file}
 use Rattle.mdf_disk.specs.State.{DiskState}
 use Rattle.mdf_tool.specs.declared.fault.ToolFault.{ToolFault}
 use Rattle.mdf_tool.specs.declared.fault.ToolFault.TheVariants as tool

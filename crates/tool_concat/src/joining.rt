@@ -3,7 +3,7 @@ ghost use Rattle.std.specs.List.{AllByRecursion};
 ghost use Rattle.mdf_disk.specs.Crash.{Adds};
 ghost use Rattle.mdf_disk.specs.State.{state_of};
 ghost use Rattle.mdf_seal.specs.Seal.{IsBlank};
-ghost use Rattle.mdf_sorted.specs.Kept.{StandsIn};
+ghost use Rattle.tool_sort.specs.Kept.{StandsIn};
 ghost use Rattle.tool_concat.specs.Concat.{ConcatEnds, IsConcatImage};
 ghost use Rattle.tool_concat.specs.Making.{CanJoin, FirstRead, IsLaid, IsMadeFrom, IsMadeOf, IsRefusal, IsRefused, SecondRead, unwritten};
 ghost use Rattle.tool_concat.specs.Joined.{IsJoined};
@@ -16,9 +16,9 @@ use mdf_content::ReadFault;
 use mdf_disk::Disk;
 use mdf_model::Measurement;
 use mdf_num::{Bytes, Memory};
-use mdf_sorted::{make_sorted, take_standing};
 use mdf_tool::{Made, Report, ToolFault, write_made};
 use std::alloc::Global;
+use tool_sort::{make_sorted, take_standing};
 
 /// The measurement of the first file, which is handed over.
 fn first_of(alloc: Global, file: Bytes) -> Result<Measurement, ConcatFault>

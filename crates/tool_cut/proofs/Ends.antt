@@ -6,8 +6,8 @@ use Rattle.mdf_disk.specs.State.{DiskState}
 use Rattle.mdf_disk.specs.Story.{Story}
 use Rattle.mdf_disk.proofs.Crash.{adds_more}
 use Rattle.mdf_model.specs.Measurement.{Measured, measurement}
-use Rattle.mdf_sorted.specs.Kept.{IsSortedOf}
-use Rattle.mdf_sorted.specs.Made.{IsMadeOf}
+use Rattle.tool_sort.specs.Kept.{IsSortedOf}
+use Rattle.tool_sort.specs.Made.{IsMadeOf}
 use Rattle.mdf_tool.specs.Tool.{IsToolImage, WriteEnds}
 use Rattle.mdf_tool.specs.declared.made.Made.{Made}
 use Rattle.mdf_tool.specs.declared.made.Report.{Report}

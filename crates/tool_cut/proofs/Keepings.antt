@@ -5,7 +5,7 @@ use Rattle.mdf_data.proofs.Pieces.{length-bytes}
 use Rattle.mdf_content.specs.Samples.{AreSamples, record_at}
 use Rattle.mdf_layout.specs.Layout.{Layout, record_size}
 use Rattle.tool_cut.specs.Kept.{kept_bytes, kept_count}
-use Rattle.mdf_sorted.proofs.Behind.{HasSample, more_samples, record_inside}
+use Rattle.tool_sort.proofs.Behind.{HasSample, more_samples, record_inside}
 
 pub count_more : (keeps : ℕ → Bool) (i : ℕ) → kept_count keeps (i + 1) ≡ kept_count keeps i + (if keeps i then 1 else 0)
 unfolding kept_count

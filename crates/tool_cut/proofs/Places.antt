@@ -8,7 +8,7 @@ use Rattle.mdf_layout.specs.Layout.{Layout, record_size}
 use Rattle.mdf_layout.specs.declared.field.FieldRow.{FieldRow}
 use Rattle.tool_cut.specs.Kept.{is_kept, kept_bytes, kept_count}
 use Rattle.tool_cut.specs.Master.{lies_between}
-use Rattle.mdf_sorted.proofs.Behind.{one_longer}
+use Rattle.tool_sort.proofs.Behind.{one_longer}
 use Rattle.tool_cut.proofs.Keepings.{bytes_more, count_more}
 
 -- what is copied to a place before its own, or to its own

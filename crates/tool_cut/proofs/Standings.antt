@@ -4,7 +4,7 @@ use Rattle.std.specs.List.{AllByRecursion}
 use Rattle.mdf_layout.specs.declared.field.FieldRow.{FieldRow}
 use Rattle.mdf_model.specs.declared.part.Measure.{Measure}
 use Rattle.mdf_model.specs.Measurement.{HasSamples, Measured}
-use Rattle.mdf_sorted.specs.Kept.{IsMeasureIn, StandsIn}
+use Rattle.tool_sort.specs.Kept.{IsMeasureIn, StandsIn}
 use Rattle.tool_cut.specs.Kept.{cut_at, cut_measure, cut_of}
 use Rattle.tool_cut.specs.Master.{master_field}
 use Rattle.tool_cut.proofs.Groups.{by_samples}

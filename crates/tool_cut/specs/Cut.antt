@@ -7,9 +7,9 @@ use Rattle.mdf_content.specs.Fault.{read_refusal}
 use Rattle.mdf_disk.specs.State.{DiskState}
 use Rattle.mdf_model.specs.Measurement.{Measured, measurement}
 use Rattle.mdf_seal.specs.Seal.{IsKept}
-use Rattle.mdf_sorted.specs.Kept.{IsSortedOf}
-use Rattle.mdf_sorted.specs.Made.{report_for}
-use Rattle.mdf_sorted.specs.Sorted.{sorted_file}
+use Rattle.tool_sort.specs.Kept.{IsSortedOf}
+use Rattle.tool_sort.specs.Made.{report_for}
+use Rattle.tool_sort.specs.Sorted.{sorted_file}
 use Rattle.mdf_tool.specs.declared.made.Report.{Report}
 use Rattle.mdf_tool.specs.declared.fault.ToolFault.{ToolFault}
 use Rattle.mdf_tool.specs.declared.fault.ToolFault.TheVariants as tool

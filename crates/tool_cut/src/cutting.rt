@@ -12,9 +12,9 @@ use crate::measure::cut_all;
 use mdf_disk::Disk;
 use mdf_model::Measurement;
 use mdf_num::Bytes;
-use mdf_sorted::{make_sorted, take_standing};
 use mdf_tool::{Report, ToolFault, write_made};
 use std::alloc::Global;
+use tool_sort::{make_sorted, take_standing};
 
 /// The measurement with those records alone whose master lies in the range. It takes no memory.
 fn cut_in(alloc: Global, found: Measurement, range: Range) -> Measurement

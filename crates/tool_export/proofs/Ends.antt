@@ -10,7 +10,7 @@ use Rattle.mdf_model.specs.Measurement.{Measured, measurement, sample_of}
 use Rattle.mdf_num.specs.declared.halt.Stop.{Stop}
 use Rattle.mdf_num.specs.declared.halt.Stop.TheVariants as stop
 use Rattle.mdf_port.specs.State.{SinkState}
-use Rattle.mdf_valid.specs.Measurement.{IsMeasurement}
+use Rattle.mdf_model.specs.InWords.{IsMeasurement}
 use Rattle.tool_export.specs.declared.fault.ExportFault.{ExportFault}
 use Rattle.tool_export.specs.declared.fault.ExportFault.TheVariants as export
 use Rattle.tool_export.specs.Export.{ExportEnds, GivesText, IsGroupOf, NamesNone, fault_or_memory, fault_of_stop}

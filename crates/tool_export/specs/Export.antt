@@ -13,7 +13,7 @@ use Rattle.mdf_model.specs.declared.part.Measure.{Measure}
 use Rattle.mdf_model.specs.Measurement.{Measured, measurement}
 use Rattle.mdf_port.specs.Sink.{AppendsFront}
 use Rattle.mdf_port.specs.State.{SinkState}
-use Rattle.mdf_valid.specs.Measurement.{IsMeasurement}
+use Rattle.mdf_model.specs.InWords.{IsMeasurement}
 use Rattle.tool_export.specs.declared.fault.ExportFault.{ExportFault}
 use Rattle.tool_export.specs.declared.fault.ExportFault.TheVariants as export
 use Rattle.tool_export.specs.Table.{table_of}

@@ -1,7 +1,7 @@
 ghost use Rattle.std.specs.Prelude.{ℕ, ◌≡◌, ◌≤◌, ◌<◌, List, length, slice_index_or, Ok, IfOk, IfErr};
 ghost use Rattle.mdf_model.specs.declared.part.Measure.{Measure};
 ghost use Rattle.mdf_model.specs.Measurement.{measurement};
-ghost use Rattle.mdf_valid.specs.Measurement.{IsMeasurement};
+ghost use Rattle.mdf_model.specs.InWords.{IsMeasurement};
 ghost use Rattle.mdf_port.specs.State.{sink_state};
 ghost use Rattle.tool_export.specs.Export.{ExportEnds, GivesText, NamesNone};
 ghost use Rattle.tool_export.specs.Table.{table_of};
@@ -9,10 +9,9 @@ ghost use Rattle.tool_export.specs.Table.{table_of};
 use crate::ExportFault;
 use crate::give::give_table;
 use crate::samples::GroupSamples;
-use mdf_model::Measurement;
+use mdf_model::{Measurement, take_file};
 use mdf_num::{Bytes, Stop};
 use mdf_port::Sink;
-use mdf_valid::take_file;
 use std::alloc::Global;
 
 /// The number of a group, where there is one.

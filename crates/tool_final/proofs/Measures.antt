@@ -19,12 +19,12 @@ use Rattle.mdf_content.specs.declared.contents.Contents.{Contents}
 use Rattle.mdf_content.specs.Records.{known_of}
 use Rattle.mdf_model.specs.declared.part.Measure.{Measure}
 use Rattle.mdf_model.specs.Measurement.{holds_samples, paired}
-use Rattle.mdf_valid.specs.Bodies.{bodies}
-use Rattle.mdf_valid.specs.Contents.{HasIdSize, empties_in, IsContents, IsDataSplit, sample_groups, IsDataContents}
-use Rattle.mdf_valid.specs.Measurement.{IsFinalizedMdf, IsMeasurement, IsValidData}
-use Rattle.mdf_valid.specs.Same.{plain_head, plain_group, SameRows}
-use Rattle.mdf_valid.proofs.Onces.{none_first}
-use Rattle.mdf_recovered.specs.Recovered.{AreRecords, IsGroupContents, Recovery, IsRecovery}
+use Rattle.mdf_model.specs.Bodies.{bodies}
+use Rattle.mdf_model.specs.Contents.{HasIdSize, empties_in, IsContents, IsDataSplit, sample_groups, IsDataContents}
+use Rattle.mdf_model.specs.InWords.{IsFinalizedMdf, IsMeasurement, IsValidData}
+use Rattle.mdf_model.specs.Same.{plain_head, plain_group, SameRows}
+use Rattle.mdf_model.proofs.Onces.{none_first}
+use Rattle.mdf_carried.specs.Recovered.{AreRecords, IsGroupContents, Recovery, IsRecovery}
 use Rattle.mdf_tree.specs.Group.{data_groups}
 use Rattle.mdf_tree.specs.Head.{placed_history}
 use Rattle.mdf_spell.specs.declared.recovered.Recovered.{Recovered}

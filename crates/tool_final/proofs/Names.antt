@@ -15,7 +15,7 @@ use Rattle.mdf_group.specs.declared.row.GroupRow.{GroupRow}
 use Rattle.mdf_group.specs.Group.{is_variable}
 use Rattle.mdf_group.specs.Standing.{AreDistinct}
 use Rattle.mdf_content.specs.Values.{values_group}
-use Rattle.mdf_valid.proofs.Cases.{two_ways}
+use Rattle.mdf_model.proofs.Cases.{two_ways}
 use Rattle.mdf_tree.specs.Group.{group_values_behind, past_group, placed_groups}
 use Rattle.mdf_spell.specs.Counts.{counted_group, counted_groups}
 use Rattle.mdf_spell.specs.Values.{group_numbers}

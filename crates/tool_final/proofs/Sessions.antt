@@ -11,12 +11,12 @@ use Rattle.mdf_group.specs.declared.row.DataRow.{DataRow}
 use Rattle.mdf_group.specs.Standing.{IsDataGroup}
 use Rattle.mdf_content.specs.declared.contents.Contents.{Contents}
 use Rattle.mdf_session.specs.Session.{SessionParts}
-use Rattle.mdf_valid.proofs.Cases.{some_injective}
-use Rattle.mdf_recovered.specs.Recovered.{Recovery, IsRecovery, IsSessionOf}
-use Rattle.mdf_recovered.proofs.Founds.{session_found}
-use Rattle.mdf_recovered.proofs.Grouped.{groups_have_samples}
-use Rattle.mdf_recovered.proofs.Onces.{recoveries_agree}
-use Rattle.mdf_recovered.proofs.Samplings.{has_samples}
+use Rattle.mdf_model.proofs.Cases.{some_injective}
+use Rattle.mdf_carried.specs.Recovered.{Recovery, IsRecovery, IsSessionOf}
+use Rattle.mdf_carried.proofs.Founds.{session_found}
+use Rattle.mdf_carried.proofs.Grouped.{groups_have_samples}
+use Rattle.mdf_carried.proofs.Onces.{recoveries_agree}
+use Rattle.mdf_carried.proofs.Samplings.{has_samples}
 use Rattle.mdf_spell.specs.declared.recovered.Recovered.{Recovered}
 use Rattle.mdf_spell.specs.Counts.{IsCounted}
 use Rattle.mdf_spell.specs.Session.{session_file}

@@ -10,10 +10,10 @@ use Rattle.mdf_layout.specs.declared.sample.Sample.{Sample}
 use Rattle.mdf_content.specs.declared.contents.Contents.{Contents}
 use Rattle.mdf_model.specs.declared.part.Measure.{Measure}
 use Rattle.mdf_model.specs.Measurement.{holds_samples}
-use Rattle.mdf_valid.specs.Measurement.{IsMeasurement, IsValidFile}
-use Rattle.mdf_valid.specs.Same.{SameHead, SameRows}
-use Rattle.mdf_recovered.specs.Recovered.{Recovery, AreIdsApart}
-use Rattle.mdf_recovered.specs.Samples.{AreSamplesOf, IsRecovered}
+use Rattle.mdf_model.specs.InWords.{IsMeasurement, IsValidFile}
+use Rattle.mdf_model.specs.Same.{SameHead, SameRows}
+use Rattle.mdf_carried.specs.Recovered.{Recovery, AreIdsApart}
+use Rattle.mdf_carried.specs.Samples.{AreSamplesOf, IsRecovered}
 use Rattle.mdf_tree.specs.Head.{new_entry}
 
 -- an entry of the history without its address

@@ -4,9 +4,9 @@ ghost use Rattle.mdf_disk.specs.State.{state_of};
 ghost use Rattle.mdf_seal.specs.Seal.{IsBlank};
 ghost use Rattle.tool_sort.specs.Sort.{SortEnds, IsSortImage};
 
+use crate::{make_sorted, take_standing};
 use mdf_disk::Disk;
 use mdf_num::Bytes;
-use mdf_sorted::{make_sorted, take_standing};
 use mdf_tool::{Report, ToolFault, write_made};
 use std::alloc::Global;
 

@@ -1,5 +1,5 @@
 use Rattle.std.proofs.Common.{◌≡◌, Ok, Err}
-use Rattle.script_gen.specs.Generated.{generated_script}
+use Rattle.acq_script.specs.Generated.{generated_script}
 use Rattle.mdf_command.specs.declared.fault.Fault.TheVariants.{Memory}
 use Rattle.mdf_record.proofs.Recording.{comes_as, of_err, of_ok}
 use Rattle.mdf_record.proofs.record.run_generated.Goals as goal

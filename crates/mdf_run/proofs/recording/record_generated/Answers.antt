@@ -1,7 +1,7 @@
 use Rattle.std.proofs.Common.{◌≡◌}
 use Rattle.mdf_port.specs.State.{sink_state}
 use Rattle.mdf_disk.specs.State.{state_of}
-use Rattle.script_gen.specs.Generated.{generated_script}
+use Rattle.acq_script.specs.Generated.{generated_script}
 use Rattle.mdf_command.specs.declared.fault.Fault.TheVariants.{Memory}
 use Rattle.mdf_run.proofs.Keeps.{recording_keeps}
 use Rattle.mdf_run.proofs.recording.record_generated.Goals as goal

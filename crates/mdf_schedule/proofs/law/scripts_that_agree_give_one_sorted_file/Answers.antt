@@ -1,5 +1,5 @@
 use Rattle.std.proofs.Common.{◌<◌, length, sym, ◌∙◌, subst}
-use Rattle.mdf_same.specs.Schedules.{IsRecordingOf}
+use Rattle.mdf_schedule.specs.Schedules.{IsRecordingOf}
 use Rattle.acq_script.specs.declared.script.Plan.{Plan}
 use Rattle.mdf_schedule.proofs.Groups.{groups_are}
 use Rattle.mdf_schedule.proofs.Files.{recording_of}

@@ -1,4 +1,3 @@
-use Rattle.std.proofs.Common.{refl}
 use Rattle.std.proofs.lemmas.Result.{IfErr-weaker, IfOk-weaker, err_from_is_err_and}
 use Rattle.tool_concat.specs.Concat.{Joining}
 use Rattle.tool_concat.specs.Making.{IsMadeFrom, IsMadeOf, IsRefusal, IsRefused}

@@ -1,5 +1,5 @@
 use Rattle.std.proofs.Common.{◌≡◌, ℕ, ◌∙◌, ap, arith}
-use Rattle.mdf_sorted.specs.Made.{report_for}
+use Rattle.tool_sort.specs.Made.{report_for}
 use Rattle.mdf_tool.specs.declared.made.Report.{Report}
 use Rattle.tool_concat.specs.Concat.{dropped_of}
 use Rattle.tool_concat.proofs.Groups.{joined_stands}

@@ -1,8 +1,8 @@
 use Rattle.std.proofs.Common.{◌≡◌, ◌∙◌, ℤ, to_z-of_z, codes, ap, subst, sym}
 use Rattle.mdf_disk.specs.State.{state_of}
 use Rattle.mdf_model.specs.Measurement.{Measured}
-use Rattle.mdf_sorted.specs.Kept.{IsSortedOf, StandsIn}
-use Rattle.mdf_sorted.specs.Made.{IsMadeOf}
+use Rattle.tool_sort.specs.Kept.{IsSortedOf, StandsIn}
+use Rattle.tool_sort.specs.Made.{IsMadeOf}
 use Rattle.tool_cut.specs.Kept.{cut_of}
 use Rattle.tool_cut.proofs.Ends.{ends, leaves}
 use Rattle.tool_cut.proofs.Standings.{all_samples, cut_stands}

@@ -1,6 +1,6 @@
 use Rattle.std.proofs.Common.{◌≡◌, ◌*◌, ℕ, length, sym, ◌∙◌, ap, arith}
 use Rattle.tool_cut.specs.Kept.{is_kept}
-use Rattle.mdf_sorted.proofs.Behind.{record_inside}
+use Rattle.tool_sort.proofs.Behind.{record_inside}
 use Rattle.tool_cut.proofs.Keepings.{count_few}
 use Rattle.tool_cut.proofs.Places.{keeps_more, keeps_none}
 use Rattle.tool_cut.proofs.kept.keep_records.Goals as goal

@@ -1,3 +1,0 @@
-pub mod Audience
-pub mod Watching
-pub mod Stays

@@ -1,0 +1,136 @@
+use Rattle.std.proofs.Common.{[], ◌++◌, length, map, take, drop, refl, sym, subst, arith}
+use Rattle.std.proofs.lemmas.List.{length-map}
+use Rattle.std.specs.Prelude.{All}
+use Rattle.acq_run.specs.Ran.{AllMayFeed}
+use Rattle.acq_run.specs.Workers.{IsReady}
+use Rattle.acq_run.proofs.Owning.{owned_same}
+use Rattle.acq_run.proofs.Gathering.{all_follow, all_ready, have_worked, seated, seats_count, worked_count, worked_follow, worked_numbers, worked_of_table, worked_ran}
+use Rattle.acq_run.proofs.Telling.{worked_heard}
+use Rattle.acq_run.specs.Watching.{Hears, Watches}
+use Rattle.acq_run.specs.Stays.{watches_on}
+use Rattle.acq_run.proofs.record.record_live.Goals as goal
+
+pub seat_all-requires-clause-count : goal.seat_all-requires-clause-count
+seat_all-requires-clause-count g c =
+    let book = c.in_ok-shared.shared in
+    omega (arith, seats_count book.table book.basis c.in_ok-shared.seats.items _ c.in_ok-shared.ensures.seats, c.len-count.ensures, c.args.feeds.ok.0, c.requires.sources.1)
+
+pub drive_all-requires-clause-ready : goal.drive_all-requires-clause-ready
+drive_all-requires-clause-ready g c κs within =
+    let book = c.in_ok-shared.shared in
+    let shared = c.in_ok-shared.ensures.shared in
+    let workers = c.seat_all.new.workers.items in
+    let owners = c.args.owners.now in
+    let terms = c.args.book.terms in
+    subst (All (λ w. IsReady book.table w.seat (g.F.Feed.left w.feed))) (sym c.as_mut_slice.ensures.value)
+    (all_ready g.F.Feed.left book.table book.basis owners terms shared.owners_are shared.terms_are 0 workers
+    (seated g.F.Feed.left book.table book.basis workers c.in_ok-shared.seats.items _ c.seat_all.ensures.seats c.in_ok-shared.ensures.seats)
+    (subst (λ fs. AllMayFeed owners terms 0 (map g.F.Feed.left fs)) (sym c.seat_all.ensures.feeds) c.requires.may))
+
+pub close-requires-clause-table : goal.close-requires-clause-table
+close-requires-clause-table g c =
+    let left = g.F.Feed.left in
+    let book = c.in_ok-shared.shared in
+    let lent = c.as_mut_slice.result.now in
+    let news = c.drive_all.new.workers in
+    let worked = have_worked left book.table book.basis c.seat_all.new.workers.items lent news c.seat_all.new.workers.len _ c.in_ok-shared.seats.items c.args.feeds.items
+    c.seat_all.ensures.seats c.in_ok-shared.ensures.seats c.seat_all.ensures.feeds c.as_mut_slice.ensures.value c.drive_all.auto.workers c.as_mut_slice.ensures.len c.drive_all.ensures.driven in
+    worked_of_table left book.table book.basis lent news _ c.args.feeds.items worked c.part_all.new.seats.items c.part_all.ensures.seats
+
+pub close-requires-clause-all : goal.close-requires-clause-all
+close-requires-clause-all g c number below =
+    let left = g.F.Feed.left in
+    let book = c.in_ok-shared.shared in
+    let lent = c.as_mut_slice.result.now in
+    let news = c.drive_all.new.workers in
+    let worked = have_worked left book.table book.basis c.seat_all.new.workers.items lent news c.seat_all.new.workers.len _ c.in_ok-shared.seats.items c.args.feeds.items
+    c.seat_all.ensures.seats c.in_ok-shared.ensures.seats c.seat_all.ensures.feeds c.as_mut_slice.ensures.value c.drive_all.auto.workers c.as_mut_slice.ensures.len c.drive_all.ensures.driven in
+    worked_numbers left book.table book.basis lent news _ c.args.feeds.items worked c.part_all.new.seats.items c.part_all.ensures.seats number
+    (omega (arith, below, c.in_ok-shared.ensures.shared.sources_is, c.len-count.ensures, c.args.feeds.ok.0, c.requires.sources.1))
+
+pub returns-clause-ran : goal.returns-clause-ran
+returns-clause-ran g c =
+    let left = g.F.Feed.left in
+    let book = c.in_ok-shared.shared in
+    let shared = c.in_ok-shared.ensures.shared in
+    let lent = c.as_mut_slice.result.now in
+    let news = c.drive_all.new.workers in
+    let worked = have_worked left book.table book.basis c.seat_all.new.workers.items lent news c.seat_all.new.workers.len _ c.in_ok-shared.seats.items c.args.feeds.items
+    c.seat_all.ensures.seats c.in_ok-shared.ensures.seats c.seat_all.ensures.feeds c.as_mut_slice.ensures.value c.drive_all.auto.workers c.as_mut_slice.ensures.len c.drive_all.ensures.driven in
+    worked_ran left book.table book.basis lent news _ c.args.feeds.items worked c.args.owners.now shared.owners_are c.close.result c.close.ensures.terms
+    c.part_all.new.seats.items c.part_all.new.all.items c.part_all.ensures.seats c.part_all.ensures.driven c.close.ensures.seats
+
+pub drive_all-requires-clause-follow : goal.drive_all-requires-clause-follow
+drive_all-requires-clause-follow g c κs within =
+    let book = c.in_ok-shared.shared in
+    let workers = c.seat_all.new.workers.items in
+    let terms = c.args.book.terms in
+    let follows = Watches in
+    subst (All (λ w. follows w.follower w.seat.know.basis.terms.which w.seat.know.seen)) (sym c.as_mut_slice.ensures.value)
+    (all_follow g.F.Feed.left book.table book.basis follows terms c.in_ok-shared.ensures.shared.terms_are 0 workers
+    (seated g.F.Feed.left book.table book.basis workers c.in_ok-shared.seats.items _ c.seat_all.ensures.seats c.in_ok-shared.ensures.seats)
+    (subst (All (λ l. follows l terms.which [])) (sym c.seat_all.ensures.followers) c.requires.follow))
+
+pub returns-clause-followers : goal.returns-clause-followers
+returns-clause-followers g c =
+    let left = g.F.Feed.left in
+    let book = c.in_ok-shared.shared in
+    let shared = c.in_ok-shared.ensures.shared in
+    let lent = c.as_mut_slice.result.now in
+    let news = c.drive_all.new.workers in
+    let worked = have_worked left book.table book.basis c.seat_all.new.workers.items lent news c.seat_all.new.workers.len _ c.in_ok-shared.seats.items c.args.feeds.items
+    c.seat_all.ensures.seats c.in_ok-shared.ensures.seats c.seat_all.ensures.feeds c.as_mut_slice.ensures.value c.drive_all.auto.workers c.as_mut_slice.ensures.len c.drive_all.ensures.driven in
+    worked_count left book.table book.basis lent news _ c.args.feeds.items worked c.part_all.new.followers.items c.part_all.ensures.followers
+
+pub returns-clause-follow : goal.returns-clause-follow
+returns-clause-follow g c =
+    let left = g.F.Feed.left in
+    let book = c.in_ok-shared.shared in
+    let shared = c.in_ok-shared.ensures.shared in
+    let lent = c.as_mut_slice.result.now in
+    let news = c.drive_all.new.workers in
+    let worked = have_worked left book.table book.basis c.seat_all.new.workers.items lent news c.seat_all.new.workers.len _ c.in_ok-shared.seats.items c.args.feeds.items
+    c.seat_all.ensures.seats c.in_ok-shared.ensures.seats c.seat_all.ensures.feeds c.as_mut_slice.ensures.value c.drive_all.auto.workers c.as_mut_slice.ensures.len c.drive_all.ensures.driven in
+    worked_follow left book.table book.basis lent news _ c.args.feeds.items worked Watches watches_on c.close.result c.args.book.terms shared.terms_are
+    c.part_all.new.seats.items c.part_all.new.followers.items c.part_all.ensures.seats c.part_all.ensures.followers c.close.ensures.seats c.drive_all.ensures.follow
+
+pub returns-clause-heard : goal.returns-clause-heard
+returns-clause-heard g c =
+    let left = g.F.Feed.left in
+    let book = c.in_ok-shared.shared in
+    let shared = c.in_ok-shared.ensures.shared in
+    let lent = c.as_mut_slice.result.now in
+    let news = c.drive_all.new.workers in
+    let worked = have_worked left book.table book.basis c.seat_all.new.workers.items lent news c.seat_all.new.workers.len _ c.in_ok-shared.seats.items c.args.feeds.items
+    c.seat_all.ensures.seats c.in_ok-shared.ensures.seats c.seat_all.ensures.feeds c.as_mut_slice.ensures.value c.drive_all.auto.workers c.as_mut_slice.ensures.len c.drive_all.ensures.driven in
+    worked_heard left Hears book.table book.basis c.args.owners.now shared.owners_are c.close.result c.close.ensures.terms
+    c.seat_all.new.workers.items lent news _ _ c.in_ok-shared.seats.items c.args.feeds.items c.args.watchers.items
+    c.seat_all.ensures.seats c.in_ok-shared.ensures.seats c.seat_all.ensures.feeds c.seat_all.ensures.followers c.as_mut_slice.ensures.value worked.after_is
+    c.drive_all.auto.workers c.drive_all.ensures.heard
+    c.part_all.new.seats.items c.part_all.new.all.items c.part_all.new.followers.items c.part_all.ensures.seats c.part_all.ensures.driven c.part_all.ensures.followers
+    c.close.ensures.seats
+
+pub part_all-requires-clause-room : goal.part_all-requires-clause-room
+part_all-requires-clause-room g c =
+    let left = g.F.Feed.left in
+    let book = c.in_ok-shared.shared in
+    let shared = c.in_ok-shared.ensures.shared in
+    let lent = c.as_mut_slice.result.now in
+    let news = c.drive_all.new.workers in
+    let worked = have_worked left book.table book.basis c.seat_all.new.workers.items lent news c.seat_all.new.workers.len _ c.in_ok-shared.seats.items c.args.feeds.items
+    c.seat_all.ensures.seats c.in_ok-shared.ensures.seats c.seat_all.ensures.feeds c.as_mut_slice.ensures.value c.drive_all.auto.workers c.as_mut_slice.ensures.len c.drive_all.ensures.driven in
+    let after = take c.seat_all.new.workers.len (news ++ drop (length news) c.seat_all.new.workers.items) in
+    let followers = map (λ w. w.follower) after in
+    let count = worked_count left book.table book.basis lent news after c.args.feeds.items worked followers refl in
+    let long = length-map after (λ w. w.follower) in (
+      omega (arith, count, long, c.in-Ok.ensures.wide.0, c.len-count.ensures, c.args.feeds.ok.0),
+      omega (arith, count, long, c.in-Ok.ensures.wide.1, c.len-count.ensures, c.args.feeds.ok.0),
+      omega (arith, count, long, c.in-Ok.ensures.wide.2, c.len-count.ensures, c.args.feeds.ok.0),
+    )
+
+pub returns-clause-owned : goal.returns-clause-owned
+returns-clause-owned g c =
+    let basis = c.in_ok-shared.shared.basis in
+    let shared = c.in_ok-shared.ensures.shared in
+    owned_same basis.owners c.args.owners.now shared.owners_are 0 basis.sources _
+    (omega (arith, shared.sources_is, c.len-count.ensures, c.args.feeds.ok.0, c.requires.sources.1)) c.close.result.history c.close.ensures.sources

@@ -1,6 +1,0 @@
-pub mod Tool
-pub mod Making
-pub mod Finalize
-pub mod Sort
-pub mod Cut
-pub mod Concat

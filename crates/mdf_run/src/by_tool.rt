@@ -1,0 +1,129 @@
+// Making a file of another one with a tool.
+ghost use Rattle.std.specs.Prelude.{◌≡◌, ◌⊎◌, Some, None, IfSome};
+ghost use Rattle.mdf_disk.specs.Crash.{HoldsSince};
+ghost use Rattle.mdf_disk.specs.State.{state_of};
+ghost use Rattle.mdf_disk.specs.declared.role.Role.TheVariants.{Create, Read};
+ghost use Rattle.mdf_port.specs.State.{sink_state};
+ghost use Rattle.mdf_command.specs.Texts.{Gives, Prints};
+ghost use Rattle.mdf_run.specs.Making.{EndsMaking, MakeComes, MakingComes, one_input, making_status, making_text, report_line};
+ghost use Rattle.mdf_run.specs.Tool.{IsImage};
+
+use crate::tool::Tool;
+use mdf_command::Piece::{Number, Text};
+use mdf_command::{Fault, give_line, load, status_after};
+use mdf_disk::{Disk, Role};
+use mdf_num::{Bytes, Failed};
+use mdf_port::Sink;
+use mdf_tool::Report;
+use std::alloc::Global;
+
+/// Makes a file of these bytes, of this name.
+pub(crate) fn make<T: Tool + Drop, C: Disk>(
+    alloc: Global,
+    tool: T,
+    file: Bytes,
+    output: &Bytes,
+    out: &mut C,
+) -> Result<Report, Fault>
+    requires { C.asked out.old ≡ None }
+    ensures comes { MakeComes (T.makes tool file) (T.refuses tool file) (state_of C.Disk out.old) (state_of C.Disk out.new) result }
+    ensures any_moment { HoldsSince (C.story out.new) (C.moment out.old) (IsImage (T.makes tool file)) }
+    ensures asked { (C.asked out.new ≡ None) ⊎ (C.asked out.new ≡ Some (output.now, Create)) }
+    ensures untouched { C.asked out.new ≡ None → out.new ≡ out.old }
+{
+    out.attach(output.copy()?, Role::Create)?;
+    tool.make(alloc, file, out)
+}
+
+/// Makes a file of the file of this name, of the other name.
+fn make_of<T: Tool + Drop, A: Disk, C: Disk>(
+    alloc: Global,
+    tool: T,
+    input: &Bytes,
+    output: &Bytes,
+    first: &mut A,
+    out: &mut C,
+) -> Result<Report, Fault>
+    requires first { A.asked first.old ≡ None }
+    requires out { C.asked out.old ≡ None }
+    ensures comes { MakingComes (one_input (state_of A.Disk first.old) (state_of A.Disk first.new)) (T.makes tool) (T.refuses tool) (state_of C.Disk out.old) (state_of C.Disk out.new) result }
+    ensures any_moment { IfSome (A.content first.old) (λ file. HoldsSince (C.story out.new) (C.moment out.old) (IsImage (T.makes tool file))) }
+    ensures input { (A.asked first.new ≡ None) ⊎ (A.asked first.new ≡ Some (input.now, Read)) }
+    ensures input_content { A.content first.new ≡ A.content first.old }
+    ensures input_untouched { A.asked first.new ≡ None → first.new ≡ first.old }
+    ensures output { (C.asked out.new ≡ None) ⊎ (C.asked out.new ≡ Some (output.now, Create)) }
+    ensures output_untouched { C.asked out.new ≡ None → out.new ≡ out.old }
+{
+    let file = load(alloc, input, first)?;
+    make(alloc, tool, file, output, out)
+}
+
+/// Gives the line on the file that was made.
+fn give_report<K: Sink>(sink: &mut K, report: &Report) -> Result<(), Failed>
+    ensures { Gives (report_line report.now) (sink_state K.Sink sink.old) (sink_state K.Sink sink.new) result }
+{
+    give_line(
+        sink,
+        &[
+            Text(b"groups "),
+            Number(u64::from(report.groups)),
+            Text(b" samples "),
+            Number(report.samples),
+            Text(b" dropped "),
+            Number(report.dropped),
+        ],
+    )
+}
+
+/// Gives the line with which a command ends.
+fn give_end<K: Sink>(sink: &mut K, end: &Result<Report, Fault>) -> Result<(), Failed>
+    ensures { Gives (making_text end.now) (sink_state K.Sink sink.old) (sink_state K.Sink sink.new) result }
+{
+    match end {
+        Ok(report) => give_report(sink, report),
+        Err(fault) => fault.give(sink),
+    }
+}
+
+/// The status with which a command ends.
+fn status(end: &Result<Report, Fault>) -> u8
+    ensures { result ≡ making_status end.now }
+{
+    match end {
+        Ok(_) => 0,
+        Err(fault) => fault.status(),
+    }
+}
+
+/// Prints how a command ended, and answers the program's status.
+pub(crate) fn report<K: Sink>(sink: &mut K, end: &Result<Report, Fault>) -> u8
+    ensures { Prints (making_text end.now) (making_status end.now) (sink_state K.Sink sink.old) (sink_state K.Sink sink.new) result }
+{
+    let given = give_end(sink, end);
+    status_after(given, status(end))
+}
+
+/// Makes a file of another one, and prints what it holds, or why none was made. Answers the program's status.
+pub(crate) fn run_tool<T: Tool + Drop, K: Sink, A: Disk, C: Disk>(
+    alloc: Global,
+    tool: T,
+    input: &Bytes,
+    output: &Bytes,
+    sink: &mut K,
+    first: &mut A,
+    out: &mut C,
+) -> u8
+    requires first { A.asked first.old ≡ None }
+    requires out { C.asked out.old ≡ None }
+    ensures ends { EndsMaking (one_input (state_of A.Disk first.old) (state_of A.Disk first.new)) (T.makes tool) (T.refuses tool) (state_of C.Disk out.old) (state_of C.Disk out.new)
+        (sink_state K.Sink sink.old) (sink_state K.Sink sink.new) result }
+    ensures any_moment { IfSome (A.content first.old) (λ file. HoldsSince (C.story out.new) (C.moment out.old) (IsImage (T.makes tool file))) }
+    ensures input { (A.asked first.new ≡ None) ⊎ (A.asked first.new ≡ Some (input.now, Read)) }
+    ensures input_content { A.content first.new ≡ A.content first.old }
+    ensures input_untouched { A.asked first.new ≡ None → first.new ≡ first.old }
+    ensures output { (C.asked out.new ≡ None) ⊎ (C.asked out.new ≡ Some (output.now, Create)) }
+    ensures output_untouched { C.asked out.new ≡ None → out.new ≡ out.old }
+{
+    let end = make_of(alloc, tool, input, output, first, out);
+    report(sink, &end)
+}

@@ -1,0 +1,67 @@
+ghost use Rattle.std.specs.Prelude.{◌≡◌, ◌⊎◌, Some, None, IfSome};
+ghost use Rattle.mdf_disk.specs.Crash.{HoldsSince};
+ghost use Rattle.mdf_disk.specs.State.{state_of};
+ghost use Rattle.mdf_disk.specs.declared.role.Role.TheVariants.{Create, Read};
+ghost use Rattle.mdf_port.specs.State.{sink_state};
+ghost use Rattle.tool_final.specs.Finalize.{IsFinalizeImage};
+ghost use Rattle.mdf_run.specs.Finalize.{EndsFinalize, Finalizes, IsNoRecording};
+
+use crate::by_tool::run_tool;
+use crate::tool::Tool;
+use mdf_command::Fault;
+use mdf_disk::Disk;
+use mdf_num::Bytes;
+use mdf_port::Sink;
+use mdf_tool::Report;
+use std::alloc::Global;
+use tool_final::finalize;
+
+/// Makes the finished file of a recording.
+#[derive(Clone, Copy)]
+struct Finalizing {
+    /// The time, in ns since 1970.
+    now_ns: u64,
+}
+
+impl Tool for Finalizing {
+    ghost makes = { λ tool. Finalizes tool.now_ns };
+
+    ghost refuses = { λ _. IsNoRecording };
+
+    fn make<C: Disk>(self, alloc: Global, file: Bytes, out: &mut C) -> Result<Report, Fault> {
+        Ok(finalize(alloc, file, self.now_ns, out)?)
+    }
+}
+
+/// `finalize IN OUT`: makes the finished file of a recording and prints what it holds, or why none was made. Answers the
+/// program's status.
+pub fn run_finalize<K: Sink, A: Disk, C: Disk>(
+    alloc: Global,
+    input: &Bytes,
+    output: &Bytes,
+    now_ns: u64,
+    sink: &mut K,
+    first: &mut A,
+    out: &mut C,
+) -> u8
+    requires first { A.asked first.old ≡ None }
+    requires out { C.asked out.old ≡ None }
+    ensures ends { EndsFinalize now_ns (state_of A.Disk first.old) (state_of A.Disk first.new) (state_of C.Disk out.old) (state_of C.Disk out.new)
+        (sink_state K.Sink sink.old) (sink_state K.Sink sink.new) result }
+    ensures any_moment { IfSome (A.content first.old) (λ file. HoldsSince (C.story out.new) (C.moment out.old) (IsFinalizeImage file now_ns)) }
+    ensures input { (A.asked first.new ≡ None) ⊎ (A.asked first.new ≡ Some (input.now, Read)) }
+    ensures input_content { A.content first.new ≡ A.content first.old }
+    ensures input_untouched { A.asked first.new ≡ None → first.new ≡ first.old }
+    ensures output { (C.asked out.new ≡ None) ⊎ (C.asked out.new ≡ Some (output.now, Create)) }
+    ensures output_untouched { C.asked out.new ≡ None → out.new ≡ out.old }
+{
+    run_tool(
+        alloc,
+        Finalizing { now_ns },
+        input,
+        output,
+        sink,
+        first,
+        out,
+    )
+}

@@ -1,4 +1,0 @@
-mod Contents
-mod Stored
-mod Found
-mod Measures

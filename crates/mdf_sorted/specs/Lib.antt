@@ -1,5 +1,0 @@
-pub mod Sorted
-pub mod Places
-pub mod Kept
-pub mod Made
-pub mod Same

@@ -1,5 +1,0 @@
-use Rattle.mdf_valid.proofs.Undefined.{undefined_is}
-use Rattle.mdf_valid.proofs.law.refused_data_has_no_measurement.Goals as goal
-
-pub returns : goal.returns
-returns c = undefined_is

@@ -1,5 +1,0 @@
-use Rattle.mdf_valid.proofs.Stricts.{strict_is_valid}
-use Rattle.mdf_valid.proofs.law.strict_is_valid.Goals as goal
-
-pub returns : goal.returns
-returns c = strict_is_valid

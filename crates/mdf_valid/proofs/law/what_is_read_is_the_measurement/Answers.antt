@@ -1,5 +1,0 @@
-use Rattle.mdf_valid.proofs.Wholes.{measurement_found}
-use Rattle.mdf_valid.proofs.law.what_is_read_is_the_measurement.Goals as goal
-
-pub returns : goal.returns
-returns c = measurement_found

@@ -1,5 +1,0 @@
-pub mod Bodies
-pub mod Contents
-pub mod Measurement
-pub mod Truth
-pub mod Same

@@ -1,5 +1,0 @@
-use Rattle.mdf_written.proofs.Owns.{encoding_once}
-use Rattle.mdf_written.proofs.law.a_sample_has_one_record.Goals as goal
-
-pub returns : goal.returns
-returns c = encoding_once

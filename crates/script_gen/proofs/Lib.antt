@@ -1,2 +1,0 @@
-mod PlanText
-mod Fits

@@ -1,6 +1,0 @@
-use Rattle.std.proofs.Common.{◌≡◌, take}
-use Rattle.script_gen.specs.Generated.{generated_lists}
-use Rattle.script_gen.proofs.generate.lists.Given as goal
-
-abbrev pub invariant-loop-source : goal.invariant-loop-source
-invariant-loop-source l = l.lists ≡ take l.source (generated_lists l.samples)
