@@ -16,7 +16,7 @@ fn are_bytes(bytes: &[u8])
     let _bytes = bytes;
 }
 
-/// The measurement of a finalized file that is handed over, as `take_file` of `mdf_valid`. It stands in the file, so a sorted file that
+/// The measurement of a finalized file that is handed over, as `take_file` of `mdf_model`. It stands in the file, so a sorted file that
 /// is made of it keeps it.
 ///
 /// # Errors
