@@ -12,6 +12,7 @@ use Rattle.book_owned.specs.Account.{Account, Terms}
 use Rattle.book_shared.specs.Basis.{Basis}
 use Rattle.book_shared.specs.Place.{Place, own_part}
 use Rattle.book_shared.specs.Seats.{new_seat, new_seats, AreOf, HasNumber, Closed, Closes}
+use Rattle.book_shared.proofs.Beginning.{new_seats-length}
 use Rattle.acq_run.specs.Tasks.{MayFeed}
 use Rattle.acq_run.specs.Works.{AreMarked, HasDriven, HasRoomNext, IsOver}
 use Rattle.acq_run.specs.Workers.{IsReady, driven_of}
@@ -93,10 +94,6 @@ done_of basis book terms table number seat closed feds accepted (DiskFault befor
 done_of basis book terms table number seat closed feds accepted Memory driven = refl
 
 -- as many seats as sources
-new_seats-length : (table : TableId) (basis : Basis) (first count : ℕ) → length (new_seats table basis first count) ≡ count
-new_seats-length table basis first zero = refl
-new_seats-length table basis first (suc count) = omega (arith, new_seats-length table basis (suc first) count)
-
 pub seats_count : (table : TableId) (basis : Basis) (seats : List Place) (sources : ℕ) → seats ≡ new_seats table basis 0 sources → length seats ≡ sources
 seats_count table basis seats sources is = ap length is ∙ new_seats-length table basis 0 sources
 

@@ -9,19 +9,19 @@ use Rattle.std.proofs.lemmas.List.Elements.{filter-append, All-append, All-weake
 use Rattle.std.proofs.lemmas.List.Sums.{sum_by-append, sum_by-cons}
 use Rattle.std.proofs.lemmas.Option.{slice_get-get_or}
 use Rattle.mdf_format.specs.Field.{HasBit}
-use Rattle.mdf_format.specs.Row as forms
-use Rattle.mdf_format.specs.Row.{RowNumbers, Form, form_of, field_bits, spot_of_row, is_big, BreaksRowRule}
+use Rattle.mdf_format.specs.Row.{RowNumbers, BreaksRowRule}
 use Rattle.mdf_group.specs.Recordable.{numbers_of, is_of_values, ArePlaced, IsRecordableChannel, IsRecordableGroup}
 use Rattle.mdf_group.specs.declared.row.ChannelRow.{ChannelRow}
 use Rattle.mdf_group.specs.declared.row.GroupRow.{GroupRow}
 use Rattle.mdf_layout.specs.Row.{field_row, kind_in}
-use Rattle.mdf_layout.specs.Rule.{spot_in, bits_in, is_variable, is_variable_kind, breaks_row_rule, IsFirstBad}
+use Rattle.mdf_layout.specs.Rule.{is_variable, is_variable_kind, breaks_row_rule, IsFirstBad}
 use Rattle.mdf_layout.specs.Written.{IsApart, AreApart}
 use Rattle.mdf_layout.specs.Layout.{Layout}
 use Rattle.mdf_layout.specs.Behind.{variables}
 use Rattle.mdf_layout.specs.Stored.{IsStored}
 use Rattle.mdf_layout.specs.declared.field.FieldKind.TheVariants as kinds
 use Rattle.mdf_layout.specs.declared.field.FieldRow.{FieldRow}
+use Rattle.mdf_layout.proofs.Numbers.{same_spot}
 use Rattle.script_line.specs.Text.{is_name}
 use Rattle.script_line.specs.Line.{IsForm}
 use Rattle.acq_script.specs.Draft.{drawn, with_channel, with_unit, group_row}
@@ -170,17 +170,6 @@ unit_more sketch unit changed is ok e =
       owned = is.owned;
       sources = is.sources;
     })
-
--- the same place over the numbers of a channel and over its field
-same_bits : (f : Form) (bits : ℕ) → bits_in (kind_in f) bits ≡ field_bits f bits
-same_bits forms.Unsigned bits = refl
-same_bits forms.Signed bits = refl
-same_bits forms.Fixed bits = refl
-same_bits forms.Variable bits = refl
-same_bits forms.Virtual bits = refl
-
-same_spot : (row : RowNumbers) → spot_in (field_row row) ≡ spot_of_row row
-same_spot row = ap (λ (bits : ℕ). record { byte = row.byte; bit = row.bit; bits = bits; big = is_big row }) (same_bits (form_of row) row.bits)
 
 used_position : (b : Bool) (position p : ℕ) → cond b (Some position) None ≡ Some p → (b ≡ true) × (position ≡ p)
 used_position true position p e = (refl, cc)

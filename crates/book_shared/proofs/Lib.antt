@@ -5,4 +5,4 @@ mod Ends
 mod Serves
 mod Seats
 mod Covering
-mod Beginning
+pub mod Beginning

@@ -2,5 +2,5 @@ mod BitLists
 mod Bits
 mod Masks
 mod Orders
-mod Powers
+pub mod Powers
 pub mod Spots

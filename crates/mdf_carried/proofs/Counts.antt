@@ -3,7 +3,7 @@ use Rattle.std.proofs.Common.{◌≡◌, ◌≢◌, ◌+◌, ◌*◌, ℕ, zero,
 use Rattle.std.specs.Prelude.{true, nat_eq, filter, slice_get, Some}
 use Rattle.std.specs.List.{flat_map, AllByRecursion, enumerate_from}
 use Rattle.std.proofs.lemmas.Bool.{cond-true, cond-false, eqb-true, eqb-false, eq-eqb}
-use Rattle.std.proofs.lemmas.List.{length-map, take_at}
+use Rattle.std.proofs.lemmas.List.{take_at}
 use Rattle.std.proofs.Math.Nat.{mul-suc}
 use Rattle.mdf_format.specs.Number.{bytes_at}
 use Rattle.mdf_data.specs.declared.known.Size.{Size}
@@ -16,21 +16,16 @@ use Rattle.mdf_group.specs.Group.{is_variable}
 use Rattle.mdf_content.specs.Records.{record_size, size_of, known_of}
 use Rattle.mdf_content.specs.Contents.{taken}
 use Rattle.mdf_model.specs.Bodies.{is_of, bodies}
-use Rattle.mdf_model.proofs.Bodies.{bodies_at, size_there}
 use Rattle.mdf_model.proofs.Cases.{two_ways}
 use Rattle.mdf_model.proofs.Channels.{HoldBodies}
 use Rattle.mdf_model.proofs.Picks.{AreNumbered, numbered_both, all_there}
+use Rattle.mdf_model.proofs.Stricts.{places_long}
 use Rattle.mdf_session.specs.Counted.{counts_from, records_content}
 
 abbrev bytes_of : List Record → List ℕ
 bytes_of records = flat_map (λ (r : Record). r.bytes) records
 
 -- there are as many places as bodies
-places_long : (stream : List ℕ) (size : Size) (places : List ℕ) (found : List (List ℕ)) → bodies_at stream size places ≡ found
-    → length places ≡ length found
-places_long stream size places found is =
-    sym (length-map places (λ (place : ℕ). bytes_at (size_there stream size place) stream place)) ∙ ap length is
-
 pub places_count : (stream : List ℕ) (row : DataRow) (lists : List (List ℕ)) (records : List Record) → HoldBodies stream row lists records
     → (k : ℕ) (group : GroupRow) → slice_get row.groups k ≡ Some group → length (get_or lists k []) ≡ length (bodies row.id_size records k)
 places_count stream row lists records hold k group there =

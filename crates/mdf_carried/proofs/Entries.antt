@@ -1,18 +1,15 @@
 -- Where the records of groups are read as samples, each record of a group has its entries, counted by the samples of the group
 -- before it; and each offset meets a value.
-use Rattle.std.proofs.Common.{◌≡◌, ◌≢◌, ◌+◌, ◌-◌, ◌<◌, ◌≤◌, ℕ, zero, suc, true, false, List, [], ◌∷◌, ◌++◌, length, get_or, take, drop, map, refl, sym, ◌∙◌, ap, subst, inl, inr, arith, length-append}
-use Rattle.std.proofs.lemmas.Bool.{cases_eq, eq-eqb, ne_eqb, leb-true, leb-false, and_parts, cond-true, cond-false}
-use Rattle.std.proofs.lemmas.List.{length-take-le, length-drop}
+use Rattle.std.proofs.Common.{◌≡◌, ◌≢◌, ◌+◌, ◌-◌, ◌<◌, ℕ, zero, suc, true, false, List, [], ◌∷◌, ◌++◌, length, get_or, take, drop, map, refl, sym, ◌∙◌, ap, subst, inl, inr, arith, length-append}
+use Rattle.std.proofs.lemmas.Bool.{cases_eq, eq-eqb, ne_eqb, leb-false, cond-true, cond-false}
 use Rattle.std.proofs.lemmas.List.Elements.{filter-append}
 use Rattle.std.proofs.lemmas.Option.{slice_get_within, same_Some}
-use Rattle.std.specs.Prelude.{Bool, ◌==◌, ◌&&◌, nat_eq, nat_le, filter, slice_get, Option, Some, None, if◌then◌else◌}
+use Rattle.std.specs.Prelude.{Bool, ◌==◌, nat_eq, nat_le, filter, slice_get, Option, Some, None, if◌then◌else◌}
 use Rattle.std.specs.List.{AllByRecursion, AllZip}
 use Rattle.std.specs.Option.{option_map, option_and_then}
-use Rattle.mdf_format.specs.Number.{bytes_at}
 use Rattle.mdf_format.specs.Field.{field_number}
 use Rattle.mdf_format.specs.Value.{IsValueAt}
-use Rattle.mdf_block.proofs.Wholes.{chosen}
-use Rattle.mdf_vlsd.specs.Value.{value_at, size_there}
+use Rattle.mdf_vlsd.specs.Value.{value_at}
 use Rattle.mdf_layout.specs.History.{group_samples}
 use Rattle.mdf_layout.specs.Layout.{Layout}
 use Rattle.mdf_layout.specs.Rule.{spot_in, is_variable, is_variable_kind}
@@ -26,6 +23,8 @@ use Rattle.mdf_layout.specs.declared.sample.Value.{Value}
 use Rattle.mdf_layout.specs.declared.sample.Value.TheVariants as values
 use Rattle.mdf_layout.specs.declared.sample.Entry.{Entry}
 use Rattle.mdf_layout.specs.declared.sample.Sample.{Sample}
+use Rattle.mdf_layout.proofs.Samples.{parts_of_entries}
+use Rattle.mdf_content.proofs.Samples.{value_stands}
 use Rattle.mdf_model.proofs.Cases.{two_ways}
 use Rattle.mdf_carried.proofs.Records.{own, is_own}
 use Rattle.mdf_carried.proofs.Lists.{zip_both}
@@ -175,30 +174,11 @@ module _ (layouts : List Layout) (all : List Piece) (g : ℕ) (layout : Layout) 
 abbrev pub IsMet : List ℕ → FieldRow → List ℕ → Type 0
 IsMet bytes row stream = (value : List ℕ) × IsValueAt stream (field_number (spot_in row) bytes) value
 
-value_stands : (stream : List ℕ) (offset : ℕ) (found : List ℕ) → value_at stream offset ≡ Some found → (value : List ℕ) × IsValueAt stream offset value
-value_stands stream offset found is =
-    let size = size_there stream offset in
-    let value = bytes_at size stream (offset + 4) in
-    elim (chosen (nat_le (offset + 4) (length stream) && nat_le (offset + 4 + size) (length stream)) (Some value) None (Some found) is) [
-      | inl there ↦
-          let both = and_parts (nat_le (offset + 4) (length stream)) (nat_le (offset + 4 + size) (length stream)) there.0 in
-          let whole : offset + 4 + size ≤ length stream = leb-true _ _ both.1 in
-          let long : length value ≡ size = length-take-le size (drop (offset + 4) stream) (omega (arith, whole, length-drop (offset + 4) stream)) in (
-            value,
-            record {
-              length_is = sym long;
-              whole = omega (arith, whole, long);
-              bytes = ap (λ (n : ℕ). bytes_at n stream (offset + 4)) long;
-            },
-          )
-      | inr none ↦ let wrong : ◌≡◌ {A = Option (List ℕ)} None (Some found) = none.1 in cc
-    ]
-
 -- a channel of variable length that has an entry
 found_met : (row : FieldRow) (bytes inval stream : List ℕ) (entry : Entry) (found : Option (List ℕ)) → value_at stream (field_number (spot_in row) bytes) ≡ found
     → option_map (λ (v : Value). record { value = v; valid = is_valid row inval }) (option_map values.Bytes found) ≡ Some entry → IsMet bytes row stream
 found_met row bytes inval stream entry None is told = let wrong : ◌≡◌ {A = Option Entry} None (Some entry) = told in cc
-found_met row bytes inval stream entry (Some value) is told = value_stands stream (field_number (spot_in row) bytes) value is
+found_met row bytes inval stream entry (Some value) is told = (value, value_stands stream (field_number (spot_in row) bytes) value is)
 
 kind_met : (kind : FieldKind) (row : FieldRow) (bytes inval stream : List ℕ) (index : ℕ) (entry : Entry) → is_variable_kind kind ≡ true
     → option_map (λ (v : Value). record { value = v; valid = is_valid row inval }) (value_in kind (spot_in row) bytes (value_at stream) index) ≡ Some entry
@@ -209,14 +189,6 @@ kind_met Fixed row bytes inval stream index entry is told = let wrong : false �
 kind_met Variable row bytes inval stream index entry is told =
     found_met row bytes inval stream entry (value_at stream (field_number (spot_in row) bytes)) refl told
 kind_met Virtual row bytes inval stream index entry is told = let wrong : false ≡ true = is in cc
-
--- the parts of entries
-parts : (one : Option Entry) (rest : Option (List Entry)) (entries : List Entry)
-    → option_and_then (λ entry. option_map (λ entries. entry ∷ entries) rest) one ≡ Some entries
-    → (entry : Entry) × (behind : List Entry) × (one ≡ Some entry) × (rest ≡ Some behind)
-parts None rest entries is = let wrong : ◌≡◌ {A = Option (List Entry)} None (Some entries) = is in cc
-parts (Some entry) None entries is = let wrong : ◌≡◌ {A = Option (List Entry)} None (Some entries) = is in cc
-parts (Some entry) (Some behind) entries is = (entry, behind, refl, refl)
 
 -- each channel of variable length of a record with entries
 behind_first : (row : FieldRow) (rows : List FieldRow) (bytes inval : List ℕ) (finders : List Finder) (index : ℕ) (entries : List Entry) (b : Bool)
@@ -232,7 +204,7 @@ unfolding sample_by
 entries_met [] bytes inval [] index entries is many = tt
 entries_met [] bytes inval (stream ∷ streams) index entries is many = absurd (omega (arith, many))
 entries_met (row ∷ rows) bytes inval [] index entries is many =
-    let found = parts (entry_of row bytes inval (first_finder []) index) (sample_by rows bytes inval (finders_behind row []) index) entries is in
+    let found = parts_of_entries (entry_of row bytes inval (first_finder []) index) (sample_by rows bytes inval (finders_behind row []) index) entries is in
     let later = variables rows in
     elim (two_ways (is_variable row)) [
       | inl variable ↦ absurd (omega (arith, many, ap length (cond-true (is_variable row) (row ∷ later) later variable)))
@@ -243,7 +215,7 @@ entries_met (row ∷ rows) bytes inval [] index entries is many =
     ]
 entries_met (row ∷ rows) bytes inval (stream ∷ streams) index entries is many =
     let finders = map value_at (stream ∷ streams) in
-    let found = parts (entry_of row bytes inval (first_finder finders) index) (sample_by rows bytes inval (finders_behind row finders) index) entries is in
+    let found = parts_of_entries (entry_of row bytes inval (first_finder finders) index) (sample_by rows bytes inval (finders_behind row finders) index) entries is in
     let later = variables rows in
     elim (two_ways (is_variable row)) [
       | inl variable ↦

@@ -4,6 +4,7 @@ use Rattle.std.specs.Prelude.{Bool, true, false, cond, filter, ◌==◌, slice_g
 use Rattle.std.specs.List.{AllByRecursion, AllZip, enumerate_from}
 use Rattle.std.proofs.lemmas.Bool.{cond-true, cond-false, cases_eq, eqb-true, eq-eqb, ne_eqb}
 use Rattle.std.proofs.lemmas.List.{length-map}
+use Rattle.std.proofs.lemmas.Slice.Zip.{AllZip-long}
 use Rattle.mdf_data.specs.Split.{Record}
 use Rattle.mdf_group.specs.declared.row.GroupRow.{GroupRow}
 use Rattle.mdf_group.specs.declared.row.DataRow.{DataRow}
@@ -19,7 +20,7 @@ use Rattle.mdf_model.proofs.Cases.{some_injective, two_ways}
 use Rattle.mdf_model.proofs.Picks.{all_there}
 use Rattle.mdf_carried.specs.Recovered.{IsGroupContents, Recovery, IsRecovery}
 use Rattle.mdf_carried.specs.Samples.{is_sample_in, is_sample, sample_number, index_of, body_of, IsSampleOf, AreSamplesOf, HaveSamples, sample_records}
-use Rattle.mdf_carried.proofs.Samplings.{body_at, record_is}
+use Rattle.mdf_carried.proofs.Samplings.{body_at, record_is, in_group}
 
 -- what stands beside an item of the second list
 zip_back : {A B : Type 0} (R : A → B → Type 0) (xs : List A) (ys : List B) (i : ℕ) (y : B) → AllZip R xs ys → slice_get ys i ≡ Some y
@@ -28,12 +29,6 @@ zip_back {A} {B} R xs [] i y all is = let wrong : ◌≡◌ {A = Option B} None 
 zip_back R [] (first ∷ ys) i y all is = absurd all
 zip_back {A} {B} R (x ∷ xs) (first ∷ ys) zero y all is = (x, refl, subst (λ (z : B). R x z) (some_injective first y is) all.0)
 zip_back R (x ∷ xs) (first ∷ ys) (suc i) y all is = zip_back R xs ys i y all.1 is
-
-zip_long : {A B : Type 0} (R : A → B → Type 0) (xs : List A) (ys : List B) → AllZip R xs ys → length xs ≡ length ys
-zip_long R [] [] all = refl
-zip_long R [] (y ∷ ys) all = absurd all
-zip_long R (x ∷ xs) [] all = absurd all
-zip_long R (x ∷ xs) (y ∷ ys) all = ap (λ (m : ℕ). suc m) (zip_long R xs ys all.1)
 
 -- those that pass a test, where what stands beside them passes with them
 beside_by : {A B : Type 0} (R : A → B → Type 0) (b c : Bool) (x : A) (y : B) (xs : List A) (ys : List B) → c ≡ b → R x y → AllZip R xs ys
@@ -136,7 +131,7 @@ long_by : {A B : Type 0} (b : Bool) (x : A) (y : B) (xs : List A) (ys : List B) 
 long_by true x y xs ys same = ap (λ (m : ℕ). suc m) same
 long_by false x y xs ys same = same
 
-passed_long : {A : Type 0} (t : A → Bool) (from : ℕ) (xs : List A)
+pub passed_long : {A : Type 0} (t : A → Bool) (from : ℕ) (xs : List A)
     → length (filter (λ (y : ℕ × A). t y.1) (enumerate_from from xs)) ≡ length (filter t xs)
 passed_long t from [] = refl
 passed_long {A} t from (x ∷ xs) =
@@ -164,10 +159,6 @@ one_number {A} t (first ∷ xs) (suc m) (suc n) x y is_x is_y passes_x passes_y 
     less : (b : Bool) (ys zs : List A) → length (cond b (first ∷ ys) ys) ≡ length (cond b (first ∷ zs) zs) → length ys ≡ length zs
     less true ys zs is = omega (arith, is)
     less false ys zs is = is
-
-in_group : (found : Option GroupRow) → is_sample_in found ≡ true → (group : GroupRow) × (found ≡ Some group) × (holds_samples group ≡ true)
-in_group None is = let wrong : false ≡ true = is in cc
-in_group (Some group) is = (group, refl, is)
 
 module _ (f : List ℕ) (found : Recovery) (is : IsRecovery f found) (samples : List Sample) (each : AllZip (IsSampleOf found) (sample_records found) samples) where
   abbrev row : DataRow
@@ -210,7 +201,7 @@ module _ (f : List ℕ) (found : Recovery) (is : IsRecovery f found) (samples : 
 
     own_count : length (group_samples samples g) ≡ contents.count
     own_count =
-        sym (zip_long (IsSampleOf found) own_records (group_samples samples g) own_each)
+        AllZip-long (IsSampleOf found) own_records (group_samples samples g) own_each
         ∙ passed_long (is_of k) 0 found.records
         ∙ sym (length-map (filter (is_of k) found.records) (λ (r : Record). drop row.id_size r.bytes))
         ∙ sym is_contents.count

@@ -1,23 +1,19 @@
 -- What each group of a recording holds, whose records are samples.
-use Rattle.std.proofs.Common.{◌≡◌, ◌+◌, ◌<◌, ◌≤◌, ℕ, zero, suc, true, false, List, [], ◌∷◌, ◌++◌, length, get_or, take, map, refl, sym, ◌∙◌, ap, subst, inl, inr, arith, append-nil}
-use Rattle.std.proofs.lemmas.Bool.{eqb-true, cond-true, cond-false}
+use Rattle.std.proofs.Common.{◌≡◌, ◌+◌, ◌<◌, ◌≤◌, ℕ, zero, suc, true, List, [], ◌∷◌, ◌++◌, length, get_or, take, map, refl, sym, ◌∙◌, ap, subst, inl, inr, arith, append-nil}
+use Rattle.std.proofs.lemmas.Bool.{cond-true, cond-false}
 use Rattle.std.proofs.lemmas.List.{take_all, length-map}
 use Rattle.std.proofs.lemmas.List.Sums.{sum_by-cons}
 use Rattle.std.proofs.lemmas.Option.{same_Some, slice_get_within, slice_get-get_or}
-use Rattle.std.specs.Prelude.{Bool, ◌||◌, not, nat_eq, nat_lt, filter, slice_get, Option, Some, None, if◌then◌else◌}
+use Rattle.std.specs.Prelude.{not, filter, slice_get, Option, Some, None}
 use Rattle.std.specs.List.{AllByRecursion, AllZip, enumerate_from}
-use Rattle.mdf_format.specs.Row as forms
-use Rattle.mdf_format.specs.Row.{form_of}
 use Rattle.mdf_data.specs.Split.{Record}
 use Rattle.mdf_group.specs.declared.row.ChannelRow.{ChannelRow}
 use Rattle.mdf_group.specs.declared.row.GroupRow.{GroupRow}
 use Rattle.mdf_group.specs.declared.row.DataRow.{DataRow}
 use Rattle.mdf_group.specs.Group.{is_variable}
-use Rattle.mdf_group.specs.Recordable.{numbers_of, is_of_values}
+use Rattle.mdf_group.specs.Recordable.{is_of_values}
 use Rattle.mdf_layout.specs.Layout.{Layout, record_size}
-use Rattle.mdf_layout.specs.Row.{kind_in}
 use Rattle.mdf_layout.specs.Rule as rules_
-use Rattle.mdf_layout.specs.Rule.{is_variable_kind}
 use Rattle.mdf_layout.specs.Behind.{variables, first_id}
 use Rattle.mdf_layout.specs.Read.{Piece, IsPiece, stream_of, streams_from, samples_from}
 use Rattle.mdf_layout.specs.declared.field.FieldRow.{FieldRow}
@@ -29,6 +25,8 @@ use Rattle.mdf_content.specs.Values.{values_group}
 use Rattle.mdf_model.specs.Bodies.{bodies, joined}
 use Rattle.mdf_model.specs.Contents.{IsValuesOf, IsChannelStream, is_of_samples, sample_groups}
 use Rattle.mdf_block.specs.declared.note.Note.TheVariants as notes
+use Rattle.mdf_layout.proofs.Bridge.{length-streams}
+use Rattle.mdf_content.proofs.Samples.{variable_field, other_field}
 use Rattle.mdf_model.proofs.Cases.{two_ways}
 use Rattle.mdf_carried.specs.Recovered.{IsGroupContents}
 use Rattle.mdf_carried.proofs.Lists.{zip_along, length-joined, joined_at}
@@ -37,26 +35,6 @@ use Rattle.mdf_carried.proofs.Records.{record_of, own, own_bodies, value_bodies,
 use Rattle.mdf_carried.proofs.Entries.{entries_in, entries_at, entries_have, AreMet, all_met}
 
 -- the field of a channel is an offset exactly where the channel is one of variable length
-other_kind : (virtual signed unsigned : Bool) → is_variable_kind (kind_in (if virtual then forms.Virtual
-    else (if false then forms.Variable else (if signed then forms.Signed else (if unsigned then forms.Unsigned else forms.Fixed))))) ≡ false
-other_kind true signed unsigned = refl
-other_kind false true unsigned = refl
-other_kind false false true = refl
-other_kind false false false = refl
-
-variable_field : (channel : ChannelRow) → is_of_values channel ≡ true → rules_.is_variable (field_of channel) ≡ true
-variable_field channel is =
-    ap (λ (k : ℕ). is_variable_kind (kind_in (form_of (record (numbers_of channel) { kind = k })))) (eqb-true channel.kind 1 is)
-
-other_field : (channel : ChannelRow) → is_of_values channel ≡ false → rules_.is_variable (field_of channel) ≡ false
-other_field channel is =
-    ap (λ (b : Bool). is_variable_kind (kind_in (if nat_eq channel.kind 3 || nat_eq channel.kind 6 then forms.Virtual
-    else (if b then forms.Variable
-    else (if nat_eq channel.data_type 2 || nat_eq channel.data_type 3 then forms.Signed
-    else (if nat_lt channel.data_type 6 then forms.Unsigned else forms.Fixed)))))) is
-    ∙ other_kind (nat_eq channel.kind 3 || nat_eq channel.kind 6) (nat_eq channel.data_type 2 || nat_eq channel.data_type 3)
-    (nat_lt channel.data_type 6)
-
 pub variable_fields : (channels : List ChannelRow) → variables (map field_of channels) ≡ map field_of (filter is_of_values channels)
 variable_fields [] = refl
 variable_fields (channel ∷ channels) =
@@ -73,10 +51,6 @@ variable_fields (channel ∷ channels) =
           ∙ rest
           ∙ ap (map field_of) (sym (cond-false (is_of_values channel) (channel ∷ mine) mine other))
     ]
-
-pub length-streams : (pieces : List Piece) (id : ℕ) (rows : List FieldRow) → length (streams_from pieces id rows) ≡ length rows
-length-streams pieces id [] = refl
-length-streams pieces id (row ∷ rows) = omega (arith, length-streams pieces (id + 1) rows)
 
 -- what a group of these pieces holds
 abbrev pub contents_at : List Layout → List Piece → ℕ → Layout → Contents

@@ -26,6 +26,7 @@ use Rattle.mdf_tree.specs.Text.{note_blocks}
 use Rattle.mdf_tree.specs.Group.{first_or_none, behind_first, past_channel, value_link, values_behind, values_past, placed_channel, placed_channels, group_channels, past_group, past_groups, group_values, group_values_behind, placed_group, placed_groups}
 use Rattle.mdf_spell.specs.Recording.{numbered, values_row, values_rows, variable_count, block_links, first_values, value_links, recording_blocks, recorded_row, IsRecordingTree}
 use Rattle.mdf_tree.specs.Group.{source_part, past_channels}
+use Rattle.mdf_spell.proofs.Finding.{numbered_many, values_many}
 use Rattle.mdf_carried.proofs.Lists.{numbered_along}
 use Rattle.mdf_carried.proofs.Numbers.{AreNumbered}
 use Rattle.mdf_carried.proofs.Rows.{NameFrom, values_in, all_values, IsFront, AreFronts, AreBacks, IsRecorded}
@@ -270,16 +271,6 @@ values_numbered : (id count : ℕ) → AreNumbered id (values_rows id count)
 unfolding values_rows
 values_numbered id zero = tt
 values_numbered id (suc count) = (refl, values_numbered (id + 1) count)
-
-numbered_many : (id : ℕ) (rows : List GroupRow) → length (numbered id rows) ≡ length rows
-unfolding numbered
-numbered_many id [] = refl
-numbered_many id (row ∷ rows) = ap suc (numbered_many (id + 1) rows)
-
-values_many : (id count : ℕ) → length (values_rows id count) ≡ count
-unfolding values_rows
-values_many id zero = refl
-values_many id (suc count) = ap suc (values_many (id + 1) count)
 
 both_numbered : (id : ℕ) (xs ys : List GroupRow) → AreNumbered id xs → AreNumbered (id + length xs) ys → AreNumbered id (xs ++ ys)
 both_numbered id [] ys one two = subst (λ (n : ℕ). AreNumbered n ys) (let same : id + 0 ≡ id = omega arith in same) two

@@ -112,7 +112,7 @@ record_there size (x ∷ xs) (suc i) body each is =
     ∙ ap (take size) (drop-append-add x (joined xs) (i * size))
     ∙ record_there size xs i body each.1 is
 
-in_group : (found : Option GroupRow) → is_sample_in found ≡ true → (group : GroupRow) × (found ≡ Some group) × (holds_samples group ≡ true)
+pub in_group : (found : Option GroupRow) → is_sample_in found ≡ true → (group : GroupRow) × (found ≡ Some group) × (holds_samples group ≡ true)
 in_group None is = let wrong : false ≡ true = is in cc
 in_group (Some group) is = (group, refl, is)
 

@@ -1,8 +1,7 @@
 -- Records with ids that make up a stream are found in it one by one.
-use Rattle.std.proofs.Common.{◌≡◌, ◌+◌, ◌-◌, ◌<◌, ◌≤◌, ℕ, zero, suc, List, [], ◌∷◌, ◌++◌, length, take, drop, replicate, Option, Some, None, Ok, Err, refl, sym, ◌∙◌, ap, arith, append_assoc, length-append}
+use Rattle.std.proofs.Common.{◌≡◌, ◌+◌, ◌-◌, ◌<◌, ◌≤◌, ℕ, zero, suc, List, [], ◌∷◌, ◌++◌, length, drop, replicate, Option, Some, None, Ok, Err, sym, ◌∙◌, ap, arith, append_assoc, length-append}
 use Rattle.std.proofs.lemmas.Bool.{eq-eqb, ne_eqb, le-ltb, cond-true, cond-false}
-use Rattle.std.proofs.lemmas.List.{length-drop, take_at, drop_at}
-use Rattle.std.proofs.Math.Seq.{drop-drop}
+use Rattle.std.proofs.lemmas.List.{length-drop}
 use Rattle.std.specs.Prelude.{nat_eq, nat_lt, if◌then◌else◌}
 use Rattle.std.specs.List.{flat_map, AllByRecursion}
 use Rattle.mdf_format.specs.Number.{le_number, bytes_at}
@@ -14,13 +13,7 @@ use Rattle.mdf_data.specs.declared.known.Piece.{Piece}
 use Rattle.mdf_data.specs.Record.{group_of, body_size, id_at, whole_piece, group_piece, piece_with, piece_at}
 use Rattle.mdf_data.specs.Places.{pieces_after, pieces_from, spread, places}
 use Rattle.mdf_data.specs.Split.{Record, IsBody, IsRecord}
-
--- what begins at a place is the bytes there
-begins_there : (at : ℕ) (stream xs more : List ℕ) → drop at stream ≡ xs ++ more → bytes_at (length xs) stream at ≡ xs
-begins_there at stream xs more is = ap (take (length xs)) is ∙ take_at xs more (length xs) refl
-
-follows_there : (at : ℕ) (stream xs more : List ℕ) → drop at stream ≡ xs ++ more → drop (at + length xs) stream ≡ more
-follows_there at stream xs more is = sym (drop-drop (length xs) at stream) ∙ ap (drop (length xs)) is ∙ drop_at xs more (length xs) refl
+use Rattle.mdf_data.proofs.Pieces.{begins_there, follows_there}
 
 left_there : (at : ℕ) (stream xs more : List ℕ) → drop at stream ≡ xs ++ more → length stream - at ≡ length xs + length more
 left_there at stream xs more is = sym (length-drop at stream) ∙ ap length is ∙ length-append xs more

@@ -1,5 +1,5 @@
 -- The parts of a line, given one behind the other.
-use Rattle.std.proofs.Common.{◌≡◌, ◌≤◌, ◌<◌, ◌+◌, Result, Ok, Err, map, arith, ℕ, zero, suc, List, [], ◌∷◌, ◌++◌, length, take, drop, get_or, Option, Some, None, refl, sym, ◌∙◌, ap, subst, add-one, append_assoc, append-nil, take-append-drop}
+use Rattle.std.proofs.Common.{◌≡◌, ◌≤◌, ◌<◌, ◌+◌, Result, Ok, Err, map, arith, ℕ, zero, suc, List, [], ◌∷◌, ◌++◌, length, take, drop, get_or, refl, sym, ◌∙◌, ap, subst, add-one, append_assoc, append-nil, take-append-drop}
 use Rattle.std.proofs.Math.Seq.{take-suc}
 use Rattle.std.proofs.lemmas.Grind.{flat_map-append}
 use Rattle.std.specs.Io.KnownBytes.{Appends}
@@ -7,31 +7,21 @@ use Rattle.mdf_port.specs.State.{SinkState}
 use Rattle.std.specs.List.{flat_map}
 use Rattle.mdf_command.specs.Texts.{Gives, line, numbered, piece_text, pieces_text, shown}
 use Rattle.std.proofs.lemmas.List.Concat.{flat_map-cons}
+use Rattle.mdf_port.proofs.Streams.{appends_more}
 use Rattle.mdf_command.specs.declared.report.Piece.{Piece}
-
--- known bytes that grow twice grow by both
-pub appends_both : (old mid new : Option (List ℕ)) (xs ys : List ℕ) → Appends old mid xs → Appends mid new ys → Appends old new (xs ++ ys)
-appends_both None mid new xs ys first second = tt
-appends_both (Some held) None new xs ys first second = absurd first
-appends_both (Some held) (Some more) None xs ys first second = absurd second
-appends_both (Some held) (Some more) (Some all) xs ys first second = second ∙ ap (λ zs. zs ++ ys) first ∙ append_assoc held xs ys
-
-pub appends_none : (held : Option (List ℕ)) → Appends held held []
-appends_none None = tt
-appends_none (Some held) = sym (append-nil held)
 
 -- a text behind a text that was given
 pub gives_behind : {E : Type 0} (xs ys : List ℕ) (old mid new : SinkState) (result : Result Unit E)
     → Appends old.held mid.held xs → old.faults ≤ mid.faults → Gives ys mid new result → Gives (xs ++ ys) old new result
 gives_behind xs ys old mid new (Ok done) first later gives = record {
-  ok = appends_both old.held mid.held new.held xs ys first gives.ok;
+  ok = appends_more old.held mid.held new.held xs ys first gives.ok;
   err = tt;
   cause = record { later = omega (arith, gives.cause.later); failed = tt };
 }
 gives_behind xs ys old mid new (Err e) first later gives = record {
   ok = tt;
   err = let front = gives.err in
-      (xs ++ front.0, (front.1.0, append_assoc xs front.0 front.1.0 ∙ ap (λ zs. xs ++ zs) front.1.1), appends_both old.held mid.held new.held xs front.0 first front.2);
+      (xs ++ front.0, (front.1.0, append_assoc xs front.0 front.1.0 ∙ ap (λ zs. xs ++ zs) front.1.1), appends_more old.held mid.held new.held xs front.0 first front.2);
   cause = record { later = omega (arith, gives.cause.later); failed = omega (arith, gives.cause.failed) };
 }
 

@@ -1,14 +1,15 @@
 -- Where the offsets of a group's channels meet values, each of its records has a sample.
 use Rattle.std.proofs.Common.{◌≡◌, ◌+◌, ◌-◌, ◌*◌, ◌<◌, ◌≤◌, ℕ, zero, suc, Bool, true, false, List, [], ◌∷◌, ◌++◌, length, get_or, map, take, drop, Option, Some, None, Ok, Err, refl, sym, ◌∙◌, ap, subst, arith, length-append, inl, inr}
-use Rattle.std.proofs.lemmas.Bool.{cond-true, cond-false, eqb-true}
-use Rattle.std.proofs.lemmas.List.{get_or-take, length-take-le, take_at, take-take}
+use Rattle.std.proofs.lemmas.Bool.{cond-true, cond-false, eqb-true, and_parts, leb-true}
+use Rattle.std.proofs.lemmas.List.{get_or-take, length-take-le, take_at, take-take, length-drop}
 use Rattle.std.specs.List.{AllByRecursion}
 use Rattle.std.specs.Option.{option_to_list, option_map, option_and_then}
-use Rattle.std.specs.Prelude.{filter, slice_index_or, if◌then◌else◌, nat_eq, nat_lt, ◌||◌}
+use Rattle.std.specs.Prelude.{filter, slice_index_or, if◌then◌else◌, nat_eq, nat_lt, ◌||◌, nat_le, ◌&&◌}
 use Rattle.mdf_format.specs.Number.{bytes_at}
 use Rattle.mdf_format.specs.Field.{Spot, field_number}
 use Rattle.mdf_format.specs.Row as forms
 use Rattle.mdf_format.specs.Row.{form_of}
+use Rattle.mdf_format.specs.Value.{IsValueAt}
 use Rattle.mdf_block.specs.Refusal.{Offset, Read, ◌>>=◌}
 use Rattle.mdf_block.proofs.Refusals.{bind_ok}
 use Rattle.mdf_block.proofs.Wholes.{chosen}
@@ -99,7 +100,7 @@ one_met meets offset channel row u is =
       | inr missed ↦ let wrong : ◌≡◌ {A = Read (Unit {0})} (Err (Offset channel row (offset row))) (Ok u) = missed.1 in cc
     ]
 
-all_met : (meets : ℕ → Bool) (offset : ℕ → ℕ) (channel from left : ℕ) (u : Unit {0}) → offsets_met meets offset channel from left ≡ Ok u
+pub all_met : (meets : ℕ → Bool) (offset : ℕ → ℕ) (channel from left : ℕ) (u : Unit {0}) → offsets_met meets offset channel from left ≡ Ok u
     → (k : ℕ) → k < left → meets (offset (from + k)) ≡ true
 unfolding offsets_met
 all_met meets offset channel from zero u is k below = absurd (omega (arith, below))
@@ -128,10 +129,31 @@ channel_met f held records channel c stream is row below =
     subst (λ (s : List ℕ). has_value s (offset row) ≡ true) same
     (subst (λ (k : ℕ). has_value (stream_of f first.0) (offset k) ≡ true) (from_none row) met)
 
-value_found : (stream : List ℕ) (offset : ℕ) → has_value stream offset ≡ true → (v : List ℕ) × (value_at stream offset ≡ Some v)
+pub value_found : (stream : List ℕ) (offset : ℕ) → has_value stream offset ≡ true → (v : List ℕ) × (value_at stream offset ≡ Some v)
 value_found stream offset has =
     let v = bytes_at (size_there stream offset) stream (offset + 4) in
     (v, cond-true (has_value stream offset) (Some v) None has)
+
+-- a value that is found stands
+stands_by : (stream : List ℕ) (offset : ℕ) (both : Bool) (value : List ℕ)
+    → (nat_le (offset + 4) (length stream) && nat_le (offset + 4 + size_there stream offset) (length stream)) ≡ both
+    → (if both then Some (bytes_at (size_there stream offset) stream (offset + 4)) else None) ≡ Some value → IsValueAt stream offset value
+stands_by stream offset false value has is = let wrong : ◌≡◌ {A = Option (List ℕ)} None (Some value) = is in cc
+stands_by stream offset true value has is =
+    let size = size_there stream offset in
+    let parts = and_parts (nat_le (offset + 4) (length stream)) (nat_le (offset + 4 + size) (length stream)) has in
+    let whole : offset + 4 + size ≤ length stream = leb-true _ _ parts.1 in
+    let same : bytes_at size stream (offset + 4) ≡ value = (let e : ◌≡◌ {A = Option (List ℕ)} (Some (bytes_at size stream (offset + 4))) (Some value) = is in cc) in
+    let long : length (bytes_at size stream (offset + 4)) ≡ size =
+    length-take-le size (drop (offset + 4) stream) (omega (arith, whole, length-drop (offset + 4) stream)) in
+    subst (IsValueAt stream offset) same (record {
+      length_is = sym long;
+      whole = omega (arith, whole, long);
+      bytes = ap (λ (n : ℕ). bytes_at n stream (offset + 4)) long;
+    })
+
+pub value_stands : (stream : List ℕ) (offset : ℕ) (value : List ℕ) → value_at stream offset ≡ Some value → IsValueAt stream offset value
+value_stands stream offset value is = stands_by stream offset _ value refl is
 
 -- a channel has an entry, where the offset of one of variable length meets a value
 value_there : (kind : FieldKind) (spot : Spot) (bytes : List ℕ) (find : Finder) (index : ℕ)
@@ -170,11 +192,11 @@ other_kind false true unsigned = refl
 other_kind false false true = refl
 other_kind false false false = refl
 
-variable_field : (channel : ChannelRow) → nat_eq channel.kind 1 ≡ true → is_variable (field_of channel) ≡ true
+pub variable_field : (channel : ChannelRow) → nat_eq channel.kind 1 ≡ true → is_variable (field_of channel) ≡ true
 variable_field channel is =
     ap (λ (k : ℕ). is_variable_kind (kind_in (form_of (record (numbers_of channel) { kind = k })))) (eqb-true channel.kind 1 is)
 
-other_field : (channel : ChannelRow) → nat_eq channel.kind 1 ≡ false → is_variable (field_of channel) ≡ false
+pub other_field : (channel : ChannelRow) → nat_eq channel.kind 1 ≡ false → is_variable (field_of channel) ≡ false
 other_field channel is =
     ap (λ (b : Bool). is_variable_kind (kind_in (if nat_eq channel.kind 3 || nat_eq channel.kind 6 then forms.Virtual
     else (if b then forms.Variable

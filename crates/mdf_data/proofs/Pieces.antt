@@ -37,10 +37,10 @@ pub parted : (n at : ℕ) (stream : List ℕ) → drop at stream ≡ bytes_at n 
 parted n at stream = sym (take-append-drop n (drop at stream)) ∙ ap (λ (xs : List ℕ). bytes_at n stream at ++ xs) (drop-drop n at stream)
 
 -- what begins at a place is the bytes there
-begins_there : (at : ℕ) (stream xs more : List ℕ) → drop at stream ≡ xs ++ more → bytes_at (length xs) stream at ≡ xs
+pub begins_there : (at : ℕ) (stream xs more : List ℕ) → drop at stream ≡ xs ++ more → bytes_at (length xs) stream at ≡ xs
 begins_there at stream xs more is = ap (take (length xs)) is ∙ take_at xs more (length xs) refl
 
-follows_there : (at : ℕ) (stream xs more : List ℕ) → drop at stream ≡ xs ++ more → drop (at + length xs) stream ≡ more
+pub follows_there : (at : ℕ) (stream xs more : List ℕ) → drop at stream ≡ xs ++ more → drop (at + length xs) stream ≡ more
 follows_there at stream xs more is = sym (drop-drop (length xs) at stream) ∙ ap (drop (length xs)) is ∙ drop_at xs more (length xs) refl
 
 -- a body that is whole

@@ -1,8 +1,7 @@
 -- What a crash may leave while a head is written under a seal.
 use Rattle.std.proofs.Common.{◌≡◌, inl, inr, ⊎_elim, ℕ, ◌+◌, ◌≤◌, ◌<◌, List, [], ◌∷◌, ◌++◌, length, take, drop, get_or, codes, Option, Some, None, is_some, sym, ◌∙◌, ap, subst, arith, length-append}
-use Rattle.std.proofs.lemmas.List.{take_at, drop_more, get_or-take, get_or-drop, get_or_append_left}
+use Rattle.std.proofs.lemmas.List.{take_at, drop_more, get_or-drop, get_or_append_left}
 use Rattle.std.proofs.lemmas.Bool.{cases_eq}
-use Rattle.mdf_format.specs.Number.{bytes_at}
 use Rattle.mdf_seal.specs.Images.{IsClosed, IsWholeButFirst}
 use Rattle.mdf_gate.specs.Gated.{IsRecordingHead}
 use Rattle.mdf_disk.specs.Story.{Moment, Story, MayLeave, Agrees, LeftSince, settled}
@@ -10,22 +9,16 @@ use Rattle.mdf_disk.specs.Crash.{Adds, NowHas, HoldsSince}
 use Rattle.mdf_disk.proofs.Crash.{settled_leaves}
 use Rattle.mdf_seal.specs.Seal.{IsKept}
 use Rattle.std.specs.Prelude.{IfSome}
+use Rattle.mdf_seal.proofs.Marks.{in_mark, closed_unmarked}
 use Rattle.mdf_gate.specs.Images.{IsBegun, Opens, head_of}
 use Rattle.mdf_gate.proofs.Appends.{none_later}
 use Rattle.mdf_gate.proofs.Resting.{rests_opens, head_rests}
-
--- a byte of the mark
-in_mark : (file mark : List ℕ) (place : ℕ) → place < 8 → bytes_at 8 file 0 ≡ mark → get_or file place 0 ≡ get_or mark place 0
-in_mark file mark place below is = sym (get_or-take 8 file place 0 below) ∙ ap (λ (bytes : List ℕ). get_or bytes place 0) is
 
 pub short_begun : (head file : List ℕ) → length file ≤ 1 → IsBegun head file
 short_begun head file short = inl (λ mdf. absurd (omega (arith, mdf.long, short)))
 
 pub closed_begun : (head file : List ℕ) → IsClosed file → IsBegun head file
-closed_begun head file closed = inl (λ mdf. ⊎_elim
-    (λ finalized. absurd (omega (arith, closed, in_mark file (codes "MDF     ") 0 (omega arith) finalized)))
-    (λ unfinalized. absurd (omega (arith, closed, in_mark file (codes "UnFinMF ") 0 (omega arith) unfinalized)))
-    mdf.marked)
+closed_begun head file closed = inl (closed_unmarked file closed)
 
 module _ (head : List ℕ) (recording : IsRecordingHead head) where
   abbrev whole : List ℕ

@@ -23,16 +23,16 @@ use Rattle.mdf_layout.specs.declared.sample.Value.TheVariants as values
 use Rattle.mdf_layout.specs.declared.sample.Entry.{Entry}
 use Rattle.mdf_layout.specs.declared.sample.Sample.{Sample}
 use Rattle.mdf_layout.proofs.Once.{ids_rise}
-use Rattle.mdf_layout.proofs.Samples.{parts}
+use Rattle.mdf_layout.proofs.Samples.{parts_of_entries}
 use Rattle.mdf_layout.specs.Next.{added}
 use Rattle.mdf_layout.proofs.Found.{AreFoundIn, joined, joined-lengths, found_behind, offset_in, sample_alike}
 
 -- the records of values as pieces
-abbrev value_pieces : ℕ → List (List ℕ) → List Piece
+abbrev pub value_pieces : ℕ → List (List ℕ) → List Piece
 value_pieces id [] = []
 value_pieces id (v ∷ vs) = record { id = id; content = v } ∷ value_pieces (id + 1) vs
 
-value_pieces-bytes : (groups id : ℕ) (vs : List (List ℕ)) → groups < id → flat_map (piece_bytes groups) (value_pieces id vs) ≡ value_records id vs
+pub value_pieces-bytes : (groups id : ℕ) (vs : List (List ℕ)) → groups < id → flat_map (piece_bytes groups) (value_pieces id vs) ≡ value_records id vs
 unfolding value_records
 value_pieces-bytes groups id [] over = refl
 value_pieces-bytes groups id (v ∷ vs) over =
@@ -40,7 +40,7 @@ value_pieces-bytes groups id (v ∷ vs) over =
     ap (λ xs. (id ∷ xs) ++ flat_map (piece_bytes groups) (value_pieces (id + 1) vs)) body
     ∙ ap (λ xs. id ∷ (value_bytes v ++ xs)) (value_pieces-bytes groups (id + 1) vs (omega (arith, over)))
 
-each_value : (layouts : List Layout) (id : ℕ) (vs : List (List ℕ)) → length layouts < id → id + length vs ≤ first_id layouts (length layouts) → All (λ v. length v < 2 ^ 32) vs
+pub each_value : (layouts : List Layout) (id : ℕ) (vs : List (List ℕ)) → length layouts < id → id + length vs ≤ first_id layouts (length layouts) → All (λ v. length v < 2 ^ 32) vs
     → All (IsPiece layouts) (value_pieces id vs)
 each_value layouts id [] over known short k d within = absurd (omega (arith, within))
 each_value layouts id (v ∷ vs) over known short zero d within = record {
@@ -79,7 +79,7 @@ joined_streams xs ys id (row ∷ rows) =
     ap (λ s. s ∷ streams_from (xs ++ ys) (id + 1) rows) (flat_map-append (λ (piece : Piece). if nat_eq piece.id id then value_bytes piece.content else []) xs ys)
     ∙ ap (λ ss. (stream_of xs id ++ stream_of ys id) ∷ ss) (joined_streams xs ys (id + 1) rows)
 
-length-streams : (pieces : List Piece) (id : ℕ) (rows : List FieldRow) → length (streams_from pieces id rows) ≡ length rows
+pub length-streams : (pieces : List Piece) (id : ℕ) (rows : List FieldRow) → length (streams_from pieces id rows) ≡ length rows
 length-streams pieces id [] = refl
 length-streams pieces id (row ∷ rows) = omega (arith, length-streams pieces (id + 1) rows)
 
@@ -184,7 +184,7 @@ unfolding offsets_from offsets_with sample_by
 one_sample [] k bytes inval [] index s entries left given count = refl
 one_sample [] k bytes inval (v ∷ vs) index s entries left given count = absurd (omega (arith, count))
 one_sample (row ∷ rows) k bytes inval vs index s entries left given count =
-    let found = parts (entry_of row bytes inval (first_finder (map always vs)) index) (sample_by rows bytes inval (finders_behind row (map always vs)) index) entries given in
+    let found = parts_of_entries (entry_of row bytes inval (first_finder (map always vs)) index) (sample_by rows bytes inval (finders_behind row (map always vs)) index) entries given in
     let here = head_of s.values k found.0 found.1 (left ∙ sym found.4) in
     let next : k + 1 ≡ suc k = omega arith in
     one_step row rows bytes inval index s (is_variable row) k vs found.0 found.1 refl count here.0 found.2 found.3
@@ -199,13 +199,13 @@ hold_none : (layouts : List Layout) → HoldStreams layouts [] []
 hold_none layouts = record { lengths = λ g layout known. zeros layout.rows 0 (first_id layouts g) }
 
 module _ (layouts : List Layout) (before : List Sample) (bytes : List ℕ) (sample : Sample) (r : IsRecordBehind layouts before bytes sample) where
-  abbrev own_id : ℕ
+  abbrev pub own_id : ℕ
   own_id = first_id layouts sample.group
 
-  abbrev group_piece : Piece
+  abbrev pub group_piece : Piece
   group_piece = record { id = sample.group + 1; content = r.data_bytes ++ r.inval_bytes }
 
-  abbrev own_pieces : List Piece
+  abbrev pub own_pieces : List Piece
   own_pieces = value_pieces own_id r.values ++ group_piece ∷ []
 
   in_layouts : sample.group < length layouts
@@ -292,7 +292,7 @@ module _ (layouts : List Layout) (before : List Sample) (bytes : List ℕ) (samp
       ∙ ap (option_and_then (λ (layout : Layout). option_map (λ vs. record { group = sample.group; values = vs }) (values_of layouts all before sample.group layout (r.data_bytes ++ r.inval_bytes)))) r.known
       ∙ ap (option_map (λ (vs : List Entry). record { group = sample.group; values = vs })) values
 
-  own_bytes : bytes ≡ flat_map (piece_bytes (length layouts)) own_pieces
+  pub own_bytes : bytes ≡ flat_map (piece_bytes (length layouts)) own_pieces
   own_bytes =
       let groups = length layouts in
       let body : piece_body groups group_piece ≡ r.data_bytes ++ r.inval_bytes =
@@ -313,7 +313,7 @@ module _ (layouts : List Layout) (before : List Sample) (bytes : List ℕ) (samp
     short = λ over. absurd (omega (arith, in_layouts, over));
   }
 
-  each_own : All (IsPiece layouts) own_pieces
+  pub each_own : All (IsPiece layouts) own_pieces
   each_own =
       All-append (IsPiece layouts) (value_pieces own_id r.values) (group_piece ∷ [])
       (each_value layouts own_id r.values (omega arith) (omega (arith, r.count, ids_rise layouts sample.group (length layouts) r.layout r.known in_layouts)) r.short)

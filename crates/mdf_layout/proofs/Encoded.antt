@@ -33,10 +33,11 @@ behind_entries row rows entry entries fit = record {
   each = λ k r e within. fit.each (suc k) r e (omega (arith, within));
 }
 
--- as many values as channels of variable length, each shorter than 2^32 bytes
-long_with : Bool → Entry → List (List ℕ) → List (List ℕ)
+-- the values of variable length, with one channel before
+unfoldable pub long_with : Bool → Entry → List (List ℕ) → List (List ℕ)
 long_with b entry rest = if b then bytes_in entry.value ∷ rest else rest
 
+-- as many values as channels of variable length, each shorter than 2^32 bytes
 variables_with : Bool → FieldRow → List FieldRow → List FieldRow
 variables_with b row rest = if b then row ∷ rest else rest
 

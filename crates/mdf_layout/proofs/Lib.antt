@@ -1,10 +1,9 @@
-mod Samples
-mod Stays
+pub mod Samples
+pub mod Stays
 mod Apart
 mod RoundTrip
 pub mod Rules
-mod Numbers
-mod Steps
+pub mod Numbers
 mod Later
 pub mod Sizes
 pub mod Encoded

@@ -18,6 +18,7 @@ record Same (P Q : Type 0) : Type 0 where
   pub to : P → Q
   pub back : Q → P
 
+-- the same place over the numbers of a channel and over its field
 same_bits : (f : Form) (bits : ℕ) → bits_in (kind_in f) bits ≡ field_bits f bits
 same_bits forms.Unsigned bits = refl
 same_bits forms.Signed bits = refl
@@ -25,7 +26,7 @@ same_bits forms.Fixed bits = refl
 same_bits forms.Variable bits = refl
 same_bits forms.Virtual bits = refl
 
-same_spot : (row : RowNumbers) → spot_in (field_row row) ≡ spot_of_row row
+pub same_spot : (row : RowNumbers) → spot_in (field_row row) ≡ spot_of_row row
 same_spot row = ap (λ (bits : ℕ). record { byte = row.byte; bit = row.bit; bits = bits; big = (field_row row).big }) (same_bits (form_of row) row.bits)
 
 same_place : (f : Form) (data_bytes : ℕ) (s : Spot) → Same (IsPlacedAs (kind_in f) data_bytes s) (IsPlaced f data_bytes s)

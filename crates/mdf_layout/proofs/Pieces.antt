@@ -1,8 +1,9 @@
 -- Bytes are read as one list of samples.
-use Rattle.std.proofs.Common.{◌≡◌, ◌<◌, ◌-◌, ℕ, suc, Bool, true, false, List, [], ◌∷◌, ◌++◌, length, get_or, drop, refl, sym, ◌∙◌, ap, subst, arith}
+use Rattle.std.proofs.Common.{◌≡◌, ◌<◌, ◌-◌, ℕ, Bool, true, false, List, [], ◌∷◌, ◌++◌, length, get_or, drop, refl, sym, ◌∙◌, ap, subst, arith}
 use Rattle.std.specs.Prelude.{All, nat_le, if◌then◌else◌}
 use Rattle.std.specs.List.{flat_map}
 use Rattle.std.proofs.lemmas.Bool.{leb-true, leb-false}
+use Rattle.std.proofs.lemmas.List.Elements.{All-head, All-tail}
 use Rattle.std.proofs.lemmas.Option.{slice_get-get_or, same_Some}
 use Rattle.mdf_vlsd.specs.Value.{value_bytes}
 use Rattle.mdf_layout.specs.Layout.{Layout}
@@ -26,22 +27,17 @@ content_once layouts id xs ys more more' false is one two same =
     let over = leb-false id (length layouts) is in
     value_once xs ys more more' (one.short over) (two.short over) same
 
-first_of : (layouts : List Layout) (piece : Piece) (pieces : List Piece) → All (IsPiece layouts) (piece ∷ pieces) → IsPiece layouts piece
-first_of layouts piece pieces each = each 0 piece (omega arith)
-
-others_of : (layouts : List Layout) (piece : Piece) (pieces : List Piece) → All (IsPiece layouts) (piece ∷ pieces) → All (IsPiece layouts) pieces
-others_of layouts piece pieces each k d within = each (suc k) d (omega arith)
-
-pieces_once : (layouts : List Layout) (pieces others : List Piece) → All (IsPiece layouts) pieces → All (IsPiece layouts) others
+-- one list of bytes is one list of records
+pub pieces_once : (layouts : List Layout) (pieces others : List Piece) → All (IsPiece layouts) pieces → All (IsPiece layouts) others
     → flat_map (piece_bytes (length layouts)) pieces ≡ flat_map (piece_bytes (length layouts)) others → pieces ≡ others
 pieces_once layouts [] [] each each' same = refl
 pieces_once layouts [] (piece ∷ others) each each' same = absurd (omega (arith, ap length same))
 pieces_once layouts (piece ∷ pieces) [] each each' same = absurd (omega (arith, ap length same))
 pieces_once layouts (piece ∷ pieces) (other ∷ others) each each' same =
     let id : piece.id ≡ other.id = ap (λ bytes. get_or bytes 0 0) same in
-    let one = first_of layouts piece pieces each in
+    let one = All-head (IsPiece layouts) piece pieces each in
     let two : IsPiece layouts (record { id = piece.id; content = other.content }) =
-    subst (λ n. IsPiece layouts (record { id = n; content = other.content })) (sym id) (first_of layouts other others each') in
+    subst (λ n. IsPiece layouts (record { id = n; content = other.content })) (sym id) (All-head (IsPiece layouts) other others each') in
     let groups = length layouts in
     let behind : piece_body groups piece ++ flat_map (piece_bytes groups) pieces ≡ piece_body groups (record { id = piece.id; content = other.content }) ++ flat_map (piece_bytes groups) others =
     ap (drop 1) same ∙ ap (λ n. piece_body groups (record { id = n; content = other.content }) ++ flat_map (piece_bytes groups) others) (sym id) in
@@ -50,7 +46,7 @@ pieces_once layouts (piece ∷ pieces) (other ∷ others) each each' same =
     let content : piece ≡ record { id = piece.id; content = other.content } = ap (λ xs. record { id = piece.id; content = xs }) both.0 in
     let whole : piece ≡ other = content ∙ ap (λ n. record { id = n; content = other.content }) id in
     ap (λ x. x ∷ pieces) whole
-    ∙ ap (λ xs. other ∷ xs) (pieces_once layouts pieces others (others_of layouts piece pieces each) (others_of layouts other others each') both.1)
+    ∙ ap (λ xs. other ∷ xs) (pieces_once layouts pieces others (All-tail (IsPiece layouts) piece pieces each) (All-tail (IsPiece layouts) other others each') both.1)
 
 pub read_once : (layouts : List Layout) (bytes : List ℕ) (samples others : List Sample) → AreRead layouts bytes samples → AreRead layouts bytes others → samples ≡ others
 read_once layouts bytes samples others one two =

@@ -2,6 +2,7 @@
 use Rattle.std.proofs.Common.{◌≡◌, ◌≤◌, ◌<◌, ◌+◌, ℕ, zero, suc, Bool, true, false, List, length, get_or, take, refl, sym, ◌∙◌, ap, subst, arith, Option, Some, None}
 use Rattle.std.specs.Prelude.{if◌then◌else◌, slice_get, nat_eq, not, ◌&&◌, All}
 use Rattle.std.specs.Option.{option_map, option_map_or}
+use borrow.Author.Count.{below_more}
 use Rattle.std.proofs.lemmas.List.{get_or_default, take_more, take_all}
 use Rattle.std.proofs.lemmas.Option.{slice_get-get_or, slice_get_within, get_or_from_slice_get}
 use Rattle.mdf_format.specs.Field.{Spot, bit_of}
@@ -15,7 +16,6 @@ use Rattle.mdf_layout.specs.declared.sample.Value.{Value}
 use Rattle.mdf_layout.specs.declared.sample.Value.TheVariants as value
 use Rattle.mdf_layout.specs.declared.sample.Entry.{Entry}
 use Rattle.mdf_layout.proofs.Samples.{sample_more}
-use Rattle.mdf_layout.proofs.Steps.{each_more}
 
 -- the value of a field that holds it
 value_read : (kind : FieldKind) (s : Spot) (bits : ℕ) (bytes : List ℕ) (offset : ℕ) (find : Finder) (index : ℕ) (v : Value)
@@ -102,7 +102,7 @@ pub marks_more : (rows : List FieldRow) (values : List Entry) (i : ℕ) (old new
     → HoldMarks rows values i old → HoldsMark row new entry.valid → HoldMarks rows values (i + 1) new
 marks_more rows values i old new row entry there is within apart others before here = λ k r e below.
     let inside = slice_get_within rows i row there in
-    each_more (λ k. HoldsMark (get_or rows k r) new (get_or values k e).valid) i
+    below_more (λ k. HoldsMark (get_or rows k r) new (get_or values k e).valid) i
     (λ k less p has. others p (λ mine.
     let at = get_or_from_slice_get rows i row r there in
     (apart k i r less inside).positions p has (subst (λ x. x.inval ≡ Some p) (sym at) mine)) ∙ before k r e less p has)

@@ -15,15 +15,15 @@ use Rattle.mdf_layout.specs.declared.field.FieldRow.{FieldRow}
 use Rattle.mdf_layout.specs.declared.sample.Entry.{Entry}
 
 -- the parts of a list of entries that is defined
-pub parts : (one : Option Entry) (rest : Option (List Entry)) (entries : List Entry)
+pub parts_of_entries : (one : Option Entry) (rest : Option (List Entry)) (entries : List Entry)
     → option_and_then (λ entry. option_map (λ entries. entry ∷ entries) rest) one ≡ Some entries
     → (entry : Entry) × (behind : List Entry) × (one ≡ Some entry) × (rest ≡ Some behind) × (entry ∷ behind ≡ entries)
-parts None rest entries is = let wrong : ◌≡◌ {A = Option (List Entry)} None (Some entries) = is in cc
-parts (Some entry) None entries is = let wrong : ◌≡◌ {A = Option (List Entry)} None (Some entries) = is in cc
-parts (Some entry) (Some behind) entries is = let same : Some (entry ∷ behind) ≡ Some entries = is in (entry, behind, refl, refl, cc)
+parts_of_entries None rest entries is = let wrong : ◌≡◌ {A = Option (List Entry)} None (Some entries) = is in cc
+parts_of_entries (Some entry) None entries is = let wrong : ◌≡◌ {A = Option (List Entry)} None (Some entries) = is in cc
+parts_of_entries (Some entry) (Some behind) entries is = let same : Some (entry ∷ behind) ≡ Some entries = is in (entry, behind, refl, refl, cc)
 
 -- the finder of a channel behind this one
-finder_behind : (b : Bool) (row : FieldRow) (rows : List FieldRow) (finders : List Finder) → is_variable row ≡ b
+pub finder_behind : (b : Bool) (row : FieldRow) (rows : List FieldRow) (finders : List Finder) → is_variable row ≡ b
     → finder_at (finders_behind row finders) (length (filter is_variable rows)) ≡ finder_at finders (length (filter is_variable (row ∷ rows)))
 finder_behind true row rows finders is =
     let n = length (filter is_variable rows) in
@@ -42,7 +42,7 @@ sample_push [] row bytes inval finders index entries entry before here =
     let same : [] ≡ entries = cc in
     ap (option_and_then (λ (entry : Entry). Some (entry ∷ []))) here ∙ ap (λ (xs : List Entry). Some (xs ++ entry ∷ [])) same
 sample_push (first ∷ rows) row bytes inval finders index entries entry before here =
-    let found = parts (entry_of first bytes inval (first_finder finders) index) (sample_by rows bytes inval (finders_behind first finders) index) entries before in
+    let found = parts_of_entries (entry_of first bytes inval (first_finder finders) index) (sample_by rows bytes inval (finders_behind first finders) index) entries before in
     let finder = finder_behind (is_variable first) first rows finders refl in
     let more = sample_push rows row bytes inval (finders_behind first finders) index found.1 entry found.3
     (ap (λ (find : Finder). entry_of row bytes inval find index) finder ∙ here) in

@@ -1,9 +1,10 @@
 -- How long records of values of variable length are.
 use Rattle.std.proofs.Common.{◌≡◌, ◌<◌, ◌≤◌, ◌+◌, ◌*◌, ℕ, suc, Bool, true, false, List, [], ◌∷◌, ◌++◌, length, get_or, drop, map, refl, sym, ◌∙◌, ap, arith, length-append, Some}
-use Rattle.std.specs.Prelude.{sum_by, if◌then◌else◌}
+use Rattle.std.specs.Prelude.{sum_by, if◌then◌else◌, not}
 use Rattle.std.specs.Option.{option_map_or}
 use Rattle.std.proofs.lemmas.List.{drop_more}
 use Rattle.std.proofs.lemmas.List.Sums.{sum_by-cons}
+use Rattle.std.proofs.lemmas.List.Filters.{length-filter_both}
 use Rattle.mdf_vlsd.specs.Value.{value_bytes}
 use Rattle.mdf_layout.specs.Layout.{Layout, record_size}
 use Rattle.mdf_layout.specs.Rule.{is_variable, is_variable_kind}
@@ -18,13 +19,15 @@ use Rattle.mdf_layout.specs.declared.sample.Value.{Value}
 use Rattle.mdf_layout.specs.declared.sample.Value.TheVariants as value
 use Rattle.mdf_layout.specs.declared.sample.Entry.{Entry}
 use Rattle.mdf_layout.specs.declared.sample.Sample.{Sample}
-use Rattle.mdf_layout.proofs.Samples.{parts}
+use Rattle.mdf_layout.proofs.Samples.{parts_of_entries}
 use Rattle.mdf_layout.proofs.Bridge.{value_of_entry}
+use Rattle.mdf_layout.proofs.Encoded.{long_with}
+
+-- no more channels are of variable length than there are channels
+pub few_variables : (rows : List FieldRow) → length (variables rows) ≤ length rows
+few_variables rows = omega (arith, length-filter_both is_variable (λ (row : FieldRow). not (is_variable row)) (λ row. refl) rows)
 
 -- with one channel before
-long_with : Bool → Entry → List (List ℕ) → List (List ℕ)
-long_with b entry rest = if b then bytes_in entry.value ∷ rest else rest
-
 size_step : (b : Bool) (entry : Entry) (rest : List (List ℕ)) → sum_by (λ value. 5 + length value) (long_with b entry rest)
     ≡ (if b then 5 + length (bytes_in entry.value) else 0) + sum_by (λ value. 5 + length value) rest
 unfolding long_with
@@ -93,7 +96,7 @@ unfolding long_values sample_by long_with
 long_are [] bytes inval [] index entries given count = refl
 long_are [] bytes inval (v ∷ vs) index entries given count = absurd (omega (arith, count))
 long_are (row ∷ rows) bytes inval vs index entries given count =
-    let found = parts (entry_of row bytes inval (first_finder (map always vs)) index) (sample_by rows bytes inval (finders_behind row (map always vs)) index) entries given in
+    let found = parts_of_entries (entry_of row bytes inval (first_finder (map always vs)) index) (sample_by rows bytes inval (finders_behind row (map always vs)) index) entries given in
     ap (long_values (row ∷ rows)) (sym found.4)
     ∙ long_step row rows bytes inval index (is_variable row) vs found.0 found.1 refl count found.2 found.3
     (λ ws counted more. long_are rows bytes inval ws index found.1 more counted)

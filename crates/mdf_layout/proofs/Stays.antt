@@ -6,6 +6,7 @@ use Rattle.std.proofs.lemmas.Bool.{cases_lt}
 use Rattle.std.proofs.lemmas.Option.{slice_get_within, get_or_from_slice_get}
 use Rattle.std.proofs.lemmas.Nat.Bits.{same_from_bits_below}
 use Rattle.std.specs.Int.{bit_at}
+use borrow.Author.Count.{below_more}
 use Rattle.mdf_format.specs.Field.{Spot, HasBit, bit_of, covered_end, field_number, signed_number}
 use Rattle.mdf_format.specs.Number.{bytes_at}
 use Rattle.mdf_format.specs.Row.{AreBytesPlaced}
@@ -19,7 +20,6 @@ use Rattle.mdf_layout.specs.declared.field.FieldRow.{FieldRow}
 use Rattle.mdf_layout.specs.declared.sample.Value.{Value}
 use Rattle.mdf_layout.specs.declared.sample.Value.TheVariants as value
 use Rattle.mdf_layout.specs.declared.sample.Entry.{Entry}
-use Rattle.mdf_layout.proofs.Steps.{each_more}
 
 -- each bit of whole bytes is the field's
 pub bytes_have : (n : ℕ) (s : Spot) (p : ℕ) → AreBytesPlaced n s → 8 * s.byte ≤ p → p < 8 * (s.byte + s.bits / 8) → HasBit s p
@@ -32,14 +32,15 @@ bytes_have n s p at low high =
 pub record AreBytes (bytes : List ℕ) : Type 0 where
   pub small : (i : ℕ) → get_or bytes i 0 < 256
 
--- a byte stays where its bits stay
-same_byte : (old new : List ℕ) (i : ℕ) → AreBytes old → AreBytes new → ((b : ℕ) → b < 8 → bit_of new (8 * i + b) ≡ bit_of old (8 * i + b)) → get_or new i 0 ≡ get_or old i 0
-same_byte old new i small small' same =
-    same_from_bits_below 8 (get_or new i 0) (get_or old i 0) (small'.small i) (small.small i)
+-- a byte with the same bits
+pub same_byte : (xs ys : List ℕ) (i : ℕ) → get_or xs i 0 < 256 → get_or ys i 0 < 256
+    → ((b : ℕ) → b < 8 → bit_of xs (8 * i + b) ≡ bit_of ys (8 * i + b)) → get_or xs i 0 ≡ get_or ys i 0
+same_byte xs ys i small small' same =
+    same_from_bits_below 8 (get_or xs i 0) (get_or ys i 0) small small'
     (λ b below.
     let byte : (8 * i + b) / 8 ≡ i = omega arith in
     let bit : (8 * i + b) % 8 ≡ b = omega arith in
-    let there : bit_at (get_or new ((8 * i + b) / 8) 0) ((8 * i + b) % 8) ≡ bit_at (get_or old ((8 * i + b) / 8) 0) ((8 * i + b) % 8) = same b below in
+    let there : bit_at (get_or xs ((8 * i + b) / 8) 0) ((8 * i + b) % 8) ≡ bit_at (get_or ys ((8 * i + b) / 8) 0) ((8 * i + b) % 8) = same b below in
     rw (byte, bit) at there)
 
 -- bytes stay where their bits stay
@@ -51,7 +52,7 @@ same_bytes old new start n small small' inside long same =
     same_lists (bytes_at n new start) (bytes_at n old start) (size_new ∙ sym size_old)
     (λ k d within.
     let below : k < n = omega (arith, size_new) in
-    let byte = same_byte old new (start + k) small small' (λ b less. same (8 * (start + k) + b) (omega arith) (omega arith)) in
+    let byte = same_byte new old (start + k) (small'.small (start + k)) (small.small (start + k)) (λ b less. same (8 * (start + k) + b) (omega arith) (omega arith)) in
     let in_new : k < length (bytes_at n new start) = within in
     let in_old : k < length (bytes_at n old start) = omega (arith, size_old) in
     get_or_default (bytes_at n new start) k d 0 in_new
@@ -98,7 +99,7 @@ module _ (rows : List FieldRow) (values : List Entry) (offsets : List ℕ) (i : 
   pub values_more : (entry : Entry) → entry ≡ get_or values i entry → i < length values → HoldValues rows values offsets i old
       → HoldsValue row.kind (spot_in row) new (offset_of rows offsets i) entry.value → HoldValues rows values offsets (i + 1) new
   values_more entry is inside before here = λ k r e below.
-      each_more (λ k. HoldsValue (get_or rows k r).kind (spot_in (get_or rows k r)) new (offset_of rows offsets k) (get_or values k e).value) i
+      below_more (λ k. HoldsValue (get_or rows k r).kind (spot_in (get_or rows k r)) new (offset_of rows offsets k) (get_or values k e).value) i
       (λ k less. earlier k r e less (before k r e less))
       (subst (λ x. HoldsValue x.kind (spot_in x) new (offset_of rows offsets i) (get_or values i e).value) (sym (get_or_from_slice_get rows i row r there))
       (subst (λ x. HoldsValue row.kind (spot_in row) new (offset_of rows offsets i) x.value) (is ∙ get_or_default values i entry e inside) here)) k below

@@ -1,15 +1,14 @@
 -- The streams of the channels of variable length that are found, with the values in them.
-use Rattle.std.proofs.Common.{◌≡◌, ◌+◌, ◌<◌, ◌≤◌, ℕ, zero, suc, List, [], ◌∷◌, ◌++◌, length, get_or, take, drop, map, Ok, Err, refl, sym, ◌∙◌, ap, subst, inl, inr, arith}
-use Rattle.std.specs.Prelude.{nat_le, Bool, true, min, nat_eq, ◌&&◌, filter, slice_get, Option, Some, None}
+use Rattle.std.proofs.Common.{◌≡◌, ◌+◌, ◌<◌, ℕ, zero, suc, List, [], ◌∷◌, ◌++◌, length, get_or, take, drop, map, Ok, refl, sym, ◌∙◌, ap, subst, inl, inr, arith}
+use Rattle.std.specs.Prelude.{true, min, nat_eq, ◌&&◌, filter, slice_get, Option, Some, None}
 use Rattle.std.specs.List.{flat_map, AllByRecursion, AllZip}
-use Rattle.std.proofs.lemmas.Bool.{and_parts, leb-true, cond-true}
-use Rattle.std.proofs.lemmas.List.{length-take-le, length-drop}
+use Rattle.std.proofs.lemmas.Bool.{and_parts, cond-true}
 use Rattle.std.proofs.lemmas.List.Concat.{flat_map-append}
-use Rattle.mdf_format.specs.Number.{le_number, bytes_at}
+use Rattle.mdf_format.specs.Number.{bytes_at}
 use Rattle.mdf_format.specs.Field.{field_number}
 use Rattle.mdf_format.specs.Value.{IsValueAt}
 use Rattle.mdf_format.specs.declared.kind.Kind.TheVariants.{Sd}
-use Rattle.mdf_block.specs.Refusal.{Offset, Read, ◌>>=◌}
+use Rattle.mdf_block.specs.Refusal.{Read, ◌>>=◌}
 use Rattle.mdf_block.proofs.Refusals.{bind_ok}
 use Rattle.mdf_block.proofs.Wholes.{chosen}
 use Rattle.mdf_data.specs.declared.known.Size.{Size}
@@ -31,54 +30,14 @@ use Rattle.mdf_layout.specs.Rule.{spot_in}
 use Rattle.mdf_content.specs.Layouts.{field_of}
 use Rattle.mdf_content.specs.Records.{size_of}
 use Rattle.mdf_block.specs.Every.{every}
-use Rattle.mdf_content.specs.Values.{has_value, offset_met, offsets_met, DataStream, values_group, value_size, values_at, values_in, channel_values, GroupRecords, offset_in, channel_stream, channel_item, streams}
+use Rattle.mdf_content.specs.Values.{has_value, offsets_met, DataStream, values_group, value_size, values_at, values_in, channel_values, GroupRecords, offset_in, channel_stream, channel_item, streams}
+use Rattle.mdf_content.proofs.Samples.{all_met, value_found, value_stands}
 use Rattle.mdf_model.specs.Bodies.{bodies, joined}
 use Rattle.mdf_model.specs.Contents.{IsValuesOf, MeetsValue, IsChannelStream}
 use Rattle.mdf_model.proofs.Insides.{data_inside}
 use Rattle.mdf_model.proofs.Bodies.{HasRoom, bodies_at}
 use Rattle.mdf_model.proofs.Picks.{IsPicked, all_read, picked, keyed_own}
 use Rattle.mdf_model.proofs.Cases.{ok_injective, some_injective}
-
--- a value that is tested stands
-value_stands : (stream : List ℕ) (offset : ℕ) → has_value stream offset ≡ true → (value : List ℕ) × IsValueAt stream offset value
-value_stands stream offset has =
-    let size = le_number (bytes_at 4 stream offset) in
-    let both = and_parts (nat_le (offset + 4) (length stream)) (nat_le (offset + 4 + size) (length stream)) has in
-    let whole : offset + 4 + size ≤ length stream = leb-true _ _ both.1 in
-    let value = bytes_at size stream (offset + 4) in
-    let long : length value ≡ size = length-take-le size (drop (offset + 4) stream) (omega (arith, whole, length-drop (offset + 4) stream)) in (
-      value,
-      record {
-        length_is = sym long;
-        whole = omega (arith, whole, long);
-        bytes = ap (λ (n : ℕ). bytes_at n stream (offset + 4)) long;
-      },
-    )
-
--- each offset meets a value
-row_on : (row : ℕ) → row + 0 ≡ row
-row_on row = omega arith
-
-one_on : (row j : ℕ) → row + suc j ≡ row + 1 + j
-one_on row j = omega arith
-
-one_met : (meets : ℕ → Bool) (offset : ℕ → ℕ) (channel row : ℕ) (u : Unit {0}) → offset_met meets offset channel row ≡ Ok u → meets (offset row) ≡ true
-one_met meets offset channel row u is =
-    elim (chosen (meets (offset row)) (Ok tt) (Err (Offset channel row (offset row))) (Ok u) is) [
-      | inl met ↦ met.0
-      | inr missed ↦ let wrong : ◌≡◌ {A = Read (Unit {0})} (Err (Offset channel row (offset row))) (Ok u) = missed.1 in cc
-    ]
-
-all_met : (meets : ℕ → Bool) (offset : ℕ → ℕ) (channel row left : ℕ) (u : Unit {0}) → offsets_met meets offset channel row left ≡ Ok u
-    → (j : ℕ) → j < left → meets (offset (row + j)) ≡ true
-unfolding offsets_met
-all_met meets offset channel row zero u is j below = absurd (omega (arith, below))
-all_met meets offset channel row (suc left) u is zero below =
-    let first = bind_ok (offset_met meets offset channel row) (λ _. offsets_met meets offset channel (row + 1) left) u is in
-    subst (λ (n : ℕ). meets (offset n) ≡ true) (sym (row_on row)) (one_met meets offset channel row first.0 first.1)
-all_met meets offset channel row (suc left) u is (suc j) below =
-    let first = bind_ok (offset_met meets offset channel row) (λ _. offsets_met meets offset channel (row + 1) left) u is in
-    subst (λ (n : ℕ). meets (offset n) ≡ true) (sym (one_on row j)) (all_met meets offset channel (row + 1) left u first.2 j (omega (arith, below)))
 
 -- what holds of each of the first places
 all_taken : (P : List ℕ → Type 0) (f : ℕ → List ℕ) (count : ℕ) (places : List ℕ)
@@ -107,10 +66,12 @@ offsets_stand held stream channel data_bytes inval_bytes cycles c places u is =
     let from_zero : 0 + j ≡ j = omega arith in
     let met = subst (λ (n : ℕ). has_value stream (offset_in held records channel n) ≡ true) from_zero
     (all_met (has_value stream) (offset_in held records channel) c 0 (min cycles (length places)) u is j below) in
+    let at = offset_in held records channel j in
+    let found = value_found stream at met in
     let same : bytes_at data_bytes held (get_or places j 0) ≡ take data_bytes (bytes_at (data_bytes + inval_bytes) held (get_or places j 0)) =
     sym (take_less data_bytes inval_bytes (drop (get_or places j 0) held)) in
     subst (λ (bytes : List ℕ). (value : List ℕ) × IsValueAt stream (field_number (spot_in (field_of channel)) bytes) value) same
-    (value_stands stream (offset_in held records channel j) met))
+    (found.0, value_stands stream at found.0 found.1))
 
 -- the group of values at an address
 

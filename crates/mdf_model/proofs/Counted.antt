@@ -35,7 +35,7 @@ use Rattle.mdf_model.specs.Contents.{IsDataSplit, IsValuesOf, own_records}
 use Rattle.mdf_model.specs.Truth.{MissesValue, IsTrueOfData}
 use Rattle.mdf_model.proofs.Bodies.{bodies_at}
 use Rattle.mdf_model.proofs.Channels.{HoldBodies, held_by, values_of, take_less}
-use Rattle.mdf_model.proofs.Stricts.{places_count}
+use Rattle.mdf_model.proofs.Stricts.{places_long}
 use Rattle.mdf_model.proofs.Picks.{all_there}
 use Rattle.mdf_model.proofs.Walks.{refusing_every}
 use Rattle.mdf_model.proofs.Truths.{link_true, layout_true}
@@ -164,7 +164,7 @@ module _ (f : List ℕ) (row : DataRow) (before : ℕ) (parts : List Part) (list
         is_group = record { there = there; samples = samples };
         is_number = is_number;
         is_said = refl;
-        is_found = places_count (stream_of f parts) (size_of group) (get_or lists k []) (bodies row.id_size records k) (hold k group there);
+        is_found = places_long (stream_of f parts) (size_of group) (get_or lists k []) (bodies row.id_size records k) (hold k group there);
         more = ltb-true found group.cycles few;
       }))
       (λ _. refusing_none (IsTrueOfData f row before) (None, number + 1)))

@@ -8,6 +8,7 @@ pub mod Files
 pub mod Founds
 pub mod Fronts
 pub mod Insides
+pub mod Items
 pub mod Lefts
 pub mod Onces
 pub mod Picks

@@ -1,9 +1,8 @@
 -- The samples of the groups of a measurement.
-use Rattle.std.proofs.Common.{◌≡◌, ◌+◌, ◌*◌, ◌<◌, ◌≤◌, ℕ, zero, suc, Bool, true, false, List, [], ◌∷◌, length, set, take, Option, Some, None, refl, sym, ◌∙◌, ap, arith}
-use Rattle.std.proofs.lemmas.List.{drop-drop}
+use Rattle.std.proofs.Common.{◌≡◌, ◌+◌, ◌*◌, ◌<◌, ◌≤◌, ℕ, zero, suc, List, [], ◌∷◌, set, take, Option, Some, None, refl, sym, ◌∙◌, ap, arith}
 use Rattle.std.proofs.Math.Nat.{mul-le-mul_right}
 use Rattle.std.specs.List.{AllByRecursion}
-use Rattle.std.specs.Option.{option_map, option_and_then}
+use Rattle.std.specs.Option.{option_map}
 use Rattle.std.specs.Prelude.{filter, slice_get}
 use Rattle.mdf_format.specs.Field.{field_number}
 use Rattle.mdf_block.specs.declared.note.Note.{Note}
@@ -18,6 +17,7 @@ use Rattle.mdf_layout.specs.declared.field.FieldKind.TheVariants.{Variable}
 use Rattle.mdf_layout.specs.declared.sample.Value.{Value}
 use Rattle.mdf_layout.specs.declared.sample.Value.TheVariants as value
 use Rattle.mdf_layout.specs.declared.sample.Entry.{Entry}
+use Rattle.mdf_layout.proofs.Samples.{parts_of_entries, finder_behind}
 use Rattle.mdf_content.specs.declared.contents.Contents.{Contents}
 use Rattle.mdf_content.specs.declared.contents.DataContents.{DataContents}
 use Rattle.mdf_content.specs.Contents.{HaveSamples, AllHaveSamples}
@@ -52,21 +52,6 @@ record_within i count size long below is =
     omega (arith, more, next, is)
 
 -- a record with a sample has no offset that meets no value
-parts : (one : Option Entry) (rest : Option (List Entry)) (entries : List Entry)
-    → option_and_then (λ entry. option_map (λ entries. entry ∷ entries) rest) one ≡ Some entries
-    → (entry : Entry) × (behind : List Entry) × (one ≡ Some entry) × (rest ≡ Some behind)
-parts None rest entries is = let wrong : ◌≡◌ {A = Option (List Entry)} None (Some entries) = is in cc
-parts (Some entry) None entries is = let wrong : ◌≡◌ {A = Option (List Entry)} None (Some entries) = is in cc
-parts (Some entry) (Some behind) entries is = (entry, behind, refl, refl)
-
-finder_behind : (b : Bool) (row : FieldRow) (rows : List FieldRow) (finders : List Finder) → is_variable row ≡ b
-    → finder_at (finders_behind row finders) (length (filter is_variable rows)) ≡ finder_at finders (length (filter is_variable (row ∷ rows)))
-finder_behind true row rows finders is =
-    let n = length (filter is_variable rows) in
-    let count : 1 + n ≡ suc n = omega arith in
-    rw is (ap first_finder (drop-drop n 1 finders) ∙ ap (finder_at finders) count)
-finder_behind false row rows finders is = rw is refl
-
 no_entry : (row : FieldRow) (bytes inval : List ℕ) (find : Finder) (index : ℕ) → row.kind ≡ Variable
     → find (field_number (spot_in row) bytes) ≡ None → entry_of row bytes inval find index ≡ None
 no_entry row bytes inval find index kind missing =
@@ -85,13 +70,13 @@ none_missing [] bytes inval finders index k offset row entries there kind offset
     let wrong : ◌≡◌ {A = Option FieldRow} None (Some row) = there in cc
 none_missing (first ∷ rows) bytes inval finders index zero offset row entries there kind offset_is missing is =
     let same : first ≡ row = some_injective first row there in
-    let found = parts (entry_of first bytes inval (first_finder finders) index) (sample_by rows bytes inval (finders_behind first finders) index) entries is in
+    let found = parts_of_entries (entry_of first bytes inval (first_finder finders) index) (sample_by rows bytes inval (finders_behind first finders) index) entries is in
     let none : entry_of row bytes inval (first_finder finders) index ≡ None =
     no_entry row bytes inval (first_finder finders) index kind (ap (first_finder finders) (sym offset_is) ∙ missing) in
     let wrong : ◌≡◌ {A = Option Entry} None (Some found.0) =
     sym none ∙ ap (λ (r : FieldRow). entry_of r bytes inval (first_finder finders) index) (sym same) ∙ found.2 in cc
 none_missing (first ∷ rows) bytes inval finders index (suc k) offset row entries there kind offset_is missing is =
-    let found = parts (entry_of first bytes inval (first_finder finders) index) (sample_by rows bytes inval (finders_behind first finders) index) entries is in
+    let found = parts_of_entries (entry_of first bytes inval (first_finder finders) index) (sample_by rows bytes inval (finders_behind first finders) index) entries is in
     let finder = finder_behind (is_variable first) first (take k rows) finders refl in
     none_missing rows bytes inval (finders_behind first finders) index k offset row found.1 there kind offset_is
     (ap (λ (find : Finder). find offset) finder ∙ missing) found.3

@@ -133,9 +133,9 @@ size_is group m is =
     ]
 
 -- as many places as bodies
-pub places_count : (stream : List ℕ) (size : Size) (places : List ℕ) (found : List (List ℕ)) → bodies_at stream size places ≡ found
+pub places_long : (stream : List ℕ) (size : Size) (places : List ℕ) (found : List (List ℕ)) → bodies_at stream size places ≡ found
     → length places ≡ length found
-places_count stream size places found is =
+places_long stream size places found is =
     sym (length-map places (λ (place : ℕ). bytes_at (size_there stream size place) stream place)) ∙ ap length is
 
 rest_left : (stream : List ℕ) (groups : List GroupRow) (lists : List (List ℕ)) (records : List Record) (rest : List ℕ) → length groups ≤ 1
@@ -160,7 +160,7 @@ module _ (f : List ℕ) (row : DataRow) (found : DataContents) (is : IsDataFound
   total_is = sym (length-stream f is.parts (data_inside f Dt row.content is.parts is.is_parts))
 
   count_is : (k : ℕ) (group : GroupRow) → slice_get row.groups k ≡ Some group → length (get_or is.lists k []) ≡ length (bodies row.id_size is.split.records k)
-  count_is k group there = places_count stream (size_of group) (get_or is.lists k []) (bodies row.id_size is.split.records k) (is.hold k group there)
+  count_is k group there = places_long stream (size_of group) (get_or is.lists k []) (bodies row.id_size is.split.records k) (is.hold k group there)
 
   -- without ids
   abbrev Lasts : ℕ → Type 0

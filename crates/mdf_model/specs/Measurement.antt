@@ -28,6 +28,10 @@ measure_of comment row contents = record {
   count = contents.count;
 }
 
+-- what a group holds
+abbrev pub contents_of : Measure → Contents
+contents_of m = record { shape = m.shape; count = m.count; content = m.part.content; streams = m.part.streams }
+
 -- groups with what they hold, one by one
 abbrev pub one_measure : Note → GroupRow × Contents → List Measure
 one_measure comment pair = measure_of comment pair.0 pair.1 ∷ []

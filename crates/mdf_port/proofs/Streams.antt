@@ -1,5 +1,5 @@
 -- What is left of bytes when the next of them were taken, and what known bytes are when more were given.
-use Rattle.std.proofs.Common.{◌≡◌, ◌≤◌, ◌<◌, ◌+◌, ◌-◌, min, ℕ, List, [], ◌++◌, Option, Some, None, length, take, drop, sym, ◌∙◌, ap, arith, length-append, length-drop, take-append-drop, append_assoc}
+use Rattle.std.proofs.Common.{◌≡◌, ◌≤◌, ◌<◌, ◌+◌, ◌-◌, min, ℕ, List, [], ◌++◌, Option, Some, None, length, take, drop, sym, ◌∙◌, ap, arith, length-append, length-drop, take-append-drop, append_assoc, append-nil}
 use Rattle.std.proofs.lemmas.List.{take_at, drop_all, drop-drop, length-take-le}
 use Rattle.std.specs.Io.KnownBytes.{Appends, Keeps, Consumes}
 
@@ -20,7 +20,11 @@ at_end bytes buf part at n within count is none room =
     let whole : length part ≡ n = ap length is ∙ length-take-le n (drop at bytes) (omega (arith, length-drop at bytes)) in
     drop_all (at + n) bytes (omega (arith, length-append part (drop n buf), length-drop n buf))
 
--- bytes behind bytes
+-- no bytes, and bytes behind bytes
+pub appends_none : (held : Option (List ℕ)) → Appends held held []
+appends_none None = tt
+appends_none (Some held) = sym (append-nil held)
+
 pub appends_more : (old mid new : Option (List ℕ)) (xs ys : List ℕ) → Appends old mid xs → Appends mid new ys → Appends old new (xs ++ ys)
 appends_more None mid new xs ys first second = tt
 appends_more (Some bytes) None new xs ys first second = absurd first

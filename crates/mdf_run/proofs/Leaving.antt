@@ -17,7 +17,7 @@ use Rattle.mdf_run.specs.Finalize.{Finalizes, IsNoRecording}
 use Rattle.mdf_run.specs.Sort.{IsNotMeasured, Sorts}
 use Rattle.mdf_run.specs.Cut.{Cuts}
 use Rattle.mdf_run.specs.Tool.{IsImage, ToolEnds}
-use Rattle.tool_concat.specs.Concat.{ConcatEnds, Joining}
+use Rattle.tool_concat.specs.Concat.{ConcatEnds, Joining, IsConcatImage}
 use Rattle.tool_concat.specs.declared.fault.ConcatFault.{ConcatFault}
 use Rattle.tool_concat.specs.declared.fault.ConcatFault.TheVariants as concat
 use Rattle.mdf_run.specs.Concat.{AreNotJoined, Joins, fault_of_concat}
@@ -110,6 +110,13 @@ of_any (Some file) P holds = holds file
 -- and what holds of each two of both that are
 pub any_pair : (told other : Option (List ℕ)) (P : List ℕ → List ℕ → Type 0) → ((one two : List ℕ) → P one two) → IfSome told (λ one. IfSome other (λ two. P one two))
 any_pair told other P holds = of_any told (λ one. IfSome other (λ two. P one two)) (λ one. of_any other (λ two. P one two) (λ two. holds one two))
+
+-- an output that is as it was holds no MDF file of two inputs
+pub still_no_join : (told other : Option (List ℕ)) (now : ℕ) (story : Option Story) (content : Option (List ℕ)) (clock : ℕ) → Agrees story content clock → IsFresh story
+    → IfSome told (λ one. IfSome other (λ two. HoldsSince story clock (IsConcatImage (record { first = one; second = two; now = now }))))
+still_no_join told other now story content clock agrees fresh =
+    any_pair told other (λ one two. HoldsSince story clock (IsConcatImage (record { first = one; second = two; now = now })))
+    (λ one two. still_no_mdf (Joins (record { first = one; second = two; now = now })) story story content clock agrees fresh refl)
 
 -- the fault of a tool, as the program tells it
 pub finalize_fault : (file : List ℕ) (now : ℕ) (old new : DiskState) (problem : ToolFault) → FinalizeEnds file now old new (Err problem)

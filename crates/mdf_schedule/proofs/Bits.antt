@@ -1,7 +1,7 @@
 -- Bytes follow from their bits, and the bits of a field from its value.
 use Rattle.std.proofs.Common.{◌≡◌, ◌+◌, ◌-◌, ◌*◌, ◌/◌, ◌%◌, ◌^◌, ◌<◌, ◌≤◌, ◌⊎◌, ℕ, zero, suc, Bool, true, false, List, [], ◌∷◌, ◌++◌, length, get_or, drop, refl, sym, ◌∙◌, ap, inl, inr, arith, if◌then◌else◌}
 use Rattle.std.proofs.lemmas.List.{get_or_default, get_or-take, get_or-drop, same_lists}
-use Rattle.std.proofs.lemmas.Nat.Bits.{same_from_bits_below, bit_at-lt}
+use Rattle.std.proofs.lemmas.Nat.Bits.{bit_at-lt}
 use Rattle.std.specs.Prelude.{not, nat_eq, nat_lt, pos, neg_ℤ, Some}
 use Rattle.std.specs.Int.{bit_at}
 use Rattle.mdf_format.specs.Field.{Spot, HasBit, bit_of, covered_end, covered_size, field_number, signed_number, place_of}
@@ -14,6 +14,7 @@ use Rattle.mdf_layout.specs.declared.field.FieldKind.{FieldKind}
 use Rattle.mdf_layout.specs.declared.field.FieldKind.TheVariants.{Unsigned, Signed, Fixed, Variable, Virtual}
 use Rattle.mdf_layout.specs.declared.sample.Value.{Value}
 use Rattle.mdf_layout.specs.declared.sample.Value.TheVariants as value
+use Rattle.mdf_layout.proofs.Stays.{same_byte}
 use Rattle.mdf_schedule.specs.Records.{AreBytes}
 
 pub two_ways : (b : Bool) → (b ≡ true) ⊎ (b ≡ false)
@@ -34,23 +35,12 @@ byte_below [] i small = omega arith
 byte_below (b ∷ bytes) zero small = small.0
 byte_below (b ∷ bytes) (suc i) small = byte_below bytes i small.1
 
--- a byte with the same bits
-same_byte : (xs ys : List ℕ) (i : ℕ) → AreBytes xs → AreBytes ys → ((b : ℕ) → b < 8 → bit_of xs (8 * i + b) ≡ bit_of ys (8 * i + b))
-    → get_or xs i 0 ≡ get_or ys i 0
-same_byte xs ys i small small' same =
-    same_from_bits_below 8 (get_or xs i 0) (get_or ys i 0) (byte_below xs i small) (byte_below ys i small')
-    (λ b below.
-    let byte : (8 * i + b) / 8 ≡ i = omega arith in
-    let bit : (8 * i + b) % 8 ≡ b = omega arith in
-    let there : bit_at (get_or xs ((8 * i + b) / 8) 0) ((8 * i + b) % 8) ≡ bit_at (get_or ys ((8 * i + b) / 8) 0) ((8 * i + b) % 8) = same b below in
-    rw (byte, bit) at there)
-
 pub same_bytes : (xs ys : List ℕ) → length xs ≡ length ys → AreBytes xs → AreBytes ys
     → ((p : ℕ) → p < 8 * length xs → bit_of xs p ≡ bit_of ys p) → xs ≡ ys
 same_bytes xs ys long small small' same =
     same_lists xs ys long (λ k d within.
     get_or_default xs k d 0 within
-    ∙ same_byte xs ys k small small' (λ b below. same (8 * k + b) (omega (arith, below, within)))
+    ∙ same_byte xs ys k (byte_below xs k small) (byte_below ys k small') (λ b below. same (8 * k + b) (omega (arith, below, within)))
     ∙ get_or_default ys k 0 d (omega (arith, within, long)))
 
 -- a number says the bits of its field

@@ -1,49 +1,23 @@
 -- The records of a history, group by group.
-use Rattle.std.proofs.Common.{◌≡◌, ◌≢◌, ◌+◌, ◌-◌, ◌<◌, ◌≤◌, ◌^◌, ◌⊎◌, ℕ, List, [], ◌∷◌, ◌++◌, length, map, refl, sym, ◌∙◌, ap, subst, inl, inr, arith, append-nil, length-append}
-use Rattle.std.proofs.lemmas.Bool.{cases_eq, cases_order, eq-eqb, ne_eqb, le-leb, lt-leb, cond-true, cond-false}
+use Rattle.std.proofs.Common.{◌≡◌, ◌≢◌, ◌+◌, ◌-◌, ◌<◌, ◌≤◌, ◌⊎◌, ℕ, List, [], ◌∷◌, ◌++◌, length, map, refl, sym, ◌∙◌, ap, subst, inl, inr, arith, append-nil}
+use Rattle.std.proofs.lemmas.Bool.{cases_eq, cases_order, eq-eqb, ne_eqb, cond-true, cond-false}
 use Rattle.std.proofs.lemmas.List.{map-append}
 use Rattle.std.proofs.lemmas.List.Concat.{flat_map-append}
-use Rattle.std.proofs.lemmas.List.Elements.{filter-append, All-nil, All-cons, All-append, All-head, All-tail}
-use Rattle.std.proofs.lemmas.Option.{slice_get_within, same_Some}
-use Rattle.std.specs.Prelude.{◌==◌, All, nat_eq, nat_le, filter, slice_get, Some}
+use Rattle.std.proofs.lemmas.List.Elements.{filter-append, All-nil, All-append}
+use Rattle.std.proofs.lemmas.Option.{slice_get_within}
+use Rattle.std.specs.Prelude.{◌==◌, nat_eq, filter, slice_get, Some}
 use Rattle.std.specs.List.{flat_map}
-use Rattle.mdf_vlsd.specs.Value.{value_bytes}
 use Rattle.mdf_layout.specs.History.{group_samples}
-use Rattle.mdf_layout.specs.Layout.{Layout, record_size}
-use Rattle.mdf_layout.specs.Behind.{variables, first_id, value_records, IsEncodingBehind, AreEncodingsBehind}
-use Rattle.mdf_layout.specs.Read.{Piece, piece_body, piece_bytes, IsPiece}
+use Rattle.mdf_layout.specs.Layout.{Layout}
+use Rattle.mdf_layout.specs.Behind.{variables, first_id, IsEncodingBehind, AreEncodingsBehind}
+use Rattle.mdf_layout.specs.Read.{Piece, piece_bytes, IsPiece}
 use Rattle.mdf_layout.specs.declared.sample.Sample.{Sample}
 use Rattle.mdf_layout.proofs.Once.{ids_rise}
+use Rattle.mdf_layout.proofs.Bridge.{value_pieces, own_bytes, each_own}
 use Rattle.mdf_schedule.specs.Records.{AreBytes, AreStored, AreRecords, IsIdOf, has_id, records_with}
 use Rattle.mdf_schedule.proofs.Bits.{bytes_first, bytes_behind}
 use Rattle.mdf_schedule.proofs.Owns.{Own, IsOwn, AreOwn, owns_once, own_of, is_own}
 use Rattle.mdf_schedule.proofs.Pieces.{records_once}
-
--- the records of values
-abbrev value_pieces : ℕ → List (List ℕ) → List Piece
-value_pieces id [] = []
-value_pieces id (v ∷ vs) = record { id = id; content = v } ∷ value_pieces (id + 1) vs
-
-value_pieces-bytes : (groups id : ℕ) (vs : List (List ℕ)) → groups < id → flat_map (piece_bytes groups) (value_pieces id vs) ≡ value_records id vs
-unfolding value_records
-value_pieces-bytes groups id [] over = refl
-value_pieces-bytes groups id (v ∷ vs) over =
-    let body : piece_body groups (record { id = id; content = v }) ≡ value_bytes v = cond-false (nat_le id groups) v (value_bytes v) (lt-leb id groups over) in
-    ap (λ (xs : List ℕ). (id ∷ xs) ++ flat_map (piece_bytes groups) (value_pieces (id + 1) vs)) body
-    ∙ ap (λ (xs : List ℕ). id ∷ (value_bytes v ++ xs)) (value_pieces-bytes groups (id + 1) vs (omega (arith, over)))
-
-each_value : (layouts : List Layout) (id : ℕ) (vs : List (List ℕ)) → length layouts < id → id + length vs ≤ first_id layouts (length layouts)
-    → All (λ v. length v < 2 ^ 32) vs → All (IsPiece layouts) (value_pieces id vs)
-each_value layouts id [] over known short = All-nil (IsPiece layouts)
-each_value layouts id (v ∷ vs) over known short =
-    All-cons (IsPiece layouts) (record { id = id; content = v }) (value_pieces (id + 1) vs)
-    (record {
-      some = omega (arith, over);
-      known = omega (arith, known);
-      whole = λ layout there. absurd (omega (arith, over, slice_get_within layouts (id - 1) layout there));
-      short = λ _. All-head (λ (w : List ℕ). length w < 2 ^ 32) v vs short;
-    })
-    (each_value layouts (id + 1) vs (omega (arith, over)) (omega (arith, known)) (All-tail (λ (w : List ℕ). length w < 2 ^ 32) v vs short))
 
 -- records behind records
 with-append : (id : ℕ) (xs ys : List Piece) → records_with id (xs ++ ys) ≡ records_with id xs ++ records_with id ys
@@ -115,40 +89,6 @@ module _ (layouts : List Layout) (before : List Sample) (bytes : List ℕ) (samp
   abbrev mine : List Piece
   mine = pieces_of layouts sample.group own
 
-  within : sample.group < length layouts
-  within = slice_get_within layouts sample.group e.is.layout e.is.known
-
-  own_bytes : bytes ≡ flat_map (piece_bytes (length layouts)) mine
-  own_bytes =
-      let groups = length layouts in
-      let id = first_id layouts sample.group in
-      let content = e.is.data_bytes ++ e.is.inval_bytes in
-      let body : piece_body groups (own_piece sample.group own) ≡ content =
-      cond-true (nat_le (sample.group + 1) groups) content (value_bytes content) (le-leb (sample.group + 1) groups (omega (arith, within))) in
-      e.is.bytes_are
-      ∙ ap (λ (xs : List ℕ). xs ++ (sample.group + 1) ∷ content) (sym (value_pieces-bytes groups id e.is.values (omega arith)))
-      ∙ ap (λ (xs : List ℕ). flat_map (piece_bytes groups) (value_pieces id e.is.values) ++ (sample.group + 1) ∷ xs)
-      (sym body ∙ sym (append-nil (piece_body groups (own_piece sample.group own))))
-      ∙ sym (flat_map-append (piece_bytes groups) (value_pieces id e.is.values) (own_piece sample.group own ∷ []))
-
-  own_is_piece : IsPiece layouts (own_piece sample.group own)
-  own_is_piece = record {
-    some = omega arith;
-    known = omega (arith, within);
-    whole = λ layout known.
-        let back : sample.group + 1 - 1 ≡ sample.group = omega arith in
-        let same : e.is.layout ≡ layout = same_Some e.is.layout layout (sym e.is.known ∙ ap (slice_get layouts) (sym back) ∙ known) in
-        omega (arith, length-append e.is.data_bytes e.is.inval_bytes, e.is.data_long, e.is.inval_long, ap record_size same);
-    short = λ over. absurd (omega (arith, within, over));
-  }
-
-  each_own : All (IsPiece layouts) mine
-  each_own =
-      All-append (IsPiece layouts) (value_pieces (first_id layouts sample.group) e.is.values) (own_piece sample.group own ∷ [])
-      (each_value layouts (first_id layouts sample.group) e.is.values (omega arith)
-      (omega (arith, e.is.count, ids_rise layouts sample.group (length layouts) e.is.layout e.is.known within)) e.is.short)
-      (All-cons (IsPiece layouts) (own_piece sample.group own) [] own_is_piece (All-nil (IsPiece layouts)))
-
 -- the records of samples, and those of group k among them
 record Chunks (layouts : List Layout) (k : ℕ) (layout : Layout) (before : List Sample) (bytes : List ℕ) (samples : List Sample) : Type 0 where
   pub pieces : List Piece
@@ -168,9 +108,9 @@ module _ (layouts : List Layout) (k : ℕ) (layout : Layout) (known : slice_get 
     are_all =
         let groups = length layouts in
         let front = mine layouts before first sample e in record {
-          each = All-append (IsPiece layouts) front more.pieces (each_own layouts before first sample e) more.are.each;
+          each = All-append (IsPiece layouts) front more.pieces (each_own layouts before first sample e.is) more.are.each;
           bytes_are =
-              ap (λ (xs : List ℕ). xs ++ rest) (own_bytes layouts before first sample e)
+              ap (λ (xs : List ℕ). xs ++ rest) (own_bytes layouts before first sample e.is)
               ∙ ap (λ (xs : List ℕ). flat_map (piece_bytes groups) front ++ xs) more.are.bytes_are
               ∙ sym (flat_map-append (piece_bytes groups) front more.pieces);
         }

@@ -1,11 +1,11 @@
 -- A record follows from its sample and from the offsets in it: each bit of it is one of a channel's, or is 0.
-use Rattle.std.proofs.Common.{◌≡◌, ◌⊎◌, ℕ, Bool, true, false, List, [], ◌∷◌, length, map, refl, sym, ◌∙◌, ap, inl, inr}
+use Rattle.std.proofs.Common.{◌≡◌, ◌⊎◌, ℕ, Bool, true, false, List, [], ◌∷◌, length, map, sym, ◌∙◌, ap, inl, inr}
 use Rattle.std.proofs.lemmas.Bool.{cases_eq}
 use Rattle.std.proofs.lemmas.List.Elements.{All-nil, All-cons}
 use Rattle.std.proofs.lemmas.Option.{same_Some}
 use Rattle.std.specs.Prelude.{not, nat_eq, ◌&&◌, if◌then◌else◌, Option, Some, None}
 use Rattle.std.specs.List.{AllByRecursion}
-use Rattle.std.specs.Option.{option_map, option_map_or, option_and_then}
+use Rattle.std.specs.Option.{option_map, option_map_or}
 use Rattle.mdf_format.specs.Field.{HasBit, bit_of, field_number}
 use Rattle.mdf_layout.specs.Layout.{Layout}
 use Rattle.mdf_layout.specs.Rule.{spot_in, bits_in, is_variable, has_bit}
@@ -17,16 +17,9 @@ use Rattle.mdf_layout.specs.declared.field.FieldRow.{FieldRow}
 use Rattle.mdf_layout.specs.declared.sample.Value.{Value}
 use Rattle.mdf_layout.specs.declared.sample.Entry.{Entry}
 use Rattle.mdf_layout.proofs.Rules.{has_bit_law}
+use Rattle.mdf_layout.proofs.Samples.{parts_of_entries}
 use Rattle.mdf_schedule.specs.Records.{AreBytes, IsStoredIn}
 use Rattle.mdf_schedule.proofs.Bits.{two_ways, same_bytes, kind_bits, mark_bits}
-
--- the parts of a list of entries that is defined
-parts : (one : Option Entry) (rest : Option (List Entry)) (entries : List Entry)
-    → option_and_then (λ entry. option_map (λ entries. entry ∷ entries) rest) one ≡ Some entries
-    → (entry : Entry) × (behind : List Entry) × (one ≡ Some entry) × (rest ≡ Some behind) × (entry ∷ behind ≡ entries)
-parts None rest entries is = let wrong : ◌≡◌ {A = Option (List Entry)} None (Some entries) = is in cc
-parts (Some entry) None entries is = let wrong : ◌≡◌ {A = Option (List Entry)} None (Some entries) = is in cc
-parts (Some entry) (Some behind) entries is = let same : Some (entry ∷ behind) ≡ Some entries = is in (entry, behind, refl, refl, cc)
 
 -- the value of an entry, and whether it is valid
 entry_parts : (found : Option Value) (valid : Bool) (entry : Entry) → option_map (λ v. record { value = v; valid = valid }) found ≡ Some entry
@@ -100,8 +93,8 @@ module _ (layout : Layout) (xs ys inval inval' : List ℕ) (i j : ℕ) (long : l
   unfolding sample_by
   rows_same [] finders finders' entries stored offsets one two = tt
   rows_same (row ∷ rows) finders finders' entries stored offsets one two =
-      let first = parts (entry_of row xs inval (first_finder finders) i) (sample_by rows xs inval (finders_behind row finders) i) entries one in
-      let second = parts (entry_of row ys inval' (first_finder finders') j) (sample_by rows ys inval' (finders_behind row finders') j) entries two in
+      let first = parts_of_entries (entry_of row xs inval (first_finder finders) i) (sample_by rows xs inval (finders_behind row finders) i) entries one in
+      let second = parts_of_entries (entry_of row ys inval' (first_finder finders') j) (sample_by rows ys inval' (finders_behind row finders') j) entries two in
       let both : first.0 ∷ first.1 ≡ second.0 ∷ second.1 = first.4 ∙ sym second.4 in
       let entry : second.0 ≡ first.0 = cc in
       let behind : second.1 ≡ first.1 = cc in

@@ -11,13 +11,13 @@ use Rattle.mdf_group.specs.declared.row.DataRow.{DataRow}
 use Rattle.mdf_group.specs.Group.{is_variable}
 use Rattle.mdf_content.specs.declared.contents.Contents.{Contents}
 use Rattle.mdf_model.specs.declared.part.Measure.{Measure}
-use Rattle.mdf_model.specs.Measurement.{Measured, holds_samples}
+use Rattle.mdf_model.specs.Measurement.{Measured, holds_samples, contents_of}
 use Rattle.mdf_model.specs.InWords.{IsMeasurement}
 use Rattle.mdf_model.specs.Same.{plain_group, plain_head}
 use Rattle.mdf_model.proofs.Cases.{two_ways}
 use Rattle.mdf_tree.specs.Head.{new_entry}
 use Rattle.mdf_carried.specs.Recovered.{Recovery}
-use Rattle.tool_final.specs.Keeping.{plain_entry, row_of, contents_of, HasComment, KeepsRecovery}
+use Rattle.tool_final.specs.Keeping.{plain_entry, row_of, HasComment, KeepsRecovery}
 use Rattle.tool_sort.specs.Kept.{SameRecords}
 use Rattle.tool_sort.specs.Same.{AreOfSamples, SameMeasured}
 

@@ -1,53 +1,9 @@
 -- Bytes are one list of records.
-use Rattle.std.proofs.Common.{◌≡◌, ◌<◌, ◌-◌, ℕ, Bool, true, false, List, [], ◌∷◌, ◌++◌, length, get_or, drop, refl, sym, ◌∙◌, ap, subst, arith}
-use Rattle.std.proofs.lemmas.Bool.{leb-true, leb-false}
-use Rattle.std.proofs.lemmas.List.Elements.{All-head, All-tail}
-use Rattle.std.proofs.lemmas.Option.{slice_get-get_or}
-use Rattle.std.specs.Prelude.{All, nat_le, if◌then◌else◌}
-use Rattle.std.specs.List.{flat_map}
-use Rattle.mdf_vlsd.specs.Value.{value_bytes}
+use Rattle.std.proofs.Common.{◌≡◌, ℕ, List, sym, ◌∙◌}
 use Rattle.mdf_layout.specs.Layout.{Layout}
-use Rattle.mdf_layout.specs.Read.{Piece, piece_body, piece_bytes, IsPiece}
-use Rattle.mdf_layout.proofs.Once.{part_once, value_once}
+use Rattle.mdf_layout.specs.Read.{Piece}
+use Rattle.mdf_layout.proofs.Pieces.{pieces_once}
 use Rattle.mdf_schedule.specs.Records.{AreRecords}
-
-no_layout : Layout
-no_layout = record { rows = []; data_bytes = 0; inval_bytes = 0 }
-
--- the contents of two records with one id at the front of the same bytes
-content_once : (layouts : List Layout) (id : ℕ) (xs ys more more' : List ℕ) (of_group : Bool) → nat_le id (length layouts) ≡ of_group
-    → IsPiece layouts (record { id = id; content = xs }) → IsPiece layouts (record { id = id; content = ys })
-    → (if of_group then xs else value_bytes xs) ++ more ≡ (if of_group then ys else value_bytes ys) ++ more' → (xs ≡ ys) × (more ≡ more')
-content_once layouts id xs ys more more' true is one two same =
-    let within : id - 1 < length layouts = omega (arith, one.some, leb-true id (length layouts) is) in
-    let layout = get_or layouts (id - 1) no_layout in
-    let known = slice_get-get_or layouts (id - 1) no_layout within in
-    part_once xs ys more more' (one.whole layout known ∙ sym (two.whole layout known)) same
-content_once layouts id xs ys more more' false is one two same =
-    let over = leb-false id (length layouts) is in
-    value_once xs ys more more' (one.short over) (two.short over) same
-
-pieces_once : (layouts : List Layout) (pieces others : List Piece) → All (IsPiece layouts) pieces → All (IsPiece layouts) others
-    → flat_map (piece_bytes (length layouts)) pieces ≡ flat_map (piece_bytes (length layouts)) others → pieces ≡ others
-pieces_once layouts [] [] each each' same = refl
-pieces_once layouts [] (piece ∷ others) each each' same = absurd (omega (arith, ap length same))
-pieces_once layouts (piece ∷ pieces) [] each each' same = absurd (omega (arith, ap length same))
-pieces_once layouts (piece ∷ pieces) (other ∷ others) each each' same =
-    let id : piece.id ≡ other.id = ap (λ (bytes : List ℕ). get_or bytes 0 0) same in
-    let one = All-head (IsPiece layouts) piece pieces each in
-    let two : IsPiece layouts (record { id = piece.id; content = other.content }) =
-    subst (λ (n : ℕ). IsPiece layouts (record { id = n; content = other.content })) (sym id) (All-head (IsPiece layouts) other others each') in
-    let groups = length layouts in
-    let behind : piece_body groups piece ++ flat_map (piece_bytes groups) pieces
-    ≡ piece_body groups (record { id = piece.id; content = other.content }) ++ flat_map (piece_bytes groups) others =
-    ap (drop 1) same ∙ ap (λ (n : ℕ). piece_body groups (record { id = n; content = other.content }) ++ flat_map (piece_bytes groups) others) (sym id) in
-    let both = content_once layouts piece.id piece.content other.content (flat_map (piece_bytes groups) pieces) (flat_map (piece_bytes groups) others)
-    (nat_le piece.id groups) refl one two behind in
-    let content : piece ≡ record { id = piece.id; content = other.content } = ap (λ (xs : List ℕ). record { id = piece.id; content = xs }) both.0 in
-    let whole : piece ≡ other = content ∙ ap (λ (n : ℕ). record { id = n; content = other.content }) id in
-    ap (λ (x : Piece). x ∷ pieces) whole
-    ∙ ap (λ (xs : List Piece). other ∷ xs)
-    (pieces_once layouts pieces others (All-tail (IsPiece layouts) piece pieces each) (All-tail (IsPiece layouts) other others each') both.1)
 
 pub records_once : (layouts : List Layout) (bytes : List ℕ) (records others : List Piece) → AreRecords layouts bytes records → AreRecords layouts bytes others
     → records ≡ others

@@ -1,2 +1,3 @@
 mod Shut
 mod Finish
+pub mod Marks

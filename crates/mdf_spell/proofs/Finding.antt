@@ -133,7 +133,7 @@ numbered_plain id [] are = tt
 numbered_plain id (row ∷ rows) are =
     (record { source = are.0.source; channels = channels_are_plain row.channels are.0.each }, numbered_plain (id + 1) rows are.1)
 
-numbered_many : (id : ℕ) (rows : List GroupRow) → length (numbered id rows) ≡ length rows
+pub numbered_many : (id : ℕ) (rows : List GroupRow) → length (numbered id rows) ≡ length rows
 unfolding numbered
 numbered_many id [] = refl
 numbered_many id (row ∷ rows) = ap suc (numbered_many (id + 1) rows)
@@ -170,7 +170,7 @@ unfolding values_rows
 values_plain id zero = tt
 values_plain id (suc count) = (record { source = refl; channels = tt }, values_plain (id + 1) count)
 
-values_many : (id count : ℕ) → length (values_rows id count) ≡ count
+pub values_many : (id count : ℕ) → length (values_rows id count) ≡ count
 unfolding values_rows
 values_many id zero = refl
 values_many id (suc count) = ap suc (values_many (id + 1) count)

@@ -16,7 +16,7 @@ use Rattle.mdf_block.specs.Chain.{chain, full}
 use Rattle.mdf_block.specs.Each.{each}
 use Rattle.mdf_block.proofs.Refusals.{bind_ok}
 use Rattle.mdf_block.proofs.Wholes.{chosen, block_found}
-use Rattle.mdf_block.proofs.Chains.{full_none}
+use Rattle.mdf_block.proofs.Chains.{full_none, rest_of}
 use Rattle.mdf_stream.specs.declared.part.Part.{Part}
 use Rattle.mdf_stream.specs.Parts.{part_bytes, stream_of}
 use Rattle.mdf_stream.specs.Link.{one_less, part_of, data_block, named_block, data_list, data_lists, joined, data_parts}
@@ -103,10 +103,6 @@ record IsDataChain (f : List ℕ) (want : Kind) (at : ℕ) (lists : List (List P
   blocks : AreBlocks f want (listed f places)
   stream : stream_of f (joined lists) ≡ bodies f (listed f places)
 
-abbrev rest_of : List ℕ → Kind → ℕ → List Part × ℕ × ℕ → Read (List (List Part) × ℕ × ℕ)
-rest_of f want room found =
-    chain (data_list f want) (full whats.Block Dl f) room found.1 found.2 >>= λ rest. Ok (found.0 ∷ rest.0, rest.1, rest.2)
-
 chain_ends : (f : List ℕ) (want : Kind) (at room left : ℕ) (found : List (List Part) × ℕ × ℕ) → at ≡ 0 → ◌≡◌ {A = Read (List (List Part) × ℕ × ℕ)} (Ok ([], room, left)) (Ok found)
     → (places : List ℕ) × IsDataChain f want at found.0 places
 unfolding IsChain
@@ -139,10 +135,10 @@ lists_found f want zero at left found is =
       | inr more ↦ absurd (full_none (List (List Part) × ℕ × ℕ) whats.Block Dl f at found more.1)
     ]
 lists_found f want (suc room) at left found is =
-    elim (chosen (nat_eq at 0) (Ok ([], suc room, left)) (data_list f want at left >>= rest_of f want room) (Ok found) is) [
+    elim (chosen (nat_eq at 0) (Ok ([], suc room, left)) (data_list f want at left >>= rest_of (data_list f want) (full whats.Block Dl f) room) (Ok found) is) [
       | inl last ↦ chain_ends f want at (suc room) left found (eqb-true at 0 last.0) last.1
       | inr more ↦
-          let first = bind_ok (data_list f want at left) (rest_of f want room) found more.1 in
+          let first = bind_ok (data_list f want at left) (rest_of (data_list f want) (full whats.Block Dl f) room) found more.1 in
           let second = bind_ok (chain (data_list f want) (full whats.Block Dl f) room first.0.1 first.0.2)
           (λ rest. Ok (first.0.0 ∷ rest.0, rest.1, rest.2)) found first.2 in
           let here = list_found f want at left first.0 first.1 in

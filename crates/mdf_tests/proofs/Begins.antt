@@ -1,26 +1,16 @@
 -- What a book of one group begins with.
-use Rattle.std.proofs.Common.{◌≡◌, sym, subst, ℕ, zero, suc, Bool, true, false, ◌+◌, ◌≤◌, List, [], ◌∷◌, All, length, arith}
-use Rattle.std.specs.Prelude.{if◌then◌else◌}
+use Rattle.std.proofs.Common.{◌≡◌, sym, subst, ℕ, zero, suc, ◌≤◌, List, [], ◌∷◌, All, length, arith}
 use Rattle.std.proofs.lemmas.List.Sums.{sum_by-cons}
 use Rattle.mdf_layout.specs.Layout.{Layout}
-use Rattle.mdf_layout.specs.Rule.{is_variable}
 use Rattle.mdf_layout.specs.Written.{AreApart}
 use Rattle.mdf_layout.specs.Behind.{variables}
 use Rattle.mdf_layout.specs.Stored.{IsStored}
-use Rattle.mdf_layout.specs.declared.field.FieldRow.{FieldRow}
+use Rattle.mdf_layout.proofs.Sizes.{few_variables}
 use Rattle.book_owned.specs.Begun.{IsAdmissible}
 
 only_one : {A : Type 0} (P : A → Type 0) (x : A) → P x → All P (x ∷ [])
 only_one P x here zero d below = here
 only_one P x here (suc k) d below = absurd (omega arith)
-
-filter_step : (b : Bool) (row : FieldRow) (rest : List FieldRow) (n : ℕ) → length rest ≤ n → length (if b then row ∷ rest else rest) ≤ n + 1
-filter_step true row rest n few = omega (arith, few)
-filter_step false row rest n few = omega (arith, few)
-
-few_variables : (rows : List FieldRow) → length (variables rows) ≤ length rows
-few_variables [] = omega arith
-few_variables (row ∷ rows) = omega (arith, filter_step (is_variable row) row (variables rows) (length rows) (few_variables rows))
 
 pub one_group : (shapes : List Layout) (shape : Layout) (block session : ℕ) → shapes ≡ shape ∷ [] → length shape.rows ≤ 128 → AreApart shape.rows
     → All IsStored shape.rows → 1 ≤ block → block ≤ 16777216 → session ≤ 268435456 → IsAdmissible shapes block session

@@ -1,15 +1,14 @@
 -- What a crash may leave while a finalized file is written under a seal.
-use Rattle.std.proofs.Common.{◌≡◌, inl, inr, ⊎_elim, ℕ, ◌≤◌, ◌<◌, List, [], ◌∷◌, length, drop, get_or, codes, sym, ◌∙◌, ap, arith}
-use Rattle.std.proofs.lemmas.List.{drop_more, get_or-take, get_or-drop}
+use Rattle.std.proofs.Common.{◌≡◌, inl, inr, ⊎_elim, ℕ, ◌≤◌, List, [], ◌∷◌, length, drop, get_or, codes, sym, ◌∙◌, ap, arith, Option}
+use Rattle.std.proofs.lemmas.List.{drop_more, get_or-drop}
 use Rattle.std.proofs.lemmas.Bool.{cases_eq}
 use Rattle.mdf_format.specs.Identification.{IsFinalized}
-use Rattle.mdf_format.specs.Number.{bytes_at}
-use Rattle.mdf_seal.specs.Images.{IsClosed, IsSealedImage, IsWholeButFirst}
+use Rattle.mdf_disk.specs.Story.{Story}
+use Rattle.mdf_disk.specs.Crash.{Adds}
+use Rattle.mdf_disk.proofs.Crash.{adds_more}
+use Rattle.mdf_seal.specs.Images.{IsSealedImage, IsWholeButFirst}
+use Rattle.mdf_seal.proofs.Marks.{in_mark, closed_unmarked}
 use Rattle.mdf_tool.specs.Tool.{IsToolImage}
-
--- a byte of the mark
-in_mark : (file mark : List ℕ) (place : ℕ) → place < 8 → bytes_at 8 file 0 ≡ mark → get_or file place 0 ≡ get_or mark place 0
-in_mark file mark place below is = sym (get_or-take 8 file place 0 below) ∙ ap (λ (bytes : List ℕ). get_or bytes place 0) is
 
 -- a file with a byte other than 0 in front has one
 some_first : (bytes : List ℕ) → get_or bytes 0 0 ≡ 77 → 1 ≤ length bytes
@@ -44,13 +43,10 @@ module _ (bytes : List ℕ) (marked : IsFinalized bytes) where
       mdf.marked))
       (cases_eq (get_or file 0 0) 77)
 
-  closed_image : (file : List ℕ) → IsClosed file → IsToolImage bytes file
-  closed_image file closed = inl (λ mdf. ⊎_elim
-      (λ finalized. absurd (omega (arith, closed, in_mark file (codes "MDF     ") 0 (omega arith) finalized)))
-      (λ unfinalized. absurd (omega (arith, closed, in_mark file (codes "UnFinMF ") 0 (omega arith) unfinalized)))
-      mdf.marked)
-
   pub sealed_image : (file : List ℕ) → IsSealedImage bytes file → IsToolImage bytes file
   sealed_image file (inl short) = inl (λ mdf. absurd (omega (arith, mdf.long, short)))
-  sealed_image file (inr (inl closed)) = closed_image file closed
+  sealed_image file (inr (inl closed)) = inl (closed_unmarked file closed)
   sealed_image file (inr (inr all)) = whole_image file all
+
+  pub adds_image : (old new : Option Story) → Adds old new (IsSealedImage bytes) → Adds old new (IsToolImage bytes)
+  adds_image old new adds = adds_more old new (IsSealedImage bytes) (IsToolImage bytes) sealed_image adds

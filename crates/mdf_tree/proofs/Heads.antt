@@ -30,6 +30,14 @@ signed_back (negsuc n) small =
     let back : 2 ^ 16 - (2 ^ 16 - suc n) ≡ suc n = omega (arith, small) in
     ap (signed_number 16) number ∙ cond-false (nat_lt (2 ^ 16 - suc n) (2 ^ 15)) _ _ high ∙ ap (λ (m : ℕ). neg_ℤ (pos m)) back
 
+-- entries that are placed say the same
+pub entries_same : (blocks : List Placed) (n : ℕ) (entries : List History)
+    → map (λ (entry : History). record entry { at = 0 }) (placed_history blocks n entries) ≡ map (λ (entry : History). record entry { at = 0 }) entries
+unfolding placed_history
+entries_same blocks n [] = refl
+entries_same blocks n (entry ∷ entries) =
+    ap (λ (rest : List History). record entry { at = 0 } ∷ rest) (entries_same blocks (past_entry n entry) entries)
+
 entry_back : (at : ℕ) (entry : History) → IsEntryWritable entry
     → the_history at (entry_body entry) entry.comment ≡ record entry { at = at }
 entry_back at entry fits =

@@ -1,17 +1,10 @@
 -- How many streams belong to the channels before one.
 use Rattle.std.proofs.Common.{◌≡◌, ◌+◌, ℕ, Bool, true, false, List, ◌∙◌, ap, arith, Some}
 use Rattle.std.specs.Prelude.{slice_get, if◌then◌else◌}
-use Rattle.std.proofs.lemmas.Option.{slice_get_within, get_or_from_slice_get}
-use Rattle.std.proofs.lemmas.List.Filters.{length-filter_more}
 use Rattle.mdf_layout.specs.Rule.{is_variable}
 use Rattle.mdf_layout.specs.Values.{streams_before}
 use Rattle.mdf_layout.specs.declared.field.FieldRow.{FieldRow}
-
-pub streams_more : (rows : List FieldRow) (k : ℕ) (row : FieldRow) → slice_get rows k ≡ Some row
-    → streams_before rows (k + 1) ≡ streams_before rows k + (if is_variable row then 1 else 0)
-streams_more rows k row there =
-    length-filter_more is_variable rows k row (slice_get_within rows k row there)
-    ∙ ap (λ (r : FieldRow). streams_before rows k + (if is_variable r then 1 else 0)) (get_or_from_slice_get rows k row row there)
+use Rattle.mdf_layout.proofs.Samples.{streams_more}
 
 pub streams_one : (rows : List FieldRow) (k : ℕ) (row : FieldRow) → slice_get rows k ≡ Some row → is_variable row ≡ true
     → streams_before rows (k + 1) ≡ streams_before rows k + 1

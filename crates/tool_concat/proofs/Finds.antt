@@ -1,9 +1,8 @@
 -- Where each offset of a record meets a value, the moved record has a sample too.
 use Rattle.std.proofs.Common.{◌≡◌, ◌+◌, ◌-◌, ◌<◌, ◌≤◌, ℕ, zero, suc, Bool, true, false, List, [], ◌∷◌, ◌++◌, length, take, map, get_or, Option, Some, None, refl, sym, ◌∙◌, ap, arith, length-append}
 use Rattle.std.proofs.lemmas.Bool.{and_from, and_parts, le-leb, leb-true}
-use Rattle.std.proofs.lemmas.List.{drop-drop}
 use Rattle.std.proofs.lemmas.Option.{option_and_then_some}
-use Rattle.std.specs.Prelude.{◌&&◌, filter, nat_le, if◌then◌else◌}
+use Rattle.std.specs.Prelude.{◌&&◌, nat_le, if◌then◌else◌}
 use Rattle.std.specs.Option.{option_and_then, option_map}
 use Rattle.mdf_format.specs.Field.{Spot, field_number}
 use Rattle.mdf_format.specs.Number.{bytes_at, le_number}
@@ -17,6 +16,8 @@ use Rattle.mdf_layout.specs.declared.sample.Value.{Value}
 use Rattle.mdf_layout.specs.declared.sample.Value.TheVariants as value
 use Rattle.mdf_layout.specs.declared.sample.Entry.{Entry}
 use Rattle.mdf_vlsd.specs.Value.{size_there, value_at}
+use Rattle.mdf_layout.proofs.Samples.{finder_behind}
+use Rattle.tool_sort.proofs.Indexes.{mapped}
 use Rattle.tool_concat.specs.Joined.{joined_streams}
 use Rattle.tool_concat.specs.Moved.{IsVariableAt, offset_in, shift_of}
 
@@ -90,11 +91,6 @@ FindsToo rows old new finders others = (k : ℕ) (row : FieldRow) (v : List ℕ)
     → finder_at finders (streams_before rows k) (offset_in row old) ≡ Some v
     → (w : List ℕ) × (finder_at others (streams_before rows k) (offset_in row new) ≡ Some w)
 
--- what is mapped is there
-mapped : {A B : Type 0} (f : A → B) (found : Option A) (y : B) → option_map f found ≡ Some y → (x : A) × (found ≡ Some x)
-mapped f None y is = absurd (cc is)
-mapped f (Some x) y is = (x, refl)
-
 value_too : (kind : FieldKind) (spot : Spot) (old new : List ℕ) (find other : Finder) (index next : ℕ) (v : Value)
     → (kind ≡ Variable → (u : List ℕ) → find (field_number spot old) ≡ Some u → (w : List ℕ) × (other (field_number spot new) ≡ Some w))
     → value_in kind spot old find index ≡ Some v → (w : Value) × (value_in kind spot new other next ≡ Some w)
@@ -116,15 +112,6 @@ entry_too row old new inval later find other index next entry finds is =
     let one = mapped {A = Value} {B = Entry} make (value_in row.kind (spot_in row) old find index) entry is in
     let another = value_too row.kind (spot_in row) old new find other index next one.0 finds one.1 in
     (made another.0, ap (option_map {T = Value} {U = Entry} made) another.1)
-
--- the finder of a channel behind this one
-finder_behind : (b : Bool) (row : FieldRow) (rows : List FieldRow) (finders : List Finder) → is_variable row ≡ b
-    → finder_at (finders_behind row finders) (length (filter is_variable rows)) ≡ finder_at finders (length (filter is_variable (row ∷ rows)))
-finder_behind true row rows finders is =
-    let n = length (filter is_variable rows) in
-    let count : 1 + n ≡ suc n = omega arith in
-    rw is (ap first_finder (drop-drop n 1 finders) ∙ ap (finder_at finders) count)
-finder_behind false row rows finders is = rw is refl
 
 finds_behind : (row : FieldRow) (rows : List FieldRow) (old new : List ℕ) (finders others : List Finder) → FindsToo (row ∷ rows) old new finders others
     → FindsToo rows old new (finders_behind row finders) (finders_behind row others)

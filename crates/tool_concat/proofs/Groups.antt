@@ -1,5 +1,5 @@
 -- Groups that are joined one by one.
-use Rattle.std.proofs.Common.{◌≡◌, ◌+◌, ◌<◌, ℕ, zero, suc, Bool, false, List, [], ◌∷◌, ◌++◌, length, map, get_or, refl, sym, ◌∙◌, ap, subst, arith}
+use Rattle.std.proofs.Common.{◌≡◌, ◌+◌, ◌<◌, ℕ, suc, Bool, false, List, [], ◌∷◌, ◌++◌, length, map, get_or, refl, sym, ◌∙◌, ap, subst, arith}
 use Rattle.std.specs.Prelude.{filter, if◌then◌else◌}
 use Rattle.std.specs.List.{AllByRecursion}
 use Rattle.mdf_format.specs.Row.{RowNumbers}
@@ -15,6 +15,7 @@ use Rattle.mdf_content.specs.Layouts.{field_of, layout_of, placed_channels}
 use Rattle.mdf_content.specs.Samples.{AreSamples}
 use Rattle.mdf_model.specs.declared.part.Measure.{Measure}
 use Rattle.mdf_model.specs.Measurement.{HasSamples, Measured, with_content}
+use Rattle.mdf_model.proofs.Items.{one_of}
 use Rattle.tool_sort.specs.Kept.{IsMeasureIn, StandsIn}
 use Rattle.tool_concat.specs.Difference.{AreAlike}
 use Rattle.tool_concat.specs.Joined.{AreJoined, IsJoined, IsJoinedGroup, joined_streams}
@@ -23,20 +24,9 @@ use Rattle.tool_concat.specs.Moved.{AreMoved}
 use Rattle.tool_concat.specs.Same.{SameChannel, SameGroup, SameNumbers}
 use Rattle.tool_concat.proofs.Joinings.{joined_samples}
 
--- the item of a list with a property, and a property of all
-pub one_of : {A : Type 0} (P : A → Type 0) (xs : List A) (k : ℕ) (d : A) → AllByRecursion P xs → k < length xs → P (get_or xs k d)
-one_of P [] k d all below = absurd (omega (arith, below))
-one_of P (x ∷ xs) zero d all below = all.0
-one_of P (x ∷ xs) (suc k) d all below = one_of P xs k d all.1 (omega (arith, below))
-
 pub all_of : {A : Type 0} (P : A → Type 0) (xs : List A) → ((k : ℕ) (d : A) → k < length xs → P (get_or xs k d)) → AllByRecursion P xs
 all_of P [] each = tt
 all_of P (x ∷ xs) each = (each 0 x (omega arith), all_of P xs (λ k d below. each (suc k) d (omega (arith, below))))
-
--- an item of a list that has one
-pub item_of : {A : Type 0} (xs : List A) (k : ℕ) → k < length xs → A
-item_of [] k below = absurd (omega (arith, below))
-item_of (x ∷ xs) k below = x
 
 -- channels that are the same have the same fields
 numbers : ℕ → ℕ → ℕ → ℕ → ℕ → ℕ → ℕ → RowNumbers

@@ -2,6 +2,7 @@
 use Rattle.std.proofs.Common.{◌≡◌, ◌+◌, ◌<◌, ◌≤◌, ◌^◌, ℕ, false, List, length, Some, sym, ◌∙◌, ap, subst, arith}
 use Rattle.std.proofs.lemmas.Bool.{both_ways}
 use Rattle.std.specs.Prelude.{slice_get}
+use borrow.Author.Count.{below_more}
 use Rattle.mdf_bits.proofs.Spots.{same_number}
 use Rattle.mdf_format.specs.Field.{HasBit, bit_of, covered_end}
 use Rattle.mdf_layout.specs.Rule.{is_variable, spot_in}
@@ -9,7 +10,6 @@ use Rattle.mdf_layout.specs.declared.field.FieldRow.{FieldRow}
 use Rattle.tool_concat.specs.Moved.{AreOffsetsMoved, IsVariableAt, offset_in, shift_of}
 use Rattle.tool_concat.specs.Placed.{AreHeld, AreOffsetsPlaced}
 use Rattle.tool_concat.proofs.Apart.{is_variable_of, one_row}
-use Rattle.tool_concat.proofs.Steps.{each_more}
 
 module _ (rows : List FieldRow) (streams : List (List ℕ)) where
   -- a channel that is not of variable length is passed over
@@ -18,7 +18,7 @@ module _ (rows : List FieldRow) (streams : List (List ℕ)) where
   moved_past i row old mid there is moved = record {
     long = moved.long;
     offsets = λ k other within at.
-        each_more (λ (j : ℕ). (r : FieldRow) → IsVariableAt rows j r → offset_in r mid ≡ offset_in r old + shift_of rows streams j) i
+        below_more (λ (j : ℕ). (r : FieldRow) → IsVariableAt rows j r → offset_in r mid ≡ offset_in r old + shift_of rows streams j) i
         (λ j below r var. moved.offsets j r below var)
         (λ r var. absurd (both_ways (is_variable row) is (ap is_variable (one_row rows i row r there var.there) ∙ is_variable_of r var.kind)))
         k within other at;
@@ -47,7 +47,7 @@ module _ (rows : List FieldRow) (streams : List (List ℕ)) where
     moved_more new long offset others = record {
       long = long ∙ moved.long;
       offsets = λ k other within at.
-          each_more (λ (j : ℕ). (r : FieldRow) → IsVariableAt rows j r → offset_in r new ≡ offset_in r old + shift_of rows streams j) i
+          below_more (λ (j : ℕ). (r : FieldRow) → IsVariableAt rows j r → offset_in r new ≡ offset_in r old + shift_of rows streams j) i
           earlier
           (λ r var. subst (λ (q : FieldRow). offset_in q new ≡ offset_in q old + shift_of rows streams i) (one_row rows i row r here.there var.there)
           (offset ∙ ap (λ (m : ℕ). m + shift_of rows streams i) own_offset))

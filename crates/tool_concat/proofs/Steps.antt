@@ -1,13 +1,6 @@
--- What holds up to a place, and at it.
-use Rattle.std.proofs.Common.{◌≡◌, ◌<◌, ◌+◌, ℕ, List, length, get_or, sym, subst, arith, inl, inr}
-use Rattle.std.proofs.lemmas.Bool.{cases_lt}
+-- What holds of the items of two lists at a place.
+use Rattle.std.proofs.Common.{◌≡◌, ◌<◌, ℕ, List, length, get_or, sym, subst}
 use Rattle.std.proofs.lemmas.List.{get_or_read}
-
-pub each_more : (P : ℕ → Type 0) (i : ℕ) → ((k : ℕ) → k < i → P k) → P i → (k : ℕ) → k < i + 1 → P k
-each_more P i before here k within = elim (cases_lt k i) [
-  | inl below ↦ before k below
-  | inr not ↦ let same : i ≡ k = omega arith in subst P same here
-]
 
 -- what holds of two items holds at their place, and the other way round
 module _ {A : Type 0} (P : A → A → Type 0) (xs ys : List A) (k : ℕ) (x y d : A) (below : k < length xs) (within : k < length ys)

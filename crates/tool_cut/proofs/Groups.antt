@@ -1,6 +1,5 @@
 -- The groups of a measurement, cut one after another.
 use Rattle.std.proofs.Common.{◌≡◌, ◌<◌, ◌≤◌, ℕ, zero, suc, ℤ, List, [], ◌∷◌, ◌++◌, length, take, drop, map, get_or, set, refl, ap, arith}
-use Rattle.std.specs.List.{AllByRecursion}
 use Rattle.mdf_content.specs.Samples.{record_at}
 use Rattle.mdf_layout.specs.Layout.{Layout}
 use Rattle.mdf_layout.specs.declared.field.FieldRow.{FieldRow}
@@ -13,12 +12,6 @@ use Rattle.tool_cut.proofs.Keepings.{kept_samples}
 pub by_samples : (from to : ℤ) (m : Measure) (field : FieldRow) → HasSamples m → HasSamples (cut_by from to m field)
 by_samples from to m field samples =
     kept_samples m.shape m.part.streams m.part.content m.count samples (is_kept from to m.shape field m.part.content) m.count (omega arith)
-
--- the item of a list with a property
-pub one_of : {A : Type 0} (P : A → Type 0) (xs : List A) (k : ℕ) (d : A) → AllByRecursion P xs → k < length xs → P (get_or xs k d)
-one_of P [] k d all below = absurd (omega (arith, below))
-one_of P (x ∷ xs) zero d all below = all.0
-one_of P (x ∷ xs) (suc k) d all below = one_of P xs k d all.1 (omega (arith, below))
 
 -- the first so many items changed, and the others as they are
 abbrev pub changed : {A : Type 0} → (A → A) → ℕ → List A → List A
@@ -46,11 +39,6 @@ changed_all f [] zero past = refl
 changed_all f [] (suc k) past = refl
 changed_all f (x ∷ xs) zero past = absurd (omega (arith, past))
 changed_all f (x ∷ xs) (suc k) past = ap (λ (rest : List _). f x ∷ rest) (changed_all f xs k (omega (arith, past)))
-
--- an item of a list that has one
-pub item_of : {A : Type 0} (xs : List A) (k : ℕ) → k < length xs → A
-item_of [] k below = absurd (omega (arith, below))
-item_of (x ∷ xs) k below = x
 
 -- an item in its own place
 pub set_own : {A : Type 0} (xs : List A) (k : ℕ) (d : A) → set xs k (get_or xs k d) ≡ xs

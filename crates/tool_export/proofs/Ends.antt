@@ -1,5 +1,5 @@
 -- How an export ends, by what was found and what was given.
-use Rattle.std.proofs.Common.{◌≡◌, ◌<◌, ℕ, Ok, Err, List, [], ◌∷◌, length, get_or, Option, Some, None, IsSome, refl, sym, subst, ap, arith, inl, inr}
+use Rattle.std.proofs.Common.{◌≡◌, ◌<◌, ℕ, Ok, Err, List, length, get_or, Option, Some, None, IsSome, refl, sym, subst, ap, inl, inr}
 use Rattle.std.specs.Option.{option_and_then, option_map_or}
 use Rattle.std.proofs.lemmas.Option.{slice_get-get_or}
 use Rattle.mdf_block.specs.Refusal.{Fails, Refusal}
@@ -11,15 +11,11 @@ use Rattle.mdf_num.specs.declared.halt.Stop.{Stop}
 use Rattle.mdf_num.specs.declared.halt.Stop.TheVariants as stop
 use Rattle.mdf_port.specs.State.{SinkState}
 use Rattle.mdf_model.specs.InWords.{IsMeasurement}
+use Rattle.mdf_model.proofs.Items.{item_of}
 use Rattle.tool_export.specs.declared.fault.ExportFault.{ExportFault}
 use Rattle.tool_export.specs.declared.fault.ExportFault.TheVariants as export
 use Rattle.tool_export.specs.Export.{ExportEnds, GivesText, IsGroupOf, NamesNone, fault_or_memory, fault_of_stop}
 use Rattle.tool_export.specs.Table.{count_in, sample_in, table_of, table_text}
-
--- an item of a list that has one
-pub item_of : {A : Type 0} (xs : List A) (k : ℕ) → k < length xs → A
-item_of [] k below = absurd (omega (arith, below))
-item_of (x ∷ xs) k below = x
 
 -- the table of a group of a measurement is that of its samples
 pub same_table : (found : Measured) (group : ℕ) (d : Measure) → group < length found.groups

@@ -1,24 +1,14 @@
 -- Texts that are given one behind the other.
-use Rattle.std.proofs.Common.{◌≡◌, ◌+◌, ◌-◌, ◌≤◌, ℕ, zero, suc, Result, Ok, Err, List, [], ◌++◌, Option, Some, None, refl, sym, ◌∙◌, ap, arith, append_assoc, append-nil}
+use Rattle.std.proofs.Common.{◌≡◌, ◌+◌, ◌-◌, ◌≤◌, ℕ, zero, suc, Result, Ok, Err, List, [], ◌++◌, Option, refl, sym, ◌∙◌, ap, arith, append_assoc, append-nil}
 use Rattle.std.specs.Io.KnownBytes.{Appends}
 use Rattle.mdf_layout.specs.declared.sample.Entry.{Entry}
 use Rattle.mdf_num.specs.declared.halt.Stop.{Stop}
 use Rattle.mdf_num.specs.declared.halt.Stop.TheVariants as stop
 use Rattle.mdf_port.specs.Sink.{AppendsFront}
 use Rattle.mdf_port.specs.State.{SinkState}
+use Rattle.mdf_port.proofs.Streams.{appends_more, appends_none}
 use Rattle.tool_export.specs.Export.{GivesText}
 use Rattle.tool_export.specs.Table.{line_at, sample_lines}
-
-pub appends_none : (held : Option (List ℕ)) → Appends held held []
-appends_none None = tt
-appends_none (Some held) = sym (append-nil held)
-
--- known bytes that grow twice grow by both
-pub appends_more : (old mid new : Option (List ℕ)) (xs ys : List ℕ) → Appends old mid xs → Appends mid new ys → Appends old new (xs ++ ys)
-appends_more None mid new xs ys first second = tt
-appends_more (Some held) None new xs ys first second = absurd first
-appends_more (Some held) (Some more) None xs ys first second = absurd second
-appends_more (Some held) (Some more) (Some all) xs ys first second = second ∙ ap (λ (zs : List ℕ). zs ++ ys) first ∙ append_assoc held xs ys
 
 -- a front of a text behind a text that was given
 front_behind : (old mid new : Option (List ℕ)) (xs ys : List ℕ) → Appends old mid xs → AppendsFront mid new ys → AppendsFront old new (xs ++ ys)

@@ -2,6 +2,7 @@
 use Rattle.std.proofs.Common.{◌≡◌, ◌+◌, ◌≤◌, ℕ, List, [], ◌∷◌, ◌++◌, length, map, refl, sym, ◌∙◌, ap, subst, inl, inr, arith, length-append, append-nil}
 use Rattle.std.specs.Prelude.{filter}
 use Rattle.std.specs.List.{concat, flat_map, AllByRecursion, AllZip, enumerate_from}
+use Rattle.std.proofs.lemmas.Slice.Zip.{AllZip-long}
 use Rattle.mdf_format.specs.Block.{IsBlock}
 use Rattle.mdf_format.specs.Identification.{standard_flags, custom_flags}
 use Rattle.mdf_format.specs.declared.kind.Kind.{Kind}
@@ -18,7 +19,7 @@ use Rattle.mdf_group.specs.Standing.{AreDistinct}
 use Rattle.mdf_content.specs.declared.contents.Contents.{Contents}
 use Rattle.mdf_content.specs.Records.{known_of}
 use Rattle.mdf_model.specs.declared.part.Measure.{Measure}
-use Rattle.mdf_model.specs.Measurement.{holds_samples, paired}
+use Rattle.mdf_model.specs.Measurement.{holds_samples, paired, contents_of}
 use Rattle.mdf_model.specs.Bodies.{bodies}
 use Rattle.mdf_model.specs.Contents.{HasIdSize, empties_in, IsContents, IsDataSplit, sample_groups, IsDataContents}
 use Rattle.mdf_model.specs.InWords.{IsFinalizedMdf, IsMeasurement, IsValidData}
@@ -27,15 +28,17 @@ use Rattle.mdf_model.proofs.Onces.{none_first}
 use Rattle.mdf_carried.specs.Recovered.{AreRecords, IsGroupContents, Recovery, IsRecovery}
 use Rattle.mdf_tree.specs.Group.{data_groups}
 use Rattle.mdf_tree.specs.Head.{placed_history}
+use Rattle.mdf_tree.proofs.Heads.{entries_same}
 use Rattle.mdf_spell.specs.declared.recovered.Recovered.{Recovered}
 use Rattle.mdf_spell.specs.Counts.{IsCounted}
 use Rattle.mdf_spell.specs.Session.{finalized_ident, session_names, session_history, session_blocks, session_file}
 use Rattle.mdf_spell.specs.Standing.{HoldsData, HoldStreams, data_number, records_number, finalized_row, IsSessionTree}
 use Rattle.mdf_spell.specs.Values.{with_streams, own_streams, group_numbers}
-use Rattle.tool_final.specs.Keeping.{plain_entry, row_of, contents_of, HasComment, KeepsRecovery}
+use Rattle.mdf_carried.proofs.Grouped.{passed_long}
+use Rattle.tool_final.specs.Keeping.{plain_entry, row_of, HasComment, KeepsRecovery}
 use Rattle.tool_final.proofs.Fields.{AreCounted, are_counted, knowns_same}
 use Rattle.tool_final.proofs.Names.{chain_blocks, named}
-use Rattle.tool_final.proofs.Plain.{entries_same, rows_plain, said_true, ids_same, count_same, zip_long, samples_long, paired_rows, paired_contents, paired_comments}
+use Rattle.tool_final.proofs.Plain.{rows_plain, said_true, ids_same, count_same, paired_rows, paired_contents, paired_comments}
 use Rattle.tool_final.proofs.Splits.{bytes_of, split_again, none_said}
 use Rattle.tool_final.proofs.Threads.{thread_groups}
 
@@ -166,7 +169,7 @@ module _ (f file : List ℕ) (recovered : Recovered) (now : ℕ) (records : List
   }
 
   pub paired_long : length (filter holds_samples after.groups) ≡ length groups
-  paired_long = sym (samples_long 0 after.groups) ∙ zip_long _ (sample_groups after) groups all_hold
+  paired_long = sym (passed_long holds_samples 0 after.groups) ∙ sym (AllZip-long _ (sample_groups after) groups all_hold)
 
   pub rows_same : SameRows (filter holds_samples row.groups) (map row_of measures)
   rows_same =

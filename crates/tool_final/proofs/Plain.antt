@@ -1,31 +1,22 @@
 -- What is written anew says the same.
 use Rattle.std.proofs.Common.{◌≡◌, ◌+◌, ◌/◌, ◌%◌, ◌^◌, ℕ, suc, List, [], ◌∷◌, length, map, refl, sym, ◌∙◌, ap, arith}
 use Rattle.std.specs.Prelude.{Bool, true, false, cond, filter}
-use Rattle.std.specs.List.{AllByRecursion, AllZip, enumerate_from}
+use Rattle.std.specs.List.{AllByRecursion, enumerate_from}
 use Rattle.mdf_block.specs.declared.link.Link.{Link}
 use Rattle.mdf_block.specs.declared.note.Note.{Note}
 use Rattle.mdf_block.specs.Draft.{Placed}
 use Rattle.mdf_data.specs.Split.{Record}
-use Rattle.mdf_head.specs.declared.entry.History.{History}
 use Rattle.mdf_group.specs.declared.row.ChannelRow.{ChannelRow}
 use Rattle.mdf_group.specs.declared.row.GroupRow.{GroupRow}
 use Rattle.mdf_group.specs.Group.{is_variable}
 use Rattle.mdf_content.specs.declared.contents.Contents.{Contents}
-use Rattle.mdf_model.specs.Measurement.{holds_samples, paired}
+use Rattle.mdf_model.specs.Measurement.{holds_samples, paired, contents_of}
 use Rattle.mdf_model.specs.Bodies.{bodies}
-use Rattle.mdf_model.specs.Contents.{is_of_samples}
 use Rattle.mdf_model.specs.Same.{plain_channel, plain_group}
 use Rattle.mdf_tree.specs.Group.{values_behind, past_channel, placed_channels, group_channels, group_values, group_values_behind, past_group, placed_groups}
-use Rattle.mdf_tree.specs.Head.{past_entry, placed_history}
 use Rattle.mdf_spell.specs.Counts.{counted_group, counted_groups}
-use Rattle.tool_final.specs.Keeping.{plain_entry, row_of, contents_of, HasComment}
+use Rattle.tool_final.specs.Keeping.{row_of, HasComment}
 use Rattle.tool_final.proofs.Fields.{anew, AreCounted}
-
--- the history
-pub entries_same : (blocks : List Placed) (n : ℕ) (entries : List History) → map plain_entry (placed_history blocks n entries) ≡ map plain_entry entries
-unfolding placed_history
-entries_same blocks n [] = refl
-entries_same blocks n (entry ∷ entries) = ap (λ (rest : List History). plain_entry entry ∷ rest) (entries_same blocks (past_entry n entry) entries)
 
 -- channels and groups
 channels_same : (blocks : List Placed) (rows : List ChannelRow) (n : ℕ) (values : List Link)
@@ -112,22 +103,6 @@ module _ (id_size : ℕ) (records : List Record) (blocks : List Placed) where
       ap (λ (m : ℕ). suc m) (count_same (k + 1) rows counts totals (past_group n one) (group_values_behind values one) are.1)
 
 -- groups with what they hold, one by one
-pub zip_long : {A B : Type 0} (R : A → B → Type 0) (xs : List A) (ys : List B) → AllZip R xs ys → length xs ≡ length ys
-zip_long R [] [] all = refl
-zip_long R [] (y ∷ ys) all = absurd all
-zip_long R (x ∷ xs) [] all = absurd all
-zip_long R (x ∷ xs) (y ∷ ys) all = ap (λ (m : ℕ). suc m) (zip_long R xs ys all.1)
-
-long_by : (b : Bool) (x : ℕ × GroupRow) (y : GroupRow) (xs : List (ℕ × GroupRow)) (ys : List GroupRow) → length xs ≡ length ys
-    → length (cond b (x ∷ xs) xs) ≡ length (cond b (y ∷ ys) ys)
-long_by true x y xs ys same = ap (λ (m : ℕ). suc m) same
-long_by false x y xs ys same = same
-
-pub samples_long : (k : ℕ) (rows : List GroupRow) → length (filter is_of_samples (enumerate_from k rows)) ≡ length (filter holds_samples rows)
-samples_long k [] = refl
-samples_long k (row ∷ rows) =
-    long_by (holds_samples row) (k, row) row (filter is_of_samples (enumerate_from (k + 1) rows)) (filter holds_samples rows) (samples_long (k + 1) rows)
-
 module _ (comment : Note) where
   pub paired_rows : (rows : List GroupRow) (found : List Contents) → length rows ≡ length found → map row_of (paired comment rows found) ≡ rows
   paired_rows [] found long = refl

@@ -21,8 +21,9 @@ use Rattle.mdf_spell.specs.declared.recovered.Recovered.{Recovered}
 use Rattle.mdf_spell.specs.Counts.{IsCounted}
 use Rattle.mdf_spell.specs.Session.{session_file}
 use Rattle.mdf_spell.specs.Standing.{AreBytes, IsRecoveredOf, IsSessionTree}
+use Rattle.mdf_model.specs.Measurement.{contents_of}
 use Rattle.tool_final.specs.Finalized.{IsOfSession, KeepsSession}
-use Rattle.tool_final.specs.Keeping.{contents_of, KeepsRecovery}
+use Rattle.tool_final.specs.Keeping.{KeepsRecovery}
 use Rattle.tool_final.proofs.Measures.{IsMadeFrom, keeps_recovery}
 
 -- the first data group stands

@@ -7,9 +7,8 @@ use Rattle.mdf_head.specs.declared.entry.History.{History}
 use Rattle.mdf_group.specs.declared.row.GroupRow.{GroupRow}
 use Rattle.mdf_layout.specs.History.{group_samples}
 use Rattle.mdf_layout.specs.declared.sample.Sample.{Sample}
-use Rattle.mdf_content.specs.declared.contents.Contents.{Contents}
 use Rattle.mdf_model.specs.declared.part.Measure.{Measure}
-use Rattle.mdf_model.specs.Measurement.{holds_samples}
+use Rattle.mdf_model.specs.Measurement.{holds_samples, contents_of}
 use Rattle.mdf_model.specs.InWords.{IsMeasurement, IsValidFile}
 use Rattle.mdf_model.specs.Same.{SameHead, SameRows}
 use Rattle.mdf_carried.specs.Recovered.{Recovery, AreIdsApart}
@@ -27,9 +26,6 @@ AreOneMore entries old now = map plain_entry entries ≡ map plain_entry (old ++
 -- the row of a group, and what the group holds
 abbrev pub row_of : Measure → GroupRow
 row_of m = m.part.row
-
-abbrev pub contents_of : Measure → Contents
-contents_of m = record { shape = m.shape; count = m.count; content = m.part.content; streams = m.part.streams }
 
 abbrev pub HasComment : Note → Measure → Type 0
 HasComment comment m = m.part.comment ≡ comment

@@ -27,7 +27,7 @@ use Rattle.mdf_content.specs.Records.{record_size}
 use Rattle.mdf_content.specs.Samples.{sample_at}
 use Rattle.mdf_content.specs.Values.{values_group}
 use Rattle.mdf_model.specs.declared.part.Measure.{Measure}
-use Rattle.mdf_model.specs.Measurement.{paired}
+use Rattle.mdf_model.specs.Measurement.{paired, contents_of}
 use Rattle.mdf_model.specs.Bodies.{bodies, joined}
 use Rattle.mdf_model.specs.Contents.{KeepsRules, IsDataSplit, IsChannelStream, own_records, IsContents, IsDataContents}
 use Rattle.mdf_model.specs.InWords.{row_measures, IsValidData}
@@ -37,10 +37,6 @@ use Rattle.tool_sort.proofs.Fields.{layout_same}
 use Rattle.tool_sort.proofs.Records.{chunks, records_of, length-chunks, chunks_joined, all_chunks, bodies_are, group_split}
 use Rattle.tool_sort.proofs.Streams.{variable_count, streams_kept}
 use Rattle.tool_sort.proofs.Standing.{placed_one, placed_row, placed_rows, PartStands, AllPartsStand}
-
--- what a group holds
-abbrev pub contents_of : Measure → Contents
-contents_of m = record { shape = m.shape; count = m.count; content = m.part.content; streams = m.part.streams }
 
 abbrev pub all_contents : List Measure → List (List Contents)
 all_contents [] = []

@@ -12,7 +12,7 @@ use Rattle.mdf_layout.specs.declared.sample.Value.{Value}
 use Rattle.mdf_layout.specs.declared.sample.Entry.{Entry}
 
 -- what is mapped is there
-mapped : {A B : Type 0} (f : A → B) (found : Option A) (y : B) → option_map f found ≡ Some y → (x : A) × (found ≡ Some x)
+pub mapped : {A B : Type 0} (f : A → B) (found : Option A) (y : B) → option_map f found ≡ Some y → (x : A) × (found ≡ Some x)
 mapped f None y is = absurd (cc is)
 mapped f (Some x) y is = (x, refl)
 

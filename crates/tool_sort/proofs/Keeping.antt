@@ -4,13 +4,12 @@ use Rattle.std.specs.Prelude.{codes}
 use Rattle.std.specs.List.{flat_map, AllByRecursion, AllZip}
 use Rattle.mdf_format.specs.Identification.{standard_flags, custom_flags}
 use Rattle.mdf_block.specs.Draft.{Placed, link_number, block_bytes, written, AllStand}
-use Rattle.mdf_head.specs.declared.entry.History.{History}
 use Rattle.mdf_group.specs.declared.row.GroupRow.{GroupRow}
 use Rattle.mdf_tree.specs.Text.{IsText}
 use Rattle.mdf_tree.specs.Group.{next_link, IsDataGroupWritable}
-use Rattle.mdf_tree.specs.Head.{past_entry, placed_history, head_blocks, entry_text, new_entry, IsEntryWritable}
+use Rattle.mdf_tree.specs.Head.{placed_history, head_blocks, entry_text, new_entry, IsEntryWritable}
 use Rattle.mdf_tree.proofs.Has.{Has, has_left, has_right}
-use Rattle.mdf_tree.proofs.Heads.{head_stands}
+use Rattle.mdf_tree.proofs.Heads.{head_stands, entries_same}
 use Rattle.mdf_spell.specs.Session.{finalized_ident}
 use Rattle.mdf_spell.specs.Standing.{AreBytes}
 use Rattle.mdf_spell.proofs.Cleans.{history_clean, head_clean}
@@ -19,7 +18,7 @@ use Rattle.mdf_model.specs.declared.part.Measure.{Measure}
 use Rattle.mdf_model.specs.Measurement.{Measured}
 use Rattle.mdf_model.specs.InWords.{IsFinalizedMdf, IsMeasurement}
 use Rattle.mdf_model.specs.Same.{plain_group}
-use Rattle.tool_sort.specs.Kept.{IsMeasureIn, StandsIn, plain_entry, SameRecords, rows_of, IsSortedOf}
+use Rattle.tool_sort.specs.Kept.{IsMeasureIn, StandsIn, SameRecords, rows_of, IsSortedOf}
 use Rattle.tool_sort.specs.Sorted.{IsTitle, sorted_group, sorted_row, group_number, past_part, values_links, measures_blocks, sorted_history, first_measure, sorted_blocks}
 use Rattle.tool_sort.proofs.Fields.{group_plain}
 use Rattle.tool_sort.proofs.Standing.{placed_one, placed_rows, part_writable, measures_stand}
@@ -53,12 +52,6 @@ all_writable : (file : List ℕ) (groups : List Measure) → AreBytes file → A
     → AllByRecursion (λ (m : Measure). IsDataGroupWritable (sorted_row m.part m.count)) groups
 all_writable file [] bytes are fit = tt
 all_writable file (m ∷ rest) bytes are fit = (part_writable file m bytes are.0 fit.0, all_writable file rest bytes are.1 fit.1)
-
--- entries that are placed say the same
-entries_same : (blocks : List Placed) (n : ℕ) (entries : List History) → map plain_entry entries ≡ map plain_entry (placed_history blocks n entries)
-unfolding placed_history
-entries_same blocks n [] = refl
-entries_same blocks n (entry ∷ entries) = ap (λ (more : List History). plain_entry entry ∷ more) (entries_same blocks (past_entry n entry) entries)
 
 -- so do the groups
 rows_same : (blocks : List Placed) (n : ℕ) (groups : List Measure)
@@ -121,7 +114,7 @@ sorted_kept source rest m title now named in_time is fit all =
       groups = placed_measures blocks n m.groups;
       measurement = measurement;
       same_head = refl;
-      same_history = entries_same blocks 1 entries;
+      same_history = sym (entries_same blocks 1 entries);
       same_rows = rows_same blocks n m.groups;
       same_records = records_same blocks n m.groups;
     }

@@ -2,7 +2,7 @@ pub mod Behind
 mod Ends
 mod Fields
 mod Holding
-mod Indexes
+pub mod Indexes
 mod Keeping
 mod Parts
 mod Reading

@@ -1,15 +1,12 @@
 -- The streams of channels of variable length in a sorted file: each channel names the block of its values, and the offset in each
 -- record meets a value there, since each record has a sample.
-use Rattle.std.proofs.Common.{◌≡◌, ◌+◌, ◌<◌, ◌≤◌, ℕ, suc, Bool, true, false, List, [], ◌∷◌, length, take, drop, map, Option, Some, None, refl, sym, ◌∙◌, ap, subst, arith}
-use Rattle.std.proofs.lemmas.Bool.{eqb-true, leb-true, and_parts, cond-true, cond-false}
-use Rattle.std.proofs.lemmas.List.{length-take-le, length-drop}
-use Rattle.std.specs.Prelude.{◌&&◌, ◌||◌, nat_eq, nat_lt, nat_le, filter, if◌then◌else◌}
+use Rattle.std.proofs.Common.{◌≡◌, ◌+◌, ◌<◌, ℕ, suc, Bool, true, false, List, [], ◌∷◌, length, take, drop, map, Option, Some, None, refl, sym, ◌∙◌, ap, subst, arith}
+use Rattle.std.proofs.lemmas.Bool.{eqb-true, cond-true, cond-false}
+use Rattle.std.specs.Prelude.{nat_eq, filter, if◌then◌else◌}
 use Rattle.std.specs.List.{AllByRecursion, AllZip}
-use Rattle.std.specs.Option.{option_map, option_and_then}
-use Rattle.mdf_format.specs.Number.{bytes_at}
+use Rattle.std.specs.Option.{option_map}
 use Rattle.mdf_format.specs.Field.{field_number}
 use Rattle.mdf_format.specs.Value.{IsValueAt}
-use Rattle.mdf_format.specs.Row as forms
 use Rattle.mdf_format.specs.Row.{form_of}
 use Rattle.mdf_block.specs.declared.link.Link.TheVariants as links
 use Rattle.mdf_block.specs.Draft.{Placed, address_of}
@@ -22,7 +19,7 @@ use Rattle.mdf_tree.specs.Group.{past_channel, placed_channel, placed_channels}
 use Rattle.mdf_tree.proofs.Has.{address_some}
 use Rattle.mdf_spell.specs.Recording.{block_links}
 use Rattle.mdf_spell.specs.Standing.{HoldStreams}
-use Rattle.mdf_vlsd.specs.Value.{value_at, size_there}
+use Rattle.mdf_vlsd.specs.Value.{value_at}
 use Rattle.mdf_layout.specs.Row.{kind_in}
 use Rattle.mdf_layout.specs.Rule as rules
 use Rattle.mdf_layout.specs.Rule.{is_variable_kind, spot_in}
@@ -33,51 +30,16 @@ use Rattle.mdf_layout.specs.declared.field.FieldRow.{FieldRow}
 use Rattle.mdf_layout.specs.declared.sample.Value.{Value}
 use Rattle.mdf_layout.specs.declared.sample.Value.TheVariants as value
 use Rattle.mdf_layout.specs.declared.sample.Entry.{Entry}
+use Rattle.mdf_layout.proofs.Samples.{parts_of_entries}
 use Rattle.mdf_content.specs.Layouts.{field_of}
 use Rattle.mdf_content.specs.Values.{values_group}
+use Rattle.mdf_content.proofs.Samples.{value_stands, other_field}
 use Rattle.mdf_model.specs.Contents.{IsValuesOf, MeetsValue, IsChannelStream}
 use Rattle.tool_sort.proofs.Fields.{field_same}
 
--- a value that is found stands
-value_stands : (stream : List ℕ) (offset : ℕ) (both : Bool) (found value : List ℕ)
-    → (nat_le (offset + 4) (length stream) && nat_le (offset + 4 + size_there stream offset) (length stream)) ≡ both
-    → (if both then Some (bytes_at (size_there stream offset) stream (offset + 4)) else None) ≡ Some value → IsValueAt stream offset value
-value_stands stream offset false found value has is = let wrong : ◌≡◌ {A = Option (List ℕ)} None (Some value) = is in cc
-value_stands stream offset true found value has is =
-    let size = size_there stream offset in
-    let parts = and_parts (nat_le (offset + 4) (length stream)) (nat_le (offset + 4 + size) (length stream)) has in
-    let whole : offset + 4 + size ≤ length stream = leb-true _ _ parts.1 in
-    let same : bytes_at size stream (offset + 4) ≡ value = (let e : ◌≡◌ {A = Option (List ℕ)} (Some (bytes_at size stream (offset + 4))) (Some value) = is in cc) in
-    let long : length (bytes_at size stream (offset + 4)) ≡ size =
-    length-take-le size (drop (offset + 4) stream) (omega (arith, whole, length-drop (offset + 4) stream)) in
-    subst (IsValueAt stream offset) same (record {
-      length_is = sym long;
-      whole = omega (arith, whole, long);
-      bytes = ap (λ (n : ℕ). bytes_at n stream (offset + 4)) long;
-    })
-
-pub value_found : (stream : List ℕ) (offset : ℕ) (value : List ℕ) → value_at stream offset ≡ Some value → IsValueAt stream offset value
-value_found stream offset value is = value_stands stream offset _ value value refl is
-
 -- the field of a channel is an offset exactly where the channel is one of variable length
-other_kind : (virtual signed unsigned : Bool) → is_variable_kind (kind_in (if virtual then forms.Virtual
-    else (if false then forms.Variable else (if signed then forms.Signed else (if unsigned then forms.Unsigned else forms.Fixed))))) ≡ false
-other_kind true signed unsigned = refl
-other_kind false true unsigned = refl
-other_kind false false true = refl
-other_kind false false false = refl
-
 kind_is : (channel : ChannelRow) → nat_eq channel.kind 1 ≡ true → (field_of channel).kind ≡ Variable
 kind_is channel is = ap (λ (k : ℕ). kind_in (form_of (record (numbers_of channel) { kind = k }))) (eqb-true channel.kind 1 is)
-
-other_field : (channel : ChannelRow) → nat_eq channel.kind 1 ≡ false → rules.is_variable (field_of channel) ≡ false
-other_field channel is =
-    ap (λ (b : Bool). is_variable_kind (kind_in (if nat_eq channel.kind 3 || nat_eq channel.kind 6 then forms.Virtual
-    else (if b then forms.Variable
-    else (if nat_eq channel.data_type 2 || nat_eq channel.data_type 3 then forms.Signed
-    else (if nat_lt channel.data_type 6 then forms.Unsigned else forms.Fixed)))))) is
-    ∙ other_kind (nat_eq channel.kind 3 || nat_eq channel.kind 6) (nat_eq channel.data_type 2 || nat_eq channel.data_type 3)
-    (nat_lt channel.data_type 6)
 
 -- as many channels of variable length as there are offsets
 count_same : (b : Bool) (channel : ChannelRow) (channels : List ChannelRow) → nat_eq channel.kind 1 ≡ b
@@ -101,20 +63,14 @@ variable_count [] = refl
 variable_count (channel ∷ channels) = count_same (nat_eq channel.kind 1) channel channels refl (variable_count channels)
 
 -- a sample has an entry of its first channel, and those of the others
-parts : (one : Option Entry) (rest : Option (List Entry)) (entries : List Entry)
-    → option_and_then (λ entry. option_map (λ entries. entry ∷ entries) rest) one ≡ Some entries
-    → (entry : Entry) × (behind : List Entry) × (one ≡ Some entry) × (rest ≡ Some behind)
-parts None rest entries is = let wrong : ◌≡◌ {A = Option (List Entry)} None (Some entries) = is in cc
-parts (Some entry) None entries is = let wrong : ◌≡◌ {A = Option (List Entry)} None (Some entries) = is in cc
-parts (Some entry) (Some behind) entries is = (entry, behind, refl, refl)
-
 sample_parts : (row : FieldRow) (rows : List FieldRow) (bytes inval : List ℕ) (finders : List Finder) (index : ℕ) (entries : List Entry)
     → sample_by (row ∷ rows) bytes inval finders index ≡ Some entries
     → (entry : Entry) × (behind : List Entry) × (entry_of row bytes inval (first_finder finders) index ≡ Some entry)
     × (sample_by rows bytes inval (finders_behind row finders) index ≡ Some behind)
 unfolding sample_by
 sample_parts row rows bytes inval finders index entries is =
-    parts (entry_of row bytes inval (first_finder finders) index) (sample_by rows bytes inval (finders_behind row finders) index) entries is
+    let found = parts_of_entries (entry_of row bytes inval (first_finder finders) index) (sample_by rows bytes inval (finders_behind row finders) index) entries is in
+    (found.0, found.1, found.2, found.3)
 
 -- a channel of variable length has an entry only where its offset finds a value
 found_of : (found : Option (List ℕ)) (valid : Bool) (entry : Entry)
@@ -171,7 +127,7 @@ module _ (file : List ℕ) (blocks : List Placed) (row : DataRow) (records : Lis
       let bytes = take data_bytes (body i) in
       let split = sample_parts (field_of channel) (map field_of channels) bytes (drop data_bytes (body i)) finders i one.0 one.1 in
       let found = entry_found (field_of channel) bytes (drop data_bytes (body i)) (value_at stream) i split.0 (kind_is channel is) split.2 in
-      (found.0, value_found stream (field_number (spot_in (field_of channel)) bytes) found.0 found.1)
+      (found.0, value_stands stream (field_number (spot_in (field_of channel)) bytes) found.0 found.1)
 
   -- the stream of a channel that names a block of values
   stream_held : (channel : ChannelRow) (n k : ℕ) (stream : List ℕ) → HoldStreams file blocks k (stream ∷ [])

@@ -4,11 +4,13 @@ use Rattle.std.specs.Prelude.{All}
 use Rattle.acq_run.specs.Ran.{AllMayFeed}
 use Rattle.acq_run.specs.Workers.{IsReady}
 use Rattle.acq_run.proofs.Owning.{owned_same}
-use Rattle.acq_run.proofs.Gathering.{all_follow, all_ready, have_worked, seated, seats_count, worked_count, worked_follow, worked_numbers, worked_of_table, worked_ran}
+use Rattle.acq_run.proofs.Gathering.{all_follow, all_ready, have_worked, seated, seats_count, worked_count, worked_follow, worked_numbers, worked_of_table, worked_ran, HaveWorked}
 use Rattle.acq_run.proofs.Telling.{worked_heard}
 use Rattle.acq_run.specs.Watching.{Hears, Watches}
 use Rattle.acq_run.specs.Stays.{watches_on}
+use Rattle.acq_run.proofs.record.record_live.Given as given
 use Rattle.acq_run.proofs.record.record_live.Goals as goal
+use Rattle.acq_run.proofs.record.record_live.Goals.{After-drive_all}
 
 pub seat_all-requires-clause-count : goal.seat_all-requires-clause-count
 seat_all-requires-clause-count g c =
@@ -27,14 +29,23 @@ drive_all-requires-clause-ready g c κs within =
     (seated g.F.Feed.left book.table book.basis workers c.in_ok-shared.seats.items _ c.seat_all.ensures.seats c.in_ok-shared.ensures.seats)
     (subst (λ fs. AllMayFeed owners terms 0 (map g.F.Feed.left fs)) (sym c.seat_all.ensures.feeds) c.requires.may))
 
+-- what the workers did
+all_worked : (g : given.Over) (c : After-drive_all g)
+    → HaveWorked g.F.Feed.left c.in_ok-shared.shared.table c.in_ok-shared.shared.basis c.as_mut_slice.result.now c.drive_all.new.workers
+    (take c.seat_all.new.workers.len (c.drive_all.new.workers ++ drop (length c.drive_all.new.workers) c.seat_all.new.workers.items)) c.args.feeds.items
+all_worked g c =
+    let book = c.in_ok-shared.shared in
+    have_worked g.F.Feed.left book.table book.basis c.seat_all.new.workers.items c.as_mut_slice.result.now c.drive_all.new.workers c.seat_all.new.workers.len _
+    c.in_ok-shared.seats.items c.args.feeds.items c.seat_all.ensures.seats c.in_ok-shared.ensures.seats c.seat_all.ensures.feeds c.as_mut_slice.ensures.value
+    c.drive_all.auto.workers c.as_mut_slice.ensures.len c.drive_all.ensures.driven
+
 pub close-requires-clause-table : goal.close-requires-clause-table
 close-requires-clause-table g c =
     let left = g.F.Feed.left in
     let book = c.in_ok-shared.shared in
     let lent = c.as_mut_slice.result.now in
     let news = c.drive_all.new.workers in
-    let worked = have_worked left book.table book.basis c.seat_all.new.workers.items lent news c.seat_all.new.workers.len _ c.in_ok-shared.seats.items c.args.feeds.items
-    c.seat_all.ensures.seats c.in_ok-shared.ensures.seats c.seat_all.ensures.feeds c.as_mut_slice.ensures.value c.drive_all.auto.workers c.as_mut_slice.ensures.len c.drive_all.ensures.driven in
+    let worked = all_worked g (goal.at.close-requires-clause-table g c).After-drive_all in
     worked_of_table left book.table book.basis lent news _ c.args.feeds.items worked c.part_all.new.seats.items c.part_all.ensures.seats
 
 pub close-requires-clause-all : goal.close-requires-clause-all
@@ -43,8 +54,7 @@ close-requires-clause-all g c number below =
     let book = c.in_ok-shared.shared in
     let lent = c.as_mut_slice.result.now in
     let news = c.drive_all.new.workers in
-    let worked = have_worked left book.table book.basis c.seat_all.new.workers.items lent news c.seat_all.new.workers.len _ c.in_ok-shared.seats.items c.args.feeds.items
-    c.seat_all.ensures.seats c.in_ok-shared.ensures.seats c.seat_all.ensures.feeds c.as_mut_slice.ensures.value c.drive_all.auto.workers c.as_mut_slice.ensures.len c.drive_all.ensures.driven in
+    let worked = all_worked g (goal.at.close-requires-clause-all g c).After-drive_all in
     worked_numbers left book.table book.basis lent news _ c.args.feeds.items worked c.part_all.new.seats.items c.part_all.ensures.seats number
     (omega (arith, below, c.in_ok-shared.ensures.shared.sources_is, c.len-count.ensures, c.args.feeds.ok.0, c.requires.sources.1))
 
@@ -55,8 +65,7 @@ returns-clause-ran g c =
     let shared = c.in_ok-shared.ensures.shared in
     let lent = c.as_mut_slice.result.now in
     let news = c.drive_all.new.workers in
-    let worked = have_worked left book.table book.basis c.seat_all.new.workers.items lent news c.seat_all.new.workers.len _ c.in_ok-shared.seats.items c.args.feeds.items
-    c.seat_all.ensures.seats c.in_ok-shared.ensures.seats c.seat_all.ensures.feeds c.as_mut_slice.ensures.value c.drive_all.auto.workers c.as_mut_slice.ensures.len c.drive_all.ensures.driven in
+    let worked = all_worked g (goal.at.returns-clause-ran g c).After-drive_all in
     worked_ran left book.table book.basis lent news _ c.args.feeds.items worked c.args.owners.now shared.owners_are c.close.result c.close.ensures.terms
     c.part_all.new.seats.items c.part_all.new.all.items c.part_all.ensures.seats c.part_all.ensures.driven c.close.ensures.seats
 
@@ -78,8 +87,7 @@ returns-clause-followers g c =
     let shared = c.in_ok-shared.ensures.shared in
     let lent = c.as_mut_slice.result.now in
     let news = c.drive_all.new.workers in
-    let worked = have_worked left book.table book.basis c.seat_all.new.workers.items lent news c.seat_all.new.workers.len _ c.in_ok-shared.seats.items c.args.feeds.items
-    c.seat_all.ensures.seats c.in_ok-shared.ensures.seats c.seat_all.ensures.feeds c.as_mut_slice.ensures.value c.drive_all.auto.workers c.as_mut_slice.ensures.len c.drive_all.ensures.driven in
+    let worked = all_worked g (goal.at.returns-clause-followers g c).After-drive_all in
     worked_count left book.table book.basis lent news _ c.args.feeds.items worked c.part_all.new.followers.items c.part_all.ensures.followers
 
 pub returns-clause-follow : goal.returns-clause-follow
@@ -89,8 +97,7 @@ returns-clause-follow g c =
     let shared = c.in_ok-shared.ensures.shared in
     let lent = c.as_mut_slice.result.now in
     let news = c.drive_all.new.workers in
-    let worked = have_worked left book.table book.basis c.seat_all.new.workers.items lent news c.seat_all.new.workers.len _ c.in_ok-shared.seats.items c.args.feeds.items
-    c.seat_all.ensures.seats c.in_ok-shared.ensures.seats c.seat_all.ensures.feeds c.as_mut_slice.ensures.value c.drive_all.auto.workers c.as_mut_slice.ensures.len c.drive_all.ensures.driven in
+    let worked = all_worked g (goal.at.returns-clause-follow g c).After-drive_all in
     worked_follow left book.table book.basis lent news _ c.args.feeds.items worked Watches watches_on c.close.result c.args.book.terms shared.terms_are
     c.part_all.new.seats.items c.part_all.new.followers.items c.part_all.ensures.seats c.part_all.ensures.followers c.close.ensures.seats c.drive_all.ensures.follow
 
@@ -101,8 +108,7 @@ returns-clause-heard g c =
     let shared = c.in_ok-shared.ensures.shared in
     let lent = c.as_mut_slice.result.now in
     let news = c.drive_all.new.workers in
-    let worked = have_worked left book.table book.basis c.seat_all.new.workers.items lent news c.seat_all.new.workers.len _ c.in_ok-shared.seats.items c.args.feeds.items
-    c.seat_all.ensures.seats c.in_ok-shared.ensures.seats c.seat_all.ensures.feeds c.as_mut_slice.ensures.value c.drive_all.auto.workers c.as_mut_slice.ensures.len c.drive_all.ensures.driven in
+    let worked = all_worked g (goal.at.returns-clause-heard g c).After-drive_all in
     worked_heard left Hears book.table book.basis c.args.owners.now shared.owners_are c.close.result c.close.ensures.terms
     c.seat_all.new.workers.items lent news _ _ c.in_ok-shared.seats.items c.args.feeds.items c.args.watchers.items
     c.seat_all.ensures.seats c.in_ok-shared.ensures.seats c.seat_all.ensures.feeds c.seat_all.ensures.followers c.as_mut_slice.ensures.value worked.after_is
@@ -117,8 +123,7 @@ part_all-requires-clause-room g c =
     let shared = c.in_ok-shared.ensures.shared in
     let lent = c.as_mut_slice.result.now in
     let news = c.drive_all.new.workers in
-    let worked = have_worked left book.table book.basis c.seat_all.new.workers.items lent news c.seat_all.new.workers.len _ c.in_ok-shared.seats.items c.args.feeds.items
-    c.seat_all.ensures.seats c.in_ok-shared.ensures.seats c.seat_all.ensures.feeds c.as_mut_slice.ensures.value c.drive_all.auto.workers c.as_mut_slice.ensures.len c.drive_all.ensures.driven in
+    let worked = all_worked g (goal.at.part_all-requires-clause-room g c).After-drive_all in
     let after = take c.seat_all.new.workers.len (news ++ drop (length news) c.seat_all.new.workers.items) in
     let followers = map (λ w. w.follower) after in
     let count = worked_count left book.table book.basis lent news after c.args.feeds.items worked followers refl in

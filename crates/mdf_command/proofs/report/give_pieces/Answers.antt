@@ -2,8 +2,9 @@ use Rattle.std.proofs.Common.{sym, subst, arith, drop, ◌+◌}
 use Rattle.std.proofs.lemmas.List.{take_all}
 use Rattle.std.specs.Io.KnownBytes.{Appends}
 use Rattle.std.proofs.lemmas.Result.{err_from_is_err_and}
+use Rattle.mdf_port.proofs.Streams.{appends_more, appends_none}
 use Rattle.mdf_command.specs.Texts.{pieces_text}
-use Rattle.mdf_command.proofs.Pieces.{appends_both, appends_none, gives_behind, gives_failed, gives_same, pieces_more, pieces_around}
+use Rattle.mdf_command.proofs.Pieces.{gives_behind, gives_failed, gives_same, pieces_more, pieces_around}
 use Rattle.mdf_command.proofs.report.give_pieces.Goals as goal
 
 pub loop-piece-init : goal.loop-piece-init
@@ -19,7 +20,7 @@ returns-in_err-give_piece g c =
 pub loop-piece-preserved : goal.loop-piece-preserved
 loop-piece-preserved g c = record {
   given = subst (Appends _ _) (sym (pieces_more c.args.pieces.now c.loop-piece.piece-index _ c.loop-piece-test.true))
-      (appends_both _ _ _ _ _ c.loop-piece.invariant.given (c.in_ok-give_piece.ensures.ok));
+      (appends_more _ _ _ _ _ c.loop-piece.invariant.given (c.in_ok-give_piece.ensures.ok));
   later = omega (arith, c.loop-piece.invariant.later, c.give_piece.ensures.cause.later);
 }
 

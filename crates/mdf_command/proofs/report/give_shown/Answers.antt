@@ -3,8 +3,9 @@ use Rattle.std.proofs.lemmas.List.{take_all}
 use Rattle.std.specs.List.{flat_map}
 use Rattle.std.specs.Io.KnownBytes.{Appends}
 use Rattle.std.proofs.lemmas.Result.{err_from_is_err_and}
+use Rattle.mdf_port.proofs.Streams.{appends_more, appends_none}
 use Rattle.mdf_command.specs.Texts.{shown}
-use Rattle.mdf_command.proofs.Pieces.{appends_both, appends_none, gives_behind, gives_failed, gives_same, bytes_more, bytes_around}
+use Rattle.mdf_command.proofs.Pieces.{gives_behind, gives_failed, gives_same, bytes_more, bytes_around}
 use Rattle.mdf_command.proofs.report.give_shown.Goals as goal
 
 pub loop-byte-init : goal.loop-byte-init
@@ -20,7 +21,7 @@ returns-in_err-give_byte g c =
 pub loop-byte-preserved : goal.loop-byte-preserved
 loop-byte-preserved g c = record {
   given = subst (Appends _ _) (sym (bytes_more c.args.text.now c.loop-byte.byte-index _ c.loop-byte-test.true))
-      (appends_both _ _ _ _ _ c.loop-byte.invariant.given (c.in_ok-give_byte.ensures.ok));
+      (appends_more _ _ _ _ _ c.loop-byte.invariant.given (c.in_ok-give_byte.ensures.ok));
   later = omega (arith, c.loop-byte.invariant.later, c.give_byte.ensures.cause.later);
 }
 

@@ -2,9 +2,10 @@ use Rattle.std.proofs.Common.{◌+◌, ◌<◌, ◌≤◌, length, suc, sym, sub
 use Rattle.std.proofs.lemmas.List.{take_all}
 use Rattle.std.specs.Io.KnownBytes.{Appends}
 use Rattle.std.proofs.lemmas.Result.{err_from_is_err_and}
+use Rattle.mdf_port.proofs.Streams.{appends_more, appends_none}
 use Rattle.mdf_inspect.specs.Info.{group_line}
 use Rattle.mdf_command.specs.Texts.{numbered}
-use Rattle.mdf_command.proofs.Pieces.{appends_both, appends_none, gives_behind, gives_failed, gives_same, numbered_more, numbered_around, first_of}
+use Rattle.mdf_command.proofs.Pieces.{gives_behind, gives_failed, gives_same, numbered_more, numbered_around, first_of}
 use Rattle.mdf_inspect.proofs.info.give_groups.Goals as goal
 
 pub loop-group-init : goal.loop-group-init
@@ -29,7 +30,7 @@ loop-group-preserved g c =
     let d = first_of xs i within in
     let ok = c.in_ok-give_group.ensures d in
     let gives = c.give_group.ensures d in record {
-      given = subst (Appends _ _) (sym (numbered_more group_line xs i d within)) (appends_both _ _ _ _ _ c.loop-group.invariant.given ok.ok);
+      given = subst (Appends _ _) (sym (numbered_more group_line xs i d within)) (appends_more _ _ _ _ _ c.loop-group.invariant.given ok.ok);
       later = omega (arith, c.loop-group.invariant.later, gives.cause.later);
     }
 

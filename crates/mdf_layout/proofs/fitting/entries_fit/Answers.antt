@@ -1,7 +1,7 @@
+use borrow.Author.Count.{below_more}
 use Rattle.std.proofs.Common.{◌<◌, get_or, length, refl, subst, sym, ◌∙◌, arith}
 use Rattle.std.proofs.lemmas.List.{get_or_default}
 use Rattle.mdf_layout.specs.Written.{IsEntryOf}
-use Rattle.mdf_layout.proofs.Steps.{each_more}
 use Rattle.mdf_layout.proofs.fitting.entries_fit.Goals as goal
 
 pub returns-then-not-entry_fits : goal.returns-then-not-entry_fits
@@ -17,7 +17,7 @@ loop-i-preserved c =
     let inside : c.loop-i.i < length c.args.entries.now = omega (arith, c.if-rows-entries.false, c.loop-i-test.true) in
     λ k row entry within.
     let there = c.index-entries-i.is ∙ get_or_default c.args.entries.now c.loop-i.i _ entry inside in
-    each_more (λ i. IsEntryOf (get_or c.args.rows.now i row) (get_or c.args.entries.now i entry)) c.loop-i.i
+    below_more (λ i. IsEntryOf (get_or c.args.rows.now i row) (get_or c.args.entries.now i entry)) c.loop-i.i
     (λ i below. c.loop-i.invariant i row entry below)
     (subst (λ r. IsEntryOf r (get_or c.args.entries.now c.loop-i.i entry)) (get_or_default c.args.rows.now c.loop-i.i _ row c.loop-i-test.true)
     (subst (IsEntryOf _) there (c.if-not-entry_fits.ensures.0 refl)))

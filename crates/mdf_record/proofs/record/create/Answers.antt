@@ -5,19 +5,26 @@ use Rattle.mdf_disk.specs.declared.role.Role.TheVariants.{Create}
 use Rattle.mdf_disk.proofs.Crash.{adds_none}
 use Rattle.mdf_gate.specs.Images.{IsBegun, head_of}
 use Rattle.mdf_spell.specs.Recording.{head_file}
+use Rattle.mdf_record.specs.Created.{IsNotCreated}
+use Rattle.mdf_command.specs.declared.fault.Fault.TheVariants as fault
 use Rattle.mdf_record.proofs.Recording.{begun_since, was_asked}
 use Rattle.mdf_record.proofs.Recovering.{begun_recovered, none_recovered, not_created, one_moment}
+use Rattle.mdf_record.proofs.record.create.Given as given
 use Rattle.mdf_record.proofs.record.create.Goals as goal
+use Rattle.mdf_record.proofs.record.create.Goals.{After-head_for}
+
+-- where memory is wanting, the disk is as it was
+unmade : (g : given.Over) (c : After-head_for g)
+    → IsNotCreated g.C.Disk c.args.name.now (head_file c.args.now_ns c.args.rows.now) c.args.out c.args.out fault.Memory
+unmade g c =
+    let laws = g.met.C.Disk in
+    not_created g.C.Disk c.args.name.now (head_file c.args.now_ns c.args.rows.now) c.args.out c.requires.asked (laws.agrees c.args.out) (laws.unattached c.args.out (laws.unasked c.args.out c.requires.asked))
 
 pub returns-in_default-clause-refused : goal.returns-in_default-clause-refused
-returns-in_default-clause-refused g c =
-    let laws = g.met.C.Disk in
-    not_created g.C.Disk c.args.name.now (head_file c.args.now_ns c.args.rows.now) c.args.out c.requires.asked (laws.agrees c.args.out) (laws.unattached c.args.out (laws.unasked c.args.out c.requires.asked))
+returns-in_default-clause-refused g c = unmade g (goal.at.returns-in_default-clause-refused g c).After-head_for
 
 pub returns-in_default-copy-clause-refused : goal.returns-in_default-copy-clause-refused
-returns-in_default-copy-clause-refused g c =
-    let laws = g.met.C.Disk in
-    not_created g.C.Disk c.args.name.now (head_file c.args.now_ns c.args.rows.now) c.args.out c.requires.asked (laws.agrees c.args.out) (laws.unattached c.args.out (laws.unasked c.args.out c.requires.asked))
+returns-in_default-copy-clause-refused g c = unmade g (goal.at.returns-in_default-copy-clause-refused g c).After-head_for
 
 -- where the disk was not attached, a crash leaves no MDF file
 pub returns-in_default-attach-clause-refused : goal.returns-in_default-attach-clause-refused

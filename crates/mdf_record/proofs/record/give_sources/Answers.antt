@@ -2,9 +2,10 @@ use Rattle.std.proofs.Common.{◌+◌, suc, sym, subst, arith, drop}
 use Rattle.std.proofs.lemmas.List.{take_all}
 use Rattle.std.specs.Io.KnownBytes.{Appends}
 use Rattle.std.proofs.lemmas.Result.{err_from_is_err_and}
+use Rattle.mdf_port.proofs.Streams.{appends_more, appends_none}
 use Rattle.mdf_record.specs.Record.{source_line}
 use Rattle.mdf_command.specs.Texts.{numbered}
-use Rattle.mdf_command.proofs.Pieces.{appends_both, appends_none, gives_behind, gives_failed, gives_same, numbered_more, numbered_around}
+use Rattle.mdf_command.proofs.Pieces.{gives_behind, gives_failed, gives_same, numbered_more, numbered_around}
 use Rattle.mdf_record.proofs.record.give_sources.Goals as goal
 
 pub loop-source-init : goal.loop-source-init
@@ -22,7 +23,7 @@ returns-in_err-give_line g c =
 pub loop-source-preserved : goal.loop-source-preserved
 loop-source-preserved g c = record {
   given = subst (Appends _ _) (sym (numbered_more source_line c.args.accepted.now c.loop-source.source _ c.loop-source-test.true))
-      (appends_both _ _ _ _ _ c.loop-source.invariant.given (c.in_ok-give_line.ensures.ok));
+      (appends_more _ _ _ _ _ c.loop-source.invariant.given (c.in_ok-give_line.ensures.ok));
   later = omega (arith, c.loop-source.invariant.later, c.give_line.ensures.cause.later);
 }
 

@@ -6,7 +6,7 @@ use Rattle.mdf_disk.specs.State.{state_of}
 use Rattle.tool_concat.specs.Concat.{IsConcatImage, Joining}
 use Rattle.mdf_command.proofs.Told.{of_file}
 use Rattle.mdf_run.specs.Concat.{AreBothLoaded, AreNotJoined, Joins, two_inputs}
-use Rattle.mdf_run.proofs.Leaving.{any_pair, load_fault, making_ends, still_no_mdf}
+use Rattle.mdf_run.proofs.Leaving.{load_fault, making_ends, still_no_join}
 use Rattle.mdf_run.proofs.joining.join.Goals as goal
 
 pub returns-in_err-one-clause-comes : goal.returns-in_err-one-clause-comes
@@ -42,20 +42,16 @@ returns-in_err-one-clause-any_moment g c =
     let disk = g.C.Disk in
     let laws = g.met.C.Disk in
     let out = c.args.out.now in
-    any_pair (g.A.Disk.content c.args.first.now) (g.B.Disk.content c.args.second.now)
-    (λ one two. HoldsSince (disk.story out) (disk.moment out) (IsConcatImage (record { first = one; second = two; now = c.args.now_ns })))
-    (λ one two. still_no_mdf (Joins (record { first = one; second = two; now = c.args.now_ns })) (disk.story out) (disk.story out) (disk.content out) (disk.moment out)
-    (laws.agrees out) (laws.unattached out (laws.unasked out c.requires.out)) refl)
+    still_no_join (g.A.Disk.content c.args.first.now) (g.B.Disk.content c.args.second.now) c.args.now_ns (disk.story out) (disk.content out) (disk.moment out)
+    (laws.agrees out) (laws.unattached out (laws.unasked out c.requires.out))
 
 pub returns-in_err-two-clause-any_moment : goal.returns-in_err-two-clause-any_moment
 returns-in_err-two-clause-any_moment g c =
     let disk = g.C.Disk in
     let laws = g.met.C.Disk in
     let out = c.args.out.now in
-    any_pair (g.A.Disk.content c.args.first.now) (g.B.Disk.content c.args.second.now)
-    (λ one two. HoldsSince (disk.story out) (disk.moment out) (IsConcatImage (record { first = one; second = two; now = c.args.now_ns })))
-    (λ one two. still_no_mdf (Joins (record { first = one; second = two; now = c.args.now_ns })) (disk.story out) (disk.story out) (disk.content out) (disk.moment out)
-    (laws.agrees out) (laws.unattached out (laws.unasked out c.requires.out)) refl)
+    still_no_join (g.A.Disk.content c.args.first.now) (g.B.Disk.content c.args.second.now) c.args.now_ns (disk.story out) (disk.content out) (disk.moment out)
+    (laws.agrees out) (laws.unattached out (laws.unasked out c.requires.out))
 
 pub returns-clause-comes : goal.returns-clause-comes
 returns-clause-comes g c =

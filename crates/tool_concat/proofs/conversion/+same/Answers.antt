@@ -1,8 +1,9 @@
+use borrow.Author.Count.{below_more}
 use Rattle.std.proofs.Common.{◌≡◌, ℕ, List, false, get_or, refl, ap, arith}
 use Rattle.std.proofs.lemmas.Bool.{both_ways}
 use Rattle.std.proofs.lemmas.List.{same_lists}
 use Rattle.mdf_conv.specs.declared.row.Ref.{Ref}
-use Rattle.tool_concat.proofs.Steps.{at_place, each_more, of_place}
+use Rattle.tool_concat.proofs.Steps.{at_place, of_place}
 use Rattle.tool_concat.proofs.conversion.+same.Goals as goal
 
 pub same_refs-returns-then-not-same_ref : goal.same_refs-returns-then-not-same_ref
@@ -20,7 +21,7 @@ same_refs-loop-k-preserved t c = λ j d within.
     let one = c.args.one.now in
     let other = c.args.other.now in
     let k = c.loop-k.k in
-    each_more (λ (i : ℕ). (e : Ref) → (◌≡◌ {A = Ref}) (get_or one i e) (get_or other i e)) k (λ i below e. c.loop-k.invariant i e below)
+    below_more (λ (i : ℕ). (e : Ref) → (◌≡◌ {A = Ref}) (get_or one i e) (get_or other i e)) k (λ i below e. c.loop-k.invariant i e below)
     (λ e. at_place (◌≡◌ {A = Ref}) one other k c.index-one-k.result c.index-other-k.result e (omega (arith, c.loop-k-test.true))
     (omega (arith, c.loop-k-test.true, c.if-one-other.false)) c.index-one-k.is c.index-other-k.is (c.same_ref.ensures.0 c.if-not-same_ref.false)) j within d
 

@@ -1,7 +1,7 @@
 use Rattle.std.proofs.Common.{◌≡◌, subst, sym}
 use Rattle.mdf_model.specs.declared.part.GroupPart.{GroupPart}
+use Rattle.mdf_model.proofs.Items.{item_of}
 use Rattle.tool_concat.specs.Same.{SameGroup}
-use Rattle.tool_concat.proofs.Groups.{item_of}
 use Rattle.tool_concat.proofs.difference.same_at.Goals as goal
 
 -- equal parts

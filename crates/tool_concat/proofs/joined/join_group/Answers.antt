@@ -1,25 +1,28 @@
-use Rattle.std.proofs.Common.{◌≡◌, ◌+◌, ◌*◌, ◌++◌, ℕ, List, length, get_or, sym, ◌∙◌, ap, arith, get_or-set_other, get_or-set_same, length-set}
+use Rattle.std.proofs.Common.{◌≡◌, ◌+◌, ◌*◌, ◌++◌, ℕ, List, length, get_or, sym, ◌∙◌, ap, arith, get_or-set_other, get_or-set_same, length-set, ◌<◌}
 use Rattle.mdf_layout.specs.Layout.{Layout, record_size}
 use Rattle.mdf_model.specs.declared.part.GroupPart.{GroupPart}
 use Rattle.mdf_model.specs.declared.part.Measure.{Measure}
 use Rattle.mdf_model.specs.Measurement.{Measured, with_content}
 use Rattle.mdf_model.proofs.Taken.{taken_at, taken_length, then_put}
+use Rattle.mdf_model.proofs.Items.{item_of}
 use Rattle.tool_concat.specs.Joined.{joined_streams}
-use Rattle.tool_concat.proofs.Groups.{content_samples, item_of, same_count}
+use Rattle.tool_concat.proofs.Groups.{content_samples, same_count}
 use Rattle.tool_concat.proofs.Holds.{parts_held, parts_moved}
 use Rattle.tool_concat.proofs.joined.join_group.Goals as goal
+use Rattle.tool_concat.proofs.joined.join_group.Goals.{After-take_content-before}
+
+-- the group is there without its content
+still_there : (c : After-take_content-before) → c.args.group < length c.take_content-before.new.self.groups
+still_there c =
+    let taken = c.take_content-before in
+    let d = item_of c.args.first.now.groups c.args.group c.requires.group in
+    omega (arith, c.requires.group, taken_length c.args.first.now taken.new.self c.args.group c.requires.group taken.ensures.left d)
 
 pub part-requires : goal.part-requires
-part-requires c =
-    let taken = c.take_content-before in
-    let d = item_of c.args.first.now.groups c.args.group c.requires.group in
-    omega (arith, c.requires.group, taken_length c.args.first.now taken.new.self c.args.group c.requires.group taken.ensures.left d)
+part-requires c = still_there (goal.at.part-requires c).After-take_content-before
 
 pub replace-requires-clause-group : goal.replace-requires-clause-group
-replace-requires-clause-group c =
-    let taken = c.take_content-before in
-    let d = item_of c.args.first.now.groups c.args.group c.requires.group in
-    omega (arith, c.requires.group, taken_length c.args.first.now taken.new.self c.args.group c.requires.group taken.ensures.left d)
+replace-requires-clause-group c = still_there (goal.at.replace-requires-clause-group c).After-take_content-before
 
 pub with_moved-requires-clause-long : goal.with_moved-requires-clause-long
 with_moved-requires-clause-long c =

@@ -1,13 +1,23 @@
 use Rattle.std.proofs.lemmas.Result.{err_from_is_err_and}
 use Rattle.mdf_disk.specs.State.{state_of}
-use Rattle.tool_concat.specs.Concat.{Joining}
+use Rattle.mdf_disk.specs.Crash.{Adds}
+use Rattle.tool_concat.specs.Concat.{Joining, IsConcatImage}
 use Rattle.tool_concat.proofs.Ends.{leaves, unwritten_ends, written_ends}
+use Rattle.tool_concat.proofs.joining.concat.Given as given
 use Rattle.tool_concat.proofs.joining.concat.Goals as goal
+use Rattle.tool_concat.proofs.joining.concat.Goals.{After-write_made}
 
 pub returns-in_err-made-clause-ends : goal.returns-in_err-made-clause-ends
 returns-in_err-made-clause-ends g c =
     let p = err_from_is_err_and c.from_residual.result c.from_residual.ensures.1 in
     rw (p.1, p.2) (c.in_err-made.ensures.refused (state_of g.C.Disk c.args.out.now))
+
+-- no file joins but one of what was joined, or one that is no MDF file
+adds : (g : given.Over) (c : After-write_made g)
+    → Adds (g.C.Disk.story c.args.out.now) (g.C.Disk.story c.write_made.new.out) (IsConcatImage (record { first = c.args.first; second = c.args.second; now = c.args.now_ns }))
+adds g c =
+    let asked : Joining = record { first = c.args.first; second = c.args.second; now = c.args.now_ns } in
+    leaves asked c.in_ok-made.made c.in_ok-made.ensures.made (g.C.Disk.story c.args.out.now) (g.C.Disk.story c.write_made.new.out) c.write_made.ensures.any_moment
 
 pub returns-in-Ok-clause-ends : goal.returns-in-Ok-clause-ends
 returns-in-Ok-clause-ends g c =
@@ -16,9 +26,7 @@ returns-in-Ok-clause-ends g c =
     c.in-Ok.report c.in-Ok.ensures.ends
 
 pub returns-in-Ok-clause-any_moment : goal.returns-in-Ok-clause-any_moment
-returns-in-Ok-clause-any_moment g c =
-    let asked : Joining = record { first = c.args.first; second = c.args.second; now = c.args.now_ns } in
-    leaves asked c.in_ok-made.made c.in_ok-made.ensures.made (g.C.Disk.story c.args.out.now) (g.C.Disk.story c.write_made.new.out) c.write_made.ensures.any_moment
+returns-in-Ok-clause-any_moment g c = adds g (goal.at.returns-in-Ok-clause-any_moment g c).After-write_made
 
 pub returns-in-Err-clause-ends : goal.returns-in-Err-clause-ends
 returns-in-Err-clause-ends g c =
@@ -28,6 +36,4 @@ returns-in-Err-clause-ends g c =
     )
 
 pub returns-in-Err-clause-any_moment : goal.returns-in-Err-clause-any_moment
-returns-in-Err-clause-any_moment g c =
-    let asked : Joining = record { first = c.args.first; second = c.args.second; now = c.args.now_ns } in
-    leaves asked c.in_ok-made.made c.in_ok-made.ensures.made (g.C.Disk.story c.args.out.now) (g.C.Disk.story c.write_made.new.out) c.write_made.ensures.any_moment
+returns-in-Err-clause-any_moment g c = adds g (goal.at.returns-in-Err-clause-any_moment g c).After-write_made

@@ -1,6 +1,7 @@
 use Rattle.std.proofs.Common.{get_or, arith}
+use Rattle.mdf_model.proofs.Items.{one_of}
 use Rattle.tool_concat.specs.Making.{IsLaid}
-use Rattle.tool_concat.proofs.Groups.{one_of, same_shape}
+use Rattle.tool_concat.proofs.Groups.{same_shape}
 use Rattle.tool_concat.proofs.joining.join.Goals as goal
 
 pub join_all-requires-clause-shapes : goal.join_all-requires-clause-shapes

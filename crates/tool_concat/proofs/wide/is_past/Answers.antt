@@ -1,17 +1,11 @@
-use Rattle.std.proofs.Common.{◌≡◌, ◌≢◌, ◌+◌, ◌*◌, ◌/◌, ◌^◌, ◌<◌, ◌≤◌, inl, inr, ℕ, ◌∙◌, ap, arith, div-lt_iff_lt-mul}
-use Rattle.std.proofs.Math.Nat.{div-eq_of_lt}
-use Rattle.std.proofs.lemmas.Bool.{cases_lt, eqb-false, ne_eqb, not-true, not_from_false}
+use Rattle.std.proofs.Common.{◌≡◌, ◌≢◌, ◌+◌, ◌*◌, ◌/◌, ◌^◌, ◌<◌, ◌≤◌, ℕ, ◌∙◌, ap, arith, div-lt_iff_lt-mul}
+use Rattle.std.proofs.lemmas.Bool.{eqb-false, ne_eqb, not-true, not_from_false}
 use Rattle.std.proofs.lemmas.Nat.{pow_pos}
 use Rattle.std.specs.Prelude.{nat_eq}
 use Rattle.mdf_format.specs.Field.{Spot, field_number}
+use Rattle.mdf_bits.proofs.Powers.{not_below}
 use Rattle.tool_concat.specs.Moved.{offset_in}
 use Rattle.tool_concat.proofs.wide.is_past.Goals as goal
-
-not_below : (n k : ℕ) → n / 2 ^ k ≢ 0 → 2 ^ k ≤ n
-not_below n k some = elim (cases_lt n (2 ^ k)) [
-  | inl below ↦ absurd (some (div-eq_of_lt below))
-  | inr above ↦ above
-]
 
 not_small : (n k : ℕ) → 2 ^ k ≤ n → n / 2 ^ k ≢ 0
 not_small n k above none =

@@ -1,26 +1,28 @@
-use Rattle.std.proofs.Common.{◌*◌, ℕ, List, length, get_or, sym, ◌∙◌, ap, subst, arith}
+use Rattle.std.proofs.Common.{◌*◌, ℕ, List, length, get_or, sym, ◌∙◌, ap, subst, arith, ◌<◌}
 use Rattle.mdf_layout.specs.Layout.{Layout, record_size}
 use Rattle.mdf_layout.specs.Rule.{IsPlacedAs, spot_in}
 use Rattle.mdf_model.specs.declared.part.Measure.{Measure}
 use Rattle.mdf_model.specs.Measurement.{with_records}
 use Rattle.mdf_model.proofs.Taken.{taken_at, taken_length, then_put}
+use Rattle.mdf_model.proofs.Items.{item_of}
 use Rattle.tool_cut.specs.Kept.{cut_by}
-use Rattle.tool_cut.proofs.Groups.{by_samples, bytes_of, count_of, item_of}
+use Rattle.tool_cut.proofs.Groups.{by_samples, bytes_of, count_of}
 use Rattle.tool_cut.proofs.measure.cut_by.Goals as goal
+use Rattle.tool_cut.proofs.measure.cut_by.Goals.{After-take_content-content}
+
+-- the group is there without its content
+still_there : (c : After-take_content-content) → c.args.group < length c.take_content-content.new.self.groups
+still_there c =
+    let all = c.args.measurement.now in
+    let taken = c.take_content-content in
+    let d = item_of all.groups c.args.group c.requires.group in
+    omega (arith, c.requires.group, taken_length all taken.new.self c.args.group c.requires.group taken.ensures.left d)
 
 pub shape-requires : goal.shape-requires
-shape-requires c =
-    let all = c.args.measurement.now in
-    let taken = c.take_content-content in
-    let d = item_of all.groups c.args.group c.requires.group in
-    omega (arith, c.requires.group, taken_length all taken.new.self c.args.group c.requires.group taken.ensures.left d)
+shape-requires c = still_there (goal.at.shape-requires c).After-take_content-content
 
 pub put_content-requires-clause-group : goal.put_content-requires-clause-group
-put_content-requires-clause-group c =
-    let all = c.args.measurement.now in
-    let taken = c.take_content-content in
-    let d = item_of all.groups c.args.group c.requires.group in
-    omega (arith, c.requires.group, taken_length all taken.new.self c.args.group c.requires.group taken.ensures.left d)
+put_content-requires-clause-group c = still_there (goal.at.put_content-requires-clause-group c).After-take_content-content
 
 pub kept_in-count-requires-clause-long : goal.kept_in-count-requires-clause-long
 kept_in-count-requires-clause-long c =

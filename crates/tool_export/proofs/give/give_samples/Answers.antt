@@ -1,8 +1,9 @@
 use Rattle.std.proofs.Common.{◌≡◌, ◌≤◌, ◌+◌, ℕ, List, ◌++◌, ◌∙◌, ap, arith, append_assoc}
 use Rattle.std.proofs.lemmas.Result.{err_from_is_err_and}
 use Rattle.mdf_port.specs.State.{sink_state}
+use Rattle.mdf_port.proofs.Streams.{appends_more, appends_none}
 use Rattle.tool_export.specs.Table.{sample_lines}
-use Rattle.tool_export.proofs.Texts.{appends_more, appends_none, gives_behind, gives_failed, gives_none, lines_behind, lines_given}
+use Rattle.tool_export.proofs.Texts.{gives_behind, gives_failed, gives_none, lines_behind, lines_given}
 use Rattle.tool_export.proofs.give.give_samples.Goals as goal
 
 pub loop-index-init : goal.loop-index-init

@@ -1,8 +1,9 @@
 use Rattle.std.proofs.Common.{ℕ, Err, subst}
 use Rattle.std.proofs.lemmas.Result.{err_from_is_err_and}
 use Rattle.mdf_port.specs.State.{sink_state}
+use Rattle.mdf_model.proofs.Items.{item_of}
 use Rattle.tool_export.specs.Export.{ExportEnds, fault_of_stop}
-use Rattle.tool_export.proofs.Ends.{given_ends, item_of, none_ends, stopped_ends}
+use Rattle.tool_export.proofs.Ends.{given_ends, none_ends, stopped_ends}
 use Rattle.tool_export.proofs.table.give_numbered.Goals as goal
 
 pub returns-in_err-group-clause-ends : goal.returns-in_err-group-clause-ends

@@ -1,13 +1,21 @@
 use Rattle.std.proofs.Common.{◌+◌, ◌≤◌, ◌≡◌, ◌∙◌, [], ◌∷◌, ◌++◌, ap, false, length, sym, subst, arith, rules}
 use Rattle.book_owned.specs.Marks.{durable}
 use Rattle.book_owned.specs.Answers.{PassesBlock, Turns}
-use Rattle.book_owned.specs.Halves.{account_of}
+use Rattle.book_owned.specs.Halves.{account_of, IsBook}
 use Rattle.mdf_layout.specs.Record.{cost_of, encoded_size}
 use Rattle.book_owned.specs.declared.in_memory.InMemory.{InMemory}
 use Rattle.book_owned.proofs.Putting.{book_put, book_reserved}
 use Rattle.book_owned.proofs.Flushing.{passes, turned}
 use Rattle.book_owned.proofs.Happening.{append_happens, fault_happens}
+use Rattle.book_owned.proofs.book.Book.append.Given as given
 use Rattle.book_owned.proofs.book.Book.append.Goals as goal
+use Rattle.book_owned.proofs.book.Book.append.Goals.{After-reserve}
+
+-- the book with what was reserved
+reserved : (g : given.Over) (c : After-reserve g) → IsBook g.D.Disk g.V.Shown c.reserve.new.front c.self.inside.file
+reserved g c =
+    book_reserved g.D.Disk g.V.Shown c.self.inside.front c.reserve.new.front c.self.inside.file
+    c.reserve.ensures.rest c.reserve.ensures.history c.reserve.ensures.marks c.reserve.ensures.spare c.self.invariant
 
 pub invariant_of-self-2 : goal.invariant_of-self-2
 invariant_of-self-2 g c =
@@ -73,14 +81,10 @@ returns-clause-events g c =
     c.len-place.result (returns-clause-answer g c)
 
 pub invariant_of-self : goal.invariant_of-self
-invariant_of-self g c =
-    book_reserved g.D.Disk g.V.Shown c.self.inside.front c.reserve.new.front c.self.inside.file
-    c.reserve.ensures.rest c.reserve.ensures.history c.reserve.ensures.marks c.reserve.ensures.spare c.self.invariant
+invariant_of-self g c = reserved g (goal.at.invariant_of-self g c).After-reserve
 
 pub make_room-requires-clause-book : goal.make_room-requires-clause-book
-make_room-requires-clause-book g c = λ κs outlives.
-    book_reserved g.D.Disk g.V.Shown c.self.inside.front c.reserve.new.front c.self.inside.file
-    c.reserve.ensures.rest c.reserve.ensures.history c.reserve.ensures.marks c.reserve.ensures.spare c.self.invariant
+make_room-requires-clause-book g c = λ κs outlives. reserved g (goal.at.make_room-requires-clause-book g c).After-reserve
 
 pub returns-in_default-reserve-clause-kept : goal.returns-in_default-reserve-clause-kept
 returns-in_default-reserve-clause-kept g c = (invariant_of-self g c).back.kept

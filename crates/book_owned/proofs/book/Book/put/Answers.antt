@@ -2,8 +2,17 @@ use Rattle.std.proofs.Common.{◌+◌, ◌≤◌, ◌≡◌, ◌∙◌, ap, fals
 use Rattle.mdf_layout.specs.Record.{cost_of, encoded_size}
 use Rattle.book_owned.specs.Marks.{durable}
 use Rattle.book_owned.specs.Answers.{FitsBlock}
+use Rattle.book_owned.specs.Halves.{IsBook}
 use Rattle.book_owned.proofs.Putting.{book_put, book_reserved, pending_size}
+use Rattle.book_owned.proofs.book.Book.put.Given as given
 use Rattle.book_owned.proofs.book.Book.put.Goals as goal
+use Rattle.book_owned.proofs.book.Book.put.Goals.{After-reserve}
+
+-- the book with what was reserved
+reserved : (g : given.Over) (c : After-reserve g) → IsBook g.D.Disk g.V.Shown c.reserve.new.front c.self.inside.file
+reserved g c =
+    book_reserved g.D.Disk g.V.Shown c.self.inside.front c.reserve.new.front c.self.inside.file
+    c.reserve.ensures.rest c.reserve.ensures.history c.reserve.ensures.marks c.reserve.ensures.spare c.self.invariant
 
 pub accept-requires-clause-block : goal.accept-requires-clause-block
 accept-requires-clause-block g c =
@@ -23,7 +32,7 @@ invariant_of-self-2 g c =
     let front = c.reserve.new.front in
     let room : front.held + cost_of front.shapes c.args.sample ≤ front.session_limit = search rules in
     book_put g.D.Disk g.V.Shown front c.accept.new.front c.self.inside.file c.args.sample
-    (book_reserved g.D.Disk g.V.Shown c.self.inside.front front c.self.inside.file c.reserve.ensures.rest c.reserve.ensures.history c.reserve.ensures.marks c.reserve.ensures.spare c.self.invariant)
+    (reserved g (goal.at.invariant_of-self-2 g c).After-reserve)
     c.accept.ensures.put (omega (arith, c.in-Ok.ensures.room.1)) room
 
 pub returns-clause-kept : goal.returns-clause-kept
@@ -33,9 +42,7 @@ pub returns-clause-shown : goal.returns-clause-shown
 returns-clause-shown g c = (invariant_of-self-2 g c).shown
 
 pub invariant_of-self : goal.invariant_of-self
-invariant_of-self g c =
-    book_reserved g.D.Disk g.V.Shown c.self.inside.front c.reserve.new.front c.self.inside.file
-    c.reserve.ensures.rest c.reserve.ensures.history c.reserve.ensures.marks c.reserve.ensures.spare c.self.invariant
+invariant_of-self g c = reserved g (goal.at.invariant_of-self g c).After-reserve
 
 pub returns-in_default-reserve-clause-kept : goal.returns-in_default-reserve-clause-kept
 returns-in_default-reserve-clause-kept g c = (invariant_of-self g c).back.kept

@@ -1,30 +1,42 @@
-use Rattle.std.proofs.Common.{◌≡◌, ◌+◌, ◌<◌, ◌^◌, ◌++◌, [], ◌∷◌, ℕ, length, false, Ok, ap, sym, subst, ◌∙◌, arith}
+use Rattle.std.proofs.Common.{◌≡◌, ◌+◌, ◌<◌, ◌^◌, ◌++◌, [], ◌∷◌, ℕ, length, false, Ok, ap, sym, subst, ◌∙◌, arith, List}
 use Rattle.mdf_format.specs.Number.{aligned}
 use Rattle.mdf_num.specs.declared.failure.Failed.{Failed}
+use Rattle.mdf_disk.specs.Crash.{Adds}
 use Rattle.mdf_gate.specs.Gated.{Gated, Buffered, RestsOn, payload_of}
+use Rattle.mdf_gate.specs.Images.{OpensEither, head_of}
 use Rattle.mdf_gate.proofs.Appends.{rests_on_after, adds_after, head_stays, kept_of, staged_after}
 use Rattle.mdf_gate.proofs.Stages.{on_err}
+use Rattle.mdf_gate.proofs.gated.GatedFile.append.Given as given
 use Rattle.mdf_gate.proofs.gated.GatedFile.append.Goals as goal
+use Rattle.mdf_gate.proofs.gated.GatedFile.append.Goals.{After-write}
 
-pub returns-in_err-write-clause-any_moment : goal.returns-in_err-write-clause-any_moment
-returns-in_err-write-clause-any_moment g c = rw (← c.self.view_is) (λ blocks rests.
+-- while the block is written, no file joins but those with the blocks, or with the block too
+adds : (g : given.Over) (c : After-write g) (blocks : List (List ℕ))
+    → RestsOn (g.D.Disk.content c.self.inside.disk) (g.D.Disk.story c.self.inside.disk) c.self.inside.first blocks c.self.inside.place
+    → Adds (g.D.Disk.story c.self.inside.disk) (g.D.Disk.story c.write.new.disk)
+    (OpensEither (head_of (g.D.Disk.story c.self.inside.disk) c.self.inside.first) blocks c.args.block.now.bytes (aligned (c.self.inside.place + 24 + length c.args.block.now.bytes)))
+adds g c blocks rests =
     let file = c.self.inside in
     let body = c.args.block.now.bytes in
     let small : 24 + length body < 2 ^ 64 = omega (arith, c.requires.short) in
     adds_after (g.D.Disk.story file.disk) (g.D.Disk.story c.write.new.disk) (g.D.Disk.content file.disk) _ file.first blocks file.place body
-    (g.met.D.Disk.agrees file.disk) rests c.self.invariant.1.on_eight small c.write.ensures.told c.write.ensures.any_moment)
+    (g.met.D.Disk.agrees file.disk) rests c.self.invariant.1.on_eight small c.write.ensures.told c.write.ensures.any_moment
 
-pub returns-in_err-write-clause-head : goal.returns-in_err-write-clause-head
-returns-in_err-write-clause-head g c = rw (← c.self.view_is) (
+-- the head stays
+head_is : (g : given.Over) (c : After-write g)
+    → head_of (g.D.Disk.story c.write.new.disk) c.self.inside.first ≡ head_of (g.D.Disk.story c.self.inside.disk) c.self.inside.first
+head_is g c =
     let file = c.self.inside in
-    let body = c.args.block.now.bytes in
-    let small : 24 + length body < 2 ^ 64 = omega (arith, c.requires.short) in
     let going : file.failed ≡ false = ap (λ (s : Gated _). s.failed) c.self.view_is ∙ c.requires.going in
     let rests = c.self.invariant.1.rests going in
-    head_stays (g.D.Disk.story file.disk) (g.D.Disk.story c.write.new.disk) (g.D.Disk.content file.disk) (g.D.Disk.content c.write.new.disk) _ _ file.first rests.0 file.place _ body
-    (g.met.D.Disk.agrees file.disk) (g.met.D.Disk.agrees c.write.new.disk) c.write.ensures.moment rests.1 c.write.ensures.told
-    (adds_after (g.D.Disk.story file.disk) (g.D.Disk.story c.write.new.disk) (g.D.Disk.content file.disk) _ file.first rests.0 file.place body
-    (g.met.D.Disk.agrees file.disk) rests.1 c.self.invariant.1.on_eight small c.write.ensures.told c.write.ensures.any_moment))
+    head_stays (g.D.Disk.story file.disk) (g.D.Disk.story c.write.new.disk) (g.D.Disk.content file.disk) (g.D.Disk.content c.write.new.disk) _ _ file.first rests.0 file.place _ c.args.block.now.bytes
+    (g.met.D.Disk.agrees file.disk) (g.met.D.Disk.agrees c.write.new.disk) c.write.ensures.moment rests.1 c.write.ensures.told (adds g c rests.0 rests.1)
+
+pub returns-in_err-write-clause-any_moment : goal.returns-in_err-write-clause-any_moment
+returns-in_err-write-clause-any_moment g c = rw (← c.self.view_is) (adds g (goal.at.returns-in_err-write-clause-any_moment g c).After-write)
+
+pub returns-in_err-write-clause-head : goal.returns-in_err-write-clause-head
+returns-in_err-write-clause-head g c = rw (← c.self.view_is) (head_is g (goal.at.returns-in_err-write-clause-head g c).After-write)
 
 pub invariant_of-self-2 : goal.invariant_of-self-2
 invariant_of-self-2 g c =
@@ -64,24 +76,10 @@ returns-clause-rests g c = rw (← c.self.view_is) (λ blocks rests.
     (g.met.D.Disk.agrees file.disk) rests c.self.invariant.1.on_eight small c.write.ensures.told_content c.write.ensures.told c.in_ok-write.ensures.ok))
 
 pub returns-clause-any_moment : goal.returns-clause-any_moment
-returns-clause-any_moment g c = rw (← c.self.view_is) (λ blocks rests.
-    let file = c.self.inside in
-    let body = c.args.block.now.bytes in
-    let small : 24 + length body < 2 ^ 64 = omega (arith, c.requires.short) in
-    adds_after (g.D.Disk.story file.disk) (g.D.Disk.story c.write.new.disk) (g.D.Disk.content file.disk) _ file.first blocks file.place body
-    (g.met.D.Disk.agrees file.disk) rests c.self.invariant.1.on_eight small c.write.ensures.told c.write.ensures.any_moment)
+returns-clause-any_moment g c = rw (← c.self.view_is) (adds g (goal.at.returns-clause-any_moment g c).After-write)
 
 pub returns-clause-head : goal.returns-clause-head
-returns-clause-head g c = rw (← c.self.view_is) (
-    let file = c.self.inside in
-    let body = c.args.block.now.bytes in
-    let small : 24 + length body < 2 ^ 64 = omega (arith, c.requires.short) in
-    let going : file.failed ≡ false = ap (λ (s : Gated _). s.failed) c.self.view_is ∙ c.requires.going in
-    let rests = c.self.invariant.1.rests going in
-    head_stays (g.D.Disk.story file.disk) (g.D.Disk.story c.write.new.disk) (g.D.Disk.content file.disk) (g.D.Disk.content c.write.new.disk) _ _ file.first rests.0 file.place _ body
-    (g.met.D.Disk.agrees file.disk) (g.met.D.Disk.agrees c.write.new.disk) c.write.ensures.moment rests.1 c.write.ensures.told
-    (adds_after (g.D.Disk.story file.disk) (g.D.Disk.story c.write.new.disk) (g.D.Disk.content file.disk) _ file.first rests.0 file.place body
-    (g.met.D.Disk.agrees file.disk) rests.1 c.self.invariant.1.on_eight small c.write.ensures.told c.write.ensures.any_moment))
+returns-clause-head g c = rw (← c.self.view_is) (head_is g (goal.at.returns-clause-head g c).After-write)
 
 pub returns-clause-content : goal.returns-clause-content
 returns-clause-content g c = rw (← c.self.view_is) c.in_ok-write.ensures.content
