@@ -1,5 +1,5 @@
 -- The finalized file of a session, and what is told of it.
-use Rattle.std.specs.Prelude.{ℕ, ◌≡◌, ◌+◌, ◌<◌, ◌^◌, if◌then◌else◌, List, [], ◌∷◌, sum_by, Some, Ok, slice_get}
+use Rattle.std.specs.Prelude.{ℕ, ◌≡◌, ◌⊎◌, ◌+◌, ◌≤◌, ◌<◌, ◌^◌, if◌then◌else◌, List, [], ◌∷◌, sum_by, Some, Ok, slice_get}
 use Rattle.std.specs.List.{AllByRecursion}
 use Rattle.mdf_block.specs.Draft.{Placed}
 use Rattle.mdf_group.specs.declared.row.GroupRow.{GroupRow}
@@ -78,6 +78,11 @@ report_for read = record {
   samples = sample_count (first_groups read.tree.rows) read.kept.counts;
   dropped = read.tree.dropped;
 }
+
+-- there are more groups than a u32 counts, or more samples than a u64 does
+abbrev pub IsPastCount : SessionParts → Type 0
+IsPastCount read =
+    (2 ^ 32 ≤ group_count (first_groups read.tree.rows)) ⊎ (2 ^ 64 ≤ sample_count (first_groups read.tree.rows) read.kept.counts)
 
 -- the finalized file and what is told of it
 pub record IsMadeOf (read : SessionParts) (now : ℕ) (made : Made) : Type 0 where

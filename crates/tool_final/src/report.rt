@@ -1,5 +1,5 @@
-ghost use Rattle.std.specs.Prelude.{◌≡◌, IfOk};
-ghost use Rattle.tool_final.specs.Finalized.{counted, group_count, report_for, sample_count};
+ghost use Rattle.std.specs.Prelude.{◌≡◌, ◌≤◌, ◌^◌, IfOk, OnErr};
+ghost use Rattle.tool_final.specs.Finalized.{IsPastCount, counted, group_count, report_for, sample_count};
 
 use mdf_content::is_variable;
 use mdf_group::GroupRow;
@@ -16,7 +16,8 @@ fn counted(group: &GroupRow, number: u64) -> u64
 
 /// How many of the groups hold no values of variable length. A number past the last u32 counts as want of memory.
 fn group_count(groups: &[GroupRow]) -> Result<u32, Memory>
-    ensures { IfOk result (λ count. count ≡ group_count groups.now) }
+    ensures count { IfOk result (λ count. count ≡ group_count groups.now) }
+    ensures past { OnErr result (2 ^ 32 ≤ group_count groups.now) }
 {
     let mut count = 0u64;
     let mut k = 0;
@@ -36,7 +37,8 @@ fn group_count(groups: &[GroupRow]) -> Result<u32, Memory>
 /// How many records those of the groups have that hold no values of variable length, where each group has so many. A sum
 /// past the last u64 counts as want of memory.
 fn sample_count(groups: &[GroupRow], counts: &[u64]) -> Result<u64, Memory>
-    ensures { IfOk result (λ count. count ≡ sample_count groups.now counts.now) }
+    ensures count { IfOk result (λ count. count ≡ sample_count groups.now counts.now) }
+    ensures past { OnErr result (2 ^ 64 ≤ sample_count groups.now counts.now) }
 {
     let mut count = 0u64;
     let mut k = 0;
@@ -55,7 +57,8 @@ fn sample_count(groups: &[GroupRow], counts: &[u64]) -> Result<u64, Memory>
 /// # Errors
 /// `Memory` where there are more groups than a u32 counts, or more samples than a u64 does.
 pub fn report_of(session: &Session) -> Result<Report, Memory>
-    ensures { IfOk result (λ report. report ≡ report_for session.now) }
+    ensures report { IfOk result (λ report. report ≡ report_for session.now) }
+    ensures past { OnErr result (IsPastCount session.now) }
 {
     let row = &session.rows().as_slice()[0];
     let groups = group_count(row.groups.as_slice())?;
