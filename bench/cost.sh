@@ -1,5 +1,5 @@
-# What a program costs. The benches read this file; `work` is their own folder, `runs` how often they time a program, and a
-# bench whose program needs something done before each run says so in a `before` of its own.
+# What a program costs. The benches read this file, most of them by program.sh; `here` is the folder of the bench, `work` one of its own, `runs`
+# how often it times a program, and a bench whose program needs something done before each run says so in a `before` of its own.
 
 before() { :; }
 
@@ -56,4 +56,21 @@ beside_copy() {
     sync
     GLIBC_TUNABLES=glibc.malloc.hugetlb=1 python3 "$here/../paired.py" "$runs" "$work/made.mf4" \
         'copy' "dd if='$file' of='$work/made.mf4' bs=4M conv=fsync status=none" "$name" "$(printf "'%s' " "$@")"
+}
+
+# Builds the program of a bench, which has crates of its own in `work`, and its twin in C. Both have to print the same. Sets `ours` to the
+# program.
+#
+# usage: build NAME
+build() {
+    if ! (cd "$work/crates/$1" && rt run) > "$work/log" 2>&1; then
+        cat "$work/log" >&2
+        exit 1
+    fi
+    "${CC:-cc}" -O2 -o "$work/twin" "$here/twin.c"
+    ours="$work/crates/$1/out/$1"
+    if [ "$("$ours")" != "$("$work/twin")" ]; then
+        echo "the two programs print different sums" >&2
+        exit 1
+    fi
 }

@@ -6,20 +6,9 @@
    usage: made sort FIRST IN OUT
           made cut FIRST IN OUT FROM TO
           made concat FIRST IN IN OUT */
-#include <fcntl.h>
-#include <stdbool.h>
-#include <stdint.h>
-#include <stdio.h>
-#include <stdlib.h>
-#include <string.h>
-#include <unistd.h>
+#include "blocks.h"
 
 enum { GROUPS = 256, TREE = 1 << 20 };
-
-struct part {
-    const uint8_t *at;
-    uint64_t len;
-};
 
 struct group {
     const uint8_t *block;
@@ -36,79 +25,17 @@ struct source {
     size_t part_count;
 };
 
-static uint8_t *file, *made;
-static uint64_t size, used;
+static uint8_t *made;
+static uint64_t used;
 static struct source sources[2];
 static size_t source_count;
-static struct part *parts;
-static size_t part_count, part, place; // the next byte: its part, and its place in it
 static struct group groups[GROUPS];
 static uint32_t group_count;
 static const char *title; // of the new entry of the history
 static bool cuts;
 static uint64_t from, to; // of the masters that are kept
 
-static void need(bool ok, const char *what) {
-    if (ok) return;
-    fprintf(stderr, "twin: %s\n", what);
-    exit(1);
-}
-
-static uint64_t number(const uint8_t *at, size_t bytes) {
-    uint64_t n = 0;
-    memcpy(&n, at, bytes);
-    return n;
-}
-
 static void put(uint64_t at, uint64_t n) { memcpy(made + at, &n, 8); }
-
-static uint8_t *read_whole(const char *name, uint64_t *length) {
-    int in = open(name, O_RDONLY);
-    off_t end = in < 0 ? -1 : lseek(in, 0, SEEK_END);
-    need(end >= 0, name);
-    *length = (uint64_t)end;
-    uint8_t *bytes = malloc(*length);
-    need(bytes != NULL, "memory");
-    for (uint64_t done = 0; done < *length;) {
-        ssize_t count = pread(in, bytes + done, *length - done, (off_t)done);
-        need(count > 0, name);
-        done += (uint64_t)count;
-    }
-    close(in);
-    return bytes;
-}
-
-// ---- the blocks that are read ----
-
-static const uint8_t *block(uint64_t at, const char *name) {
-    need(at % 8 == 0 && at <= size && size - at >= 24 && memcmp(file + at, name, 4) == 0, name);
-    uint64_t len = number(file + at + 8, 8), links = number(file + at + 16, 8);
-    need(len >= 24 && len <= size - at && links <= (len - 24) / 8, name);
-    return file + at;
-}
-
-static uint64_t link_of(const uint8_t *block, int k) { return number(block + 24 + 8 * k, 8); }
-
-static const uint8_t *body(const uint8_t *block) { return block + 24 + 8 * number(block + 16, 8); }
-
-static void add_part(uint64_t at) {
-    const uint8_t *data = block(at, "##DT");
-    parts = realloc(parts, (part_count + 1) * sizeof *parts);
-    need(parts != NULL, "memory");
-    parts[part_count++] = (struct part){body(data), (uint64_t)(data + number(data + 8, 8) - body(data))};
-}
-
-static void follow(uint64_t at) {
-    if (at == 0) return;
-    if (memcmp(file + at, "##DL", 4) != 0) {
-        add_part(at);
-        return;
-    }
-    for (; at != 0; at = link_of(file + at, 0)) {
-        const uint8_t *list = block(at, "##DL");
-        for (uint64_t k = 1; k < number(list + 16, 8); k++) add_part(link_of(list, (int)k));
-    }
-}
 
 static void read_groups(uint64_t at) {
     while (at != 0) {
@@ -134,22 +61,6 @@ static void read_groups(uint64_t at) {
 }
 
 // ---- the records ----
-
-// the next bytes of the stream are copied, or passed over where they go nowhere
-static void take(uint8_t *to, uint64_t len) {
-    uint64_t done = 0;
-    while (done < len) {
-        need(part < part_count, "cut");
-        uint64_t rest = parts[part].len - place, step = len - done < rest ? len - done : rest;
-        if (to != NULL) memcpy(to + done, parts[part].at + place, step);
-        done += step;
-        place += step;
-        if (place == parts[part].len) {
-            part++;
-            place = 0;
-        }
-    }
-}
 
 static const struct group *group_of(uint64_t id) {
     for (uint32_t k = 0; k < group_count; k++)
@@ -180,17 +91,17 @@ static uint64_t gather_from(const struct source *source, const struct group *wan
     read_from(source);
     while (part < part_count) {
         uint8_t head[8] = {0};
-        if (id_size > 0) take(head, id_size);
+        need(take(head, id_size) == id_size, "cut");
         const struct group *group = id_size == 0 ? groups : group_of(number(head, 8));
         uint64_t len = group->size;
         bool kept = group == wanted;
         if (group->holds_values) {
-            take(head, 4);
+            need(take(head, 4) == 4, "cut");
             len = number(head, 4);
             if (kept) memcpy(made + used, head, 4);
             if (kept) used += 4;
         }
-        take(kept ? made + used : NULL, len);
+        need(take(kept ? made + used : NULL, len) == len, "cut");
         if (!kept || !is_kept(group)) continue;
         if (group->values != 0 && shift != 0) put(used + group->offset, number(made + used + group->offset, 8) + shift);
         used += len;

@@ -10,30 +10,22 @@
 set -euo pipefail
 
 here="$(cd "$(dirname "$0")" && pwd)"
-top="$(cd "$here/../.." && pwd)"
-runs="${1:-5}"
-mkdir -p "$top/out"
-work="$(mktemp -d "$top/out/bench.XXXXXX")"
-trap 'rm -rf "$work"' EXIT
-. "$here/../cost.sh"
+. "$here/../program.sh"
 
 "${CC:-cc}" -O2 -o "$work/twin" "$here/twin.c"
-"$top/mdf4rec" opened "$top/examples/two_blocks.mf4" > "$work/said" # builds the program where it is stale
-checker="$top/crates/mdf_cli/out/mdf_cli"
 
 # compares both on a file of this shape and size, by this measure of what a program costs
 compare() {
     local file="$work/$1.mf4" measure="$3" ours twin
     python3 "$here/../make.py" "$1" "$2" "$file"
-    "$checker" check "$file" > "$work/ours"
+    "$program" check "$file" > "$work/ours"
     "$work/twin" "$file" > "$work/twins"
     cmp "$work/ours" "$work/twins"
     grep -qx valid "$work/ours"
-    ours="$("$measure" /dev/null "$checker" check "$file")"
+    ours="$("$measure" /dev/null "$program" check "$file")"
     twin="$("$measure" /dev/null "$work/twin" "$file")"
     rm "$file"
-    awk -v name="$1, $2 bytes, $4" -v ours="$ours" -v twin="$twin" \
-        'BEGIN { printf "%s: check %d, C %d, ratio %.2f\n", name, ours, twin, ours / twin }'
+    ratio "$1, $2 bytes, $4: check" "$ours" C "$twin"
 }
 
 for shape in sorted unsorted; do

@@ -3,18 +3,9 @@
    Prints `valid` where every group has as many records as it says, and `readable` where not.
 
    usage: twin FILE [sum] */
-#include <stdbool.h>
-#include <stdint.h>
-#include <stdio.h>
-#include <stdlib.h>
-#include <string.h>
+#include "../blocks.h"
 
 enum { RECORD = 1 << 16 };
-
-struct part {
-    const uint8_t *at;
-    uint64_t len;
-};
 
 struct group {
     uint64_t id, said, found, size, offset; // of the next value
@@ -23,72 +14,9 @@ struct group {
     bool values;
 };
 
-static uint8_t *file;
-static uint64_t size;
-static struct part *parts;
-static size_t part_count, part, place; // the next byte: its part, and its place in it
 static struct group groups[256];
 static uint32_t group_count;
 static uint8_t record[RECORD];
-
-static void need(bool ok, const char *what) {
-    if (ok) return;
-    fprintf(stderr, "twin: %s\n", what);
-    exit(1);
-}
-
-static uint64_t number(const uint8_t *at, int bytes) {
-    uint64_t n = 0;
-    for (int k = 0; k < bytes; k++) n |= (uint64_t)at[k] << (8 * k);
-    return n;
-}
-
-static const uint8_t *block(uint64_t at, const char *name) {
-    need(at % 8 == 0 && at <= size && size - at >= 24 && memcmp(file + at, name, 4) == 0, name);
-    uint64_t len = number(file + at + 8, 8), links = number(file + at + 16, 8);
-    need(len >= 24 && len <= size - at && links <= (len - 24) / 8, name);
-    return file + at;
-}
-
-static uint64_t link_of(const uint8_t *block, int k) { return number(block + 24 + 8 * k, 8); }
-
-static const uint8_t *body(const uint8_t *block) { return block + 24 + 8 * number(block + 16, 8); }
-
-static void add_part(uint64_t at) {
-    const uint8_t *data = block(at, "##DT");
-    parts = realloc(parts, (part_count + 1) * sizeof *parts);
-    need(parts != NULL, "memory");
-    parts[part_count++] = (struct part){body(data), data + number(data + 8, 8) - body(data)};
-}
-
-static void follow(uint64_t at) {
-    part_count = part = place = 0;
-    if (at == 0) return;
-    if (memcmp(file + at, "##DL", 4) != 0) {
-        add_part(at);
-        return;
-    }
-    for (; at != 0; at = link_of(file + at, 0)) {
-        const uint8_t *list = block(at, "##DL");
-        for (uint64_t k = 1; k < number(list + 16, 8); k++) add_part(link_of(list, k));
-    }
-}
-
-/* The next bytes of the stream, or fewer at its end. */
-static uint64_t take(uint8_t *to, uint64_t len) {
-    uint64_t done = 0;
-    while (done < len && part < part_count) {
-        uint64_t rest = parts[part].len - place, step = len - done < rest ? len - done : rest;
-        memcpy(to + done, parts[part].at + place, step);
-        done += step;
-        place += step;
-        if (place == parts[part].len) {
-            part++;
-            place = 0;
-        }
-    }
-    return done;
-}
 
 static void read_group(uint64_t at, uint64_t *next, uint64_t *values) {
     const uint8_t *block_at = block(at, "##CG"), *fields = body(block_at);
@@ -155,16 +83,13 @@ static uint64_t go_over(uint8_t id_size) {
 }
 
 int main(int words, char **word) {
-    FILE *in = fopen(words > 1 ? word[1] : "", "rb");
-    need(in != NULL && fseek(in, 0, SEEK_END) == 0, "file");
-    size = ftell(in);
-    file = malloc(size);
-    need(file != NULL && fseek(in, 0, SEEK_SET) == 0 && fread(file, 1, size, in) == size, "file");
+    file = read_whole(words > 1 ? word[1] : "", &size);
     uint64_t sum = 0;
     bool valid = true;
     for (uint64_t at = link_of(block(64, "##HD"), 0); at != 0;) {
         const uint8_t *data = block(at, "##DG");
         read_groups(link_of(data, 1));
+        part_count = part = place = 0;
         follow(link_of(data, 2));
         sum += go_over(body(data)[0]);
         for (uint32_t k = 0; k < group_count; k++) valid &= groups[k].found == groups[k].said;

@@ -14,29 +14,14 @@
 set -euo pipefail
 
 here="$(cd "$(dirname "$0")" && pwd)"
-top="$(cd "$here/../.." && pwd)"
-runs="${1:-5}"
-mkdir -p "$top/out"
-work="$(mktemp -d "$top/out/bench.XXXXXX")"
-trap 'rm -rf "$work"' EXIT
-. "$here/../cost.sh"
+. "$here/../program.sh"
 
 before() { rm -f "$work/made.mf4"; }
 
-"${CC:-cc}" -O2 -o "$work/twin" "$here/../made.c"
-"$top/mdf4rec" opened "$top/examples/two_blocks.mf4" > "$work/said" # builds the program where it is stale
-maker="$top/crates/mdf_cli/out/mdf_cli"
-
 file="$work/small.mf4"
 python3 "$here/../make.py" unsorted 5000000 "$file"
-"$maker" concat "$file" "$file" "$work/first.mf4" > "$work/ours"
-"$work/twin" concat "$work/first.mf4" "$file" "$file" "$work/made.mf4" > "$work/twins"
-cmp "$work/ours" "$work/twins"
-cmp "$work/first.mf4" "$work/made.mf4"
-ours="$(cost /dev/null "$maker" concat "$file" "$file" "$work/made.mf4")"
-twin="$(cost /dev/null "$work/twin" concat "$work/first.mf4" "$file" "$file" "$work/made.mf4")"
-awk -v ours="$ours" -v twin="$twin" 'BEGIN { printf "concat %d, C %d, ratio %.2f\n", ours, twin, ours / twin }'
-rm "$work/first.mf4"
+inputs=("$file" "$file") behind=()
+beside_maker concat
 
 # compares `concat` with a plain copy on a file of this shape
 compare() {
@@ -44,10 +29,8 @@ compare() {
     python3 "$here/../make.py" "$1" 125000000 "$file"
     memory="$(before && peak "$top/mdf4rec" concat "$file" "$file" "$work/made.mf4")"
     mv "$work/made.mf4" "$work/joined.mf4"
-    beside_copy "$work/joined.mf4" "concat, $1" "$maker" concat "$file" "$file" "$work/made.mf4"
-    awk -v name="$1" -v memory="$memory" -v size="$(stat -c %s "$work/joined.mf4")" 'BEGIN {
-        printf "%s, memory: concat %d, made %d, ratio %.2f\n", name, memory, size, memory / size
-    }'
+    beside_copy "$work/joined.mf4" "concat, $1" "$program" concat "$file" "$file" "$work/made.mf4"
+    ratio "$1, memory: concat" "$memory" made "$(stat -c %s "$work/joined.mf4")"
     rm "$file" "$work/joined.mf4"
 }
 

@@ -14,39 +14,24 @@
 set -euo pipefail
 
 here="$(cd "$(dirname "$0")" && pwd)"
-top="$(cd "$here/../.." && pwd)"
-runs="${1:-5}"
-mkdir -p "$top/out"
-work="$(mktemp -d "$top/out/bench.XXXXXX")"
-trap 'rm -rf "$work"' EXIT
-. "$here/../cost.sh"
+. "$here/../program.sh"
 
 before() { rm -f "$work/made.mf4"; }
 
-"${CC:-cc}" -O2 -o "$work/twin" "$here/../made.c"
-"$top/mdf4rec" opened "$top/examples/two_blocks.mf4" > "$work/said" # builds the program where it is stale
-maker="$top/crates/mdf_cli/out/mdf_cli"
 range=(0 9223372036854775808) # all floats that are not negative
 
 file="$work/small.mf4"
 python3 "$here/../make.py" unsorted 5000000 "$file"
-"$maker" cut "$file" "$work/first.mf4" "${range[@]}" > "$work/ours"
-"$work/twin" cut "$work/first.mf4" "$file" "$work/made.mf4" "${range[@]}" > "$work/twins"
-cmp "$work/ours" "$work/twins"
-cmp "$work/first.mf4" "$work/made.mf4"
-ours="$(cost /dev/null "$maker" cut "$file" "$work/made.mf4" "${range[@]}")"
-twin="$(cost /dev/null "$work/twin" cut "$work/first.mf4" "$file" "$work/made.mf4" "${range[@]}")"
-awk -v ours="$ours" -v twin="$twin" 'BEGIN { printf "cut %d, C %d, ratio %.2f\n", ours, twin, ours / twin }'
+inputs=("$file") behind=("${range[@]}")
+beside_maker cut
 
 # compares `cut` with a plain copy on a file of this shape
 compare() {
     local file="$work/$1.mf4" memory
     python3 "$here/../make.py" "$1" 250000000 "$file"
-    beside_copy "$file" "cut, $1" "$maker" cut "$file" "$work/made.mf4" "${range[@]}"
+    beside_copy "$file" "cut, $1" "$program" cut "$file" "$work/made.mf4" "${range[@]}"
     memory="$(before && peak "$top/mdf4rec" cut "$file" "$work/made.mf4" "${range[@]}")"
-    awk -v name="$1" -v memory="$memory" -v size="$(stat -c %s "$file")" 'BEGIN {
-        printf "%s, memory: cut %d, file %d, ratio %.2f\n", name, memory, size, memory / size
-    }'
+    ratio "$1, memory: cut" "$memory" file "$(stat -c %s "$file")"
     rm "$file"
 }
 

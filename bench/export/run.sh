@@ -10,21 +10,13 @@
 set -euo pipefail
 
 here="$(cd "$(dirname "$0")" && pwd)"
-top="$(cd "$here/../.." && pwd)"
-runs="${1:-5}"
-mkdir -p "$top/out"
-work="$(mktemp -d "$top/out/bench.XXXXXX")"
-trap 'rm -rf "$work"' EXIT
-. "$here/../cost.sh"
+. "$here/../program.sh"
 
 "${CC:-cc}" -O2 -o "$work/twin" "$here/twin.c"
-"$top/mdf4rec" opened "$top/examples/two_blocks.mf4" > "$work/said" # builds the program where it is stale
-printer="$top/crates/mdf_cli/out/mdf_cli"
 
 file="$work/rows.mf4"
 python3 "$here/../make.py" sorted 16000000 "$file"
-"$printer" export "$file" 0 > "$work/ours"
+"$program" export "$file" 0 > "$work/ours"
 "$work/twin" "$file" > "$work/twins"
 cmp "$work/ours" "$work/twins"
-awk -v ours="$(cost /dev/null "$printer" export "$file" 0)" -v twin="$(cost /dev/null "$work/twin" "$file")" \
-    'BEGIN { printf "export %.0f, C %.0f, ratio %.2f\n", ours, twin, ours / twin }'
+ratio export "$(cost /dev/null "$program" export "$file" 0)" C "$(cost /dev/null "$work/twin" "$file")"

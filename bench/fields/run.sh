@@ -19,16 +19,6 @@ mkdir -p "$work/crates/bench_fields/src"
 cp -r "$top/crates/mdf_format" "$top/crates/mdf_bits" "$work/crates/"
 cp "$here/program.rt.txt" "$work/crates/bench_fields/src/main.rt"
 printf '%s\n' 'mdf_format:' 'mdf_bits: mdf_format' 'bench_fields: mdf_bits' > "$work/crates.txt"
-if ! (cd "$work/crates/bench_fields" && rt run) > "$work/log" 2>&1; then
-    cat "$work/log" >&2
-    exit 1
-fi
-"${CC:-cc}" -O2 -o "$work/twin" "$here/twin.c"
-
-ours="$work/crates/bench_fields/out/bench_fields"
-if [ "$("$ours")" != "$("$work/twin")" ]; then
-    echo "the two programs read different numbers" >&2
-    exit 1
-fi
+build bench_fields
 awk -v ours="$(best /dev/null "$ours")" -v twin="$(best /dev/null "$work/twin")" \
     'BEGIN { printf "mdf_bits %.0f ms, C %.0f ms, ratio %.2f\n", ours / 1000, twin / 1000, ours / twin }'

@@ -10,27 +10,18 @@
 set -euo pipefail
 
 here="$(cd "$(dirname "$0")" && pwd)"
-top="$(cd "$here/../.." && pwd)"
-runs="${1:-5}"
-mkdir -p "$top/out"
-work="$(mktemp -d "$top/out/bench.XXXXXX")"
-trap 'rm -rf "$work"' EXIT
-. "$here/../cost.sh"
+. "$here/../program.sh"
 
 before() { rm -f "$work/made.mf4"; }
 
-"$top/mdf4rec" opened "$top/examples/two_blocks.mf4" > "$work/said" # builds the program where it is stale
-maker="$top/crates/mdf_cli/out/mdf_cli"
 # compares both on a recording of this shape
 compare() {
     local file="$work/$1.mf4" memory
     python3 "$here/../make.py" "$1" 250000000 "$file"
-    beside_copy "$file" "finalize, $1" "$maker" finalize "$file" "$work/made.mf4"
+    beside_copy "$file" "finalize, $1" "$program" finalize "$file" "$work/made.mf4"
     memory="$(before && peak "$top/mdf4rec" finalize "$file" "$work/made.mf4")"
-    "$maker" check "$work/made.mf4" | grep -qx valid
-    awk -v name="$1" -v memory="$memory" -v size="$(stat -c %s "$file")" 'BEGIN {
-        printf "%s, memory: finalize %d, file %d, ratio %.2f\n", name, memory, size, memory / size
-    }'
+    "$program" check "$work/made.mf4" | grep -qx valid
+    ratio "$1, memory: finalize" "$memory" file "$(stat -c %s "$file")"
     rm "$file"
 }
 

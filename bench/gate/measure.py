@@ -1,6 +1,7 @@
 #!/usr/bin/env python3
 """Runs a command, `rt ci` by default, and prints the processor seconds of what it starts, by crate: for the proof of the
-crate, for its must-fail edits (with the proof over which they are tried), and for its tests.
+crate, for the second proof over which its must-fail edits are tried (with the check of it when all were tried), for the
+edits themselves, and for its tests.
 
 Twice a second it reads which processes there are below the command, and adds up what each had used when it was last seen.
 So a process loses up to half a second, and one that is shorter may be missed."""
@@ -38,7 +39,7 @@ def is_below(number, top, found):
 
 
 def work_of(number):
-    """The crate that the process works on, and what it does: its proof, an edit, or its tests."""
+    """The crate that the process works on, and what it does: its proof, the proof for its edits, an edit, or its tests."""
     try:
         with open(f"/proc/{number}/cmdline", "rb") as file:
             words = file.read().decode("utf-8", "replace").split("\0")
@@ -49,7 +50,8 @@ def work_of(number):
     if not crate:
         return "others", "proof"
     if "/rt-edit-" in folder:
-        return crate.group(1), "edits"
+        kept = words[words.index("--incremental") + 1] if "--incremental" in words else ""
+        return crate.group(1), "again" if kept.endswith("/seed") else "edits"
     return crate.group(1), "tests" if "--test" in words else "proof"
 
 
@@ -70,10 +72,12 @@ def main():
     for key, used in seconds.items():
         crate, kind = work[key]
         table[crate][kind] += used
-    print("| crate | proof | edits | tests | sum |\n|---|---|---|---|---|")
+    kinds = ["proof", "again", "edits", "tests"]
+    print("| crate | proof | proof for the edits | edits | tests | sum |\n|---|---|---|---|---|---|")
     for crate, row in sorted(table.items(), key=lambda item: -sum(item[1].values())):
-        print(f"| {crate} | {row['proof']:.0f} | {row['edits']:.0f} | {row['tests']:.0f} | {sum(row.values()):.0f} |")
-    print(f"| all | | | | {sum(seconds.values()):.0f} |")
+        print(f"| {crate} | {' | '.join(f'{row[kind]:.0f}' for kind in kinds)} | {sum(row.values()):.0f} |")
+    sums = [sum(row[kind] for row in table.values()) for kind in kinds]
+    print(f"| all | {' | '.join(f'{it:.0f}' for it in sums)} | {sum(seconds.values()):.0f} |")
     return run.returncode
 
 

@@ -13,30 +13,23 @@
 set -euo pipefail
 
 here="$(cd "$(dirname "$0")" && pwd)"
-top="$(cd "$here/../.." && pwd)"
-runs="${1:-5}"
+. "$here/../program.sh"
 count=1000000
-mkdir -p "$top/out"
-work="$(mktemp -d "$top/out/bench.XXXXXX")"
-trap 'rm -rf "$work"' EXIT
-. "$here/../cost.sh"
 
 before() { rm -f "$work/made.mf4"; }
 
 "${CC:-cc}" -O2 -o "$work/twin" "$here/../record/twin.c"
-"$top/mdf4rec" opened "$top/examples/two_blocks.mf4" > "$work/said" # builds the program where it is stale
-recorder="$top/crates/mdf_cli/out/mdf_cli"
 
-"$recorder" gen "$count" "$work/first.mf4" > "$work/ours"
+"$program" gen "$count" "$work/first.mf4" > "$work/ours"
 "$work/twin" "$work/first.mf4" "$work/made.mf4" "$count" > "$work/twins" 2> "$work/costs"
 cmp "$work/ours" "$work/twins"
 diff <(python3 "$here/streams.py" "$work/first.mf4") <(python3 "$here/streams.py" "$work/made.mf4")
 before
-ours="$(cost /dev/null "$recorder" gen "$count" "$work/made.mf4")"
+ours="$(cost /dev/null "$program" gen "$count" "$work/made.mf4")"
 twin="$(cost /dev/null "$work/twin" "$work/first.mf4" "$work/made.mf4" "$count")"
-awk -v ours="$ours" -v twin="$twin" 'BEGIN { printf "gen %d, C %d, ratio %.2f\n", ours, twin, ours / twin }'
+ratio gen "$ours" C "$twin"
 before
-held="$(peak "$recorder" gen "$count" "$work/made.mf4")"
+held="$(peak "$program" gen "$count" "$work/made.mf4")"
 before
 twin_held="$(peak "$work/twin" "$work/first.mf4" "$work/made.mf4" "$count" 2> "$work/told")"
 awk -v ours="$held" -v twin="$twin_held" \

@@ -13,34 +13,26 @@
 set -euo pipefail
 
 here="$(cd "$(dirname "$0")" && pwd)"
-top="$(cd "$here/../.." && pwd)"
-runs="${1:-5}"
-mkdir -p "$top/out"
-work="$(mktemp -d "$top/out/bench.XXXXXX")"
-trap 'rm -rf "$work"' EXIT
-. "$here/../cost.sh"
+. "$here/../program.sh"
 
 before() { rm -f "$work/made.mf4"; }
 
 "${CC:-cc}" -O2 -o "$work/twin" "$here/twin.c"
-"$top/mdf4rec" opened "$top/examples/two_blocks.mf4" > "$work/said" # builds the program where it is stale
-recorder="$top/crates/mdf_cli/out/mdf_cli"
 
 # records the script of this name with both programs
 compare() {
     local script="$work/$1.txt" ours twin most
     python3 "$here/$1.py" > "$script"
-    "$recorder" record "$work/$1.mf4" < "$script" > "$work/ours"
+    "$program" record "$work/$1.mf4" < "$script" > "$work/ours"
     "$work/twin" "$work/$1.mf4" "$work/twin.mf4" < "$script" > "$work/twins" 2> "$work/costs"
     cmp "$work/ours" "$work/twins"
     cmp "$work/$1.mf4" "$work/twin.mf4"
     rm "$work/twin.mf4"
-    ours="$(cost "$script" "$recorder" record "$work/made.mf4")"
+    ours="$(cost "$script" "$program" record "$work/made.mf4")"
     twin="$(cost "$script" "$work/twin" "$work/$1.mf4" "$work/made.mf4")"
-    awk -v name="$1" -v ours="$ours" -v twin="$twin" \
-        'BEGIN { printf "%s: record %d, C %d, ratio %.2f\n", name, ours, twin, ours / twin }'
+    ratio "$1: record" "$ours" C "$twin"
     before
-    ours="$(peak "$recorder" record "$work/made.mf4" < "$script")"
+    ours="$(peak "$program" record "$work/made.mf4" < "$script")"
     most=$(($(cat "$work/costs") + $(stat -c %s "$script") + 16777216))
     awk -v ours="$ours" -v most="$most" 'BEGIN { printf "peak memory: record %d, at most %d\n", ours, most }'
 }

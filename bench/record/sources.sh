@@ -13,26 +13,20 @@
 set -euo pipefail
 
 here="$(cd "$(dirname "$0")" && pwd)"
-top="$(cd "$here/../.." && pwd)"
-runs="${1:-21}"
-mkdir -p "$top/out"
-work="$(mktemp -d "$top/out/bench.XXXXXX")"
-trap 'rm -rf "$work"' EXIT
-
-"$top/mdf4rec" opened "$top/examples/two_blocks.mf4" > "$work/said" # builds the program where it is stale
-recorder="$top/crates/mdf_cli/out/mdf_cli"
+runs=21
+. "$here/../program.sh"
 export GLIBC_TUNABLES=glibc.malloc.hugetlb=1 # as mdf4rec does
 
 python3 "$here/sources.py" 1 > "$work/one.txt"
 python3 "$here/sources.py" 4 1000 > "$work/runs.txt"
 python3 "$here/sources.py" 4 1 > "$work/four.txt"
-record() { echo "'$recorder' record '$work/made.mf4' < '$work/$1.txt'"; }
+record() { echo "'$program' record '$work/made.mf4' < '$work/$1.txt'"; }
 python3 "$here/../paired.py" "$runs" "$work/made.mf4" 'one source' "$(record one)" \
     'four sources, in runs of 1,000 lines' "$(record runs)" 'four sources, line by line' "$(record four)"
 
 "${CC:-cc}" -O2 -shared -fPIC -o "$work/turns.so" "$here/turns.c" -ldl
 rm "$work/made.mf4"
-TURNS_SAID="$work/turns" LD_PRELOAD="$work/turns.so" "$recorder" record "$work/made.mf4" < "$work/four.txt" > "$work/said"
+TURNS_SAID="$work/turns" LD_PRELOAD="$work/turns.so" "$program" record "$work/made.mf4" < "$work/four.txt" > "$work/said"
 read -r sleeps wakes < "$work/turns"
 awk -v sleeps="$sleeps" -v wakes="$wakes" \
     'BEGIN { printf "four sources: the turn was met %.1f times in 1,000 appends, and a flush woke the others %.1f times\n", sleeps / 200, wakes / 200 }'

@@ -12,31 +12,16 @@
 set -euo pipefail
 
 here="$(cd "$(dirname "$0")" && pwd)"
-top="$(cd "$here/../.." && pwd)"
-runs="${1:-5}"
-mkdir -p "$top/out"
-work="$(mktemp -d "$top/out/bench.XXXXXX")"
-trap 'rm -rf "$work"' EXIT
-. "$here/../cost.sh"
+. "$here/../program.sh"
 
 before() { rm -f "$work/made.mf4"; }
 
-"${CC:-cc}" -O2 -o "$work/twin" "$here/../made.c"
-"$top/mdf4rec" opened "$top/examples/two_blocks.mf4" > "$work/said" # builds the program where it is stale
-maker="$top/crates/mdf_cli/out/mdf_cli"
-
 file="$work/small.mf4"
 python3 "$here/../make.py" unsorted 5000000 "$file"
-"$maker" sort "$file" "$work/first.mf4" > "$work/ours"
-"$work/twin" sort "$work/first.mf4" "$file" "$work/made.mf4" > "$work/twins"
-cmp "$work/ours" "$work/twins"
-cmp "$work/first.mf4" "$work/made.mf4"
-ours="$(cost /dev/null "$maker" sort "$file" "$work/made.mf4")"
-twin="$(cost /dev/null "$work/twin" sort "$work/first.mf4" "$file" "$work/made.mf4")"
-awk -v ours="$ours" -v twin="$twin" 'BEGIN { printf "sort %d, C %d, ratio %.2f\n", ours, twin, ours / twin }'
+inputs=("$file") behind=()
+beside_maker sort
 
 file="$work/large.mf4"
 python3 "$here/../make.py" unsorted 250000000 "$file"
 memory="$(before && peak "$top/mdf4rec" sort "$file" "$work/made.mf4")"
-awk -v memory="$memory" -v size="$(stat -c %s "$file")" \
-    'BEGIN { printf "memory: sort %d, file %d, ratio %.2f\n", memory, size, memory / size }'
+ratio "memory: sort" "$memory" file "$(stat -c %s "$file")"

@@ -24,16 +24,6 @@ cp "$here/program.rt.txt" "$program/src/main.rt"
 cp "$here/invariants.antt.txt" "$program/proofs/sum_of/Invariants.antt"
 grep -E '^(mdf_format|mdf_num|mdf_block|mdf_stream|mdf_data):' "$top/crates.txt" > "$work/crates.txt"
 echo 'bench_split: mdf_num mdf_stream mdf_data' >> "$work/crates.txt"
-if ! (cd "$program" && rt run) > "$work/log" 2>&1; then
-    cat "$work/log" >&2
-    exit 1
-fi
-"${CC:-cc}" -O2 -o "$work/twin" "$here/twin.c"
-
-ours="$program/out/bench_split"
-if [ "$("$ours")" != "$("$work/twin")" ]; then
-    echo "the two programs split differently" >&2
-    exit 1
-fi
+build bench_split
 awk -v ours="$(cost /dev/null "$ours")" -v twin="$(cost /dev/null "$work/twin")" \
     'BEGIN { printf "mdf_data %d, C %d, ratio %.2f\n", ours, twin, ours / twin }'
