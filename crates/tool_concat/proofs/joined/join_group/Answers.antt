@@ -5,11 +5,12 @@ use Rattle.mdf_model.specs.declared.part.Measure.{Measure}
 use Rattle.mdf_model.specs.Measurement.{Measured, with_content}
 use Rattle.mdf_model.proofs.Taken.{taken_at, taken_length, then_put}
 use Rattle.mdf_model.proofs.Items.{item_of}
+use Rattle.tool_concat.specs.Moved.{AreMoved}
 use Rattle.tool_concat.specs.Joined.{joined_streams}
 use Rattle.tool_concat.proofs.Groups.{content_samples, same_count}
 use Rattle.tool_concat.proofs.Holds.{parts_held, parts_moved}
 use Rattle.tool_concat.proofs.joined.join_group.Goals as goal
-use Rattle.tool_concat.proofs.joined.join_group.Goals.{After-take_content-before}
+use Rattle.tool_concat.proofs.joined.join_group.Goals.{After-replace-arg-1, After-take_content-before}
 
 -- the group is there without its content
 still_there : (c : After-take_content-before) → c.args.group < length c.take_content-before.new.self.groups
@@ -46,8 +47,16 @@ with_moved-requires-clause-held c =
     parts_held one other c.shape.result.now c.as_slice.result.now c.samples-3.result c.as_slice-own.result.now
     (c.shape.ensures d) content (c.samples-3.ensures d) own (c.requires.held d)
 
-pub replace-requires-clause-samples : goal.replace-requires-clause-samples
-replace-requires-clause-samples c d =
+-- what moves, and the samples, the records and the streams of both
+joined_parts : (c : After-replace-arg-1) (d : Measure) →
+    let one = get_or c.args.first.now.groups c.args.group d in
+    let other = get_or c.args.second.now.groups c.args.group d in
+    let moved = c.in_ok-content.ensures.0 in
+    AreMoved other.shape one.part.streams other.part.content other.count moved
+    × (c.in-Some.count ≡ one.count + other.count)
+    × (c.in_ok-content.content ≡ one.part.content ++ moved)
+    × (c.in_ok-streams.streams ≡ joined_streams one.part.streams other.part.streams)
+joined_parts c d =
     let one = get_or c.args.first.now.groups c.args.group d in
     let other = get_or c.args.second.now.groups c.args.group d in
     let taken = c.take_content-before in
@@ -55,16 +64,24 @@ replace-requires-clause-samples c d =
     let own : c.as_slice-own.result.now ≡ one.part.streams =
     c.as_slice-own.ensures ∙ ap (λ (part : GroupPart). part.streams) (c.part.ensures d) ∙ ap (λ (m : Measure). m.part.streams) at in
     let content : c.as_slice.result.now ≡ other.part.content = c.as_slice.ensures ∙ ap (λ (part : GroupPart). part.content) (c.part-part.ensures d) in
-    let is = c.in_ok-content.ensures in
-    let moved = parts_moved one other c.shape.result.now c.as_slice.result.now c.samples-3.result c.as_slice-own.result.now
-    (c.shape.ensures d) content (c.samples-3.ensures d) own is.0 is.2 in
-    let count : c.in-Some.count ≡ one.count + other.count = omega (arith, c.in-Some.ensures, c.samples.ensures d, c.samples-2.ensures d) in
-    let joined : c.in_ok-content.content ≡ one.part.content ++ is.0 = is.1 ∙ ap (λ (bytes : List ℕ). bytes ++ is.0) (taken.ensures.content d) in
-    let streams : c.in_ok-streams.streams ≡ joined_streams one.part.streams other.part.streams =
-    c.in_ok-streams.ensures
-    ∙ ap (λ (all : List (List ℕ)). joined_streams all c.as_slice-2.result.now) own
-    ∙ ap (λ (all : List (List ℕ)). joined_streams one.part.streams all) (c.as_slice-2.ensures ∙ ap (λ (part : GroupPart). part.streams) (c.part-part.ensures d)) in
-    rw (at, count, joined, streams) (content_samples one other (c.requires.samples d) (c.requires.others d) (c.requires.shape d) is.0 moved)
+    let is = c.in_ok-content.ensures in (
+      parts_moved one other c.shape.result.now c.as_slice.result.now c.samples-3.result c.as_slice-own.result.now
+          (c.shape.ensures d) content (c.samples-3.ensures d) own is.0 is.2,
+      omega (arith, c.in-Some.ensures, c.samples.ensures d, c.samples-2.ensures d),
+      is.1 ∙ ap (λ (bytes : List ℕ). bytes ++ is.0) (taken.ensures.content d),
+      c.in_ok-streams.ensures
+          ∙ ap (λ (all : List (List ℕ)). joined_streams all c.as_slice-2.result.now) own
+          ∙ ap (λ (all : List (List ℕ)). joined_streams one.part.streams all) (c.as_slice-2.ensures ∙ ap (λ (part : GroupPart). part.streams) (c.part-part.ensures d)),
+    )
+
+pub replace-requires-clause-samples : goal.replace-requires-clause-samples
+replace-requires-clause-samples c d =
+    let one = get_or c.args.first.now.groups c.args.group d in
+    let other = get_or c.args.second.now.groups c.args.group d in
+    let taken = c.take_content-before in
+    let at = taken_at c.args.first.now taken.new.self c.args.group c.requires.group taken.ensures.left d in
+    let parts = joined_parts (goal.at.replace-requires-clause-samples c).After-replace-arg-1 d in
+    rw (at, parts.1, parts.2, parts.3) (content_samples one other (c.requires.samples d) (c.requires.others d) (c.requires.shape d) c.in_ok-content.ensures.0 parts.0)
 
 pub joined_streams-requires : goal.joined_streams-requires
 joined_streams-requires c =
@@ -82,32 +99,21 @@ joined_streams-requires c =
 pub returns-clause-joined : goal.returns-clause-joined
 returns-clause-joined c d =
     let groups = c.args.first.now.groups in
-    let one = get_or c.args.first.now.groups c.args.group d in
+    let one = get_or groups c.args.group d in
     let other = get_or c.args.second.now.groups c.args.group d in
     let taken = c.take_content-before in
-    let at = taken_at c.args.first.now taken.new.self c.args.group c.requires.group taken.ensures.left d in
-    let own : c.as_slice-own.result.now ≡ one.part.streams =
-    c.as_slice-own.ensures ∙ ap (λ (part : GroupPart). part.streams) (c.part.ensures d) ∙ ap (λ (m : Measure). m.part.streams) at in
-    let content : c.as_slice.result.now ≡ other.part.content = c.as_slice.ensures ∙ ap (λ (part : GroupPart). part.content) (c.part-part.ensures d) in
-    let is = c.in_ok-content.ensures in
-    let moved = parts_moved one other c.shape.result.now c.as_slice.result.now c.samples-3.result c.as_slice-own.result.now
-    (c.shape.ensures d) content (c.samples-3.ensures d) own is.0 is.2 in
-    let count : c.in-Some.count ≡ one.count + other.count = omega (arith, c.in-Some.ensures, c.samples.ensures d, c.samples-2.ensures d) in
-    let joined : c.in_ok-content.content ≡ one.part.content ++ is.0 = is.1 ∙ ap (λ (bytes : List ℕ). bytes ++ is.0) (taken.ensures.content d) in
-    let streams : c.in_ok-streams.streams ≡ joined_streams one.part.streams other.part.streams =
-    c.in_ok-streams.ensures
-    ∙ ap (λ (all : List (List ℕ)). joined_streams all c.as_slice-2.result.now) own
-    ∙ ap (λ (all : List (List ℕ)). joined_streams one.part.streams all) (c.as_slice-2.ensures ∙ ap (λ (part : GroupPart). part.streams) (c.part-part.ensures d)) in
+    let moved = c.in_ok-content.ensures.0 in
+    let parts = joined_parts (goal.at.returns-clause-joined c).After-replace-arg-1 d in
     let put = c.replace.ensures d
     ∙ then_put c.args.first.now taken.new.self c.args.group c.requires.group taken.ensures.left d c.in-Some.count c.in_ok-content.content c.in_ok-streams.streams in
     record {
-      moved = is.0;
-      are_moved = moved;
+      moved = moved;
+      are_moved = parts.0;
       is = ap (λ (m : Measured). get_or m.groups c.args.group d) put
           ∙ get_or-set_same groups c.args.group (with_content one c.in-Some.count c.in_ok-content.content c.in_ok-streams.streams) d c.requires.group
-          ∙ ap (λ (n : ℕ). with_content one n c.in_ok-content.content c.in_ok-streams.streams) count
-          ∙ ap (λ (bytes : List ℕ). with_content one (one.count + other.count) bytes c.in_ok-streams.streams) joined
-          ∙ ap (λ (all : List (List ℕ)). with_content one (one.count + other.count) (one.part.content ++ is.0) all) streams;
+          ∙ ap (λ (n : ℕ). with_content one n c.in_ok-content.content c.in_ok-streams.streams) parts.1
+          ∙ ap (λ (bytes : List ℕ). with_content one (one.count + other.count) bytes c.in_ok-streams.streams) parts.2
+          ∙ ap (λ (all : List (List ℕ)). with_content one (one.count + other.count) (one.part.content ++ moved) all) parts.3;
     }
 
 pub returns-clause-others : goal.returns-clause-others
