@@ -8,7 +8,7 @@ work="$(mktemp -d "$top/out/bench.XXXXXX")"
 trap 'rm -rf "$work"' EXIT
 . "$here/../cost.sh"
 
-"$top/mdf4rec" opened "$top/examples/two_blocks.mf4" > "$work/said" # builds the program where it is stale
+MDF4REC_PROVE=1 "$top/mdf4rec" opened "$top/examples/two_blocks.mf4" > "$work/said" # builds the program where it is stale
 program="$top/crates/mdf_cli/out/mdf_cli"
 
 # Prints both numbers and their ratio.

@@ -1,7 +1,7 @@
 #!/usr/bin/env python3
 """Refuses each allocation of the program in turn, and says how the runs ended and what they left.
 
-usage: bench/alloc/run.py [SCRIPT]     (examples/counting.txt without one; the program must be built: ./mdf4rec once; it needs cc)
+usage: bench/alloc/run.py [SCRIPT]     (examples/counting.txt without one; the program must be built: MDF4REC_PROVE=1 ./mdf4rec once; it needs cc)
 
 Each command is run with its first allocation refused, then with its second, and so on up to the first run that has no allocation to
 refuse. Such a run ends with status 7; with 4 or 6 where the allocation was one of a disk's or of the sink's own; or with 0. What it leaves

@@ -5,7 +5,7 @@
 #
 # usage: bench/check/run.sh [RUNS]
 #
-# It is run by hand and is no part of the gate. It needs the built program (./mdf4rec), python3, a C compiler and 3 GB of
+# It is run by hand and is no part of the gate. It needs the built program (MDF4REC_PROVE=1 ./mdf4rec), python3, a C compiler and 3 GB of
 # memory, and works in a folder of its own under out/. Both have to find each file valid.
 set -euo pipefail
 

@@ -8,7 +8,7 @@
 #
 # usage: bench/cut/run.sh [RUNS]
 #
-# It is run by hand and is no part of the gate. It needs the built program (./mdf4rec), python3, a C compiler and 1 GB of
+# It is run by hand and is no part of the gate. It needs the built program (MDF4REC_PROVE=1 ./mdf4rec), python3, a C compiler and 1 GB of
 # memory, and works in a folder of its own under out/, so that all write to the same disk. Both have to make the same file; the
 # twin takes the time of the new entry of the history from the file that is made first.
 set -euo pipefail

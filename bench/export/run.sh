@@ -5,7 +5,7 @@
 #
 # usage: bench/export/run.sh [RUNS]
 #
-# It is run by hand and is no part of the gate. It needs the built program (./mdf4rec), python3 and a C compiler, and works in a
+# It is run by hand and is no part of the gate. It needs the built program (MDF4REC_PROVE=1 ./mdf4rec), python3 and a C compiler, and works in a
 # folder of its own under out/. Both have to print the same table.
 set -euo pipefail
 

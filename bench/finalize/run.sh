@@ -5,7 +5,7 @@
 #
 # usage: bench/finalize/run.sh [RUNS]
 #
-# It is run by hand and is no part of the gate. It needs the built program (./mdf4rec), python3 and 1 GB of memory, and works in
+# It is run by hand and is no part of the gate. It needs the built program (MDF4REC_PROVE=1 ./mdf4rec), python3 and 1 GB of memory, and works in
 # a folder of its own under out/, so that both write to the same disk. The file that is made has to be valid.
 set -euo pipefail
 

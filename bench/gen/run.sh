@@ -6,7 +6,7 @@
 #
 # usage: bench/gen/run.sh [RUNS]
 #
-# It is run by hand and is no part of the gate. It needs the built program (./mdf4rec), python3 and a C compiler, and works in a
+# It is run by hand and is no part of the gate. It needs the built program (MDF4REC_PROVE=1 ./mdf4rec), python3 and a C compiler, and works in a
 # folder of its own under out/, so that both write to the same disk. Both have to print the same lines and make the same head and
 # the same records of each group, in order; since the program's four sources run at once, the order of records of different groups
 # is any. The twin takes the start time from the recording that is made first, and has one source after another.

@@ -1,7 +1,7 @@
 #!/usr/bin/env python3
 """Kills recordings of four sources at random moments, and says what is left of them.
 
-usage: bench/kill/run.py [RUNS]     (200 without a number; the program must be built: ./mdf4rec once)
+usage: bench/kill/run.py [RUNS]     (200 without a number; the program must be built: MDF4REC_PROVE=1 ./mdf4rec once)
 
 Each file that is left must be no MDF file, or one that `finalize` finishes with status 0. Of the latter the finished file must have
 just the records of the opened blocks of the recording, and of each source a beginning of its samples, in their order. The blocks are read

@@ -7,7 +7,7 @@
 #
 # usage: bench/record/run.sh [RUNS]
 #
-# It is run by hand and is no part of the gate. It needs the built program (./mdf4rec), python3 and a C compiler, and works in
+# It is run by hand and is no part of the gate. It needs the built program (MDF4REC_PROVE=1 ./mdf4rec), python3 and a C compiler, and works in
 # a folder of its own under out/, so that both write to the same disk. Both have to print the same lines and make the same
 # file; the twin takes the start time from the recording that is made first.
 set -euo pipefail

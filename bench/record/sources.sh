@@ -7,7 +7,7 @@
 #
 # usage: bench/record/sources.sh [RUNS]
 #
-# It is run by hand, on a machine of four processors or more, and is no part of the gate. It needs the built program (./mdf4rec),
+# It is run by hand, on a machine of four processors or more, and is no part of the gate. It needs the built program (MDF4REC_PROVE=1 ./mdf4rec),
 # python3 and a C compiler, and works in a folder of its own under out/. The sleeps and wakes are counted in front of the C library
 # (turns.c), so that the program is the same.
 set -euo pipefail
