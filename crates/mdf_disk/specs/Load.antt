@@ -9,4 +9,4 @@ abbrev pub LoadCause : Option (List ℕ) → ℕ → ℕ → ℕ → LoadFault �
 LoadCause content before now most Failed = Rose before now
 LoadCause content before now most (TooLong size limit) =
     (limit ≡ most) × (limit < size) × IfSome content (λ file. size ≡ length file)
-LoadCause content before now most Memory = IfSome content (λ file. length file ≤ most)
+LoadCause content before now most Memory = IfSome content (λ file. length file ≤ most) × (now ≡ before)

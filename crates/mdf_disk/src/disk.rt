@@ -42,7 +42,8 @@ pub trait Disk {
         ensures content { Attaches role (content self.old) (content self.new) result }
         ensures story { story self.new ≡ story self.old }
         ensures moment { moment self.old ≤ moment self.new }
-        ensures cause { HasCause (faults self.old) (faults self.new) result };
+        ensures cause { HasCause (faults self.old) (faults self.new) result }
+        ensures calm { OnOk result (faults self.new ≡ faults self.old) };
 
     /// The length of the file, in bytes.
     ///
@@ -56,7 +57,8 @@ pub trait Disk {
         ensures content { content self.new ≡ content self.old }
         ensures story { story self.new ≡ story self.old }
         ensures moment { moment self.old ≤ moment self.new }
-        ensures cause { HasCause (faults self.old) (faults self.new) result };
+        ensures cause { HasCause (faults self.old) (faults self.new) result }
+        ensures calm { OnOk result (faults self.new ≡ faults self.old) };
 
     /// Reads the bytes from `at` on into the whole buffer.
     ///
@@ -71,7 +73,8 @@ pub trait Disk {
         ensures content { content self.new ≡ content self.old }
         ensures story { story self.new ≡ story self.old }
         ensures moment { moment self.old ≤ moment self.new }
-        ensures cause { HasCause (faults self.old) (faults self.new) result };
+        ensures cause { HasCause (faults self.old) (faults self.new) result }
+        ensures calm { OnOk result (faults self.new ≡ faults self.old) };
 
     /// Writes the bytes from `at` on, over what is there and past the end.
     ///
@@ -86,7 +89,8 @@ pub trait Disk {
         ensures content { Patches (content self.old) (content self.new) at bytes.now result }
         ensures story { Writes (story self.old) (story self.new) at bytes.now result }
         ensures moment { moment self.old ≤ moment self.new }
-        ensures cause { HasCause (faults self.old) (faults self.new) result };
+        ensures cause { HasCause (faults self.old) (faults self.new) result }
+        ensures calm { OnOk result (faults self.new ≡ faults self.old) };
 
     /// Keeps all that was written: after `Ok` a crash leaves the content.
     ///
@@ -99,7 +103,8 @@ pub trait Disk {
         ensures content { Keeps (content self.old) (content self.new) result }
         ensures story { Syncs (story self.old) (story self.new) result }
         ensures moment { moment self.old ≤ moment self.new }
-        ensures cause { HasCause (faults self.old) (faults self.new) result };
+        ensures cause { HasCause (faults self.old) (faults self.new) result }
+        ensures calm { OnOk result (faults self.new ≡ faults self.old) };
 
     /// The disk's clock.
     fn moment(&self) -> u64

@@ -60,7 +60,7 @@ impl<D: Disk> Fuse<D> {
 }
 
 impl<D: Disk> Disk for Fuse<D> {
-    ghost use Rattle.mdf_disk.specs.Fuse.{disk_of, left_of, IsSpent};
+    ghost use Rattle.mdf_disk.specs.Fuse.{disk_of, left_of, IsSpent, IsPassed};
 
     ghost asked = { λ f. first_asked f.refused (D.asked f.disk) };
 
@@ -88,8 +88,10 @@ impl<D: Disk> Disk for Fuse<D> {
         ensures story { ⟦<Fuse<D> as Disk>⟧.story self.new ≡ ⟦<Fuse<D> as Disk>⟧.story self.old }
         ensures moment { ⟦<Fuse<D> as Disk>⟧.moment self.old ≤ ⟦<Fuse<D> as Disk>⟧.moment self.new }
         ensures cause { HasCause (⟦<Fuse<D> as Disk>⟧.faults self.old) (⟦<Fuse<D> as Disk>⟧.faults self.new) result }
+        ensures calm { OnOk result (⟦<Fuse<D> as Disk>⟧.faults self.new ≡ ⟦<Fuse<D> as Disk>⟧.faults self.old) }
         ensures counted { left_of self.new ≡ left_of self.old - 1 }
         ensures spent { IsSpent (left_of self.old) (disk_of self.old) (disk_of self.new) result }
+        ensures passed { IsPassed (left_of self.old) (D.faults (disk_of self.old)) (D.faults (disk_of self.new)) result }
     {
         if !spend(&mut self.left) {
             self.refused = Some((name, role));
@@ -107,8 +109,10 @@ impl<D: Disk> Disk for Fuse<D> {
         ensures story { ⟦<Fuse<D> as Disk>⟧.story self.new ≡ ⟦<Fuse<D> as Disk>⟧.story self.old }
         ensures moment { ⟦<Fuse<D> as Disk>⟧.moment self.old ≤ ⟦<Fuse<D> as Disk>⟧.moment self.new }
         ensures cause { HasCause (⟦<Fuse<D> as Disk>⟧.faults self.old) (⟦<Fuse<D> as Disk>⟧.faults self.new) result }
+        ensures calm { OnOk result (⟦<Fuse<D> as Disk>⟧.faults self.new ≡ ⟦<Fuse<D> as Disk>⟧.faults self.old) }
         ensures counted { left_of self.new ≡ left_of self.old - 1 }
         ensures spent { IsSpent (left_of self.old) (disk_of self.old) (disk_of self.new) result }
+        ensures passed { IsPassed (left_of self.old) (D.faults (disk_of self.old)) (D.faults (disk_of self.new)) result }
     {
         if !spend(&mut self.left) {
             return Err(self.faults.fail());
@@ -126,8 +130,10 @@ impl<D: Disk> Disk for Fuse<D> {
         ensures story { ⟦<Fuse<D> as Disk>⟧.story self.new ≡ ⟦<Fuse<D> as Disk>⟧.story self.old }
         ensures moment { ⟦<Fuse<D> as Disk>⟧.moment self.old ≤ ⟦<Fuse<D> as Disk>⟧.moment self.new }
         ensures cause { HasCause (⟦<Fuse<D> as Disk>⟧.faults self.old) (⟦<Fuse<D> as Disk>⟧.faults self.new) result }
+        ensures calm { OnOk result (⟦<Fuse<D> as Disk>⟧.faults self.new ≡ ⟦<Fuse<D> as Disk>⟧.faults self.old) }
         ensures counted { left_of self.new ≡ left_of self.old - 1 }
         ensures spent { IsSpent (left_of self.old) (disk_of self.old) (disk_of self.new) result }
+        ensures passed { IsPassed (left_of self.old) (D.faults (disk_of self.old)) (D.faults (disk_of self.new)) result }
     {
         if !spend(&mut self.left) {
             return Err(self.faults.fail());
@@ -144,8 +150,10 @@ impl<D: Disk> Disk for Fuse<D> {
         ensures story { Writes (⟦<Fuse<D> as Disk>⟧.story self.old) (⟦<Fuse<D> as Disk>⟧.story self.new) at bytes.now result }
         ensures moment { ⟦<Fuse<D> as Disk>⟧.moment self.old ≤ ⟦<Fuse<D> as Disk>⟧.moment self.new }
         ensures cause { HasCause (⟦<Fuse<D> as Disk>⟧.faults self.old) (⟦<Fuse<D> as Disk>⟧.faults self.new) result }
+        ensures calm { OnOk result (⟦<Fuse<D> as Disk>⟧.faults self.new ≡ ⟦<Fuse<D> as Disk>⟧.faults self.old) }
         ensures counted { left_of self.new ≡ left_of self.old - 1 }
         ensures spent { IsSpent (left_of self.old) (disk_of self.old) (disk_of self.new) result }
+        ensures passed { IsPassed (left_of self.old) (D.faults (disk_of self.old)) (D.faults (disk_of self.new)) result }
     {
         if !spend(&mut self.left) {
             return Err(self.faults.fail());
@@ -161,8 +169,10 @@ impl<D: Disk> Disk for Fuse<D> {
         ensures story { Syncs (⟦<Fuse<D> as Disk>⟧.story self.old) (⟦<Fuse<D> as Disk>⟧.story self.new) result }
         ensures moment { ⟦<Fuse<D> as Disk>⟧.moment self.old ≤ ⟦<Fuse<D> as Disk>⟧.moment self.new }
         ensures cause { HasCause (⟦<Fuse<D> as Disk>⟧.faults self.old) (⟦<Fuse<D> as Disk>⟧.faults self.new) result }
+        ensures calm { OnOk result (⟦<Fuse<D> as Disk>⟧.faults self.new ≡ ⟦<Fuse<D> as Disk>⟧.faults self.old) }
         ensures counted { left_of self.new ≡ left_of self.old - 1 }
         ensures spent { IsSpent (left_of self.old) (disk_of self.old) (disk_of self.new) result }
+        ensures passed { IsPassed (left_of self.old) (D.faults (disk_of self.old)) (D.faults (disk_of self.new)) result }
     {
         if !spend(&mut self.left) {
             return Err(self.faults.fail());

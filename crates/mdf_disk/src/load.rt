@@ -41,7 +41,7 @@ impl From<AllocError> for LoadFault {
 ///
 /// # Errors
 /// `TooLong` only where the size answered is over the limit. `Failed` where the disk failed.
-/// `Memory` for want of memory, of a file within the limit.
+/// `Memory` for want of memory, of a file within the limit, where the disk did not fail.
 pub fn read_whole<D: Disk>(alloc: Global, disk: &mut D, limit: u64) -> Result<Bytes, LoadFault>
     requires { D.attached disk.old ≡ true }
     ensures bytes { IfOk result (λ bytes. IfSome (D.content disk.old) (λ file. bytes ≡ file)) }

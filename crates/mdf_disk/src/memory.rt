@@ -35,6 +35,7 @@ fn log(tape: &mut Tape, plan: &mut FaultPlan, call: Call) -> Result<(), Failed>
     ensures err { OnErr result (tape.new ≡ tape.old) }
     ensures possible { OnOk result (MayLeave (story_of tape.new).now (story_of tape.new).now.content) }
     ensures cause { HasCause plan.old.faults plan.new.faults result }
+    ensures calm { OnOk result (plan.new.faults ≡ plan.old.faults) }
     ensures failing { plan.new.failing ≡ plan.old.failing }
     ensures begun { plan.new.calls ≡ plan.old.calls }
 {
@@ -192,6 +193,7 @@ impl Disk for MemoryDisk {
         ensures story { ⟦<MemoryDisk as Disk>⟧.story self.new ≡ ⟦<MemoryDisk as Disk>⟧.story self.old }
         ensures moment { ⟦<MemoryDisk as Disk>⟧.moment self.old ≤ ⟦<MemoryDisk as Disk>⟧.moment self.new }
         ensures cause { HasCause (⟦<MemoryDisk as Disk>⟧.faults self.old) (⟦<MemoryDisk as Disk>⟧.faults self.new) result }
+        ensures calm { OnOk result (⟦<MemoryDisk as Disk>⟧.faults self.new ≡ ⟦<MemoryDisk as Disk>⟧.faults self.old) }
         ensures there { OnOk result (IsThere role (file_of self.old)) }
         ensures recorded { OnOk result (calls_of self.new ≡ calls_of self.old ++ Attach ∷ []) }
         ensures file { file_of self.new ≡ file_of self.old }
@@ -223,6 +225,7 @@ impl Disk for MemoryDisk {
         ensures story { ⟦<MemoryDisk as Disk>⟧.story self.new ≡ ⟦<MemoryDisk as Disk>⟧.story self.old }
         ensures moment { ⟦<MemoryDisk as Disk>⟧.moment self.old ≤ ⟦<MemoryDisk as Disk>⟧.moment self.new }
         ensures cause { HasCause (⟦<MemoryDisk as Disk>⟧.faults self.old) (⟦<MemoryDisk as Disk>⟧.faults self.new) result }
+        ensures calm { OnOk result (⟦<MemoryDisk as Disk>⟧.faults self.new ≡ ⟦<MemoryDisk as Disk>⟧.faults self.old) }
         ensures recorded { Records (calls_of self.old) (calls_of self.new) Size Size result }
         ensures file { file_of self.new ≡ file_of self.old }
         ensures planned { OnOk result (¬ Contains (plan_of self.old).failing (plan_of self.old).calls) }
@@ -247,6 +250,7 @@ impl Disk for MemoryDisk {
         ensures story { ⟦<MemoryDisk as Disk>⟧.story self.new ≡ ⟦<MemoryDisk as Disk>⟧.story self.old }
         ensures moment { ⟦<MemoryDisk as Disk>⟧.moment self.old ≤ ⟦<MemoryDisk as Disk>⟧.moment self.new }
         ensures cause { HasCause (⟦<MemoryDisk as Disk>⟧.faults self.old) (⟦<MemoryDisk as Disk>⟧.faults self.new) result }
+        ensures calm { OnOk result (⟦<MemoryDisk as Disk>⟧.faults self.new ≡ ⟦<MemoryDisk as Disk>⟧.faults self.old) }
         ensures recorded { Records (calls_of self.old) (calls_of self.new) Read Read result }
         ensures file { file_of self.new ≡ file_of self.old }
         ensures planned { OnOk result (¬ Contains (plan_of self.old).failing (plan_of self.old).calls) }
@@ -272,6 +276,7 @@ impl Disk for MemoryDisk {
         ensures story { Writes (⟦<MemoryDisk as Disk>⟧.story self.old) (⟦<MemoryDisk as Disk>⟧.story self.new) at bytes.now result }
         ensures moment { ⟦<MemoryDisk as Disk>⟧.moment self.old ≤ ⟦<MemoryDisk as Disk>⟧.moment self.new }
         ensures cause { HasCause (⟦<MemoryDisk as Disk>⟧.faults self.old) (⟦<MemoryDisk as Disk>⟧.faults self.new) result }
+        ensures calm { OnOk result (⟦<MemoryDisk as Disk>⟧.faults self.new ≡ ⟦<MemoryDisk as Disk>⟧.faults self.old) }
         ensures recorded { Records (calls_of self.old) (calls_of self.new) (Write at bytes.now true)
             (failed_write (file_of self.old) at bytes.now) result }
         ensures file { file_of self.new ≡ file_of self.old }
@@ -307,6 +312,7 @@ impl Disk for MemoryDisk {
         ensures story { Syncs (⟦<MemoryDisk as Disk>⟧.story self.old) (⟦<MemoryDisk as Disk>⟧.story self.new) result }
         ensures moment { ⟦<MemoryDisk as Disk>⟧.moment self.old ≤ ⟦<MemoryDisk as Disk>⟧.moment self.new }
         ensures cause { HasCause (⟦<MemoryDisk as Disk>⟧.faults self.old) (⟦<MemoryDisk as Disk>⟧.faults self.new) result }
+        ensures calm { OnOk result (⟦<MemoryDisk as Disk>⟧.faults self.new ≡ ⟦<MemoryDisk as Disk>⟧.faults self.old) }
         ensures recorded { Records (calls_of self.old) (calls_of self.new) (Sync true) (Sync false) result }
         ensures file { file_of self.new ≡ file_of self.old }
         ensures planned { OnOk result (¬ Contains (plan_of self.old).failing (plan_of self.old).calls) }

@@ -17,4 +17,4 @@ TakesAtMost old new most = (front : List ℕ) × Consumes old new front × (leng
 abbrev pub TakeCause : Option (List ℕ) → Option (List ℕ) → ℕ → ℕ → ℕ → TakeFault → Type 0
 TakeCause old new before now most Failed = Rose before now
 TakeCause old new before now most (TooLong limit) = (limit ≡ most) × IfSome old (λ bytes. most < length bytes)
-TakeCause old new before now most Memory = TakesAtMost old new most
+TakeCause old new before now most Memory = TakesAtMost old new most × (now ≡ before)

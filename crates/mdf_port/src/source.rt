@@ -67,8 +67,8 @@ impl From<Memory> for TakeFault {
 ///
 /// # Errors
 /// `TooLong` only where more than the limit was left; want of memory or a fault may come first. `Failed` where the
-/// source failed. `Memory` for want of memory, while what was taken is within the limit. Then a front of what was left
-/// has been taken.
+/// source failed. `Memory` for want of memory, while what was taken is within the limit and the source did not fail. Then
+/// a front of what was left has been taken.
 pub fn take_all<S: Source>(alloc: Global, source: &mut S, limit: u64) -> Result<Bytes, TakeFault>
     ensures all { IfOk result (λ bytes. Consumes (S.left source.old) (S.left source.new) bytes) }
     ensures end { OnOk result (IsAtEnd (S.left source.new)) }

@@ -1,4 +1,4 @@
-use Rattle.std.proofs.Common.{◌≡◌, take, ◌++◌, length, ap, arith, length-append}
+use Rattle.std.proofs.Common.{◌≡◌, take, ◌++◌, length, ◌∙◌, ap, arith, length-append}
 use Rattle.std.proofs.lemmas.List.{length-take}
 use Rattle.std.proofs.lemmas.Result.{err_from_is_err_and}
 use Rattle.mdf_port.proofs.Streams.{consumes_more}
@@ -25,14 +25,17 @@ returns-in_err-push_slice-clause-cause g c =
     let part = take c.in_ok-count.count c.take.new.buf in
     let so_far : c.as_slice.result.now ≡ all = c.as_slice.ensures in
     rw (p.1, p.2) (
-      all ++ part,
-      consumes_more _ _ _ _ _ c.taking.invariant.taken c.in_ok-count.ensures.taken.0,
-      omega (
-        arith,
-        length-append all part,
-        length-take c.in_ok-count.count c.take.new.buf,
-        ap length so_far,
-        c.taking.invariant.short,
-        c.if-count-limit.false,
+      (
+        all ++ part,
+        consumes_more _ _ _ _ _ c.taking.invariant.taken c.in_ok-count.ensures.taken.0,
+        omega (
+          arith,
+          length-append all part,
+          length-take c.in_ok-count.count c.take.new.buf,
+          ap length so_far,
+          c.taking.invariant.short,
+          c.if-count-limit.false,
+        ),
       ),
+      c.in_ok-count.ensures.calm ∙ c.taking.invariant.calm,
     )
