@@ -1,6 +1,9 @@
-//! A disk over a real file: the trusted edge, a few lines for each call.
+//! A disk over a real file. The disk makes just the calls of the system that are asked of it; the trusted edge is the file of
+//! the machine under it, a line for each call.
 #![tactic(auto)]
 
 mod file;
+mod system;
 
 pub use file::FileDisk;
+pub use system::{FileCalls, SystemFile};
