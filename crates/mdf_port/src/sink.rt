@@ -56,6 +56,8 @@ pub struct StdSink<W> {
 }
 
 impl<W: Write> StdSink<W> {
+    ghost use Rattle.mdf_port.specs.Faults.{sink_faults};
+
     /// Over a writer that buffers nothing, as standard output is.
     pub fn new(writer: W) -> StdSink<W>
         ensures held { ⟦<StdSink<W> as Sink>⟧.held result ≡ W.contents writer }
@@ -67,9 +69,10 @@ impl<W: Write> StdSink<W> {
         }
     }
 
-    /// An error, exactly where a call has failed.
+    /// The error of the last call that failed. There is one exactly where a call has failed.
     pub fn last_error(&self) -> Option<Error>
-        ensures { IsSome result ↔ (0 < ⟦<StdSink<W> as Sink>⟧.faults self.now) }
+        ensures last { result ≡ (sink_faults self.now).last }
+        ensures met { IsSome result ↔ (0 < ⟦<StdSink<W> as Sink>⟧.faults self.now) }
     {
         self.faults.last()
     }

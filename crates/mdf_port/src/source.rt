@@ -102,6 +102,8 @@ pub struct StdSource<R> {
 }
 
 impl<R: Read> StdSource<R> {
+    ghost use Rattle.mdf_port.specs.Faults.{source_faults};
+
     pub fn new(reader: R) -> StdSource<R>
         ensures left { ⟦<StdSource<R> as Source>⟧.left result ≡ R.remaining reader }
         ensures faults { ⟦<StdSource<R> as Source>⟧.faults result ≡ 0 }
@@ -112,9 +114,10 @@ impl<R: Read> StdSource<R> {
         }
     }
 
-    /// An error, exactly where a call has failed.
+    /// The error of the last call that failed. There is one exactly where a call has failed.
     pub fn last_error(&self) -> Option<io::Error>
-        ensures { IsSome result ↔ (0 < ⟦<StdSource<R> as Source>⟧.faults self.now) }
+        ensures last { result ≡ (source_faults self.now).last }
+        ensures met { IsSome result ↔ (0 < ⟦<StdSource<R> as Source>⟧.faults self.now) }
     {
         self.faults.last()
     }
