@@ -6,9 +6,9 @@ use Rattle.mdf_format.specs.Identification.{IsFinalized}
 use Rattle.mdf_disk.specs.Story.{Story}
 use Rattle.mdf_disk.specs.Crash.{Adds}
 use Rattle.mdf_disk.proofs.Crash.{adds_more}
-use Rattle.mdf_seal.specs.Images.{IsSealedImage, IsWholeButFirst}
+use Rattle.mdf_seal.specs.Images.{IsClosed, IsSealedImage, IsWholeButFirst}
 use Rattle.mdf_seal.proofs.Marks.{in_mark, closed_unmarked}
-use Rattle.mdf_tool.specs.Tool.{IsToolImage}
+use Rattle.mdf_tool.specs.Tool.{IsSealed, IsToolImage}
 
 -- a file with a byte other than 0 in front has one
 some_first : (bytes : List ℕ) → get_or bytes 0 0 ≡ 77 → 1 ≤ length bytes
@@ -17,6 +17,17 @@ some_first (byte ∷ bytes) is = omega arith
 
 pub some_bytes : (bytes : List ℕ) → IsFinalized bytes → 1 ≤ length bytes
 some_bytes bytes marked = some_first bytes (in_mark bytes (codes "MDF     ") 0 (omega arith) marked)
+
+-- a file of at most one byte is under its seal
+pub short_sealed : (file : List ℕ) → length file ≤ 1 → IsSealed file
+short_sealed file short = record { shut = inl short; no_mdf = λ mdf. absurd (omega (arith, mdf.long, short)) }
+
+-- and so is one whose first byte is closed
+closed_sealed : (file : List ℕ) → IsClosed file → IsSealed file
+closed_sealed file closed = record {
+  shut = inr (λ is. absurd (omega (arith, is, closed)));
+  no_mdf = closed_unmarked file closed;
+}
 
 module _ (bytes : List ℕ) (marked : IsFinalized bytes) where
   first : get_or bytes 0 0 ≡ 77
@@ -37,15 +48,18 @@ module _ (bytes : List ℕ) (marked : IsFinalized bytes) where
   whole_image : (file : List ℕ) → IsWholeButFirst bytes file → IsToolImage bytes file
   whole_image file all = ⊎_elim
       (λ is. inr (is_whole file all is))
-      (λ other. inl (λ mdf. ⊎_elim
-      (λ finalized. other (in_mark file (codes "MDF     ") 0 (omega arith) finalized))
-      (λ unfinalized. absurd (omega (arith, second file all, in_mark file (codes "UnFinMF ") 1 (omega arith) unfinalized)))
-      mdf.marked))
+      (λ other. inl (record {
+        shut = inr other;
+        no_mdf = λ mdf. ⊎_elim
+            (λ finalized. other (in_mark file (codes "MDF     ") 0 (omega arith) finalized))
+            (λ unfinalized. absurd (omega (arith, second file all, in_mark file (codes "UnFinMF ") 1 (omega arith) unfinalized)))
+            mdf.marked;
+      }))
       (cases_eq (get_or file 0 0) 77)
 
   pub sealed_image : (file : List ℕ) → IsSealedImage bytes file → IsToolImage bytes file
-  sealed_image file (inl short) = inl (λ mdf. absurd (omega (arith, mdf.long, short)))
-  sealed_image file (inr (inl closed)) = inl (closed_unmarked file closed)
+  sealed_image file (inl short) = inl (short_sealed file short)
+  sealed_image file (inr (inl closed)) = inl (closed_sealed file closed)
   sealed_image file (inr (inr all)) = whole_image file all
 
   pub adds_image : (old new : Option Story) → Adds old new (IsSealedImage bytes) → Adds old new (IsToolImage bytes)

@@ -1,1 +1,1 @@
-mod Images
+pub mod Images

@@ -1,5 +1,5 @@
 -- How a tool ends that makes a file of its input, and what a crash inside it leaves.
-use Rattle.std.specs.Prelude.{ℕ, ◌≡◌, ◌⊎◌, List, Option, Some, None, Result, Ok, Err}
+use Rattle.std.specs.Prelude.{ℕ, ◌≡◌, ◌≢◌, ◌≤◌, ◌⊎◌, List, length, get_or, Option, Some, None, Result, Ok, Err}
 use Rattle.mdf_format.specs.Cause.{Rose}
 use Rattle.mdf_format.specs.Identification.{IsMdf}
 use Rattle.mdf_block.specs.Refusal.{Refusal}
@@ -20,9 +20,14 @@ fault_or_memory fault (Some refusal) = tool.Read fault
 abbrev pub fault_of_read : ReadFault → ToolFault
 fault_of_read fault = fault_or_memory fault (read_refusal fault)
 
--- what a crash may leave while a file of these bytes is written: the whole, or no MDF
+-- The file is under its seal: it has at most one byte, or a first byte other than `M`. It is no MDF file.
+pub record IsSealed (file : List ℕ) : Type 0 where
+  pub shut : (length file ≤ 1) ⊎ (get_or file 0 0 ≢ 77)
+  pub no_mdf : ¬ IsMdf file
+
+-- what a crash may leave while a file of these bytes is written: a file under its seal, or the whole
 abbrev pub IsToolImage : List ℕ → List ℕ → Type 0
-IsToolImage bytes file = (¬ IsMdf file) ⊎ (file ≡ bytes)
+IsToolImage bytes file = IsSealed file ⊎ (file ≡ bytes)
 
 -- How the writing of a made file ends, by what its disk tells before and after: the file is kept whole, or the disk failed.
 abbrev pub WriteEnds : Made → DiskState → DiskState → Result Report ToolFault → Type 0

@@ -10,7 +10,8 @@ use mdf_disk::Disk;
 use mdf_seal::write_sealed;
 
 /// Writes the file that a tool made under a seal, on a disk that is attached with an empty file, and answers what is told
-/// of it. It takes no memory. The file is marked as finalized; so whatever a crash leaves is the whole file, or no MDF.
+/// of it. It takes no memory. Whatever a crash leaves is the whole file, or has at most one byte or a first byte other than
+/// `M`. As the file is marked as finalized, that is no MDF file.
 ///
 /// # Errors
 /// `Failed` where the disk failed.
