@@ -17,10 +17,11 @@ pub record IsOver (disk : DiskState) (size limit : ℕ) : Type 0 where
   pub over : limit < size
   pub told : IfSome disk.content (λ file. size ≡ length file)
 
--- Memory was wanted for the name of the file, or for its bytes. So it stands for no disk that cannot open the file, and for no
--- file that is too long.
+-- Memory was wanted for the name of the file, or for its bytes. So it stands for no disk that failed, and for no file that is too
+-- long.
 abbrev pub LoadWants : DiskState → DiskState → Type 0
-LoadWants old new = (new ≡ old) ⊎ ((new.attached ≡ true) × IfSome old.content (λ file. length file ≤ INPUT_LIMIT))
+LoadWants old new =
+    (new ≡ old) ⊎ ((new.attached ≡ true) × IfSome old.content (λ file. length file ≤ INPUT_LIMIT) × (new.faults ≡ old.faults))
 
 -- The input could not be loaded only where this holds of its disk before and after.
 abbrev pub LoadFaultComes : DiskState → DiskState → Fault → Type 0
