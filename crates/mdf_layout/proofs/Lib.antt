@@ -3,6 +3,7 @@ pub mod Stays
 mod Apart
 mod RoundTrip
 pub mod Rules
+mod Overlaps
 pub mod Numbers
 mod Later
 pub mod Sizes

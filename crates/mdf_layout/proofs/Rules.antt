@@ -171,7 +171,7 @@ meets_from rows k row j other differs there shares =
     and_from (not (nat_eq j k)) (option_map_or (λ other. shares_bit (spot_in row) (spot_in other)) (slice_get rows j) false)
     (not_from_false (nat_eq j k) (ne_eqb j k differs)) (found ∙ (shares_bit_law (spot_in row) (spot_in other)).from shares)
 
-meets_law : (rows : List FieldRow) (k : ℕ) (row : FieldRow) → Tells (any_below (length rows) (meets_at rows k row))
+pub meets_law : (rows : List FieldRow) (k : ℕ) (row : FieldRow) → Tells (any_below (length rows) (meets_at rows k row))
     ((j : ℕ) × (other : FieldRow) × (j ≢ k) × (slice_get rows j ≡ Some other) × SharesBit (spot_in row) (spot_in other))
 meets_law rows k row = record {
   to = λ is.

@@ -1,5 +1,6 @@
 pub mod Stock
 pub mod Rule
+pub mod Run
 pub mod Row
 pub mod Values
 pub mod Written

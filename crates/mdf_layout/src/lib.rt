@@ -14,6 +14,7 @@ mod reading;
 mod reserved;
 mod row;
 mod rule;
+mod runs;
 mod sample;
 mod shape;
 mod shapes;

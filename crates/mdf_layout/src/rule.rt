@@ -1,6 +1,8 @@
 // The rules that the channels of a layout keep.
-ghost use Rattle.std.specs.Prelude.{◌≡◌, ◌+◌, ◌*◌, ◌^◌, ◌<◌, ◌≤◌, length, slice_get, Some, IfSome, IfNone, All};
+ghost use Rattle.std.specs.Prelude.{◌≡◌, ◌+◌, ◌*◌, ◌^◌, ◌<◌, ◌≤◌, ◌&&◌, length, slice_get, Some, IfSome, IfNone, All};
+ghost use Rattle.std.specs.List.{slice_index_or};
 ghost use Rattle.mdf_layout.specs.Values.{IsRowPlaced};
+ghost use Rattle.mdf_layout.specs.Run.{MeetNone};
 ghost use Rattle.mdf_format.specs.Field.{covered_size, covered_end, place_of};
 ghost use Rattle.mdf_bits.specs.Field as bits;
 ghost use Rattle.mdf_bits.specs.Field.{bit_within};
@@ -67,7 +69,7 @@ pub(crate) fn number_field(row: FieldRow) -> Field
 }
 
 /// How many bytes its field touches.
-fn covered(row: FieldRow) -> u64
+pub(crate) fn covered(row: FieldRow) -> u64
     ensures size { result ≡ covered_size (spot_in row) }
     ensures small { result < 2 ^ 32 }
 {
@@ -167,19 +169,48 @@ fn meets_another(rows: &[FieldRow], k: usize, row: FieldRow) -> bool
     false
 }
 
-/// Whether channel `k` breaks a rule.
-fn breaks_rule(
-    rows: &[FieldRow],
-    k: usize,
-    row: FieldRow,
-    data_bytes: u32,
-    inval_bytes: u32,
-) -> bool
-    ensures { result ≡ breaks_row_rule data_bytes inval_bytes rows.now k row }
+/// Whether its value is of variable length, and it shares a bit with the field of another channel. It is known that no
+/// channel before `apart` does so.
+fn meets_in(rows: &[FieldRow], k: usize, row: FieldRow, apart: u32) -> bool
+    requires apart { MeetNone rows.now apart }
+    requires there { slice_get rows.now k ≡ Some row }
+    ensures { result ≡ (is_variable row && any_below (length rows.now) (meets_at rows.now k row)) }
 {
+    is_variable(row) && k as u64 >= apart as u64 && meets_another(rows, k, row)
+}
+
+/// Whether channel `k` breaks a rule. It is known that no channel of variable length before `apart` meets another.
+fn breaks_rule(rows: &[FieldRow], k: usize, apart: u32, data_bytes: u32, inval_bytes: u32) -> bool
+    requires there { k < length rows.now }
+    requires apart { MeetNone rows.now apart }
+    ensures { (d : FieldRow) → result ≡ breaks_row_rule data_bytes inval_bytes rows.now k (slice_index_or rows.now k d) }
+{
+    let row = row_at(rows, k);
     !is_placed(row, data_bytes)
         || !is_inval_placed(row, inval_bytes)
-        || (is_variable(row) && meets_another(rows, k, row))
+        || meets_in(rows, k, row, apart)
+}
+
+/// The least channel that breaks a rule, as `first_bad`. It is known that no channel of variable length before `apart`
+/// meets another.
+pub(crate) fn least_bad(
+    rows: &[FieldRow],
+    apart: u32,
+    data_bytes: u32,
+    inval_bytes: u32,
+) -> Option<u32>
+    requires few { length rows.now < 2 ^ 32 }
+    requires apart { MeetNone rows.now apart }
+    ensures bad { IfSome result (IsFirstBad data_bytes inval_bytes rows.now) }
+    ensures none { IfNone result (AreRuled data_bytes inval_bytes rows.now (length rows.now)) }
+    ensures placed { IfNone result (All (IsRowPlaced data_bytes inval_bytes) rows.now) }
+{
+    for channel in 0..rows.len() {
+        if breaks_rule(rows, channel, apart, data_bytes, inval_bytes) {
+            return Some(channel as u32);
+        }
+    }
+    None
 }
 
 /// The least channel that breaks a rule of the rows of a record with so many data bytes and invalidation bytes. None
@@ -189,16 +220,13 @@ fn breaks_rule(
 /// - A field of bytes has whole bytes, which lie in the data bytes.
 /// - An offset shares no bit with another channel's field.
 /// - The byte of an invalidation bit lies in the invalidation bytes.
+///
+/// Each offset is held against every channel; `shape_of` finds the same channel in the order of the bits.
 pub fn first_bad(rows: &[FieldRow], data_bytes: u32, inval_bytes: u32) -> Option<u32>
     requires few { length rows.now < 2 ^ 32 }
     ensures bad { IfSome result (IsFirstBad data_bytes inval_bytes rows.now) }
     ensures none { IfNone result (AreRuled data_bytes inval_bytes rows.now (length rows.now)) }
     ensures placed { IfNone result (All (IsRowPlaced data_bytes inval_bytes) rows.now) }
 {
-    for channel in 0..rows.len() {
-        if breaks_rule(rows, channel, rows[channel], data_bytes, inval_bytes) {
-            return Some(channel as u32);
-        }
-    }
-    None
+    least_bad(rows, 0, data_bytes, inval_bytes)
 }

@@ -8,10 +8,9 @@ ghost use Rattle.mdf_layout.specs.Layout.{IsRuled, record_size};
 ghost use Rattle.mdf_layout.specs.Fault.{ShapeCause, DecodeCause};
 
 use crate::reading::streams_with;
-use crate::rule::row_at;
-use crate::{
-    DecodeFault, Entries, FieldRow, Sample, are_apart, decode, encode, entries_fit, first_bad,
-};
+use crate::rule::{least_bad, row_at};
+use crate::runs::first_meeting;
+use crate::{DecodeFault, Entries, FieldRow, Sample, are_apart, decode, encode, entries_fit};
 use mdf_num::{Memory, Rows};
 use mdf_vlsd::Streams;
 use std::alloc::Global;
@@ -96,10 +95,15 @@ pub fn shape_of(
     if rows.len() >= MOST_CHANNELS {
         return Err(ShapeFault::Memory);
     }
-    if let Some(channel) = first_bad(rows.as_slice(), data_bytes, inval_bytes) {
+    let variable_count = count_variables(rows.as_slice()) as u32;
+    let apart = if variable_count == 0 {
+        0
+    } else {
+        first_meeting(alloc, rows.as_slice())?
+    };
+    if let Some(channel) = least_bad(rows.as_slice(), apart, data_bytes, inval_bytes) {
         return Err(ShapeFault::Bad { channel });
     }
-    let variable_count = count_variables(rows.as_slice()) as u32;
     let rows = Rows::from_vec(copy_rows(alloc, rows.as_slice())?);
     Ok(Shape {
         rows,

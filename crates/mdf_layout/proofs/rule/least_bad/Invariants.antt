@@ -1,5 +1,5 @@
 use Rattle.mdf_layout.specs.Rule.{AreRuled}
-use Rattle.mdf_layout.proofs.rule.first_bad.Given as goal
+use Rattle.mdf_layout.proofs.rule.least_bad.Given as goal
 
 -- the channels so far break no rule
 abbrev pub invariant-loop-channel : goal.invariant-loop-channel
