@@ -1,3 +1,4 @@
+mod Calls
 mod Shut
 mod Finish
 pub mod Marks

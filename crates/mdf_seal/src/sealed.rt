@@ -1,4 +1,4 @@
-ghost use Rattle.std.specs.Prelude.{◌≡◌, ◌+◌, ◌≤◌, ◌<◌, ◌^◌, ◌++◌, ◌⊎◌, List, ℕ, [], ◌∷◌, length, true, is_some, IfSome, IfOk, OnOk, OnErr};
+ghost use Rattle.std.specs.Prelude.{◌≡◌, ◌+◌, ◌≤◌, ◌<◌, ◌^◌, ◌++◌, ◌⊎◌, List, ℕ, [], ◌∷◌, length, None, true, is_some, IfSome, IfOk, OnOk, OnErr};
 ghost use Rattle.std.specs.Option.{option_map};
 ghost use Rattle.mdf_format.specs.Cause.{HasCause};
 ghost use Rattle.mdf_disk.specs.Crash.{Adds, NowHas};
@@ -87,6 +87,7 @@ impl Sealed {
         ensures unsynced { synced (D.story disk.new) ≡ synced (D.story disk.old) }
         ensures calls { IfSome (D.story disk.old) (λ _. D.moment disk.new ≤ D.moment disk.old + 1) }
         ensures none { bytes.now ≡ [] → disk.new ≡ disk.old }
+        ensures held { self.old.first ≡ None → length bytes.now ≤ 1 → disk.new ≡ disk.old }
         ensures cause { HasCause (D.faults disk.old) (D.faults disk.new) result }
         ensures asked { D.asked disk.new ≡ D.asked disk.old }
         ensures attached { D.attached disk.new ≡ D.attached disk.old }

@@ -1,4 +1,4 @@
-ghost use Rattle.std.specs.Prelude.{◌≡◌, ◌≤◌, ◌<◌, ◌^◌, [], length, true, is_some, IfSome, OnOk, OnErr};
+ghost use Rattle.std.specs.Prelude.{◌≡◌, ◌+◌, ◌-◌, ◌≤◌, ◌<◌, ◌^◌, [], length, true, is_some, IfSome, OnOk, OnErr};
 ghost use Rattle.std.specs.List.{concat};
 ghost use Rattle.mdf_format.specs.Cause.{HasCause};
 ghost use Rattle.mdf_disk.specs.Crash.{Adds};
@@ -17,6 +17,7 @@ fn give_all<D: Disk>(seal: &mut Sealed, disk: &mut D, pieces: &[Bytes]) -> Resul
     ensures ok { OnOk result (Seals seal.new (D.content disk.new) (D.story disk.new) (concat pieces.now)) }
     ensures any_moment { Adds (D.story disk.old) (D.story disk.new) IsClosed }
     ensures unsynced { synced (D.story disk.new) ≡ synced (D.story disk.old) }
+    ensures calls { IfSome (D.story disk.old) (λ _. D.moment disk.new ≤ D.moment disk.old + (length (concat pieces.now) - 1)) }
     ensures cause { HasCause (D.faults disk.old) (D.faults disk.new) result }
     ensures asked { D.asked disk.new ≡ D.asked disk.old }
     ensures attached { D.attached disk.new ≡ D.attached disk.old }
@@ -30,7 +31,8 @@ fn give_all<D: Disk>(seal: &mut Sealed, disk: &mut D, pieces: &[Bytes]) -> Resul
     Ok(())
 }
 
-/// Writes a whole file under a seal, piece by piece, on a disk that is attached with an empty file.
+/// Writes a whole file under a seal, piece by piece, on a disk that is attached with an empty file. It makes five calls, and one for
+/// each piece that has more than the first byte.
 ///
 /// # Errors
 /// `Failed` where the disk failed. Then a disk that tells its story keeps no byte, a closed one, or all but the first
@@ -42,6 +44,7 @@ pub fn write_sealed<D: Disk>(disk: &mut D, file: &Pieces) -> Result<(), Failed>
     ensures ok { OnOk result (IsKept (D.content disk.new) (D.story disk.new) file.now) }
     ensures any_moment { Adds (D.story disk.old) (D.story disk.new) (IsSealedImage file.now) }
     ensures unopened { OnErr result (IfSome (synced (D.story disk.new)) (IsUnopened file.now)) }
+    ensures calls { IfSome (D.story disk.old) (λ _. D.moment disk.new ≤ D.moment disk.old + (length file.now + 4)) }
     ensures cause { HasCause (D.faults disk.old) (D.faults disk.new) result }
     ensures asked { D.asked disk.new ≡ D.asked disk.old }
     ensures attached { D.attached disk.new ≡ D.attached disk.old }

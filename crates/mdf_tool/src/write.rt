@@ -1,4 +1,4 @@
-ghost use Rattle.std.specs.Prelude.{◌≡◌, ◌≤◌, true, is_some};
+ghost use Rattle.std.specs.Prelude.{◌≡◌, ◌+◌, ◌≤◌, length, true, is_some, IfSome};
 ghost use Rattle.mdf_format.specs.Identification.{IsFinalized};
 ghost use Rattle.mdf_disk.specs.Crash.{Adds};
 ghost use Rattle.mdf_disk.specs.State.{state_of};
@@ -10,8 +10,8 @@ use mdf_disk::Disk;
 use mdf_seal::write_sealed;
 
 /// Writes the file that a tool made under a seal, on a disk that is attached with an empty file, and answers what is told
-/// of it. It takes no memory. Whatever a crash leaves is the whole file, or has at most one byte or a first byte other than
-/// `M`. As the file is marked as finalized, that is no MDF file.
+/// of it. It takes no memory, and makes no calls but those of the seal. Whatever a crash leaves is the whole file, or has at
+/// most one byte or a first byte other than `M`. As the file is marked as finalized, that is no MDF file.
 ///
 /// # Errors
 /// `Failed` where the disk failed.
@@ -21,6 +21,7 @@ pub fn write_made<C: Disk>(out: &mut C, made: Made) -> Result<Report, ToolFault>
     requires marked { IsFinalized made.bytes }
     ensures ends { WriteEnds made (state_of C.Disk out.old) (state_of C.Disk out.new) result }
     ensures any_moment { Adds (C.story out.old) (C.story out.new) (IsToolImage made.bytes) }
+    ensures calls { IfSome (C.story out.old) (λ _. C.moment out.new ≤ C.moment out.old + (length made.bytes + 4)) }
     ensures asked { C.asked out.new ≡ C.asked out.old }
     ensures attached { C.attached out.new ≡ C.attached out.old }
     ensures moment { C.moment out.old ≤ C.moment out.new }

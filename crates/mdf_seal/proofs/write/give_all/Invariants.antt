@@ -1,5 +1,5 @@
-use Rattle.std.proofs.Common.{◌≡◌, ◌≤◌, take}
-use Rattle.std.specs.Prelude.{is_some}
+use Rattle.std.proofs.Common.{◌≡◌, ◌+◌, ◌-◌, ◌≤◌, length, take}
+use Rattle.std.specs.Prelude.{is_some, IfSome}
 use Rattle.std.specs.List.{concat}
 use Rattle.mdf_disk.specs.Crash.{Adds}
 use Rattle.mdf_seal.specs.Images.{IsClosed}
@@ -14,6 +14,7 @@ invariant-loop-piece g l =
     record {
       seals : Seals l.seal (disk.content l.disk) (disk.story l.disk) (concat (take l.piece-index l.pieces));
       any_moment : Adds (disk.story old) (disk.story l.disk) IsClosed;
+      calls : IfSome (disk.story old) (λ _. disk.moment l.disk ≤ disk.moment old + (length (concat (take l.piece-index l.pieces)) - 1));
       unsynced : synced (disk.story l.disk) ≡ synced (disk.story old);
       later : disk.faults old ≤ disk.faults l.disk;
       asked : disk.asked l.disk ≡ disk.asked old;
