@@ -7,3 +7,4 @@ pub mod Groups
 pub mod Heads
 pub mod Placing
 mod Counts
+mod Past

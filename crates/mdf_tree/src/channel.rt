@@ -1,4 +1,4 @@
-ghost use Rattle.std.specs.Prelude.{◌≡◌, ◌+◌, ◌^◌, ◌<◌, [], ◌∷◌, ◌++◌, length, IfOk, OnOk};
+ghost use Rattle.std.specs.Prelude.{◌≡◌, ◌+◌, ◌^◌, ◌<◌, [], ◌∷◌, ◌++◌, length, IfOk, OnOk, OnErr};
 ghost use Rattle.std.specs.List.{AllByRecursion};
 ghost use Rattle.mdf_tree.specs.Conv.{words_of};
 ghost use Rattle.mdf_tree.specs.Group.{next_if, past_channel, past_channels, written_flags, channel_body, channel_own, channel_parts, channel_blocks, channels_blocks, IsChannelSized};
@@ -59,7 +59,8 @@ fn channel_body(alloc: Global, row: &ChannelRow) -> Result<Bytes, Memory>
 
 /// Where the parts of the channel at block n stand.
 pub(crate) fn channel_places(n: u32, row: &ChannelRow) -> Result<ChannelPlaces, Memory>
-    ensures { IfOk result (λ places. AreChannelPlaces n row.now places) }
+    ensures places { IfOk result (λ places. AreChannelPlaces n row.now places) }
+    ensures past { OnErr result (2 ^ 30 < past_channel n row.now) }
 {
     let name = plus(n, 1)?;
     let source = name + note_count(&row.name);
@@ -79,7 +80,8 @@ pub(crate) fn channel_places(n: u32, row: &ChannelRow) -> Result<ChannelPlaces, 
 /// The block behind the channels from block n on.
 #[tactic(auto, unfolding(crate::specs::Group::past_channels))]
 pub(crate) fn past_channels(n: u32, rows: &[ChannelRow]) -> Result<u32, Memory>
-    ensures { IfOk result (λ past. past ≡ past_channels n rows.now) }
+    ensures behind { IfOk result (λ past. past ≡ past_channels n rows.now) }
+    ensures past { OnErr result (2 ^ 30 < past_channels n rows.now) }
 {
     let mut at = n;
     for row in rows {

@@ -1,4 +1,4 @@
-ghost use Rattle.std.specs.Prelude.{ℕ, ◌≡◌, length, sum_by, IfOk};
+ghost use Rattle.std.specs.Prelude.{ℕ, ◌≡◌, ◌^◌, ◌<◌, length, sum_by, IfOk, OnErr};
 ghost use Rattle.mdf_tree.specs.Count.{ref_count, conv_count};
 ghost use Rattle.mdf_tree.specs.Group.{conv_part};
 
@@ -14,7 +14,8 @@ pub(crate) const LEVELS: u64 = 4;
 #[cycle(count)]
 #[tactic(auto, unfolding(crate::specs::Count::ref_count))]
 pub(crate) fn ref_count(found: &Ref, levels: u64) -> Result<u32, Memory>
-    ensures { IfOk result (λ count. count ≡ ref_count (conv_count levels) found.now) }
+    ensures count { IfOk result (λ count. count ≡ ref_count (conv_count levels) found.now) }
+    ensures past { OnErr result (2 ^ 30 < ref_count (conv_count levels) found.now) }
 {
     match found {
         Ref::Nothing => Ok(0),
@@ -26,7 +27,8 @@ pub(crate) fn ref_count(found: &Ref, levels: u64) -> Result<u32, Memory>
 /// How many blocks references have in all.
 #[cycle(count)]
 fn refs_count(refs: &[Ref], levels: u64) -> Result<u32, Memory>
-    ensures { IfOk result (λ count. count ≡ sum_by (ref_count (conv_count levels)) refs.now) }
+    ensures count { IfOk result (λ count. count ≡ sum_by (ref_count (conv_count levels)) refs.now) }
+    ensures past { OnErr result (2 ^ 30 < sum_by (ref_count (conv_count levels)) refs.now) }
 {
     let mut count = 0;
     for found in refs {
@@ -39,7 +41,8 @@ fn refs_count(refs: &[Ref], levels: u64) -> Result<u32, Memory>
 #[cycle(count)]
 #[tactic(auto, unfolding(crate::specs::Count::conv_count, crate::specs::Count::conv_count_by))]
 fn conv_count(conv: &Conversion, levels: u64) -> Result<u32, Memory>
-    ensures { IfOk result (λ count. count ≡ conv_count levels conv.now) }
+    ensures count { IfOk result (λ count. count ≡ conv_count levels conv.now) }
+    ensures past { OnErr result (2 ^ 30 < conv_count levels conv.now) }
 {
     if levels == 0 {
         return Ok(0);
@@ -51,7 +54,8 @@ fn conv_count(conv: &Conversion, levels: u64) -> Result<u32, Memory>
 /// How many blocks the conversion of a channel has, if there is one.
 #[tactic(auto, unfolding(crate::specs::Group::conv_part))]
 pub(crate) fn conv_part_count(conv: &Option<Conversion>) -> Result<u32, Memory>
-    ensures { IfOk result (λ count. (n : ℕ) → count ≡ length (conv_part n conv.now)) }
+    ensures count { IfOk result (λ count. (n : ℕ) → count ≡ length (conv_part n conv.now)) }
+    ensures past { OnErr result ((n : ℕ) → 2 ^ 30 < length (conv_part n conv.now)) }
 {
     match conv {
         None => Ok(0),

@@ -1,4 +1,4 @@
-ghost use Rattle.std.specs.Prelude.{◌≡◌, ◌+◌, [], ◌∷◌, ◌++◌, length, IfOk, OnOk};
+ghost use Rattle.std.specs.Prelude.{◌≡◌, ◌+◌, ◌^◌, ◌<◌, [], ◌∷◌, ◌++◌, length, IfOk, OnOk, OnErr};
 ghost use Rattle.std.specs.List.{AllByRecursion};
 ghost use Rattle.mdf_tree.specs.Group.{next_if, past_group, past_groups, group_body, group_own, group_values, group_values_behind, group_blocks, IsChannelSized};
 ghost use Rattle.mdf_tree.specs.Places.{AreGroupPlaces, counted_row};
@@ -36,9 +36,10 @@ fn group_body(alloc: Global, row: &GroupRow, counted: Counted) -> Result<Bytes, 
     )
 }
 
-/// Where the parts of the channel group at block n stand.
+/// Where the parts of the channel group at block n stand. It wants memory only where they end past block 2^30.
 pub fn group_places(n: u32, row: &GroupRow) -> Result<GroupPlaces, Memory>
-    ensures { IfOk result (λ places. AreGroupPlaces n row.now places) }
+    ensures places { IfOk result (λ places. AreGroupPlaces n row.now places) }
+    ensures past { OnErr result (2 ^ 30 < past_group n row.now) }
 {
     let name = plus(n, 1)?;
     let source = name + note_count(&row.name);
@@ -53,10 +54,11 @@ pub fn group_places(n: u32, row: &GroupRow) -> Result<GroupPlaces, Memory>
     })
 }
 
-/// The block behind the channel groups from block n on.
+/// The block behind the channel groups from block n on. It wants memory only past block 2^30.
 #[tactic(auto, unfolding(crate::specs::Group::past_groups))]
 pub fn past_groups(n: u32, rows: &[GroupRow]) -> Result<u32, Memory>
-    ensures { IfOk result (λ past. past ≡ past_groups n rows.now) }
+    ensures behind { IfOk result (λ past. past ≡ past_groups n rows.now) }
+    ensures past { OnErr result (2 ^ 30 < past_groups n rows.now) }
 {
     let mut at = n;
     for row in rows {

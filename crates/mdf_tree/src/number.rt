@@ -1,4 +1,4 @@
-ghost use Rattle.std.specs.Prelude.{◌≡◌, ◌+◌, ◌^◌, ◌<◌, ◌≤◌, ◌++◌, length, IfOk, OnOk};
+ghost use Rattle.std.specs.Prelude.{◌≡◌, ◌+◌, ◌^◌, ◌<◌, ◌≤◌, ◌++◌, length, IfOk, OnOk, OnErr};
 ghost use Rattle.std.specs.List.{AllByRecursion};
 ghost use Rattle.mdf_tree.specs.Conv.{words_of};
 ghost use Rattle.mdf_tree.specs.Parts.{joined};
@@ -10,9 +10,10 @@ use std::alloc::Global;
 /// The greatest number of a block that is counted; a tree with more blocks wants memory.
 const MOST: u32 = 1 << 30;
 
-/// The number that the next block gets. It wants memory past 2^30 blocks.
+/// The number that the next block gets. It wants memory past 2^30 blocks, and only there.
 pub fn next_number(draft: &Draft) -> Result<u32, Memory>
-    ensures { IfOk result (λ n. (n ≡ length draft.now) × (n ≤ 2 ^ 30)) }
+    ensures number { IfOk result (λ n. (n ≡ length draft.now) × (n ≤ 2 ^ 30)) }
+    ensures past { OnErr result (2 ^ 30 < length draft.now) }
 {
     let len = draft.len();
     if len > MOST as u64 {
@@ -21,9 +22,10 @@ pub fn next_number(draft: &Draft) -> Result<u32, Memory>
     Ok(len as u32)
 }
 
-/// The sum of two numbers of blocks. It wants memory past 2^30.
+/// The sum of two numbers of blocks. It wants memory past 2^30, and only there.
 pub fn plus(a: u32, b: u32) -> Result<u32, Memory>
-    ensures { IfOk result (λ sum. (sum ≡ a + b) × (sum ≤ 2 ^ 30)) }
+    ensures sum { IfOk result (λ sum. (sum ≡ a + b) × (sum ≤ 2 ^ 30)) }
+    ensures past { OnErr result (2 ^ 30 < a + b) }
 {
     if a > MOST || b > MOST - a {
         return Err(Memory);

@@ -14,7 +14,7 @@ returns c =
     let entries = c.args.history.now ++ c.args.last.now ∷ [] in
     let more = c.args.more in
     let number : c.in_ok-groups.groups ≡ head_groups head entries =
-    omega (arith, c.in_ok-groups.ensures.0, c.in_ok-comment.ensures, c.note_count.ensures.count) in
+    omega (arith, c.in_ok-groups.ensures.sum.0, c.in_ok-comment.ensures, c.note_count.ensures.count) in
     let groups = next_if more (head_groups head entries) in
     let own = c.in_ok-place_header.ensures.ok
     ∙ ap (λ (n : ℕ). w0 ++ header_block n (links.Block 1) c.next_if.result head ∷ []) c.in_ok-comment.ensures

@@ -14,7 +14,7 @@ loop-row-preserved c =
     let front = c.loop-row.numbers.items in
     let cut = rest_is rows k row c.loop-row-test.true c.row-item.is in
     numbers_step c.loop-row.at c.in_ok-at.field-0.past row (drop (k + 1) rows) front c.push.new.self.items
-    c.in_ok-push.ensures.items c.in_ok-at.ensures.past
+    c.in_ok-push.ensures.items c.in_ok-at.ensures.places.past
     ∙ ap (λ (left : List GroupRow). front ++ group_numbers c.loop-row.at left) (sym cut)
     ∙ c.loop-row.invariant
 

@@ -14,7 +14,7 @@ pub returns : goal.returns
 returns c =
     let w = c.args.draft.now in
     let next = next_if c.args.more (length w + 1) in
-    let past : c.in_ok-past.past ≡ length w + 1 = omega (arith, c.in_ok-past.ensures.0, c.in_ok-next_number.ensures.0) in
+    let past : c.in_ok-past.past ≡ length w + 1 = omega (arith, c.in_ok-past.ensures.sum.0, c.in_ok-next_number.ensures.number.0) in
     let named = next ∷ links.Nothing ∷ links.Nothing ∷ links.Nothing ∷ links.Nothing ∷ links.Nothing ∷ [] in
     let are : ◌≡◌ {A = List Link} c.in_ok-links.links.items named = c.in_ok-links.ensures.items ∙ rw (c.next_if.ensures, past) refl in
     on_ok_weaker c.place_linked.result

@@ -10,5 +10,5 @@ returns-clause-placed c =
     let row = c.args.row.now in
     on_ok_weaker c.place_parts.result
     (λ parts. channel_placed w c.place_own.new.draft c.place_parts.new.draft c.in_ok-n.n (next_if c.args.more (past_channel (length w) row))
-    c.args.values row c.in_ok-n.ensures.0 c.in_ok-place_own.ensures.placed parts)
+    c.args.values row c.in_ok-n.ensures.number.0 c.in_ok-place_own.ensures.placed parts)
     c.place_parts.ensures

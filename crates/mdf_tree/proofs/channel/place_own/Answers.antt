@@ -15,7 +15,7 @@ returns-clause-placed c =
     let links : ◌≡◌ {A = List Link} c.in_ok-links.links.items named =
     c.in_ok-links.ensures.items
     ∙ rw (c.next_if.ensures, c.note_link.ensures, c.source_link.ensures, c.conv_link.ensures, c.note_link-2.ensures, c.note_link-3.ensures)
-    (own_links (length w) c.in_ok-n.n c.args.more c.args.values row c.in_ok-at.at c.in_ok-n.ensures.0 c.in_ok-at.ensures) in
+    (own_links (length w) c.in_ok-n.n c.args.more c.args.values row c.in_ok-at.at c.in_ok-n.ensures.number.0 c.in_ok-at.ensures.places) in
     on_ok_weaker c.place_linked.result
     (λ placed. placed ∙ ap (λ (b : Placed). w ++ b ∷ []) (linked_is Cn c.in_ok-links.links.items named c.in_ok-body.body (channel_body row) links c.in_ok-body.ensures.body))
     c.place_linked.ensures.ok

@@ -14,7 +14,7 @@ returns c =
     let inner = conv_blocks c.args.levels in
     let own = conv_own inner (length w) conv in
     let links : ◌≡◌ {A = List Link} c.in_ok-links.links.items own.links =
-    c.in_ok-links.ensures ∙ ap (λ (n : ℕ). conv_links inner n conv) c.in_ok-next_number.ensures.0 in
+    c.in_ok-links.ensures ∙ ap (λ (n : ℕ). conv_links inner n conv) c.in_ok-next_number.ensures.number.0 in
     on_ok_weaker c.place_linked.result
     (λ placed. placed ∙ ap (λ (b : Placed). w ++ b ∷ []) (linked_is Cc c.in_ok-links.links.items own.links c.in_ok-body.body (conv_body conv) links c.in_ok-body.ensures))
     c.place_linked.ensures.ok

@@ -16,7 +16,7 @@ loop-found-preserved c =
     let pushed : c.push.new.self.items ≡ front ++ ref_link c.loop-found.n found ∷ [] =
     c.in_ok-push.ensures.items ∙ ap (λ (link : Link). front ++ link ∷ []) c.ref_link.ensures in
     links_step c.args.levels c.loop-found.n c.in_ok-n.n c.in_ok-ref_count.field-0 found (drop (k + 1) refs) front c.push.new.self.items
-    pushed c.in_ok-n.ensures.0 c.in_ok-ref_count.ensures
+    pushed c.in_ok-n.ensures.sum.0 c.in_ok-ref_count.ensures.count
     ∙ ap (λ (left : List Ref). front ++ refs_links (conv_blocks c.args.levels) c.loop-found.n left) (sym cut)
     ∙ c.loop-found.invariant
 

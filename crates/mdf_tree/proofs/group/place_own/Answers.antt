@@ -17,7 +17,7 @@ returns-clause-placed c =
     let links : ◌≡◌ {A = List Link} c.in_ok-links.links.items own.links =
     c.in_ok-links.ensures.items
     ∙ rw (c.next_if.ensures, c.note_link.ensures, c.source_link.ensures, c.note_link-2.ensures)
-    (group_links (length w) c.in_ok-n.n c.args.more c.next_if-2.result row c.in_ok-at.at c.in_ok-n.ensures.0 c.in_ok-at.ensures first) in
+    (group_links (length w) c.in_ok-n.n c.args.more c.next_if-2.result row c.in_ok-at.at c.in_ok-n.ensures.number.0 c.in_ok-at.ensures.places first) in
     on_ok_weaker c.place_linked.result
     (λ placed. placed
     ∙ ap (λ (b : Placed). w ++ b ∷ []) (linked_is Cg c.in_ok-links.links.items own.links c.in_ok-body.body (group_body (counted_row c.args.counted row)) links c.in_ok-body.ensures.body))

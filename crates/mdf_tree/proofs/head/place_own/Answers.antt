@@ -14,7 +14,7 @@ returns-clause-ok c =
     let entry = c.args.entry.now in
     let own = entry_block (length w) (next_if c.args.more (past_entry (length w) entry)) entry in
     let links : ◌≡◌ {A = List Link} c.in_ok-links.links.items own.links =
-    c.in_ok-links.ensures.items ∙ rw (c.next_if.ensures, c.note_link.ensures, c.note_count.ensures.count, c.in_ok-n.ensures.0) refl in
+    c.in_ok-links.ensures.items ∙ rw (c.next_if.ensures, c.note_link.ensures, c.note_count.ensures.count, c.in_ok-n.ensures.number.0) refl in
     on_ok_weaker c.place_linked.result
     (λ placed. placed ∙ ap (λ (b : Placed). w ++ b ∷ []) (linked_is Fh c.in_ok-links.links.items own.links c.in_ok-body.body (entry_body entry) links c.in_ok-body.ensures))
     c.place_linked.ensures.ok

@@ -19,7 +19,7 @@ returns-clause-placed c =
     let next = next_if c.args.more (past_part (length w0) part) in
     let tree = c.in_ok-place_tree.ensures
     ∙ ap (λ (link : Link). w0 ++ tree_blocks (length w0) link part count)
-    (c.next_if.ensures ∙ ap (next_if c.args.more) (c.in_ok-past.ensures.past ∙ ap (λ (n : ℕ). past_part n part) c.in_ok-next_number.ensures.0)) in
+    (c.next_if.ensures ∙ ap (next_if c.args.more) (c.in_ok-past.ensures.past ∙ ap (λ (n : ℕ). past_part n part) c.in_ok-next_number.ensures.number.0)) in
     let records = c.in_ok-place_linked.ensures.ok ∙ ap (λ (links : List Link). w1 ++ linked Dt links c.args.content ∷ []) c.new.ensures.items in
     on_ok_weaker c.place_values.result
     (λ placed. part_placed w0 w1 w2 c.place_values.new.draft next (record part { content = c.args.content }) count tree records

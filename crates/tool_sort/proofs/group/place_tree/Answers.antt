@@ -13,7 +13,7 @@ returns c =
     on_ok_weaker c.place_own_group.result
     (λ placed. tree_placed c.args.draft.now c.place_own.new.draft w2 c.place_own_group.new.draft c.in_ok-next_number.field-0 c.args.next c.args.part.now c.args.count
     c.in_ok-stream_count.field-0 c.in_ok-values.values.items c.in_ok-places.places
-    c.in_ok-next_number.ensures.0 c.in_ok-places.ensures c.in_ok-stream_count.ensures.0 c.in_ok-values.ensures
+    c.in_ok-next_number.ensures.number.0 c.in_ok-places.ensures c.in_ok-stream_count.ensures.0 c.in_ok-values.ensures
     c.in_ok-place_own.ensures c.in_ok-place_note.ensures.ok
     (placed ∙ ap (λ (given : List Link). w2 ++ groups_blocks (length w2) given (one ∷ [])) c.as_slice.ensures.value))
     c.place_own_group.ensures
