@@ -6,6 +6,7 @@ pub mod Channels
 mod Counted
 pub mod Files
 pub mod Founds
+mod Firsts
 pub mod Fronts
 pub mod Insides
 pub mod Items

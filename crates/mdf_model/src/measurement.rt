@@ -1,13 +1,15 @@
-ghost use Rattle.std.specs.Prelude.{◌≡◌, ◌^◌, ◌<◌, List, [], Some, true, length, slice_index_or, IfOk};
+ghost use Rattle.std.specs.Prelude.{◌≡◌, ◌^◌, ◌<◌, List, [], Some, true, length, slice_index_or, Ok, IfOk, IfErr, IfNone};
 ghost use Rattle.std.specs.List.{AllByRecursion, list_all};
 ghost use Rattle.mdf_content.specs.declared.contents.DataContents.{DataContents};
 ghost use Rattle.mdf_block.specs.Refusal.{GivesOf};
+ghost use Rattle.mdf_head.specs.declared.identity.Ident.{Ident};
 ghost use Rattle.mdf_layout.specs.Layout.{record_size};
 ghost use Rattle.mdf_content.specs.Contents.{AllHaveSamples};
 ghost use Rattle.mdf_content.specs.Fault.{read_refusal};
 ghost use Rattle.mdf_content.specs.Samples.{AreSamples, record_at};
 ghost use Rattle.mdf_model.specs.declared.part.Measure.{Measure};
 ghost use Rattle.mdf_model.specs.Measurement.{HasSamples, is_strict, measured, measurement, sample_of, with_records};
+ghost use Rattle.mdf_model.specs.Tree.{finalized};
 ghost use Rattle.mdf_model.specs.Whole.{whole};
 ghost use Rattle.mdf_model.specs.Left.{AreLeft, HaveSamplesBut, is_left, whole_read};
 
@@ -242,6 +244,7 @@ impl Measurement {
 /// All that is read of a finalized file in memory. The records of its first data group may be left there.
 fn whole_left_of(alloc: Global, bytes: &[u8], wanted: bool) -> Result<Whole, ReadFault>
     ensures exact { GivesOf read_refusal result (whole_read wanted bytes.now) }
+    ensures first { IfErr result (λ fault. IfNone (read_refusal fault) ((id : Ident) × (finalized bytes.now ≡ Ok id))) }
     ensures samples { IfOk result (λ all. HaveSamplesBut (is_left wanted all.tree.rows) all.contents) }
 {
     match whole_left_in(alloc, &mut SliceSpan::new(bytes), wanted) {
@@ -255,6 +258,7 @@ fn whole_left_of(alloc: Global, bytes: &[u8], wanted: bool) -> Result<Whole, Rea
 /// All that is read of a finalized file in memory.
 fn whole_of(alloc: Global, bytes: &[u8]) -> Result<Whole, ReadFault>
     ensures exact { GivesOf read_refusal result (whole bytes.now) }
+    ensures first { IfErr result (λ fault. IfNone (read_refusal fault) ((id : Ident) × (finalized bytes.now ≡ Ok id))) }
     ensures samples { IfOk result (λ all. AllByRecursion AllHaveSamples all.contents) }
 {
     whole_left_of(alloc, bytes, false)
@@ -284,6 +288,7 @@ fn contents_from(
 /// All that is read of a finalized file, which is handed over.
 fn whole_from(alloc: Global, file: Bytes) -> Result<Whole, ReadFault>
     ensures exact { GivesOf read_refusal result (whole file) }
+    ensures first { IfErr result (λ fault. IfNone (read_refusal fault) ((id : Ident) × (finalized file ≡ Ok id))) }
     ensures samples { IfOk result (λ all. AllByRecursion AllHaveSamples all.contents) }
 {
     let Whole {
@@ -312,6 +317,7 @@ fn whole_from(alloc: Global, file: Bytes) -> Result<Whole, ReadFault>
 #[tactic(auto, unfolding(crate::specs::Measurement::measurement))]
 pub fn read_measurement(alloc: Global, bytes: &[u8]) -> Result<Measurement, ReadFault>
     ensures exact { GivesOf read_refusal result (measurement bytes.now) }
+    ensures first { IfErr result (λ fault. IfNone (read_refusal fault) ((id : Ident) × (finalized bytes.now ≡ Ok id))) }
 {
     let all = whole_of(alloc, bytes)?;
     match measured_of(alloc, all) {
@@ -329,6 +335,7 @@ pub fn read_measurement(alloc: Global, bytes: &[u8]) -> Result<Measurement, Read
 #[tactic(auto, unfolding(crate::specs::Measurement::measurement))]
 pub fn take_measurement(alloc: Global, file: Bytes) -> Result<Measurement, ReadFault>
     ensures exact { GivesOf read_refusal result (measurement file) }
+    ensures first { IfErr result (λ fault. IfNone (read_refusal fault) ((id : Ident) × (finalized file ≡ Ok id))) }
 {
     let all = whole_from(alloc, file)?;
     match measured_of(alloc, all) {

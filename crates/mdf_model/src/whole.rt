@@ -1,9 +1,10 @@
 ghost use Rattle.std.specs.Prelude.{◌≡◌, ◌∷◌, ℕ, List, Some, true, IfOk, IfErr};
 ghost use Rattle.std.specs.List.{AllByRecursion};
 ghost use Rattle.mdf_num.specs.Halt.{HaltCause};
-ghost use Rattle.mdf_block.specs.Refusal.{Gives, IsPlain};
+ghost use Rattle.mdf_block.specs.Refusal.{Gives, HidesNone, IsPlain};
 ghost use Rattle.mdf_content.specs.Fault.{read_refusal};
 ghost use Rattle.mdf_content.specs.Contents.{AllHaveSamples};
+ghost use Rattle.mdf_model.specs.Tree.{finalized};
 ghost use Rattle.mdf_model.specs.Whole.{whole};
 ghost use Rattle.mdf_model.specs.Left.{HaveSamplesBut, all_apart, all_read, is_left, whole_read};
 
@@ -147,6 +148,7 @@ pub(crate) fn whole_left_in<P: Span>(
     wanted: bool,
 ) -> Result<Whole, Halt<ReadFault>>
     ensures found { (f : List ℕ) → P.bytes span.old ≡ Some f → Gives read_refusal result (whole_read wanted f) }
+    ensures first { (f : List ℕ) → P.bytes span.old ≡ Some f → HidesNone P.may_want result (finalized f) }
     ensures samples { (f : List ℕ) → P.bytes span.old ≡ Some f → IfOk result (λ all. HaveSamplesBut (is_left wanted all.tree.rows) all.contents) }
     ensures plain { IfErr result (IsPlain read_refusal) }
     ensures same { P.bytes span.new ≡ P.bytes span.old }
@@ -171,6 +173,7 @@ pub(crate) fn whole_left_in<P: Span>(
 /// more than twice as many bytes as the file.
 pub fn whole_in<P: Span>(alloc: Global, span: &mut P) -> Result<Whole, Halt<ReadFault>>
     ensures found { (f : List ℕ) → P.bytes span.old ≡ Some f → Gives read_refusal result (whole f) }
+    ensures first { (f : List ℕ) → P.bytes span.old ≡ Some f → HidesNone P.may_want result (finalized f) }
     ensures samples { (f : List ℕ) → P.bytes span.old ≡ Some f → IfOk result (λ all. AllByRecursion AllHaveSamples all.contents) }
     ensures plain { IfErr result (IsPlain read_refusal) }
     ensures same { P.bytes span.new ≡ P.bytes span.old }

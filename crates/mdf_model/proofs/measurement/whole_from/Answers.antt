@@ -3,6 +3,7 @@ use Rattle.mdf_block.specs.Refusal.{GivesOf}
 use Rattle.mdf_group.specs.declared.row.DataRow.{DataRow}
 use Rattle.mdf_content.specs.Fault.{read_refusal}
 use Rattle.mdf_model.specs.Left.{AreLeft, whole_read}
+use Rattle.mdf_model.proofs.Firsts.{left_first}
 use Rattle.mdf_model.proofs.Lefts.{whole_back, whole_left, whole_refused_of}
 use Rattle.mdf_model.proofs.measurement.whole_from.Goals as goal
 
@@ -26,3 +27,8 @@ returns-in-Ok-clause-exact c =
     let there =
     subst (λ (rows : List DataRow). AreLeft c.args.file rows left.contents all.all.contents) (sym c.as_slice-2.ensures) all.contents in
     all.read ∙ ap Ok (whole_back left all.all c.in-Ok.contents all.left_is (c.in-Ok.ensures.back all.all.contents there))
+
+pub returns-in-Err-clause-first : goal.returns-in-Err-clause-first
+returns-in-Err-clause-first c =
+    let read : whole_read true c.args.file ≡ Ok c.in_ok-ident.field-0 = search rules in
+    left_first true c.args.file c.in_ok-ident.field-0 read

@@ -1,0 +1,5 @@
+use Rattle.mdf_model.proofs.Firsts.{whole_first}
+use Rattle.mdf_model.proofs.measurement.take_measurement.Goals as goal
+
+pub returns-in-Err-clause-first : goal.returns-in-Err-clause-first
+returns-in-Err-clause-first c = whole_first c.args.file c.in_ok-all.all c.in_ok-all.ensures.exact
