@@ -60,4 +60,4 @@ module _ (file : List ℕ) (found : Measured) (read : measurement file ≡ Ok fo
         → GivesText (table_of (get_or found.groups group (item_of found.groups group below))) old new (Err e) → ExportEnds file group old new (Err (fault_of_stop e))
     unfolding measure
     stopped_ends old new stop.Failed gives = (record { measure = measure; is = is_group; front = gives.err }, gives.cause.reason)
-    stopped_ends old new stop.Memory gives = inr (record { measure = measure; is = is_group; front = gives.err })
+    stopped_ends old new stop.Memory gives = inr (record { measure = measure; is = is_group; front = gives.err }, gives.stays)

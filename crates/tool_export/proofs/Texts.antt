@@ -22,21 +22,24 @@ front_longer old new xs rest front =
 
 -- a text behind a text that was given
 pub gives_behind : (xs ys : List ℕ) (old mid new : SinkState) (result : Result Unit Stop)
-    → Appends old.held mid.held xs → old.faults ≤ mid.faults → GivesText ys mid new result → GivesText (xs ++ ys) old new result
-gives_behind xs ys old mid new (Ok done) first later gives = record {
+    → Appends old.held mid.held xs → mid.faults ≡ old.faults → GivesText ys mid new result → GivesText (xs ++ ys) old new result
+gives_behind xs ys old mid new (Ok done) first same gives = record {
   ok = appends_more old.held mid.held new.held xs ys first gives.ok;
   err = tt;
-  cause = record { later = omega (arith, gives.cause.later); reason = tt };
+  cause = record { later = omega (arith, same, gives.cause.later); reason = tt };
+  stays = gives.stays ∙ same;
 }
-gives_behind xs ys old mid new (Err stop.Failed) first later gives = record {
+gives_behind xs ys old mid new (Err stop.Failed) first same gives = record {
   ok = tt;
   err = front_behind old.held mid.held new.held xs ys first gives.err;
-  cause = record { later = omega (arith, gives.cause.later); reason = omega (arith, gives.cause.reason) };
+  cause = record { later = omega (arith, same, gives.cause.later); reason = omega (arith, same, gives.cause.reason) };
+  stays = tt;
 }
-gives_behind xs ys old mid new (Err stop.Memory) first later gives = record {
+gives_behind xs ys old mid new (Err stop.Memory) first same gives = record {
   ok = tt;
   err = front_behind old.held mid.held new.held xs ys first gives.err;
-  cause = record { later = omega (arith, gives.cause.later); reason = tt };
+  cause = record { later = omega (arith, same, gives.cause.later); reason = tt };
+  stays = gives.stays ∙ same;
 }
 
 -- a longer text, of which giving the first part failed
@@ -45,6 +48,7 @@ gives_failed xs rest old new e gives = record {
   ok = tt;
   err = front_longer old.held new.held xs rest gives.err;
   cause = gives.cause;
+  stays = gives.stays;
 }
 
 -- want of memory before the next text is given
@@ -53,6 +57,7 @@ gives_none text old = record {
   ok = tt;
   err = ([], (text, refl), appends_none old.held);
   cause = record { later = omega arith; reason = tt };
+  stays = refl;
 }
 
 -- lines that were given behind others

@@ -30,11 +30,19 @@ abbrev pub fault_of_stop : Stop → ExportFault
 fault_of_stop stop.Failed = export.Failed
 fault_of_stop stop.Memory = export.Memory
 
+-- a count of faults stayed, but where this says that it rose
+abbrev pub StaysUnlessFailed : ℕ → ℕ → Result Unit Stop → Type 0
+StaysUnlessFailed before now (Ok done) = now ≡ before
+StaysUnlessFailed before now (Err stop.Memory) = now ≡ before
+StaysUnlessFailed before now (Err stop.Failed) = Unit {0}
+
 -- A call that gives this text answers so: all of it was given; or the sink failed, or memory was wanted, and a front of it was.
+-- Want of memory stands for no fault of the sink.
 pub record GivesText (text : List ℕ) (old new : SinkState) (result : Result Unit Stop) : Type 0 where
   pub ok : OnOk result (Appends old.held new.held text)
   pub err : OnErr result (AppendsFront old.held new.held text)
   pub cause : StopCause true old.faults new.faults result
+  pub stays : StaysUnlessFailed old.faults new.faults result
 
 -- the group of this number of a file's measurement, counted from 0 over the groups whose records are samples
 pub record IsGroupOf (file : List ℕ) (group : ℕ) (measure : Measure) : Type 0 where
@@ -63,7 +71,7 @@ NamesNone said found _ = ⊥
 
 -- How it ends, by what the sink tells before and after: the table of the group was given, and there are so many samples;
 -- or the file is refused, for its first fault, or has no such group, and nothing was given; or the sink failed; or memory
--- was wanted.
+-- was wanted, and the sink did not fail.
 abbrev pub ExportEnds : List ℕ → ℕ → SinkState → SinkState → Result ℕ ExportFault → Type 0
 ExportEnds file group old new (Ok rows) =
     (measure : Measure) × IsGroupOf file group measure × (rows ≡ measure.count) × Appends old.held new.held (table_of measure)
@@ -71,4 +79,4 @@ ExportEnds file group old new (Err (export.Read fault)) =
     IsSome (read_refusal fault) × Fails (read_refusal fault) (measurement file) × (new ≡ old)
 ExportEnds file group old new (Err (export.NoGroup said groups)) = (said ≡ group) × HasNoGroup file group groups × (new ≡ old)
 ExportEnds file group old new (Err export.Failed) = GaveFront file group old new × Rose old.faults new.faults
-ExportEnds file group old new (Err export.Memory) = (new ≡ old) ⊎ GaveFront file group old new
+ExportEnds file group old new (Err export.Memory) = (new ≡ old) ⊎ (GaveFront file group old new × (new.faults ≡ old.faults))

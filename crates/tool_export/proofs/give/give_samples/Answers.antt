@@ -1,4 +1,4 @@
-use Rattle.std.proofs.Common.{◌≡◌, ◌≤◌, ◌+◌, ℕ, List, ◌++◌, ◌∙◌, ap, arith, append_assoc}
+use Rattle.std.proofs.Common.{◌≡◌, ◌≤◌, ◌+◌, ℕ, List, ◌++◌, refl, ◌∙◌, ap, arith, append_assoc}
 use Rattle.std.proofs.lemmas.Result.{err_from_is_err_and}
 use Rattle.mdf_port.specs.State.{sink_state}
 use Rattle.mdf_port.proofs.Streams.{appends_more, appends_none}
@@ -8,7 +8,7 @@ use Rattle.tool_export.proofs.give.give_samples.Goals as goal
 
 pub loop-index-init : goal.loop-index-init
 unfolding sample_lines
-loop-index-init g c = record { given = appends_none (g.K.Sink.held c.args.sink.now); later = omega arith; within = omega arith }
+loop-index-init g c = record { given = appends_none (g.K.Sink.held c.args.sink.now); stays = refl; within = omega arith }
 
 pub returns-in_default : goal.returns-in_default
 returns-in_default g c =
@@ -17,7 +17,7 @@ returns-in_default g c =
     let i = c.loop-index.index in
     let found = lines_behind sample i count (omega (arith, c.loop-index.invariant.within, c.count-count.ensures)) in
     rw found.1 (gives_behind (sample_lines sample i) found.0 (sink_state g.K.Sink c.args.sink.now) _ _ _ c.loop-index.invariant.given
-    c.loop-index.invariant.later (gives_none found.0 (sink_state g.K.Sink c.loop-index.sink)))
+    c.loop-index.invariant.stays (gives_none found.0 (sink_state g.K.Sink c.loop-index.sink)))
 
 pub returns-in_err-give_text : goal.returns-in_err-give_text
 returns-in_err-give_text g c =
@@ -34,7 +34,7 @@ returns-in_err-give_text g c =
     found.1 ∙ ap (λ (front : List ℕ). front ++ found.0) lines ∙ append_assoc before text found.0 in
     let p = err_from_is_err_and c.from_residual.result c.from_residual.ensures.1 in
     rw (p.1, p.2, whole) (gives_behind before _ (sink_state g.K.Sink c.args.sink.now) _ _ _ c.loop-index.invariant.given
-    c.loop-index.invariant.later (gives_failed text found.0 _ _ _ c.in_err-give_text.ensures))
+    c.loop-index.invariant.stays (gives_failed text found.0 _ _ _ c.in_err-give_text.ensures))
 
 pub loop-index-preserved : goal.loop-index-preserved
 loop-index-preserved g c =
@@ -46,6 +46,6 @@ loop-index-preserved g c =
     record {
       given = rw (lines_given before _ text (sample_lines sample to) c.in-Ok.ensures c.as_slice.ensures.value)
           (appends_more _ _ _ before text c.loop-index.invariant.given c.in_ok-give_text.ensures.ok);
-      later = omega (arith, c.loop-index.invariant.later, c.give_text.ensures.cause.later);
+      stays = c.in_ok-give_text.ensures.stays ∙ c.loop-index.invariant.stays;
       within = omega (arith, c.loop-index.invariant.within, c.count-count.ensures, c.min.ensures);
     }

@@ -13,4 +13,4 @@ pub returns : goal.returns
 returns g c =
     let lines = sample_lines (g.L.SampleList.sample c.args.list.now) (g.L.SampleList.count c.args.list.now) in
     gives_behind (names_line c.args.channels.now) lines _ _ _ _
-    c.in_ok-give_names.ensures.ok c.give_names.ensures.cause.later c.give_samples.ensures
+    c.in_ok-give_names.ensures.ok c.in_ok-give_names.ensures.stays c.give_samples.ensures
