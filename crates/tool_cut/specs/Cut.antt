@@ -1,7 +1,6 @@
 -- How `cut` ends, and what a crash inside it leaves.
 use Rattle.std.specs.Prelude.{ℕ, ℤ, ◌≡◌, ◌⊎◌, List, Result, Ok, Err, IsSome, codes}
 use Rattle.mdf_format.specs.Cause.{Rose}
-use Rattle.mdf_format.specs.Identification.{IsMdf}
 use Rattle.mdf_block.specs.Refusal.{Fails}
 use Rattle.mdf_content.specs.Fault.{read_refusal}
 use Rattle.mdf_disk.specs.State.{DiskState}
@@ -10,6 +9,7 @@ use Rattle.mdf_seal.specs.Seal.{IsKept}
 use Rattle.tool_sort.specs.Kept.{IsSortedOf}
 use Rattle.tool_sort.specs.Made.{report_for}
 use Rattle.tool_sort.specs.Sorted.{sorted_file}
+use Rattle.mdf_tool.specs.Tool.{IsSealed}
 use Rattle.mdf_tool.specs.declared.made.Report.{Report}
 use Rattle.mdf_tool.specs.declared.fault.ToolFault.{ToolFault}
 use Rattle.mdf_tool.specs.declared.fault.ToolFault.TheVariants as tool
@@ -39,6 +39,6 @@ CutEnds file asked old new (Err (tool.Read fault)) = IsSome (read_refusal fault)
 CutEnds file asked old new (Err tool.Failed) = Rose old.faults new.faults
 CutEnds file asked old new (Err tool.Memory) = new ≡ old
 
--- what a crash may leave: no MDF, or that file
+-- what a crash may leave: a file under its seal, or that file
 abbrev pub IsCutImage : List ℕ → Cutting → List ℕ → Type 0
-IsCutImage file asked image = (¬ IsMdf image) ⊎ ((report : Report) × IsCutOf file asked image report)
+IsCutImage file asked image = IsSealed image ⊎ ((report : Report) × IsCutOf file asked image report)

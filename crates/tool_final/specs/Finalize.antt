@@ -1,12 +1,12 @@
 -- How `finalize` ends, and what a crash inside it leaves.
 use Rattle.std.specs.Prelude.{ℕ, ◌≡◌, ◌⊎◌, List, Result, Ok, Err, IsSome}
 use Rattle.mdf_format.specs.Cause.{Rose}
-use Rattle.mdf_format.specs.Identification.{IsMdf}
 use Rattle.mdf_block.specs.Refusal.{Fails}
 use Rattle.mdf_content.specs.Fault.{read_refusal}
 use Rattle.mdf_disk.specs.State.{DiskState}
 use Rattle.mdf_seal.specs.Seal.{IsKept}
 use Rattle.mdf_session.specs.Session.{SessionParts, session}
+use Rattle.mdf_tool.specs.Tool.{IsSealed}
 use Rattle.mdf_tool.specs.declared.made.Report.{Report}
 use Rattle.mdf_tool.specs.declared.fault.ToolFault.{ToolFault}
 use Rattle.mdf_tool.specs.declared.fault.ToolFault.TheVariants as tool
@@ -29,6 +29,6 @@ FinalizeEnds file now old new (Err (tool.Read fault)) = IsSome (read_refusal fau
 FinalizeEnds file now old new (Err tool.Failed) = Rose old.faults new.faults
 FinalizeEnds file now old new (Err tool.Memory) = new ≡ old
 
--- what a crash may leave: no MDF, or the finalized session of the file
+-- what a crash may leave: a file under its seal, or the finalized session of the file
 abbrev pub IsFinalizeImage : List ℕ → ℕ → List ℕ → Type 0
-IsFinalizeImage file now image = (¬ IsMdf image) ⊎ ((report : Report) × IsFinalizedOf file now image report)
+IsFinalizeImage file now image = IsSealed image ⊎ ((report : Report) × IsFinalizedOf file now image report)

@@ -1,7 +1,6 @@
 -- How `sort` ends, and what a crash inside it leaves.
 use Rattle.std.specs.Prelude.{ℕ, ◌≡◌, ◌⊎◌, List, Result, Ok, Err, IsSome, codes}
 use Rattle.mdf_format.specs.Cause.{Rose}
-use Rattle.mdf_format.specs.Identification.{IsMdf}
 use Rattle.mdf_block.specs.Refusal.{Fails}
 use Rattle.mdf_content.specs.Fault.{read_refusal}
 use Rattle.mdf_disk.specs.State.{DiskState}
@@ -10,6 +9,7 @@ use Rattle.mdf_model.specs.Measurement.{Measured, measurement}
 use Rattle.tool_sort.specs.Kept.{IsSortedOf}
 use Rattle.tool_sort.specs.Sorted.{sorted_file}
 use Rattle.tool_sort.specs.Made.{report_for}
+use Rattle.mdf_tool.specs.Tool.{IsSealed}
 use Rattle.mdf_tool.specs.declared.made.Report.{Report}
 use Rattle.mdf_tool.specs.declared.fault.ToolFault.{ToolFault}
 use Rattle.mdf_tool.specs.declared.fault.ToolFault.TheVariants as tool
@@ -31,6 +31,6 @@ SortEnds file now old new (Err (tool.Read fault)) = IsSome (read_refusal fault) 
 SortEnds file now old new (Err tool.Failed) = Rose old.faults new.faults
 SortEnds file now old new (Err tool.Memory) = new ≡ old
 
--- what a crash may leave: no MDF, or the sorted file of the measurement of the file
+-- what a crash may leave: a file under its seal, or the sorted file of the measurement of the file
 abbrev pub IsSortImage : List ℕ → ℕ → List ℕ → Type 0
-IsSortImage file now image = (¬ IsMdf image) ⊎ ((report : Report) × IsSorting file now image report)
+IsSortImage file now image = IsSealed image ⊎ ((report : Report) × IsSorting file now image report)
