@@ -12,13 +12,14 @@ use Rattle.book_owned.specs.Account.{Account}
 use Rattle.book_owned.specs.declared.mark.Mark.{Mark}
 use Rattle.atomic_table.specs.Seated.{TableId}
 use Rattle.book_shared.specs.Basis.{Basis, idle}
-use Rattle.book_shared.specs.Rule.{times_in, AreOwn, AreOld, Runs}
+use Rattle.book_shared.specs.Rule.{asks, total, times_in, AreOwn, AreOld, Runs}
 use Rattle.book_shared.specs.Parts.{joined}
 use Rattle.book_shared.specs.Ends.{Ended}
 use Rattle.book_shared.specs.Place.{Place, own_part, IsSingle}
 use Rattle.book_shared.specs.Seats.{AreOf, HasNumber, Closes}
 use Rattle.book_shared.specs.Covers.{Covers, AreCovered}
 use Rattle.book_shared.specs.declared.view.View.{View}
+use Rattle.book_shared.proofs.Causing.{times_of-append}
 use Rattle.book_shared.proofs.Lists.{counts_first, old_later}
 use Rattle.book_shared.proofs.Ends.{times-append, ends}
 
@@ -101,6 +102,7 @@ pub record Gathered (table : TableId) (seats left : List Place) (whole : View) :
   pub behind : List Place
   pub parts : seats ≡ left ++ behind
   pub covered : AreCovered whole behind
+  pub asked : (n : ℕ) → asks n whole ≡ total (λ (seat : Place). asks n seat.know) behind
 
 one_source : (number : ℕ) (parts : List (ℕ × List Sample)) (samples : List Sample) → parts ≡ (number, samples) ∷ [] → 0 < length parts
 one_source number parts samples is = omega (arith, ap length is)
@@ -114,6 +116,7 @@ gathered_first table seats left seat of_table parts calm single = record {
   behind = seat ∷ [];
   parts = parts;
   covered = (covers_self seat single, tt);
+  asked = λ n. omega arith;
 }
 
 pub gathered_on : (table : TableId) (seats left left' : List Place) (whole : View) (seat : Place) → Gathered table seats left whole → left ≡ left' ++ seat ∷ [] → IsSingle seat.know seat.number
@@ -125,6 +128,7 @@ gathered_on table seats left left' whole seat gathered parts single = record {
   behind = seat ∷ gathered.behind;
   parts = gathered.parts ∙ ap (λ ls. ls ++ gathered.behind) parts ∙ append_assoc left' (seat ∷ []) gathered.behind;
   covered = (covers_new whole seat single, all_covered whole seat.know gathered.behind gathered.covered);
+  asked = λ n. omega (arith, times_of-append n whole.asked seat.know.asked, gathered.asked n);
 }
 
 module _ {D V : Type 0} where

@@ -1,5 +1,5 @@
 -- To cut a seat in two and to join two keep the rule, which holds at the start; and what it says at the end.
-use Rattle.std.proofs.Common.{◌≡◌, ℕ, zero, suc, ◌+◌, ◌%◌, ◌<◌, ◌≤◌, ◌≢◌, Bool, true, false, List, [], ◌∷◌, ◌++◌, length, set, refl, sym, ap, ◌∙◌, subst, ⊎_elim, arith}
+use Rattle.std.proofs.Common.{◌≡◌, ℕ, zero, suc, ◌+◌, ◌%◌, ◌<◌, ◌≤◌, ◌≢◌, Bool, true, false, List, [], ◌∷◌, ◌++◌, length, set, refl, sym, ap, ◌∙◌, subst, ⊎_elim, arith, append-nil, length-append}
 use Rattle.std.specs.Prelude.{◌||◌, nat_lt, nat_le, cond}
 use Rattle.std.specs.Prelude.{Option as Opt, Some}
 use mathlib.Core.Option.{some, some-injective, some-ne-none}
@@ -14,12 +14,14 @@ use Rattle.mdf_layout.specs.declared.sample.Sample.{Sample}
 use Rattle.book_owned.specs.Account.{Account}
 use Rattle.book_owned.specs.declared.mark.Mark.{Mark}
 use Rattle.book_shared.specs.Basis.{Basis, Turn, idle, holding}
-use Rattle.book_shared.specs.Rule.{World, total, times_in, has, holds_turn, AreOwn, AreOld, AreOfSources, Names, Knows, SeatsKnow, Runs}
+use Rattle.book_shared.specs.Rule.{World, total, times_in, asks, has, AskedOf, holds_turn, AreOwn, AreOld, AreOfSources, Names, Knows, SeatsKnow, Runs}
+use Rattle.book_shared.specs.Causes.{MarksCaused}
 use Rattle.book_shared.specs.Parts.{first_part, other_parts, kept_part, split_part, longer, joined, spent}
 use Rattle.book_shared.specs.Fixed.{sources_from, first_view}
 use Rattle.book_shared.specs.Ends.{Ended}
 use Rattle.book_shared.specs.declared.view.View.{View}
 use Rattle.book_shared.proofs.Sums.{total-append, total-set, terms_le}
+use Rattle.book_shared.proofs.Causing.{caused_later, none_asked, times_of-append}
 use Rattle.book_shared.proofs.Lists.{counts_first, old_later, names_none, one_if}
 use Rattle.book_shared.proofs.Keeps.{once_most, one_below}
 
@@ -44,6 +46,10 @@ some_others : (mine : List (ℕ × List Sample)) → 0 < length (other_parts min
 some_others [] some_part = some_part
 some_others (part ∷ parts) some_part = omega arith
 
+first_some : (mine : List (ℕ × List Sample)) → 0 < length mine → 0 < length (first_part mine)
+first_some [] some_part = some_part
+first_some (part ∷ parts) some_part = omega arith
+
 -- both parts know what the whole seat knew
 kept_knows : (basis : Basis) (w : World) (v : View) → v.turn ≡ idle → Knows basis w v → Knows basis w (kept_part v)
 kept_knows basis w v none_held know = record {
@@ -55,6 +61,7 @@ kept_knows basis w v none_held know = record {
   olds = know.olds;
   turn = names_none w (kept_part v) v.turn (ap holds_turn none_held);
   basis_is = λ some_part. know.basis_is (some_first v.mine some_part);
+  asked = λ some_mark. first_some v.mine (know.asked some_mark);
 }
 
 split_knows : (basis : Basis) (w : World) (v : View) → v.turn ≡ idle → Knows basis w v → Knows basis w (split_part v)
@@ -67,6 +74,7 @@ split_knows basis w v none_held know = record {
   olds = tt;
   turn = names_none w (split_part v) v.turn (ap holds_turn none_held);
   basis_is = λ some_part. know.basis_is (some_others v.mine some_part);
+  asked = λ some_mark. absurd (omega (arith, some_mark));
 }
 
 -- the sum over the seats after a cut
@@ -101,6 +109,8 @@ module _ {D V : Type 0} where
           only = run.seats.only;
         };
         slot = run.slot;
+        marks = caused_later (AskedOf s.views) (AskedOf (set s.views id a ++ b ∷ [])) basis.terms.layouts basis.terms.block_limit w.history w.history
+            (λ n is. omega (arith, split_total (asks n) s.views id v a b at (omega arith), is)) (prefix_self w.history) basis.begun w.marks run.marks;
       }
 
 -- of two beginnings of one list the shorter begins the longer
@@ -159,6 +169,7 @@ joined_knows basis w v x none_held some_mine know other = record {
   );
   turn = names_none w (joined v x) v.turn (ap holds_turn none_held);
   basis_is = λ _. know.basis_is some_mine;
+  asked = λ _. omega (arith, length-append v.mine x.mine, some_mine);
 }
 
 -- what is left knows nothing
@@ -172,6 +183,7 @@ spent_knows basis w = record {
   olds = tt;
   turn = tt;
   basis_is = λ some_part. absurd (omega (arith, some_part));
+  asked = λ some_mark. absurd (omega (arith, some_mark));
 }
 
 module _ {D V : Type 0} where
@@ -199,6 +211,9 @@ module _ {D V : Type 0} where
           only = run.seats.only;
         };
         slot = run.slot;
+        marks = caused_later (AskedOf s.views) (AskedOf (set (set s.views id u) other spent)) basis.terms.layouts basis.terms.block_limit w.history w.history
+            (λ n is. omega (arith, joined_total (asks n) s.views id other v x u spent at there (omega (arith, times_of-append n v.asked x.asked)), is))
+            (prefix_self w.history) basis.begun w.marks run.marks;
       }
 
 -- how often a source stands among so many from one on
@@ -238,6 +253,7 @@ first_knows basis w none_yet = record {
   olds = tt;
   turn = tt;
   basis_is = λ _. refl;
+  asked = λ some_mark. absurd (omega (arith, some_mark));
 }
 
 only_one : (P : View → Type 0) (v : View) → P v → (k : ℕ) (x : View) → get_elem? (v ∷ []) k ≡ some x → P x
@@ -245,9 +261,9 @@ only_one P v is zero x there = subst P (some-injective v x there) is
 only_one P v is (suc k) x there = absurd (some-ne-none x (sym there))
 
 module _ {D V : Type 0} where
-  pub opens : (basis : Basis) (book : Account D V) → book.history ≡ [] → book.terms ≡ basis.terms
+  pub opens : (basis : Basis) (book : Account D V) → book.history ≡ [] → book.terms ≡ basis.terms → book.marks ≡ basis.begun
       → Runs basis (opening (0 ∷ []) (Some book ∷ []) (first_view basis))
-  opens basis book none_yet terms =
+  opens basis book none_yet terms marks =
       let w : World = record { word = 0; history = book.history; marks = book.marks; stopped = book.stopped } in record {
         shared = w;
         words = refl;
@@ -261,12 +277,22 @@ module _ {D V : Type 0} where
           here = λ _. record { book = book; homes_are = refl; has_it = record { history = refl; marks = refl; stopped = refl; terms = terms } };
           away = λ (is : 0 ≡ 1). absurd (omega (arith, is));
         };
+        marks = record { more = []; marks_are = marks ∙ sym (append-nil basis.begun); caused = tt };
       }
 
 -- where no term counts the sum is nothing
 total_none : (f : View → ℕ) (views : List View) → ((k : ℕ) (x : View) → get_elem? views k ≡ some x → f x ≡ 0) → total f views ≡ 0
 total_none f [] none_counts = refl
 total_none f (x ∷ xs) none_counts = omega (arith, none_counts 0 x refl, total_none f xs (λ k y at. none_counts (suc k) y at))
+
+-- where only one counts it is that one
+total_one : (f : View → ℕ) (views : List View) (id : ℕ) (v : View) → get_elem? views id ≡ some v → ((k : ℕ) (x : View) → k ≢ id → get_elem? views k ≡ some x → f x ≡ 0)
+    → total f views ≡ f v
+total_one f [] id v at none_counts = absurd (some-ne-none v (sym at))
+total_one f (x ∷ xs) zero v at none_counts =
+    omega (arith, ap f (some-injective x v at), total_none f xs (λ k y there. none_counts (suc k) y (λ is. omega (arith, is)) there))
+total_one f (x ∷ xs) (suc id) v at none_counts =
+    omega (arith, none_counts 0 x (λ is. omega (arith, is)) refl, total_one f xs id v at (λ k y apart there. none_counts (suc k) y (λ is. apart (omega (arith, is))) there))
 
 -- a seat with a source
 source_of : (mine : List (ℕ × List Sample)) → 0 < length mine → (n : ℕ) × (0 < times_in n mine)
@@ -312,4 +338,14 @@ module _ {D V : Type 0} where
         olds = know.olds;
         terms = has_it.terms;
         only = subst (AreOfSources basis) (sym has_it.history) run.seats.only;
+        marks = subst (λ h. MarksCaused (λ n. 0 < asks n v) basis.terms.layouts basis.terms.block_limit h basis.begun home.book.marks) (sym has_it.history)
+            (subst (λ m. MarksCaused (λ n. 0 < asks n v) basis.terms.layouts basis.terms.block_limit w.history basis.begun m) (sym has_it.marks)
+            (caused_later (AskedOf s.views) (λ n. 0 < asks n v) basis.terms.layouts basis.terms.block_limit w.history w.history
+            (λ n is. omega (
+              arith,
+              is,
+              total_one (asks n) s.views id v at (λ k x apart there. none_asked n x.asked
+                  (λ some_mark. others_none basis w s.views run.seats id k v x apart at there all ((run.seats.each k x there).asked some_mark))),
+            ))
+            (prefix_self w.history) basis.begun w.marks run.marks));
       }

@@ -15,10 +15,11 @@ use Rattle.mdf_layout.specs.declared.sample.Sample.{Sample}
 use Rattle.book_owned.specs.Account.{Account}
 use Rattle.book_owned.specs.declared.mark.Mark.{Mark}
 use Rattle.book_shared.specs.Basis.{Basis, Turn, idle, holding}
-use Rattle.book_shared.specs.Rule.{World, total, has, holds_turn, AreOwn, AreOfSources, Names, Knows, TurnsCount, SeatsKnow, Has, AtHome, Runs}
+use Rattle.book_shared.specs.Rule.{World, total, asks, has, AskedOf, holds_turn, AreOwn, AreOfSources, Names, Knows, TurnsCount, SeatsKnow, Has, AtHome, Runs}
 use Rattle.book_shared.specs.Plays.{recount, looked, taking, given, Meets, AreFrom, Returns, Holds, Looks, Wins, Takes, Gives}
 use Rattle.book_shared.specs.declared.view.View.{View}
 use Rattle.book_shared.proofs.Sums.{total-set, term_le, terms_le}
+use Rattle.book_shared.proofs.Causing.{asked_on, caused_later, given_marks}
 use Rattle.book_shared.proofs.Lists.{own_same, own_recount, times_recount, none_of, old_later, names_none, one_if}
 
 -- the turns after a step of one seat
@@ -60,6 +61,7 @@ looked_knows basis w v n is know = record {
   olds = know.olds;
   turn = names_looked w v n is v.turn know.turn;
   basis_is = know.basis_is;
+  asked = know.asked;
 }
 
 -- what a seat with no turn knows is so of a later world with the same history
@@ -74,7 +76,17 @@ knows_on basis w w' x know later history marks stops own calm = record {
   olds = know.olds;
   turn = names_none w' x x.turn calm;
   basis_is = know.basis_is;
+  asked = know.asked;
 }
+
+-- a seat that has sources has them when they are counted anew
+some_counted : (owners : List ℕ) (history : List Sample) (mine : List (ℕ × List Sample)) → 0 < length mine → 0 < length (recount owners history mine)
+some_counted owners history [] some_mine = some_mine
+some_counted owners history (part ∷ parts) some_mine = omega arith
+
+-- no number is less than itself
+least : (n : ℕ) → n ≤ n
+least n = omega arith
 
 -- a table of shared books, and a seat with what it carries
 abbrev Table : Type 0 → Type 0 → Type 0
@@ -132,6 +144,8 @@ module _ {D V : Type 0} where
     seats = seats_moved basis run.shared run.shared s.views id v (looked v n) run.seats at (λ k. refl)
         (looked_knows basis run.shared v n is (run.seats.each id v at)) (λ k x apart there. run.seats.each k x there) run.seats.only;
     slot = run.slot;
+    marks = caused_later (AskedOf s.views) (AskedOf (set s.views id (looked v n))) basis.terms.layouts basis.terms.block_limit run.shared.history run.shared.history
+        (asked_on s.views id v (looked v n) at (λ k. least (asks k v))) (prefix_self run.shared.history) basis.begun run.shared.marks run.marks;
   }
 
   pub looks : (basis : Basis) (slots id : ℕ) (me : Here D V) → Allows (Runs basis) slots id me 0 (λ n. n) (Looks (step slots 0 0 0 none) me)
@@ -158,6 +172,7 @@ module _ {D V : Type 0} where
     olds = know.olds;
     turn = (refl, has_it.history, has_it.marks, has_it.stopped, some_mine);
     basis_is = know.basis_is;
+    asked = know.asked;
   }
 
   -- what a seat knows is so of the book at home
@@ -191,6 +206,8 @@ module _ {D V : Type 0} where
           here = λ is. absurd (omega (arith, is, even));
           away = λ _. ap (λ hs. slice_set hs 0 none) home.homes_are;
         };
+        marks = caused_later (AskedOf s.views) (AskedOf (set s.views id u)) basis.terms.layouts basis.terms.block_limit w.history w.history
+            (asked_on s.views id v u at (λ k. least (asks k v))) (prefix_self w.history) basis.begun w.marks run.marks;
       }
 
   -- what an exchange with an even word owes: what it does to a table, by the word that it finds
@@ -257,9 +274,9 @@ module _ {D V : Type 0} where
   back w book = record { word = w.word + 1; history = book.history; marks = book.marks; stopped = book.stopped }
 
   -- what a seat that gives the book back owes, with the world in place of the names
-  given_knows : (basis : Basis) (w : World) (v : View) (book : Account D V) → v.basis ≡ basis → Knows basis w v → IsPrefix w.history book.history → IsPrefix w.marks book.marks
+  given_knows : (basis : Basis) (w : World) (v : View) (book : Account D V) → v.basis ≡ basis → 0 < length v.mine → Knows basis w v → IsPrefix w.history book.history → IsPrefix w.marks book.marks
       → Knows basis (back w book) (given v (w.word + 1) book)
-  given_knows basis w v book basis_is know history marks = record {
+  given_knows basis w v book basis_is some_mine know history marks = record {
     met = omega arith;
     seen = prefix_self book.history;
     kept = prefix_self book.marks;
@@ -268,14 +285,16 @@ module _ {D V : Type 0} where
     olds = old_later v.seen book.history v.kept book.marks v.olds (prefix_trans v.seen w.history book.history know.seen history) (prefix_trans v.kept w.marks book.marks know.kept marks) know.olds;
     turn = tt;
     basis_is = λ _. basis_is;
+    asked = λ _. some_counted v.basis.owners book.history v.mine some_mine;
   }
 
   -- the table after the store
   given_runs : (basis : Basis) (s : Table D V) (run : Runs basis s) (id : ℕ) (v : View) (book : Account D V) → get_elem? s.views id ≡ some v
-      → holds_turn v.turn ≡ 1 → 0 < length v.mine → run.shared.word ≤ 18446744073709551613 → Returns v run.shared.history run.shared.marks run.shared.stopped book
+      → v.turn ≡ holding run.shared.history run.shared.marks run.shared.stopped → 0 < length v.mine → run.shared.word ≤ 18446744073709551613 → Returns v run.shared.history run.shared.marks run.shared.stopped book
       → Runs basis record { words = slice_set s.words 0 (run.shared.word + 1); homes = slice_set s.homes 0 (some (Some book)); views = slice_set s.views id (given v (run.shared.word + 1) book) }
-  given_runs basis s run id v book at holder some_mine low back_is =
+  given_runs basis s run id v book at turn_is some_mine low back_is =
       let w = run.shared in
+      let holder = ap holds_turn turn_is in
       let u = given v (w.word + 1) book in
       let know = run.seats.each id v at in
       let basis_is = know.basis_is some_mine in
@@ -287,7 +306,7 @@ module _ {D V : Type 0} where
         words = ap (λ ws. slice_set ws 0 (w.word + 1)) run.words;
         turns = turns_moved w.word (w.word + 1) s.views id v u run.turns at (omega (arith, low)) (omega (arith, holder, odd)) (omega (arith, odd));
         seats = seats_moved basis w (back w book) s.views id v u run.seats at (λ k. times_recount v.basis.owners book.history v.mine k)
-            (given_knows basis w v book basis_is know history back_is.marks_go_on)
+            (given_knows basis w v book basis_is some_mine know history back_is.marks_go_on)
             (λ k x apart there. knows_on basis w (back w book) x (run.seats.each k x there) (omega arith) history back_is.marks_go_on back_is.stays
             (subst (λ h. AreOwn basis.owners h x.mine) (sym back_is.history_is) (others_own basis w s.views run.seats id k v x back_is.added apart at there from))
             (omega (arith, terms_le (λ (y : View). holds_turn y.turn) s.views id k v x apart at there, run.turns.held, holder)))
@@ -300,6 +319,7 @@ module _ {D V : Type 0} where
           };
           away = λ is. absurd (omega (arith, is, odd));
         };
+        marks = given_marks basis w s.views id v (w.word + 1) book back_is.added at basis_is turn_is back_is.history_is back_is.makes run.marks;
       }
 
   stores : (basis : Basis) (slots id : ℕ) (v : View) (book : Account D V) → v.met ≤ 18446744073709551613 → Holds v book
@@ -308,13 +328,15 @@ module _ {D V : Type 0} where
       let w = run.shared in
       let know = run.seats.each id v at in
       let names : Names w v (holding has_turn.history has_turn.marks has_turn.stopped) = holder_of w v v.turn _ _ _ has_turn.turn_is know.turn in
+      let turn_is : v.turn ≡ holding w.history w.marks w.stopped = has_turn.turn_is ∙ ap (λ h. holding h has_turn.marks has_turn.stopped) names.1
+      ∙ ap (λ m. holding w.history m has_turn.stopped) names.2 ∙ ap (λ b. holding w.history w.marks b) names.3 in
       let back_is : Returns v w.history w.marks w.stopped book =
       subst (λ h. Returns v h w.marks w.stopped book) names.1 (subst (λ m. Returns v has_turn.history m w.stopped book) names.2 (subst (λ b. Returns v has_turn.history has_turn.marks b book) names.3 has_turn.returns)) in (
         given v (v.met + 1) book,
         gives,
         tt,
         subst (λ k. Runs basis record { words = slice_set s.words 0 (k + 1); homes = slice_set s.homes 0 (some (Some book)); views = slice_set s.views id (given v (k + 1) book) }) (sym names.0)
-            (given_runs basis s run id v book at (ap holds_turn has_turn.turn_is) names.4 (omega (arith, low, names.0)) back_is),
+            (given_runs basis s run id v book at turn_is names.4 (omega (arith, low, names.0)) back_is),
         λ other same. ap (λ (c : List (ℕ × Opt (Account D V))). seat_of (given v (v.met + 1) (book_in c book)) []) same,
       )
 

@@ -1,5 +1,6 @@
 mod Sums
 mod Lists
+pub mod Causing
 mod Keeps
 mod Ends
 mod Serves

@@ -1,5 +1,5 @@
 -- A turn, from the load to the store, and what the seat knows after it.
-use Rattle.std.proofs.Common.{◌≡◌, ℕ, ◌+◌, ◌%◌, ◌<◌, ◌≤◌, Bool, List, [], ◌∷◌, ◌++◌, length, take, drop, fold, refl, sym, ap, ◌∙◌, subst, ⊎_elim, arith, append-nil}
+use Rattle.std.proofs.Common.{◌≡◌, ℕ, ◌+◌, ◌%◌, ◌<◌, ◌≤◌, Bool, List, [], ◌∷◌, ◌++◌, length, take, drop, fold, refl, sym, ap, ◌∙◌, subst, inl, inr, ◌⊎◌, ⊎_elim, arith, append-nil, length-append}
 use Rattle.std.specs.Prelude.{◌==◌, slice_index, slice_get, MatchBool, IsSomeAnd}
 use Rattle.std.specs.Prelude.{Option as Opt, Some}
 use mathlib.Core.Option.{none}
@@ -22,13 +22,14 @@ use Rattle.book_owned.specs.declared.answer.Flush.{Flush}
 use Rattle.book_owned.specs.declared.answer.Flush.TheVariants as flush
 use Rattle.book_shared.specs.Basis.{holding}
 use Rattle.book_shared.specs.Rule.{times_in, AreOwn}
-use Rattle.book_shared.specs.Plays.{recount, looked, given, AreFrom, Holds, Wins, Takes}
+use Rattle.book_shared.specs.Plays.{MakesMark, recount, asked_in, looked, given, AreFrom, Holds, Wins, Takes}
 use Rattle.book_shared.specs.Place.{own_part, IsSingle}
 use Rattle.book_shared.specs.Turns.{Took, Served, Waited, Rests, MayTake, Works}
-use Rattle.book_shared.specs.Told.{Told, Appends, Tries, tried_by, IsNoFault, NeedsNoDisk, Puts, HasMark, FlushTold, Flushes, FlushesAll, IsNoted, Turned, TriesBook}
+use Rattle.book_shared.specs.Told.{Told, Appends, Tries, tried_by, IsNoFault, NeedsNoDisk, Puts, HasMark, FlushTold, Flushes, FlushesAll, Asks, IsNoted, Turned, TriesBook}
 use Rattle.book_shared.specs.declared.answer.Try.{Try}
 use Rattle.book_shared.specs.declared.answer.Try.TheVariants.{Busy, NeedsFlush, Answered}
 use Rattle.book_shared.specs.declared.view.View.{View}
+use Rattle.book_shared.proofs.Causing.{asked_none, asked_once}
 use Rattle.book_shared.proofs.Lists.{counts_first, source_more, own_recount}
 use Rattle.book_shared.proofs.Keeps.{Here, seat_of, holds_book, book_in}
 
@@ -111,6 +112,14 @@ module _ {D V : Type 0} where
         ),
       )
 
+  -- it was a load and an exchange
+  pub steps_now : (v : View) (carried : List (ℕ × Opt (Account D V))) (m n : Here D V) (word found : ℕ) → m ≡ seat_of (looked v word) carried → Takes (step 1 0 word (word + 1) none) m found n
+      → found ≡ word → n.0.steps ≡ v.steps + 2
+  steps_now v carried m n word found is takes same =
+      let both : Takes (step 1 0 word (word + 1) none) (seat_of (looked v word) carried) found n = subst (λ x. Takes (step 1 0 word (word + 1) none) x found n) is takes in
+      let won : Wins (looked v word) (word + 1) n = subst (λ b. MatchBool b (Wins (looked v word) (word + 1) n) (n ≡ seat_of (looked (looked v word) found) carried)) (eq-eqb found word same) both.2 in
+      omega (arith, ap (λ (x : Here D V). x.0.steps) won.1)
+
   -- the turn was taken after some steps that took nothing
   pub took_later : (v u w : View) (book : Account D V) → Waited v u → Took u w book → Took v w book
   took_later v u w book waited took =
@@ -146,8 +155,9 @@ module _ {D V : Type 0} where
   turning v u book = record v { met = u.met; prior = u.prior; steps = u.steps; turns = v.turns + 1; turn = holding book.history book.marks book.stopped; last = holding book.history book.marks book.stopped }
 
   -- the book may go back
-  pub holds_now : (v u : View) (old new : Account D V) (added : List Sample) (number : ℕ) → Took v u old → Steps old new added → Adds v.basis.owners v.mine number added → Holds u new
-  holds_now v u old new added number took steps adds = record {
+  pub holds_now : (v u : View) (old new : Account D V) (added : List Sample) (number : ℕ) → Took v u old → Steps old new added → Adds v.basis.owners v.mine number added
+      → MakesMark old.terms old.history old.marks added new → Holds u new
+  holds_now v u old new added number took steps adds makes = record {
     history = old.history;
     marks = old.marks;
     stopped = old.stopped;
@@ -158,6 +168,7 @@ module _ {D V : Type 0} where
       one = adds.one;
       own = subst (λ (y : View). AreFrom y.basis.owners y.mine added) (sym took.rest) adds.from;
       marks_go_on = steps.marks;
+      makes = subst (λ t. MakesMark t old.history old.marks added new) (took.meets.terms ∙ ap (λ (y : View). y.basis.terms) (sym took.rest)) makes;
       stays = steps.stopped;
       terms = steps.terms ∙ took.meets.terms ∙ ap (λ (y : View). y.basis.terms) (sym took.rest);
     };
@@ -224,6 +235,71 @@ module _ {D V : Type 0} where
         told_append disk view v u word old new sample answer took.meets.terms answers,
       )
 
+module _ {D V N : Type 0} (disk : DiskOf D) (view : ViewOf V N) (old new : Account D V) where
+  -- the mark that an append made, if it made one
+  pub makes_append : (sample : Sample) (answer : Append) → Steps old new (accepted_by answer sample) → AppendAnswers disk view old new sample answer
+      → MakesMark old.terms old.history old.marks (accepted_by answer sample) new
+  makes_append sample (Accepted place) steps is = ⊎_elim
+      (λ fits. inl fits.1)
+      (λ passes. inr (
+        passes.1.0,
+        passes.1.1,
+        inr (record { before = old.history; next = sample; later = []; history_is = steps.history; through_is = passes.1.2; passes = passes.0 }),
+      )) is.4
+  makes_append sample (SessionFull held size limit) steps is = inl (ap (λ (a : Account D V). a.marks) is.1)
+  makes_append sample (Stopped mark) steps is = inl (ap (λ (a : Account D V). a.marks) is.same)
+  makes_append sample (DiskFault before after) steps is = inl is.2
+  makes_append sample Memory steps is = inl (ap (λ (a : Account D V). a.marks) is.1)
+
+  -- a flush, and a try
+  pub makes_flush : (answer : Flush N) → FlushAnswers disk view old new answer → MakesMark old.terms old.history old.marks [] new
+  makes_flush (flush.Done through shown note) is = ⊎_elim (λ same. inl same.0) (λ adds. inr (adds.0, adds.1, inl refl)) is.5
+  makes_flush (flush.DiskFault before after) is = inl is.1
+  makes_flush (flush.Stopped mark) is = inl (ap (λ (a : Account D V). a.marks) is.same)
+
+  makes_try : (sample : Sample) (answer : Try) → Steps old new (tried_by answer sample) → Puts disk view old new sample answer
+      → MakesMark old.terms old.history old.marks (tried_by answer sample) new
+  makes_try sample (Busy word back) steps puts = absurd puts
+  makes_try sample (NeedsFlush held size limit back) steps puts = inl (ap (λ (a : Account D V). a.marks) puts.2)
+  makes_try sample (Answered answer) steps puts = makes_append sample answer steps puts.0
+
+  -- an append made no mark, or accepted a sample
+  quiet_append : (sample : Sample) (answer : Append) → Steps old new (accepted_by answer sample) → AppendAnswers disk view old new sample answer
+      → (new.marks ≡ old.marks) ⊎ (length new.history ≡ length old.history → ⊥)
+  quiet_append sample (Accepted place) steps is = inr (λ same. omega (arith, same, ap length steps.history, length-append old.history (sample ∷ [])))
+  quiet_append sample (SessionFull held size limit) steps is = inl (ap (λ (a : Account D V). a.marks) is.1)
+  quiet_append sample (Stopped mark) steps is = inl (ap (λ (a : Account D V). a.marks) is.same)
+  quiet_append sample (DiskFault before after) steps is = inl is.2
+  quiet_append sample Memory steps is = inl (ap (λ (a : Account D V). a.marks) is.1)
+
+  quiet_try : (sample : Sample) (answer : Try) → Steps old new (tried_by answer sample) → Puts disk view old new sample answer
+      → (new.marks ≡ old.marks) ⊎ (length new.history ≡ length old.history → ⊥)
+  quiet_try sample (Busy word back) steps puts = absurd puts
+  quiet_try sample (NeedsFlush held size limit back) steps puts = inl (ap (λ (a : Account D V). a.marks) puts.2)
+  quiet_try sample (Answered answer) steps puts = quiet_append sample answer steps puts.0
+
+  -- so the seat asked for none
+  module _ (v u x : View) (word : ℕ) (took : Took v u old) (is : x ≡ given u word new) where
+    asked_as : (behind : List ℕ) → asked_in (holding old.history old.marks old.stopped) new ≡ behind → x.asked ≡ v.asked ++ behind
+    asked_as behind made = ap (λ (y : View). y.asked) (after_turn v u x word old new took is) ∙ ap (λ a. v.asked ++ a) made
+
+    unasked : (new.marks ≡ old.marks) ⊎ (length new.history ≡ length old.history → ⊥) → x.asked ≡ v.asked
+    unasked quiet = asked_as [] (asked_none old.history old.marks old.stopped new quiet) ∙ append-nil v.asked
+
+    pub unasked_append : (sample : Sample) (answer : Append) → Steps old new (accepted_by answer sample) → AppendAnswers disk view old new sample answer → x.asked ≡ v.asked
+    unasked_append sample answer steps answers = unasked (quiet_append sample answer steps answers)
+
+    pub unasked_try : (sample : Sample) (answer : Try) → Steps old new (tried_by answer sample) → Puts disk view old new sample answer → x.asked ≡ v.asked
+    unasked_try sample answer steps puts = unasked (quiet_try sample answer steps puts)
+
+    -- and a flush for the one that it made
+    pub asks_now : Steps old new [] → (answer : Flush N) → FlushAnswers disk view old new answer → Asks v x answer
+    asks_now steps (flush.Done through shown note) answers = ⊎_elim
+        (λ same. inl (unasked (inl same.0)))
+        (λ adds. inr (asked_as (through ∷ []) (asked_once old.history old.marks old.stopped new adds.0 (steps.history ∙ append-nil old.history) adds.1 ∙ ap (λ n. n ∷ []) (adds.2 ∙ sym answers.2)))) answers.5
+    asks_now steps (flush.DiskFault before after) answers = unasked (inl answers.1)
+    asks_now steps (flush.Stopped mark) answers = unasked (inl (ap (λ (a : Account D V). a.marks) answers.same))
+
 -- what a try may have added
 adds_try : (owners : List ℕ) (mine : List (ℕ × List Sample)) (sample : Sample) (answer : Try) → mine ≡ (slice_index owners sample.group, own_part mine) ∷ []
     → Adds owners mine (slice_index owners sample.group) (tried_by answer sample)
@@ -250,12 +326,13 @@ full_sizes first second sample behind history held size limit same is =
     subst (λ (t : Terms). (held ≡ history_size t.layouts behind) × (size ≡ encoded_size t.layouts sample) × (limit ≡ t.block_limit) × (limit < held + size) × (history_cost t.layouts history + cost_of t.layouts sample ≤ t.session_limit)) same
     (is.0, is.1, is.2, sum, is.4)
 
-module _ {D V : Type 0} where
+module _ {D V N : Type 0} (disk : DiskOf D) (view : ViewOf V N) where
   -- the book of a try may go back
   pub holds_try : (v u : View) (old new : Account D V) (sample : Sample) (answer : Try) → Took v u old → Steps old new (tried_by answer sample)
-      → IsSingle v (slice_index v.basis.owners sample.group) → Holds u new
-  holds_try v u old new sample answer took steps single =
+      → IsSingle v (slice_index v.basis.owners sample.group) → Puts disk view old new sample answer → Holds u new
+  holds_try v u old new sample answer took steps single puts =
       holds_now v u old new (tried_by answer sample) (slice_index v.basis.owners sample.group) took steps (adds_try v.basis.owners v.mine sample answer single)
+      (makes_try disk view old new sample answer steps puts)
 
 module _ {D V N : Type 0} (disk : DiskOf D) (view : ViewOf V N) where
   tries_given : (v u : View) (word : ℕ) (old new : Account D V) (sample : Sample) (answer : Try) → Took v u old → Steps old new (tried_by answer sample)

@@ -8,7 +8,7 @@ use Rattle.book_shared.specs.declared.view.View.{View}
 use Rattle.book_shared.specs.declared.fixed.Fixed.{Fixed}
 
 abbrev pub basis_of : {D V : Type 0} → Fixed (Account D V) → Basis
-basis_of fixed = record { owners = fixed.owners; sources = fixed.sources; terms = fixed.book.value.terms }
+basis_of fixed = record { owners = fixed.owners; sources = fixed.sources; terms = fixed.book.value.terms; begun = fixed.book.value.marks }
 
 -- so many sources from this one on, with no sample yet
 abbrev pub sources_from : ℕ → ℕ → List (ℕ × List Sample)

@@ -1,4 +1,5 @@
 pub mod Basis
+pub mod Causes
 pub mod Rule
 pub mod Plays
 pub mod Parts

@@ -19,7 +19,7 @@ abbrev pub kept_part : View → View
 kept_part v = record v { mine = first_part v.mine }
 
 abbrev pub split_part : View → View
-split_part v = record v { steps = 0; turns = 0; olds = []; mine = other_parts v.mine }
+split_part v = record v { steps = 0; turns = 0; olds = []; asked = []; mine = other_parts v.mine }
 
 -- the longer of two lists
 abbrev pub longer : {A : Type 0} → List A → List A → List A
@@ -36,6 +36,7 @@ joined v w = record {
   seen = longer v.seen w.seen;
   kept = longer v.kept w.kept;
   olds = (v.seen, v.kept) ∷ (w.seen, w.kept) ∷ (v.olds ++ w.olds);
+  asked = v.asked ++ w.asked;
   mine = v.mine ++ w.mine;
   turn = v.turn;
   last = v.last;
@@ -48,6 +49,7 @@ nothing = record {
   owners = [];
   sources = 0;
   terms = record { layouts = []; block_limit = 0; session_limit = 0; which = 0; head = []; start = 0; faults = 0; told = false; asked = None };
+  begun = [];
 }
 
 abbrev pub spent : View

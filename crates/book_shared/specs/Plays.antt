@@ -1,13 +1,15 @@
 -- The steps of a seat, and what each leaves it with.
-use Rattle.std.specs.Prelude.{ℕ, ◌≡◌, ◌+◌, ◌<◌, ◌≤◌, ◌==◌, Bool, true, false, List, [], ◌∷◌, ◌++◌, length, map, slice_index, MatchBool}
+use Rattle.std.specs.Prelude.{ℕ, ◌≡◌, ◌+◌, ◌<◌, ◌≤◌, ◌==◌, ◌⊎◌, Bool, true, false, cond, List, [], ◌∷◌, ◌++◌, length, drop, map, slice_index, MatchBool}
 use Rattle.std.specs.Prelude.{Option as Opt, Some}
 use mathlib.Core.List.{IsPrefix}
 use Rattle.atomic_table.specs.Table.{Me, Step}
 use Rattle.mdf_layout.specs.History.{source_samples}
 use Rattle.mdf_layout.specs.declared.sample.Sample.{Sample}
-use Rattle.book_owned.specs.Account.{Account}
+use Rattle.book_owned.specs.Account.{Account, Terms}
+use Rattle.book_owned.specs.Marks.{durable}
 use Rattle.book_owned.specs.declared.mark.Mark.{Mark}
-use Rattle.book_shared.specs.Basis.{Basis, idle, holding}
+use Rattle.book_shared.specs.Basis.{Basis, Turn, idle, holding}
+use Rattle.book_shared.specs.Causes.{HandsOver}
 use Rattle.book_shared.specs.Rule.{AreOwn, AreOld, times_in}
 use Rattle.book_shared.specs.declared.view.View.{View}
 
@@ -30,6 +32,11 @@ taking v word book = record v {
   last = holding book.history book.marks book.stopped;
 }
 
+-- through how many samples the marks go that a turn made, where it accepted no sample
+abbrev pub asked_in : {D V : Type 0} → Turn → Account D V → List ℕ
+asked_in idle book = []
+asked_in (holding history marks stopped) book = cond (length book.history == length history) (map (λ mark. mark.through) (drop (length marks) book.marks)) []
+
 -- after one that gave the book back, and made the word this one
 abbrev pub given : {D V : Type 0} → View → ℕ → Account D V → View
 given v word book = record v {
@@ -37,6 +44,7 @@ given v word book = record v {
   knows = book.stopped;
   seen = book.history;
   kept = book.marks;
+  asked = v.asked ++ asked_in v.turn book;
   mine = recount v.basis.owners book.history v.mine;
   turn = idle;
 }
@@ -54,6 +62,13 @@ abbrev pub AreFrom : List ℕ → List (ℕ × List Sample) → List Sample → 
 AreFrom owners mine [] = Unit {0}
 AreFrom owners mine (sample ∷ samples) = (0 < times_in (slice_index owners sample.group) mine) × AreFrom owners mine samples
 
+-- a turn made no mark, or one through all samples that it found: then it accepted none, or its sample would have passed the
+-- block limit
+abbrev pub MakesMark : {D V : Type 0} → Terms → List Sample → List Mark → List Sample → Account D V → Type 0
+MakesMark terms history marks added book =
+    (book.marks ≡ marks)
+    ⊎ ((mark : Mark) × (book.marks ≡ marks ++ mark ∷ []) × ((added ≡ []) ⊎ HandsOver terms.layouts terms.block_limit book.history (durable marks) mark.through))
+
 -- A book that had this history, these marks and this stop comes back: it has at most one sample more, which is of a source
 -- of the seat, the marks go on, and a stopped book stays so.
 pub record Returns {D V : Type 0} (v : View) (history : List Sample) (marks : List Mark) (stopped : Bool) (book : Account D V) : Type 0 where
@@ -62,6 +77,7 @@ pub record Returns {D V : Type 0} (v : View) (history : List Sample) (marks : Li
   pub one : length added ≤ 1
   pub own : AreFrom v.basis.owners v.mine added
   pub marks_go_on : IsPrefix marks book.marks
+  pub makes : MakesMark v.basis.terms history marks added book
   pub stays : stopped ≡ true → book.stopped ≡ true
   pub terms : book.terms ≡ v.basis.terms
 
@@ -101,6 +117,7 @@ fresh basis mine = record {
   seen = [];
   kept = [];
   olds = [];
+  asked = [];
   mine = mine;
   turn = idle;
   last = idle;

@@ -10,6 +10,7 @@ use Rattle.mdf_layout.specs.declared.sample.Sample.{Sample}
 use Rattle.book_owned.specs.Account.{Account}
 use Rattle.book_owned.specs.declared.mark.Mark.{Mark}
 use Rattle.book_shared.specs.Basis.{Basis, Turn, idle, holding}
+use Rattle.book_shared.specs.Causes.{MarksCaused, times_of}
 use Rattle.book_shared.specs.declared.view.View.{View}
 
 -- what the seats share: the turn word, and the history, the marks and the stop of the book when it was last given back
@@ -31,6 +32,10 @@ times_in n (part ∷ parts) = cond (part.0 == n) 1 0 + times_in n parts
 
 abbrev pub has : ℕ → View → ℕ
 has n v = times_in n v.mine
+
+-- how often it asked for a mark through so many samples
+abbrev pub asks : ℕ → View → ℕ
+asks n v = times_of n v.asked
 
 -- 1 where a turn holds the book
 abbrev pub holds_turn : Turn → ℕ
@@ -63,6 +68,7 @@ pub record Knows (basis : Basis) (w : World) (v : View) : Type 0 where
   pub olds : AreOld v.seen v.kept v.olds
   pub turn : Names w v v.turn
   pub basis_is : 0 < length v.mine → v.basis ≡ basis
+  pub asked : 0 < length v.asked → 0 < length v.mine
 
 -- Of the word: it counts the takings and the givings, so it is odd just while one seat holds the book.
 pub record TurnsCount (word : ℕ) (views : List View) : Type 0 where
@@ -79,6 +85,10 @@ pub record SeatsKnow (basis : Basis) (w : World) (views : List View) : Type 0 wh
   pub once : (n : ℕ) → total (has n) views ≡ cond (nat_lt n basis.sources) 1 0
   pub each : (j : ℕ) (v : View) → get_elem? views j ≡ some v → Knows basis w v
   pub only : AreOfSources basis w.history
+
+-- one of the seats asked for a mark through so many samples
+abbrev pub AskedOf : List View → ℕ → Type 0
+AskedOf views n = 0 < total (asks n) views
 
 -- the book has this history, these marks and this stop, and its terms are those
 pub record Has {D V : Type 0} (basis : Basis) (w : World) (book : Account D V) : Type 0 where
@@ -105,3 +115,4 @@ pub record Runs {D V : Type 0} (basis : Basis) (s : State (Opt (Account D V)) Vi
   pub turns : TurnsCount shared.word s.views
   pub seats : SeatsKnow basis shared s.views
   pub slot : SlotHolds basis shared s.homes
+  pub marks : MarksCaused (AskedOf s.views) basis.terms.layouts basis.terms.block_limit shared.history basis.begun shared.marks

@@ -1,5 +1,5 @@
 -- The seats of a shared book at its beginning, and what is so of the book when it is closed.
-use Rattle.std.specs.Prelude.{ℕ, zero, suc, ◌≡◌, ◌⊎◌, true, List, [], ◌∷◌, slice_index}
+use Rattle.std.specs.Prelude.{ℕ, zero, suc, ◌≡◌, ◌<◌, ◌⊎◌, true, List, [], ◌∷◌, slice_index}
 use mathlib.Core.List.{IsPrefix}
 use Rattle.atomic_table.specs.Seated.{TableId}
 use Rattle.mdf_layout.specs.History.{source_samples}
@@ -7,6 +7,7 @@ use Rattle.book_owned.specs.Account.{Account, Terms}
 use Rattle.book_shared.specs.Basis.{Basis}
 use Rattle.book_shared.specs.Plays.{fresh}
 use Rattle.book_shared.specs.Place.{Common, Place, own_part}
+use Rattle.book_shared.specs.Rule.{asks, total}
 
 -- a seat that has seen nothing
 abbrev pub new_seat : TableId → Basis → ℕ → Place
@@ -32,6 +33,10 @@ AreOf table (seat ∷ seats) = (seat.table ≡ table) × AreOf table seats
 abbrev pub HasNumber : ℕ → List Place → Type 0
 HasNumber number [] = ⊥
 HasNumber number (seat ∷ seats) = (seat.number ≡ number) ⊎ HasNumber number seats
+
+-- one of the seats asked for a mark through so many samples
+abbrev pub AskedBy : List Place → ℕ → Type 0
+AskedBy seats n = 0 < total (λ seat. asks n seat.know) seats
 
 -- The one history begins with what the seat had seen, and the marks with those that it had kept; the book is stopped where
 -- the seat knows so; and the seat's samples are all that the history has of its source.

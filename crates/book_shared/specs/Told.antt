@@ -1,5 +1,5 @@
 -- The answers of a shared book, in terms of what the seat knows after the call.
-use Rattle.std.specs.Prelude.{ℕ, ◌≡◌, ◌+◌, ◌<◌, ◌≤◌, true, false, List, [], ◌∷◌, ◌++◌, length, take, drop}
+use Rattle.std.specs.Prelude.{ℕ, ◌≡◌, ◌+◌, ◌<◌, ◌≤◌, ◌⊎◌, true, false, List, [], ◌∷◌, ◌++◌, length, take, drop}
 use Rattle.mdf_format.specs.Cause.{Rose}
 use Rattle.mdf_disk.specs.declared.disk.Disk.{Ghosts as DiskOf}
 use Rattle.mdf_layout.specs.Record.{cost_of, encoded_size, history_cost, history_size}
@@ -114,6 +114,12 @@ abbrev pub FlushesAll : {N : Type 0} → View → Flush N → Type 0
 FlushesAll u (flush.Done through shown note) = through ≡ length u.seen
 FlushesAll u (flush.DiskFault before after) = Unit {0}
 FlushesAll u (flush.Stopped mark) = Unit {0}
+
+-- where it made a mark, the seat asked for that one
+abbrev pub Asks : {N : Type 0} → View → View → Flush N → Type 0
+Asks v u (flush.Done through shown note) = (u.asked ≡ v.asked) ⊎ (u.asked ≡ v.asked ++ through ∷ [])
+Asks v u (flush.DiskFault before after) = u.asked ≡ v.asked
+Asks v u (flush.Stopped mark) = u.asked ≡ v.asked
 
 -- its note tells of the samples that are shown
 abbrev pub IsNoted : {V N : Type 0} → ViewOf V N → View → Flush N → Type 0

@@ -7,8 +7,9 @@ ghost use Rattle.book_owned.specs.Account.{Account};
 ghost use Rattle.book_shared.specs.Basis.{idle};
 ghost use Rattle.book_shared.specs.Covers.{AreCovered};
 ghost use Rattle.book_shared.specs.Place.{IsSingle};
-ghost use Rattle.book_shared.specs.Rule.{AreOfSources};
-ghost use Rattle.book_shared.specs.Seats.{AreOf, HasNumber, Closes};
+ghost use Rattle.book_shared.specs.Causes.{MarksCaused};
+ghost use Rattle.book_shared.specs.Rule.{AreOfSources, asks, total};
+ghost use Rattle.book_shared.specs.Seats.{AreOf, AskedBy, HasNumber, Closes};
 
 use crate::rule::Both;
 use crate::seat::{Chair, SourceSeat};
@@ -41,6 +42,7 @@ fn gather<D: Disk, V: Shown>(book: &SharedBook<D, V>, mut seats: Vec<SourceSeat>
     ensures free { result.me.1 ≡ [] }
     ensures calm { result.me.0.turn ≡ idle }
     ensures covers { AreCovered result.me.0 seats.items }
+    ensures asked { (n : ℕ) → asks n result.me.0 ≡ total (λ seat. asks n seat.know) seats.items }
 {
     let mut whole = match seats.pop() {
         Some(seat) => chair_of(seat),
@@ -78,6 +80,7 @@ impl<D: Disk, V: Shown> SharedBook<D, V> {
         ensures terms { result.terms ≡ self.basis.terms }
         ensures seats { Closes self.basis result seats.items }
         ensures sources { AreOfSources self.basis result.history }
+        ensures marks { MarksCaused (AskedBy seats.items) self.basis.terms.layouts self.basis.terms.block_limit result.history self.basis.begun result.marks }
     {
         let whole = gather(&self, seats);
         let SharedBook { table, flushes: _ } = self;

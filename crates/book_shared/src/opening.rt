@@ -91,6 +91,7 @@ impl<D: Disk, V: Shown> SharedBook<D, V> {
         requires sources { (0 < sources) × (sources ≤ 16) }
         requires owners { length owners.now ≤ 64 }
         ensures shared { IfOk result (λ begun. HasShared owners.now sources book.terms begun.0) }
+        ensures marks { IfOk result (λ begun. begun.0.basis.begun ≡ book.marks) }
         ensures seats { IfOk result (λ begun. begun.1.items ≡ new_seats begun.0.table begun.0.basis 0 sources) }
         ensures back { IfErr result (λ refused. refused.1 ≡ book) }
     {

@@ -10,7 +10,7 @@ ghost use Rattle.book_shared.specs.Basis.{idle};
 ghost use Rattle.book_shared.specs.Plays.{looked, given, Holds, Takes};
 ghost use Rattle.book_shared.specs.Place.{IsSingle};
 ghost use Rattle.book_shared.specs.Turns.{Took, IsBusy, Rests, MayTake, Works};
-ghost use Rattle.book_shared.specs.Told.{Appends, Tries, Puts, tried_by, Flushes, FlushesAll, IsNoted, AppendsBook, TriesBook, FlushesBook};
+ghost use Rattle.book_shared.specs.Told.{Appends, Tries, Puts, tried_by, Flushes, FlushesAll, HadTurn, Asks, IsNoted, AppendsBook, TriesBook, FlushesBook};
 
 use crate::Try;
 use crate::fixed::Fixed;
@@ -128,6 +128,7 @@ impl<D: Disk, V: Shown> SharedBook<D, V> {
         ensures table { seat.new.table_id ≡ seat.old.table_id }
         ensures took { IfOk result (λ word. (word ≡ seat.new.me.0.met)
             × ((book : Account D V) × (seat.new.me.1 ≡ (0, Some book) ∷ []) × Took seat.old.me.0 seat.new.me.0 book)) }
+        ensures steps { IfOk result (λ _. seat.new.me.0.steps ≡ seat.old.me.0.steps + 2) }
         ensures busy { IfErr result (λ word. (seat.new.me.1 ≡ []) × IsBusy seat.old.me.0 seat.new.me.0 word) }
     {
         let word = self.look(seat);
@@ -240,6 +241,7 @@ impl<D: Disk, V: Shown> SharedBook<D, V> {
         ensures free { seat.new.me.1 ≡ [] }
         ensures rests { Rests seat.old.me.0 seat.new.me.0 }
         ensures appends { Appends seat.old.me.0 seat.new.me.0 sample result }
+        ensures asked { seat.new.me.0.asked ≡ seat.old.me.0.asked }
         ensures book { AppendsBook D.Disk V.Shown seat.new.me.0 sample result }
     {
         let word = self.seize(rt, seat);
@@ -258,6 +260,7 @@ impl<D: Disk, V: Shown> SharedBook<D, V> {
         ensures rests { Rests seat.old.me.0 seat.new.me.0 }
         ensures flushes { Flushes seat.old.me.0 seat.new.me.0 result }
         ensures all { FlushesAll seat.new.me.0 result }
+        ensures asked { Asks seat.old.me.0 seat.new.me.0 result }
         ensures noted { IsNoted V.Shown seat.new.me.0 result }
         ensures book { FlushesBook D.Disk V.Shown seat.new.me.0 result }
     {
@@ -280,6 +283,8 @@ impl<D: Disk, V: Shown> SharedBook<D, V> {
         ensures free { seat.new.me.1 ≡ [] }
         ensures rests { Rests seat.old.me.0 seat.new.me.0 }
         ensures tries { Tries seat.old.me.0 seat.new.me.0 sample result }
+        ensures steps { HadTurn result → seat.new.me.0.steps ≡ seat.old.me.0.steps + 2 }
+        ensures asked { seat.new.me.0.asked ≡ seat.old.me.0.asked }
         ensures book { TriesBook D.Disk V.Shown seat.new.me.0 sample result }
     {
         match self.try_take(seat) {
@@ -306,6 +311,7 @@ impl<D: Disk, V: Shown> SharedBook<D, V> {
         requires size { encoded_size seat.old.know.basis.terms.layouts sample ≤ seat.old.know.basis.terms.block_limit }
         ensures seat { (seat.new.table ≡ seat.old.table) × (seat.new.number ≡ seat.old.number) × (seat.new.know.basis ≡ seat.old.know.basis) × IsSingle seat.new.know seat.new.number }
         ensures appends { Appends seat.old.know seat.new.know sample result }
+        ensures asked { seat.new.know.asked ≡ seat.old.know.asked }
         ensures book { AppendsBook D.Disk V.Shown seat.new.know sample result }
     {
         let mut chair = mem::replace(&mut seat.badge, Badge::blank()).into_seat();
@@ -323,6 +329,8 @@ impl<D: Disk, V: Shown> SharedBook<D, V> {
         requires size { encoded_size seat.old.know.basis.terms.layouts sample ≤ seat.old.know.basis.terms.block_limit }
         ensures seat { (seat.new.table ≡ seat.old.table) × (seat.new.number ≡ seat.old.number) × (seat.new.know.basis ≡ seat.old.know.basis) × IsSingle seat.new.know seat.new.number }
         ensures tries { Tries seat.old.know seat.new.know sample result }
+        ensures steps { HadTurn result → seat.new.know.steps ≡ seat.old.know.steps + 2 }
+        ensures asked { seat.new.know.asked ≡ seat.old.know.asked }
         ensures book { TriesBook D.Disk V.Shown seat.new.know sample result }
     {
         let mut chair = mem::replace(&mut seat.badge, Badge::blank()).into_seat();
@@ -338,6 +346,7 @@ impl<D: Disk, V: Shown> SharedBook<D, V> {
         ensures seat { (seat.new.table ≡ seat.old.table) × (seat.new.number ≡ seat.old.number) × (seat.new.know.basis ≡ seat.old.know.basis) × IsSingle seat.new.know seat.new.number }
         ensures flushes { Flushes seat.old.know seat.new.know result }
         ensures all { FlushesAll seat.new.know result }
+        ensures asked { Asks seat.old.know seat.new.know result }
         ensures noted { IsNoted V.Shown seat.new.know result }
         ensures book { FlushesBook D.Disk V.Shown seat.new.know result }
     {

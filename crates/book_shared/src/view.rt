@@ -25,6 +25,8 @@ pub struct View {
     pub ghost kept: { List Mark },
     /// What the seats knew that were joined into this one: their histories and marks.
     pub ghost olds: { List (List Sample × List Mark) },
+    /// Through how many samples the marks go that its turns made which accepted no sample.
+    pub ghost asked: { List ℕ },
     /// The numbers of the sources that are the seat's, each with the samples of that source that were accepted.
     pub ghost mine: { List (ℕ × List Sample) },
     /// What the seat holds.

@@ -14,7 +14,8 @@ new-requires g c =
     let fixed : Fixed (Account g.row.D.Denot g.row.V.Denot) = record { book = c.of.result; owners = c.table_of.result; sources = c.args.sources } in
     subst (λ (slots : List (Option (Account g.row.D.Denot g.row.V.Denot))). Runs (basis_of fixed) (opening (0 ∷ []) slots (first_view (basis_of fixed))))
     (sym (in_slot _ _ c.args.book c.in-Ok-with_capacity.ensures.items c.push_reserved.ensures.items))
-    (opens (basis_of fixed) c.args.book c.requires.fresh (sym (ap (λ (a : Account g.row.D.Denot g.row.V.Denot). a.terms) c.of.ensures)))
+    (opens (basis_of fixed) c.args.book c.requires.fresh (sym (ap (λ (a : Account g.row.D.Denot g.row.V.Denot). a.terms) c.of.ensures))
+    (sym (ap (λ (a : Account g.row.D.Denot g.row.V.Denot). a.marks) c.of.ensures)))
 
 pub handed_back-requires : goal.handed_back-requires
 handed_back-requires g c =
@@ -28,3 +29,7 @@ returns-in-Ok-new-clause-shared g c =
       terms_are = ap (λ (k : Fixed (Account g.row.D.Denot g.row.V.Denot)). k.book.value.terms) key
           ∙ ap (λ (a : Account g.row.D.Denot g.row.V.Denot). a.terms) c.of.ensures;
     }
+
+pub returns-in-Ok-new-clause-marks : goal.returns-in-Ok-new-clause-marks
+returns-in-Ok-new-clause-marks g c =
+    ap (λ (k : Fixed (Account g.row.D.Denot g.row.V.Denot)). k.book.value.marks) c.in-Ok-new.ensures.ok.5 ∙ ap (λ (a : Account g.row.D.Denot g.row.V.Denot). a.marks) c.of.ensures

@@ -1,10 +1,13 @@
-use Rattle.std.proofs.Common.{◌≡◌, ◌<◌, subst, ap, ◌∙◌}
+use Rattle.std.proofs.Common.{◌≡◌, ◌<◌, subst, ap, ◌∙◌, arith}
 use Rattle.std.specs.Mem.Slots.{slots_items}
 use Rattle.book_owned.specs.Account.{Account}
 use Rattle.book_shared.specs.Fixed.{basis_of}
 use Rattle.book_shared.specs.Place.{Common}
-use Rattle.book_shared.specs.Rule.{AreOfSources}
-use Rattle.book_shared.specs.Seats.{Closes}
+use Rattle.book_shared.specs.Rule.{asks, AreOfSources}
+use Rattle.book_shared.specs.Causes.{MarksCaused}
+use Rattle.book_shared.specs.Seats.{AskedBy, Closes}
+use Rattle.mdf_gate.proofs.Carrying.{prefix_self}
+use Rattle.book_shared.proofs.Causing.{caused_later}
 use Rattle.book_shared.proofs.Covering.{finished, some_seat, closes, same_book}
 use Rattle.book_shared.proofs.shared.SharedBook.close.Goals as goal
 
@@ -50,6 +53,21 @@ returns-clause-sources g c =
     (λ number less. c.requires.all number (subst (λ (b : Common). number < b.basis.sources) c.self.view_is less)) c.close_with.ensures.values.2 in
     subst (λ (b : Common). AreOfSources b.basis c.book_of.result.history) c.self.view_is
     (subst (λ (a : Account g.row.D.Denot g.row.V.Denot). AreOfSources basis a.history) (same_book slots ended.book c.book_of.result ended.slot_is c.book_of.ensures) ended.only)
+
+pub returns-clause-marks : goal.returns-clause-marks
+returns-clause-marks g c =
+    let basis = basis_of c.self.inside.table.shared.key in
+    let whole = c.gather-whole.result.me.0 in
+    let seats = c.args.seats.items in
+    let slots = slots_items c.close_with.result.slots in
+    let ended = finished basis c.gather-whole.result.id whole (slots_items c.close_with.result.words) slots
+    seats c.gather-whole.ensures.calm c.gather-whole.ensures.covers
+    (λ number less. c.requires.all number (subst (λ (b : Common). number < b.basis.sources) c.self.view_is less)) c.close_with.ensures.values.2 in
+    subst (λ (b : Common). MarksCaused (AskedBy seats) b.basis.terms.layouts b.basis.terms.block_limit c.book_of.result.history b.basis.begun c.book_of.result.marks) c.self.view_is
+    (subst (λ (a : Account g.row.D.Denot g.row.V.Denot). MarksCaused (AskedBy seats) basis.terms.layouts basis.terms.block_limit a.history basis.begun a.marks)
+    (same_book slots ended.book c.book_of.result ended.slot_is c.book_of.ensures)
+    (caused_later (λ n. 0 < asks n whole) (AskedBy seats) basis.terms.layouts basis.terms.block_limit ended.book.history ended.book.history
+    (λ n is. omega (arith, is, c.gather-whole.ensures.asked n)) (prefix_self ended.book.history) basis.begun ended.book.marks ended.marks))
 
 pub gather-whole-requires : goal.gather-whole-requires
 gather-whole-requires g c = record {

@@ -1,4 +1,4 @@
-use Rattle.book_shared.proofs.Serves.{took_now}
+use Rattle.book_shared.proofs.Serves.{steps_now, took_now}
 use Rattle.book_shared.proofs.Seats.{even_of, low_of}
 use Rattle.book_shared.proofs.shared.SharedBook.try_take.Goals as goal
 
@@ -8,3 +8,8 @@ returns-clause-took g c =
     took_now c.args.seat.now.me.0 c.args.seat.now.me.1 c.look-word.new.seat.me c.take-found.new.seat.me word c.take-found.result
     c.look-word.ensures.looked c.take-found.ensures.takes c.if-found-word.false (even_of word c.if-word-eq1.false)
     (low_of word c.look-word.ensures.low c.if-word.false)
+
+pub returns-clause-steps : goal.returns-clause-steps
+returns-clause-steps g c =
+    steps_now c.args.seat.now.me.0 c.args.seat.now.me.1 c.look-word.new.seat.me c.take-found.new.seat.me c.look-word.result c.take-found.result
+    c.look-word.ensures.looked c.take-found.ensures.takes c.if-found-word.false
