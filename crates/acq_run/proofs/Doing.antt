@@ -1,5 +1,5 @@
 -- What a source does, task by task.
-use Rattle.std.proofs.Common.{◌≡◌, ◌+◌, ◌≤◌, ℕ, suc, List, [], ◌∷◌, ◌++◌, length, take, refl, sym, ◌∙◌, ap, subst, arith, append_assoc, append-nil, length-append, All}
+use Rattle.std.proofs.Common.{◌≡◌, ◌+◌, ◌≤◌, ◌<◌, ◌⊎◌, inl, inr, ⊎_elim, ℕ, suc, List, [], ◌∷◌, ◌++◌, length, take, refl, sym, ◌∙◌, ap, subst, arith, append_assoc, append-nil, length-append, All}
 use Rattle.std.proofs.lemmas.List.{take-append-le}
 use mathlib.Core.List.{IsPrefix}
 use Rattle.mdf_gate.proofs.Carrying.{prefix_self, prefix_trans}
@@ -7,15 +7,16 @@ use Rattle.mdf_layout.specs.History.{source_samples}
 use Rattle.mdf_layout.specs.declared.sample.Sample.{Sample}
 use Rattle.book_owned.specs.declared.mark.Mark.{Mark}
 use Rattle.book_shared.specs.Basis.{Basis}
+use Rattle.book_shared.specs.Causes.{times_of}
 use Rattle.book_shared.specs.Place.{Place, own_part}
 use Rattle.book_shared.specs.Told.{HasMark}
 use Rattle.book_shared.specs.declared.view.View.{View}
 use Rattle.acq_run.specs.Tasks.{flushes_of, samples_of, Feeds, IsTask, MayFeed}
-use Rattle.acq_run.specs.Works.{AreMarked, IsMarkedAt, IsLater, Does, Ends, HasDriven, HasFed, HasHeard, IsSameSeat}
+use Rattle.acq_run.specs.Works.{AreMarked, IsFlushed, IsMarkedAt, IsLater, turns_for, Does, Ends, HasDriven, HasFed, HasHeard, IsSameSeat}
 use Rattle.acq_run.specs.declared.tasks.Fed.{Fed}
 use Rattle.acq_run.specs.declared.tasks.Fed.TheVariants as fed
 use Rattle.acq_run.specs.declared.work.Ended.{Ended}
-use Rattle.acq_run.specs.declared.work.Ended.TheVariants.{Done}
+use Rattle.acq_run.specs.declared.work.Ended.TheVariants.{Running, Done, SessionFull, Stopped, DiskFault, Memory}
 
 pub samples_of-append : (xs ys : List Fed) → samples_of (xs ++ ys) ≡ samples_of xs ++ samples_of ys
 samples_of-append [] ys = refl
@@ -56,6 +57,30 @@ module _ (owners : List ℕ) (source : ℕ) (history longer : List Sample) (mark
   marked_later before (fed.Flush ∷ feds) seen kept are = (marked_at_later before seen kept are.0, marked_later before feds seen kept are.1)
   marked_later before (fed.End ∷ feds) seen kept are = marked_later before feds seen kept are
 
+-- a flush stays one when more comes behind
+pub flushed_later : (owners : List ℕ) (source : ℕ) (history longer before : List Sample) (feds more : List Fed) (n : ℕ) → IsPrefix history longer
+    → IsFlushed owners source history before feds n → IsFlushed owners source longer before (feds ++ more) n
+flushed_later owners source history longer before feds more n (rest, is) flushed = record {
+  first = flushed.first;
+  later = flushed.later ++ more;
+  feds_are = ap (λ f. f ++ more) flushed.feds_are ∙ append_assoc flushed.first (fed.Flush ∷ flushed.later) more;
+  within = omega (arith, flushed.within, ap length is, length-append history rest);
+  own_is = ap (λ h. source_samples owners (take n h) source) (sym is)
+      ∙ ap (λ h. source_samples owners h source) (take-append-le n history rest flushed.within) ∙ flushed.own_is;
+}
+
+-- and when something was done before
+flushed_behind : (owners : List ℕ) (source : ℕ) (history before own : List Sample) (done more : List Fed) (n : ℕ) → own ≡ before ++ samples_of done
+    → IsFlushed owners source history own more n → IsFlushed owners source history before (done ++ more) n
+flushed_behind owners source history before own done more n is flushed = record {
+  first = done ++ flushed.first;
+  later = flushed.later;
+  feds_are = ap (λ f. done ++ f) flushed.feds_are ∙ sym (append_assoc done flushed.first (fed.Flush ∷ flushed.later));
+  within = flushed.within;
+  own_is = flushed.own_is ∙ ap (λ o. o ++ samples_of flushed.first) is ∙ append_assoc before (samples_of done) (samples_of flushed.first)
+      ∙ ap (λ s. before ++ s) (sym (samples_of-append done flushed.first));
+}
+
 marked_more : (owners : List ℕ) (source : ℕ) (history : List Sample) (marks : List Mark) (before own : List Sample) (xs ys : List Fed) → own ≡ before ++ samples_of xs
     → AreMarked owners source history marks before xs → AreMarked owners source history marks own ys → AreMarked owners source history marks before (xs ++ ys)
 marked_more owners source history marks before own [] ys is first second = subst (λ b. AreMarked owners source history marks b ys) (is ∙ append-nil before) second
@@ -79,6 +104,7 @@ does_none v source = record {
   mine = sym (append-nil (own_part v.mine));
   marked = tt;
   counted = refl;
+  asked = λ n there. inl there;
 }
 
 -- more was done behind
@@ -92,6 +118,14 @@ does_more v u w source done more n m first second = record {
       (subst (λ (b : Basis). AreMarked b.owners source u.seen u.kept (own_part v.mine) done) (sym second.later.basis_is) first.marked))
       second.marked;
   counted = omega (arith, first.counted, second.counted, ap length (samples_of-append done more), length-append (samples_of done) (samples_of more));
+  asked = λ k there. ⊎_elim
+      (λ middle. ⊎_elim
+      (λ before. inl before)
+      (λ flushed. inr (flushed_later w.basis.owners source u.seen w.seen (own_part v.mine) done more k second.later.seen
+      (subst (λ (b : Basis). IsFlushed b.owners source u.seen (own_part v.mine) done k) (sym second.later.basis_is) flushed)))
+      (first.asked k middle))
+      (λ flushed. inr (flushed_behind w.basis.owners source w.seen (own_part v.mine) (own_part u.mine) done more k first.mine flushed))
+      (second.asked k there);
 }
 
 -- what a source was driven to so far
@@ -100,6 +134,7 @@ pub record HasDone (old new : Place) (feds left : List Fed) (accepted : ℕ) : T
   pub done : List Fed
   pub parts : done ++ left ≡ feds
   pub does : Does old.know new.know old.number done accepted
+  pub turns : new.know.turns ≡ old.know.turns + length done
   pub may : All (MayFeed new.know.basis.owners new.know.basis.terms new.number) left
 
 pub done_first : (seat : Place) (feds : List Fed) → All (MayFeed seat.know.basis.owners seat.know.basis.terms seat.number) feds → HasDone seat seat feds feds 0
@@ -108,6 +143,7 @@ done_first seat feds may = record {
   done = [];
   parts = refl;
   does = does_none seat.know seat.number;
+  turns = omega arith;
   may = may;
 }
 
@@ -142,12 +178,21 @@ few_samples (fed.Sample sample ∷ feds) = omega (arith, few_samples feds)
 few_samples (fed.Flush ∷ feds) = omega (arith, few_samples feds)
 few_samples (fed.End ∷ feds) = omega (arith, few_samples feds)
 
+-- what was not done had a turn
+ends_last : (u : View) (number : ℕ) (task : Fed) (later : List Fed) (how : Ended) → Ends u number (task ∷ later) how → turns_for how ≡ 1
+ends_last u number task later Running ends = absurd ends
+ends_last u number task later Done ends = absurd (omega (arith, ap length ends))
+ends_last u number task later (SessionFull held size limit) ends = refl
+ends_last u number task later (Stopped mark) ends = refl
+ends_last u number task later (DiskFault before after) ends = refl
+ends_last u number task later Memory ends = refl
+
 module _ (old mid : Place) (feds left : List Fed) (n : ℕ) (has : HasDone old mid feds left n) where
   -- the next task
   pub next_may : (task : Fed) (later : List Fed) → Feeds left task later → IsTask task → MayFeed mid.know.basis.owners mid.know.basis.terms mid.number task
   next_may task later feeds is = first_may mid.know.basis mid.number left task later (took left task later feeds is) has.may
 
-  module _ (new : Place) (seat : IsSameSeat mid new) where
+  module _ (new : Place) (seat : IsSameSeat mid new) (turn : new.know.turns ≡ mid.know.turns + 1) where
     same_seat : IsSameSeat old new
     same_seat = record { table_is = seat.table_is ∙ has.seat.table_is; number_is = seat.number_is ∙ has.seat.number_is }
 
@@ -162,6 +207,7 @@ module _ (old mid : Place) (feds left : List Fed) (n : ℕ) (has : HasDone old m
           parts = append_assoc has.done (task ∷ []) later ∙ ap (λ l. has.done ++ l) (sym first) ∙ has.parts;
           does = does_more old.know mid.know new.know old.number has.done (task ∷ []) n m has.does
               (subst (λ k. Does mid.know new.know k (task ∷ []) m) has.seat.number_is does);
+          turns = omega (arith, turn, has.turns, length-append has.done (task ∷ []));
           may = subst (λ (b : Basis). All (MayFeed b.owners b.terms new.number) later) (sym does.later.basis_is)
               (subst (λ k. All (MayFeed mid.know.basis.owners mid.know.basis.terms k) later) (sym seat.number_is) (later_may mid.know.basis mid.number left task later first has.may));
         }
@@ -186,6 +232,7 @@ module _ (old mid : Place) (feds left : List Fed) (n : ℕ) (has : HasDone old m
             rest = task ∷ later;
             parts = ap (λ d. d ++ (task ∷ later)) (append-nil has.done) ∙ ap (λ l. has.done ++ l) (sym (took left task later feeds is)) ∙ has.parts;
             does = subst (λ k. Does old.know new.know old.number (has.done ++ []) k) (omega arith) more;
+            turns = omega (arith, turn, has.turns, ends_last new.know new.number task later how (ends later), length-append has.done []);
             ends = subst (λ k. Ends new.know k (task ∷ later) how) same_seat.number_is (ends later);
           };
         }
@@ -205,6 +252,7 @@ module _ (old mid : Place) (feds left : List Fed) (n : ℕ) (has : HasDone old m
       rest = [];
       parts = ap (λ l. has.done ++ l) (sym (nothing_left left later feeds)) ∙ has.parts;
       does = has.does;
+      turns = omega (arith, has.turns);
       ends = refl;
     };
   }
@@ -215,36 +263,40 @@ module _ (old mid : Place) (feds left : List Fed) (n : ℕ) (has : HasDone old m
   fed_all later feeds = record { driven = all_done later feeds; left_is = nothing_behind left later feeds }
 
 -- what a source was driven to so far, and its follower was told of each flush
-pub record HasTold {L : Type 0} (hears : L → ℕ → L → Type 0) (old new : Place) (feds left : List Fed) (accepted : ℕ) (follower follower' : L) : Type 0 where
+pub record HasTold {L : Type 0} (hears : L → List ℕ → L → Type 0) (old new : Place) (feds left : List Fed) (accepted : ℕ) (follower follower' : L) : Type 0 where
   pub done : HasDone old new feds left accepted
-  pub heard : hears follower (flushes_of done.done) follower'
+  pub shown : List ℕ
+  pub count : length shown ≡ flushes_of done.done
+  pub heard : hears follower shown follower'
 
-pub told_first : {L : Type 0} (hears : L → ℕ → L → Type 0) (none : (l : L) → hears l 0 l) (follower : L) (seat : Place) (feds : List Fed)
+pub told_first : {L : Type 0} (hears : L → List ℕ → L → Type 0) (none : (l : L) → hears l [] l) (follower : L) (seat : Place) (feds : List Fed)
     → All (MayFeed seat.know.basis.owners seat.know.basis.terms seat.number) feds → HasTold hears seat seat feds feds 0 follower follower
 unfolding done_first
-told_first hears none follower seat feds may = record { done = done_first seat feds may; heard = none follower }
+told_first hears none follower seat feds may = record { done = done_first seat feds may; shown = []; count = refl; heard = none follower }
 
-module _ {L : Type 0} (hears : L → ℕ → L → Type 0) (more : (first second third : L) (n m : ℕ) → hears first n second → hears second m third → hears first (n + m) third)
+module _ {L : Type 0} (hears : L → List ℕ → L → Type 0) (more : (first second third : L) (n m : List ℕ) → hears first n second → hears second m third → hears first (n ++ m) third)
     (old mid : Place) (feds left : List Fed) (n : ℕ) (first second : L) (has : HasTold hears old mid feds left n first second) where
-  module _ (new : Place) (seat : IsSameSeat mid new) (third : L) where
+  module _ (new : Place) (seat : IsSameSeat mid new) (turn : new.know.turns ≡ mid.know.turns + 1) (third : L) where
     pub told_on : (task : Fed) (later : List Fed) (m : ℕ) → Feeds left task later → IsTask task → Does mid.know new.know mid.number (task ∷ []) m
-        → hears second (flushes_of (task ∷ [])) third → HasTold hears old new feds later (n + m) first third
+        → (shown : List ℕ) × (length shown ≡ flushes_of (task ∷ [])) × hears second shown third → HasTold hears old new feds later (n + m) first third
     unfolding done_on
     told_on task later m feeds is does told = record {
-      done = done_on old mid feds left n has.done new seat task later m feeds is does;
-      heard = subst (λ k. hears first k third) (sym (flushes_of-append has.done.done (task ∷ [])))
-          (more first second third (flushes_of has.done.done) (flushes_of (task ∷ [])) has.heard told);
+      done = done_on old mid feds left n has.done new seat turn task later m feeds is does;
+      shown = has.shown ++ told.0;
+      count = omega (arith, length-append has.shown told.0, has.count, told.1, flushes_of-append has.done.done (task ∷ []));
+      heard = more first second third has.shown told.0 has.heard told.2;
     }
 
     pub heard_stopped : (task : Fed) (later : List Fed) (how : Ended) → Feeds left task later → IsTask task → Does mid.know new.know mid.number [] 0
         → ((rest : List Fed) → Ends new.know new.number (task ∷ rest) how) → third ≡ second → HasHeard hears old new feds n how first third
     unfolding stopped_at
     heard_stopped task later how feeds is does ends same = record {
-      driven = stopped_at old mid feds left n has.done new seat task later how feeds is does ends;
-      heard = subst (hears first (flushes_of (has.done.done ++ []))) (sym same)
-          (subst (λ feds. hears first (flushes_of feds) second) (sym (append-nil has.done.done)) has.heard);
+      driven = stopped_at old mid feds left n has.done new seat turn task later how feeds is does ends;
+      shown = has.shown;
+      count = has.count ∙ ap flushes_of (sym (append-nil has.done.done));
+      heard = subst (hears first has.shown) (sym same) has.heard;
     }
 
   pub heard_all : (later : List Fed) → Feeds left fed.End later → HasHeard hears old mid feds n Done first second
   unfolding all_done
-  heard_all later feeds = record { driven = all_done old mid feds left n has.done later feeds; heard = has.heard }
+  heard_all later feeds = record { driven = all_done old mid feds left n has.done later feeds; shown = has.shown; count = has.count; heard = has.heard }

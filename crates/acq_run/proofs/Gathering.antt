@@ -1,5 +1,5 @@
 -- All sources: from their seats at the beginning to what they did, when the book is one again.
-use Rattle.std.proofs.Common.{◌≡◌, ◌+◌, ◌≤◌, ◌<◌, ℕ, zero, suc, List, [], ◌∷◌, ◌++◌, length, map, take, drop, refl, sym, ◌∙◌, ap, subst, inl, inr, ⊎_elim, arith, get_or, All}
+use Rattle.std.proofs.Common.{◌≡◌, ◌+◌, ◌≤◌, ◌<◌, ◌⊎◌, ℕ, zero, suc, List, [], ◌∷◌, ◌++◌, length, map, take, drop, refl, sym, ◌∙◌, ap, subst, inl, inr, ⊎_elim, arith, get_or, All}
 use Rattle.std.specs.Prelude.{slice_index}
 use Rattle.std.proofs.lemmas.Bool.{cases_eq, cases_lt}
 use Rattle.std.proofs.lemmas.List.{take_at, length-map}
@@ -10,20 +10,21 @@ use Rattle.mdf_layout.specs.History.{source_samples}
 use Rattle.mdf_layout.specs.declared.sample.Sample.{Sample}
 use Rattle.book_owned.specs.Account.{Account, Terms}
 use Rattle.book_shared.specs.Basis.{Basis}
+use Rattle.book_shared.specs.Rule.{asks}
 use Rattle.book_shared.specs.Place.{Place, own_part}
-use Rattle.book_shared.specs.Seats.{new_seat, new_seats, AreOf, HasNumber, Closed, Closes}
+use Rattle.book_shared.specs.Seats.{new_seat, new_seats, AreOf, AskedBy, HasNumber, Closed, Closes}
 use Rattle.book_shared.proofs.Beginning.{new_seats-length}
 use Rattle.acq_run.specs.Tasks.{MayFeed}
-use Rattle.acq_run.specs.Works.{AreMarked, HasDriven, HasRoomNext, IsOver}
+use Rattle.acq_run.specs.Works.{AreMarked, HasDriven, HasRoomNext, IsFlushed, IsOver}
 use Rattle.acq_run.specs.Workers.{IsReady, driven_of}
-use Rattle.acq_run.specs.Ran.{AllMayFeed, AllRan, EndsIn, Ran}
+use Rattle.acq_run.specs.Ran.{AllMayFeed, AllRan, AskedFor, EndsIn, Ran}
 use Rattle.acq_run.specs.declared.tasks.Fed.{Fed}
 use Rattle.acq_run.specs.declared.work.Driven.{Driven}
 use Rattle.acq_run.specs.declared.work.Ended.{Ended}
 use Rattle.acq_run.specs.declared.work.Ended.TheVariants.{Running, Done, SessionFull, Stopped, DiskFault, Memory}
 use Rattle.acq_run.specs.declared.work.Worker.{Worker}
-use Rattle.acq_run.proofs.Doing.{marked_later}
-use Rattle.acq_run.proofs.Owning.{may_same, ran_same}
+use Rattle.acq_run.proofs.Doing.{flushed_later, marked_later}
+use Rattle.acq_run.proofs.Owning.{flushed_same, may_same, ran_same}
 
 -- one source
 module _ {D V : Type 0} (basis : Basis) (book : Account D V) (terms : book.terms ≡ basis.terms) (table : TableId) (number : ℕ) (seat : Place)
@@ -61,6 +62,21 @@ module _ {D V : Type 0} (basis : Basis) (book : Account D V) (terms : book.terms
       → Ran basis.owners book number feds (record { accepted = accepted; ended = how })
   ran_seen all_own ends =
       ran_with seat.know.seen closed.seen (ap (λ (b : Basis). source_samples b.owners seat.know.seen number) (sym same_basis) ∙ all_own ∙ of_book) ends
+
+-- some of two counts
+some_of : (a b : ℕ) → 0 < a + b → (0 < a) ⊎ (0 < b)
+some_of zero b there = inr (omega (arith, there))
+some_of (suc a) b there = inl (omega arith)
+
+-- what its seat asked for was asked for by a flush of its feed
+asked_of : {D V : Type 0} (basis : Basis) (book : Account D V) (table : TableId) (number : ℕ) (seat : Place) → Closed basis book seat → (feds : List Fed) (accepted : ℕ) (how : Ended)
+    → HasDriven (new_seat table basis number) seat feds accepted how → (n : ℕ) → 0 < asks n seat.know → IsFlushed basis.owners number book.history [] feds n
+asked_of basis book table number seat closed feds accepted how driven n there = ⊎_elim
+    (λ before. absurd (omega (arith, before)))
+    (λ flushed. subst (λ f. IsFlushed basis.owners number book.history [] f n) driven.drives.parts
+    (flushed_later basis.owners number seat.know.seen book.history [] driven.drives.done driven.drives.rest n closed.seen
+    (subst (λ (b : Basis). IsFlushed b.owners number seat.know.seen [] driven.drives.done n) driven.drives.does.later.basis_is flushed)))
+    (driven.drives.does.asked n there)
 
 pub ran_of : {D V : Type 0} (basis : Basis) (book : Account D V) → book.terms ≡ basis.terms → (table : TableId) (number : ℕ) (seat : Place) → Closed basis book seat
     → (feds : List Fed) (accepted : ℕ) (how : Ended) → HasDriven (new_seat table basis number) seat feds accepted how
@@ -180,6 +196,18 @@ module _ {F L : Type 0} (left : F → List Fed) (table : TableId) (basis : Basis
       all_ran (suc first) olds news all.1 closes.1,
     )
 
+    -- what the seats asked for was asked for by the flushes of the feeds
+    all_asked : (first : ℕ) (olds news : List (Worker F L)) → AllDriven first olds news → Closes basis book (seats_of news) → (n : ℕ) → AskedBy (seats_of news) n
+        → AskedFor owners first (map left (feeds_of olds)) book.history n
+    all_asked first [] [] all closes n there = absurd (omega (arith, there))
+    all_asked first [] (new ∷ news) all closes n there = absurd all
+    all_asked first (old ∷ olds) [] all closes n there = absurd all
+    all_asked first (old ∷ olds) (new ∷ news) all closes n there = ⊎_elim
+        (λ here. inl (flushed_same basis.owners owners alike first book.history [] (left old.feed) n
+        (asked_of basis book table first new.seat closes.0 (left old.feed) new.accepted new.ended all.0 n here)))
+        (λ later. inr (all_asked (suc first) olds news all.1 closes.1 n later))
+        (some_of (asks n new.seat.know) _ there)
+
   -- the workers may begin
   pub all_ready : (owners : List ℕ) (terms : Terms) → ((group : ℕ) → slice_index basis.owners group ≡ slice_index owners group) → basis.terms ≡ terms
       → (first : ℕ) (workers : List (Worker F L)) → seats_of workers ≡ new_seats table basis first (length workers)
@@ -272,3 +300,9 @@ module _ {F L : Type 0} (left : F → List Fed) (table : TableId) (basis : Basis
           subst (λ ds. AllRan owners book 0 (map left feeds) ds) (sym (is ∙ ap (λ (ws : List (Worker F L)). map driven_of ws) worked.after_is))
           (subst (λ fs. AllRan owners book 0 (map left fs) (map driven_of news)) worked.feeds_are
           (all_ran owners alike book terms 0 lent news worked.all (subst (Closes basis book) (are ∙ ap seats_of worked.after_is) closes)))
+
+      pub worked_asked : (seats : List Place) → seats ≡ seats_of after → Closes basis book seats → (n : ℕ) → AskedBy seats n → AskedFor owners 0 (map left feeds) book.history n
+      worked_asked seats are closes n there =
+          let seats_are = are ∙ ap seats_of worked.after_is in
+          subst (λ fs. AskedFor owners 0 (map left fs) book.history n) worked.feeds_are
+          (all_asked owners alike book terms 0 lent news worked.all (subst (Closes basis book) seats_are closes) n (subst (λ ss. AskedBy ss n) seats_are there))

@@ -2,12 +2,13 @@
 use Rattle.std.proofs.Common.{◌≡◌, ℕ, zero, suc, ◌≤◌, ◌<◌, max, map, All, List, [], ◌∷◌, length, take, Option, Some, None, refl, sym, ◌∙◌, ap, subst, ⊎_elim, arith, length-append}
 use Rattle.std.proofs.lemmas.Bool.{cases_lt}
 use Rattle.std.proofs.Math.Seq.{take-append_seam}
+use Rattle.std.proofs.lemmas.List.{length-take-le}
 use mathlib.Core.List.{IsPrefix}
 use Rattle.mdf_layout.specs.declared.sample.Sample.{Sample}
 use Rattle.mdf_gate.proofs.Carrying.{prefix_take, prefix_trans}
 use Rattle.book_view.specs.Known.{Known, Note}
 use Rattle.acq_run.specs.Audience.{tells_of}
-use Rattle.acq_run.specs.Watching.{AnyLooked, AnyLooks, HasLooked, IsFresh, IsOf, Looks, Watches}
+use Rattle.acq_run.specs.Watching.{AnyLooked, AnyLooks, HasLooked, IsFresh, IsOf, Looks, Watches, told_by}
 use Rattle.acq_run.specs.declared.watcher.Watcher.{Watcher}
 
 -- so many samples of the history are the note's
@@ -113,3 +114,17 @@ pub nobody_looked : (reader : Option Known) (which : ℕ) (note : Option Note) (
 nobody_looked reader which (Some note) samples of_view tells not = absurd (not note refl)
 nobody_looked None which None samples of_view tells not = refl
 nobody_looked (Some reader) which None samples of_view tells not = absurd (omega (arith, of_view, tells))
+
+-- what is told behind a note, where there is one
+pub told_noted : (reader : Option Known) (which shown : ℕ) (seen : List Sample) (note : Note) → IsOf reader which → shown ≤ length seen
+    → tells_of (Some note) which (take shown seen) → (told now : ℕ) → now ≡ max told (length note.samples) → now ≡ told_by reader told (shown ∷ [])
+told_noted None which shown seen note of_view within tells told now is = absurd (omega (arith, of_view, tells.1))
+told_noted (Some reader) which shown seen note of_view within tells told now is =
+    is ∙ ap (λ (samples : List Sample). max told (length samples)) tells.0 ∙ ap (max told) (length-take-le shown seen within)
+
+-- and behind none
+pub told_nobody : (reader : Option Known) (which : ℕ) (note : Option Note) (samples : List Sample) (shown told : ℕ) → IsOf reader which → tells_of note which samples
+    → ((noted : Note) → note ≡ Some noted → ⊥) → told ≡ told_by reader told (shown ∷ [])
+told_nobody reader which (Some note) samples shown told of_view tells not = absurd (not note refl)
+told_nobody None which None samples shown told of_view tells not = refl
+told_nobody (Some reader) which None samples shown told of_view tells not = absurd (omega (arith, of_view, tells))

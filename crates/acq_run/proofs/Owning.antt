@@ -7,7 +7,7 @@ use Rattle.mdf_layout.specs.declared.sample.Sample.{Sample}
 use Rattle.book_owned.specs.Account.{Account, Terms}
 use Rattle.book_owned.specs.declared.mark.Mark.{Mark}
 use Rattle.acq_run.specs.Tasks.{MayFeed}
-use Rattle.acq_run.specs.Works.{AreMarked, IsMarkedAt}
+use Rattle.acq_run.specs.Works.{AreMarked, IsFlushed, IsMarkedAt}
 use Rattle.acq_run.specs.Ran.{Ran}
 use Rattle.acq_run.specs.declared.tasks.Fed.{Fed}
 use Rattle.acq_run.specs.declared.tasks.Fed.TheVariants as fed
@@ -26,6 +26,15 @@ module _ (table owners : List ℕ) (alike : (group : ℕ) → slice_index table 
     mark = at.mark;
     within = at.within;
     own_is = sym (source_same (take at.through history)) ∙ at.own_is;
+  }
+
+  pub flushed_same : (history before : List Sample) (feds : List Fed) (n : ℕ) → IsFlushed table source history before feds n → IsFlushed owners source history before feds n
+  flushed_same history before feds n flushed = record {
+    first = flushed.first;
+    later = flushed.later;
+    feds_are = flushed.feds_are;
+    within = flushed.within;
+    own_is = sym (source_same (take n history)) ∙ flushed.own_is;
   }
 
   marked_same : (history before : List Sample) (marks : List Mark) (feds : List Fed) → AreMarked table source history marks before feds → AreMarked owners source history marks before feds

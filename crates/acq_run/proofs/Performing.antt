@@ -1,5 +1,5 @@
 -- What an append and a flush come to for the source that asked for them.
-use Rattle.std.proofs.Common.{◌≡◌, ℕ, List, [], ◌∷◌, take, Result, Ok, Err, refl, sym, ◌∙◌, ap, subst, append-nil}
+use Rattle.std.proofs.Common.{◌≡◌, ◌<◌, ◌⊎◌, inl, inr, ⊎_elim, ℕ, List, [], ◌∷◌, take, Result, Ok, Err, refl, sym, ◌∙◌, ap, subst, append-nil}
 use Rattle.std.specs.Prelude.{IfOk, IfErr}
 use mathlib.Core.List.{IsPrefix}
 use Rattle.mdf_gate.proofs.Carrying.{prefix_trans}
@@ -14,10 +14,12 @@ use Rattle.book_owned.specs.declared.view.Shown.{Ghosts as ViewOf}
 use Rattle.book_shared.specs.Basis.{Basis, holding}
 use Rattle.book_shared.specs.Place.{IsSingle, own_part}
 use Rattle.book_shared.specs.Rule.{AreOwn}
-use Rattle.book_shared.specs.Told.{Appends, AppendsBook, Flushes, FlushesBook}
+use Rattle.book_shared.specs.Causes.{times_of}
+use Rattle.book_shared.specs.Told.{Appends, AppendsBook, Asks, Flushes, FlushesBook}
 use Rattle.book_shared.specs.Turns.{Served}
 use Rattle.book_shared.specs.declared.view.View.{View}
-use Rattle.acq_run.specs.Works.{CountsFaults, Does, Ends, IsLater, appended}
+use Rattle.book_shared.proofs.Causing.{asked_one}
+use Rattle.acq_run.specs.Works.{CountsFaults, Does, Ends, IsFlushed, IsLater, appended}
 use Rattle.acq_run.specs.declared.tasks.Fed.{Fed}
 use Rattle.acq_run.specs.declared.tasks.Fed.TheVariants as fed
 use Rattle.acq_run.specs.declared.work.Ended.{Ended}
@@ -53,15 +55,31 @@ module _ (v u : View) (history added : List Sample) (served : Served v u history
   own_seen : (number : ℕ) → IsSingle u number → source_samples u.basis.owners u.seen number ≡ own_part u.mine
   own_seen number single = sym (subst (AreOwn u.basis.owners u.seen) single served.own).0
 
+-- what was asked for before
+asked_before : (P : ℕ → Type 0) (v u : View) → u.asked ≡ v.asked → (n : ℕ) → 0 < times_of n u.asked → (0 < times_of n v.asked) ⊎ P n
+asked_before P v u same n there = inl (subst (λ a. 0 < times_of n a) same there)
+
 -- nothing was accepted in it
-pub does_nothing : (v u : View) (history : List Sample) (source : ℕ) → Served v u history [] → Does v u source [] 0
-does_nothing v u history source served = record { later = served_later v u history [] served; mine = served.mine; marked = tt; counted = refl }
+pub does_nothing : (v u : View) (history : List Sample) (source : ℕ) → Served v u history [] → u.asked ≡ v.asked → Does v u source [] 0
+does_nothing v u history source served same = record {
+  later = served_later v u history [] served;
+  mine = served.mine;
+  marked = tt;
+  counted = refl;
+  asked = asked_before (IsFlushed u.basis.owners source u.seen (own_part v.mine) []) v u same;
+}
 
 -- an append
-module _ (v u : View) (source : ℕ) (sample : Sample) where
+module _ (v u : View) (source : ℕ) (sample : Sample) (same : u.asked ≡ v.asked) where
   done_by : (answer : Append) → Appends v u sample answer → IfOk (appended answer) (λ accepted. Does v u source (fed.Sample sample ∷ []) accepted)
   done_by (append.Accepted place) (history, served, told) =
-      record { later = served_later v u history (sample ∷ []) served; mine = served.mine; marked = tt; counted = refl }
+      record {
+        later = served_later v u history (sample ∷ []) served;
+        mine = served.mine;
+        marked = tt;
+        counted = refl;
+        asked = asked_before (IsFlushed u.basis.owners source u.seen (own_part v.mine) (fed.Sample sample ∷ [])) v u same;
+      }
   done_by (append.SessionFull held size limit) appends = tt
   done_by (append.Stopped mark) appends = tt
   done_by (append.DiskFault before after) appends = tt
@@ -72,7 +90,7 @@ module _ (v u : View) (source : ℕ) (sample : Sample) where
         → IfErr (appended answer) (λ ended. Does v u source [] 0 × ((rest : List Fed) → Ends u number (fed.Sample sample ∷ rest) ended))
     ended_by (append.Accepted place) appends book = tt
     ended_by (append.SessionFull held size limit) (history, served, told) book = (
-      does_nothing v u history source served,
+      does_nothing v u history source served same,
       λ rest. (
         record {
           sample = sample;
@@ -86,15 +104,15 @@ module _ (v u : View) (source : ℕ) (sample : Sample) where
       ),
     )
     ended_by (append.Stopped mark) (history, served, told) book = (
-      does_nothing v u history source served,
+      does_nothing v u history source served same,
       λ rest. (told.0, told.1, (book.old.history, book.old.marks, book.turned.found ∙ ap (holding book.old.history book.old.marks) book.answers.stopped)),
     )
     ended_by (append.DiskFault before after) (history, served, told) book = (
-      does_nothing v u history source served,
+      does_nothing v u history source served same,
       λ rest. (told.0, told.1, (book.old.history, book.old.marks, book.turned.found ∙ ap (holding book.old.history book.old.marks) book.answers.1.going)),
     )
     ended_by append.Memory (history, served, told) book = (
-      does_nothing v u history source served,
+      does_nothing v u history source served same,
       λ rest. (
         told.0,
         record { sample = sample; next = record { later = rest; rest_is = refl }; room = told.1 },
@@ -127,9 +145,18 @@ module _ (v u : View) (source : ℕ) (sample : Sample) where
 
 -- a flush
 module _ {D V N : Type 0} (disk : DiskOf D) (view : ViewOf V N) (v u : View) (source number : ℕ) (same : number ≡ source) (single : IsSingle u number) where
-  pub flush_done : (through shown : ℕ) (note : N) → Flushes {N = N} v u (flush.Done through shown note) → Does v u source (fed.Flush ∷ []) 0
-  flush_done through shown note (history, served, told) =
+  pub flush_done : (through shown : ℕ) (note : N) → Flushes {N = N} v u (flush.Done through shown note) → Asks {N = N} v u (flush.Done through shown note) → Does v u source (fed.Flush ∷ []) 0
+  flush_done through shown note (history, served, told) asks =
       let own = served.mine ∙ append-nil (own_part v.mine) in
+      let own_is : source_samples u.basis.owners (take through u.seen) source ≡ own_part v.mine =
+      sym (subst (AreOwn u.basis.owners (take through u.seen)) (subst (IsSingle u) same single) told.2).0 ∙ own in
+      let now : IsFlushed u.basis.owners source u.seen (own_part v.mine) (fed.Flush ∷ []) through = record {
+        first = [];
+        later = [];
+        feds_are = refl;
+        within = told.0;
+        own_is = own_is ∙ sym (append-nil (own_part v.mine));
+      } in
       record {
         later = served_later v u history [] served;
         mine = served.mine;
@@ -138,23 +165,27 @@ module _ {D V N : Type 0} (disk : DiskOf D) (view : ViewOf V N) (v u : View) (so
             through = through;
             mark = told.1;
             within = told.0;
-            own_is = sym (subst (AreOwn u.basis.owners (take through u.seen)) (subst (IsSingle u) same single) told.2).0 ∙ own;
+            own_is = own_is;
           },
           tt,
         );
         counted = refl;
+        asked = λ n there. ⊎_elim
+            (λ before. asked_before (IsFlushed u.basis.owners source u.seen (own_part v.mine) (fed.Flush ∷ [])) v u before n there)
+            (λ more. ⊎_elim (λ before. inl before) (λ is. inr (subst (IsFlushed u.basis.owners source u.seen (own_part v.mine) (fed.Flush ∷ [])) (sym is) now))
+            (asked_one n through v.asked (subst (λ a. 0 < times_of n a) more there))) asks;
       }
 
-  pub flush_stopped : (mark : Mark) → Flushes {N = N} v u (flush.Stopped mark) → FlushesBook disk view u (flush.Stopped mark)
+  pub flush_stopped : (mark : Mark) → Flushes {N = N} v u (flush.Stopped mark) → Asks {N = N} v u (flush.Stopped mark) → FlushesBook disk view u (flush.Stopped mark)
       → Does v u source [] 0 × ((rest : List Fed) → Ends u number rest (Stopped mark))
-  flush_stopped mark (history, served, told) book = (
-    does_nothing v u history source served,
+  flush_stopped mark (history, served, told) asks book = (
+    does_nothing v u history source served asks,
     λ rest. (told.0, told.1, (book.old.history, book.old.marks, book.turned.found ∙ ap (holding book.old.history book.old.marks) book.answers.stopped)),
   )
 
-  pub flush_failed : (before after : ℕ) → Flushes {N = N} v u (flush.DiskFault before after) → FlushesBook disk view u (flush.DiskFault before after)
+  pub flush_failed : (before after : ℕ) → Flushes {N = N} v u (flush.DiskFault before after) → Asks {N = N} v u (flush.DiskFault before after) → FlushesBook disk view u (flush.DiskFault before after)
       → Does v u source [] 0 × ((rest : List Fed) → Ends u number rest (DiskFault before after))
-  flush_failed before after (history, served, told) book = (
-    does_nothing v u history source served,
+  flush_failed before after (history, served, told) asks book = (
+    does_nothing v u history source served asks,
     λ rest. (told.0, told.1, (book.old.history, book.old.marks, book.turned.found ∙ ap (holding book.old.history book.old.marks) book.answers.0.going)),
   )

@@ -16,7 +16,7 @@ use Rattle.acq_run.specs.declared.work.Worker.{Worker}
 use Rattle.acq_run.proofs.Gathering.{done_of, first_seat, followers_of, feeds_of, later_seats, ran_of, seated, seats_of}
 use Rattle.acq_run.proofs.Owning.{done_same, ran_same}
 
-module _ {F L : Type 0} (left : F → List Fed) (hears : L → ℕ → L → Type 0) (table : TableId) (basis : Basis) where
+module _ {F L : Type 0} (left : F → List Fed) (hears : L → List ℕ → L → Type 0) (table : TableId) (basis : Basis) where
   -- each worker was driven from a new seat, and its follower was told of just the flushes that were done
   abbrev AllTold : ℕ → List (Worker F L) → List (Worker F L) → Type 0
   AllTold first [] [] = Unit {0}
@@ -41,14 +41,15 @@ module _ {F L : Type 0} (left : F → List Fed) (hears : L → ℕ → L → Typ
   module _ {D V : Type 0} (owners : List ℕ) (alike : (group : ℕ) → slice_index basis.owners group ≡ slice_index owners group) (book : Account D V) (terms : book.terms ≡ basis.terms) where
     one_heard : (number : ℕ) (old new : Worker F L) → Closed basis book new.seat
         → HasHeard hears (new_seat table basis number) new.seat (left old.feed) new.accepted new.ended old.follower new.follower
-        → (ran : Ran owners book number (left old.feed) (driven_of new)) × hears old.follower (flushes_of ran.done) new.follower
+        → (ran : Ran owners book number (left old.feed) (driven_of new)) × (shown : List ℕ) × (length shown ≡ flushes_of ran.done) × hears old.follower shown new.follower
     one_heard number old new closed told = (
       ran_same basis.owners owners alike number book (left old.feed) (driven_of new)
           (ran_of basis book terms table number new.seat closed (left old.feed) new.accepted new.ended told.driven),
-      subst (λ done. hears old.follower (flushes_of done) new.follower)
-          (sym (done_same basis.owners owners alike number book (left old.feed) (driven_of new)
+      told.shown,
+      told.count ∙ sym (ap flushes_of (done_same basis.owners owners alike number book (left old.feed) (driven_of new)
           (ran_of basis book terms table number new.seat closed (left old.feed) new.accepted new.ended told.driven)
-          ∙ done_of basis book terms table number new.seat closed (left old.feed) new.accepted new.ended told.driven)) told.heard,
+          ∙ done_of basis book terms table number new.seat closed (left old.feed) new.accepted new.ended told.driven)),
+      told.heard,
     )
 
     all_heard : (first : ℕ) (olds news : List (Worker F L)) → AllTold first olds news → Closes basis book (seats_of left table basis news)

@@ -1,5 +1,5 @@
 -- What the sources of a recording have done, when all have worked and the book is one again.
-use Rattle.std.specs.Prelude.{ℕ, suc, ◌≡◌, ◌<◌, ◌^◌, true, List, [], ◌∷◌, ◌++◌, length, slice_index, All}
+use Rattle.std.specs.Prelude.{ℕ, suc, ◌≡◌, ◌<◌, ◌⊎◌, ◌^◌, true, List, [], ◌∷◌, ◌++◌, length, slice_index, All}
 use mathlib.Core.List.{IsPrefix}
 use Rattle.mdf_format.specs.Cause.{Rose}
 use Rattle.mdf_layout.specs.History.{source_samples}
@@ -8,7 +8,7 @@ use Rattle.book_owned.specs.Account.{Account, Terms}
 use Rattle.book_owned.specs.Marks.{last_mark}
 use Rattle.book_owned.specs.declared.mark.Mark.{Mark}
 use Rattle.acq_run.specs.Tasks.{flushes_of, samples_of, MayFeed}
-use Rattle.acq_run.specs.Works.{AreMarked, HasRoomNext, IsOver}
+use Rattle.acq_run.specs.Works.{AreMarked, HasRoomNext, IsFlushed, IsOver}
 use Rattle.acq_run.specs.declared.tasks.Fed.{Fed}
 use Rattle.acq_run.specs.declared.work.Driven.{Driven}
 use Rattle.acq_run.specs.declared.work.Ended.{Ended}
@@ -47,13 +47,20 @@ AllRan owners book source [] [] = Unit {0}
 AllRan owners book source (feds ∷ feeds) (driven ∷ all) = Ran owners book source feds driven × AllRan owners book (suc source) feeds all
 AllRan owners book source _ _ = ⊥
 
--- So have they, and from each follower to what came of it just so many flushes were told as were done of its source.
-abbrev pub AllHeard : {D V L : Type 0} → (L → ℕ → L → Type 0) → List ℕ → Account D V → ℕ → List (List Fed) → List Driven → List L → List L → Type 0
+-- So have they, and from each follower to what came of it it was told of each flush that was done of its source, and how many
+-- samples were shown at it.
+abbrev pub AllHeard : {D V L : Type 0} → (L → List ℕ → L → Type 0) → List ℕ → Account D V → ℕ → List (List Fed) → List Driven → List L → List L → Type 0
 AllHeard hears owners book source [] [] [] [] = Unit {0}
 AllHeard hears owners book source (feds ∷ feeds) (driven ∷ all) (first ∷ followers) (last ∷ followers') =
-    ((ran : Ran owners book source feds driven) × hears first (flushes_of ran.done) last)
+    ((ran : Ran owners book source feds driven) × (shown : List ℕ) × (length shown ≡ flushes_of ran.done) × hears first shown last)
     × AllHeard hears owners book (suc source) feeds all followers followers'
 AllHeard hears owners book source _ _ _ _ = ⊥
+
+-- a flush of one of the sources from this one on, with these feeds, goes through so many samples
+abbrev pub AskedFor : List ℕ → ℕ → List (List Fed) → List Sample → ℕ → Type 0
+AskedFor owners source [] history through = ⊥
+AskedFor owners source (feds ∷ feeds) history through =
+    IsFlushed owners source history [] feds through ⊎ AskedFor owners (suc source) feeds history through
 
 -- the sources from this one on may hand in all that these feeds have
 abbrev pub AllMayFeed : List ℕ → Terms → ℕ → List (List Fed) → Type 0

@@ -1,5 +1,5 @@
 -- What the reader of a source has seen.
-use Rattle.std.specs.Prelude.{ℕ, suc, ◌≡◌, ◌≤◌, ◌+◌, ◌-◌, ◌^◌, ◌<◌, ◌⊎◌, min, max, List, length, take, Option, Some, None, IsSomeAnd}
+use Rattle.std.specs.Prelude.{ℕ, suc, ◌≡◌, ◌≤◌, ◌+◌, ◌-◌, ◌^◌, ◌<◌, ◌⊎◌, min, max, fold, List, length, take, Option, Some, None, IsSomeAnd}
 use Rattle.std.specs.Option.{ForSome}
 use mathlib.Core.List.{IsPrefix}
 use Rattle.mdf_layout.specs.declared.sample.Sample.{Sample}
@@ -32,12 +32,17 @@ abbrev pub AnyLooked : Option Known → ℕ → Option Known → Type 0
 AnyLooked None times now = now ≡ None
 AnyLooked (Some before) times now = IsSomeAnd now (HasLooked before times)
 
--- From the one to the other just so many flushes were told, unless the count stands at the last value, and the number of
--- samples that were shown at one of them did not fall. The reader looked once for each.
-abbrev pub Hears : Watcher → ℕ → Watcher → Type 0
-Hears before flushes now =
-    (now.flushes ≤ before.flushes + flushes) × (now.flushes + 1 < 2 ^ 64 → now.flushes ≡ before.flushes + flushes)
-    × (before.told ≤ now.told) × AnyLooked before.reader flushes now.reader
+-- the number that is told behind these, where there is a reader: the greatest of it and them
+abbrev pub told_by : Option Known → ℕ → List ℕ → ℕ
+told_by None told shown = told
+told_by (Some reader) told shown = fold max told shown
+
+-- From the one to the other just these flushes were told, by how many samples were shown at each, unless their count stands at
+-- the last value. Where there is a reader, the number that is told reached each of them, and it looked once for each.
+abbrev pub Hears : Watcher → List ℕ → Watcher → Type 0
+Hears before shown now =
+    (now.flushes ≤ before.flushes + length shown) × (now.flushes + 1 < 2 ^ 64 → now.flushes ≡ before.flushes + length shown)
+    × (now.told ≡ told_by before.reader before.told shown) × AnyLooked before.reader (length shown) now.reader
 
 -- no flush has told it anything, and its reader has not looked
 pub record IsFresh (watcher : Watcher) : Type 0 where

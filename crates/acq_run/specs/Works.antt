@@ -1,5 +1,5 @@
 -- What the work of a source does to its seat.
-use Rattle.std.specs.Prelude.{ℕ, ◌≡◌, ◌+◌, ◌≤◌, ◌<◌, Bool, true, false, List, [], ◌∷◌, ◌++◌, length, take, drop, Result, Ok, Err}
+use Rattle.std.specs.Prelude.{ℕ, ◌≡◌, ◌+◌, ◌≤◌, ◌<◌, ◌⊎◌, Bool, true, false, List, [], ◌∷◌, ◌++◌, length, take, drop, Result, Ok, Err}
 use mathlib.Core.List.{IsPrefix}
 use Rattle.mdf_format.specs.Cause.{Rose}
 use Rattle.mdf_disk.specs.declared.disk.Disk.{Ghosts as DiskOf}
@@ -13,6 +13,7 @@ use Rattle.book_owned.specs.declared.answer.Append.TheVariants as append
 use Rattle.book_owned.specs.declared.mark.Mark.{Mark}
 use Rattle.book_owned.specs.declared.view.Shown.{Ghosts as ViewOf}
 use Rattle.book_shared.specs.Basis.{holding}
+use Rattle.book_shared.specs.Causes.{times_of}
 use Rattle.book_shared.specs.Told.{HasMark, Turned}
 use Rattle.book_shared.specs.Place.{Place, own_part}
 use Rattle.book_shared.specs.declared.view.View.{View}
@@ -37,6 +38,15 @@ AreMarked owners source history marks before (fed.Sample sample ∷ feds) = AreM
 AreMarked owners source history marks before (fed.Flush ∷ feds) =
     IsMarkedAt owners source history marks before × AreMarked owners source history marks before feds
 AreMarked owners source history marks before (fed.End ∷ feds) = AreMarked owners source history marks before feds
+
+-- Among what a source hands in is a flush that goes through so many samples of the history: of these the source has just those
+-- before the flush, where these stand before the first.
+pub record IsFlushed (owners : List ℕ) (source : ℕ) (history before : List Sample) (feds : List Fed) (through : ℕ) : Type 0 where
+  pub first : List Fed
+  pub later : List Fed
+  pub feds_are : feds ≡ first ++ fed.Flush ∷ later
+  pub within : through ≤ length history
+  pub own_is : source_samples owners (take through history) source ≡ before ++ samples_of first
 
 -- the next that a source hands in is this sample
 pub record IsNext (rest : List Fed) (sample : Sample) : Type 0 where
@@ -100,19 +110,31 @@ pub record IsLater (v u : View) : Type 0 where
   pub knows : v.knows ≡ true → u.knows ≡ true
   pub basis_is : u.basis ≡ v.basis
 
--- All of this was done, in order: the samples were accepted, so many, and each flush has its mark.
+-- All of this was done, in order: the samples were accepted, so many, each flush has its mark, and the seat asked for no
+-- other.
 pub record Does (v u : View) (source : ℕ) (done : List Fed) (accepted : ℕ) : Type 0 where
   pub later : IsLater v u
   pub mine : own_part u.mine ≡ own_part v.mine ++ samples_of done
   pub marked : AreMarked u.basis.owners source u.seen u.kept (own_part v.mine) done
   pub counted : accepted ≡ length (samples_of done)
+  pub asked : (n : ℕ) → 0 < times_of n u.asked → (0 < times_of n v.asked) ⊎ IsFlushed u.basis.owners source u.seen (own_part v.mine) done n
 
--- Some of it was done, up to the first that was not, if there is one.
+-- the turns of a source for the one that was not done: none where nothing is left of the feed
+abbrev pub turns_for : Ended → ℕ
+turns_for Running = 0
+turns_for Done = 0
+turns_for (SessionFull held size limit) = 1
+turns_for (Stopped mark) = 1
+turns_for (DiskFault before after) = 1
+turns_for Memory = 1
+
+-- Some of it was done, up to the first that was not, if there is one. The source took the turn once for each.
 pub record Drives (v u : View) (source : ℕ) (feds : List Fed) (accepted : ℕ) (how : Ended) : Type 0 where
   pub done : List Fed
   pub rest : List Fed
   pub parts : done ++ rest ≡ feds
   pub does : Does v u source done accepted
+  pub turns : u.turns ≡ v.turns + length done + turns_for how
   pub ends : Ends u source rest how
 
 -- the same seat
@@ -130,7 +152,10 @@ pub record HasFed (old new : Place) (feds : List Fed) (accepted : ℕ) (how : En
   pub driven : HasDriven old new feds accepted how
   pub left_is : left ≡ drop 1 driven.drives.rest
 
--- So did a source's work, and from the one follower to the other just so many flushes were told as were done.
-pub record HasHeard {L : Type 0} (hears : L → ℕ → L → Type 0) (old new : Place) (feds : List Fed) (accepted : ℕ) (how : Ended) (follower follower' : L) : Type 0 where
+-- So did a source's work, and from the one follower to the other it was told of each flush that was done, and how many samples
+-- were shown at it.
+pub record HasHeard {L : Type 0} (hears : L → List ℕ → L → Type 0) (old new : Place) (feds : List Fed) (accepted : ℕ) (how : Ended) (follower follower' : L) : Type 0 where
   pub driven : HasDriven old new feds accepted how
-  pub heard : hears follower (flushes_of driven.drives.done) follower'
+  pub shown : List ℕ
+  pub count : length shown ≡ flushes_of driven.drives.done
+  pub heard : hears follower shown follower'

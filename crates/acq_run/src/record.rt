@@ -1,7 +1,8 @@
 //! A recording that readers may look at, with all sources at work.
 ghost use Rattle.std.specs.Prelude.{ℕ, ◌≡◌, ◌≤◌, ◌<◌, [], length, map, vec_capacity, vec_len, All, IfOk, IfErr};
 ghost use Rattle.std.specs.List.{slice_index_or};
-ghost use Rattle.acq_run.specs.Ran.{AllHeard, AllRan, AllMayFeed, AreOwned};
+ghost use Rattle.book_shared.specs.Causes.{MarksCaused};
+ghost use Rattle.acq_run.specs.Ran.{AllHeard, AllRan, AllMayFeed, AreOwned, AskedFor};
 ghost use Rattle.acq_run.specs.Works.{HasDriven, HasHeard};
 ghost use Rattle.acq_run.specs.Workers.{IsReady};
 ghost use Rattle.acq_run.specs.Watching.{Hears, Watches};
@@ -109,6 +110,8 @@ pub fn record_live<R: Threads + Wait + Sync, D: Disk + Send, F: Feed + Send + Dr
     ensures ran { IfOk result (λ done. AllRan owners.now done.book 0 (map F.left feeds.items) done.all.items) }
     ensures owned { IfOk result (λ done. AreOwned owners.now (vec_len feeds) done.book.history) }
     ensures terms { IfOk result (λ done. done.book.terms ≡ book.terms) }
+    ensures marks { IfOk result (λ done. MarksCaused (AskedFor owners.now 0 (map F.left feeds.items) done.book.history)
+        book.terms.layouts book.terms.block_limit done.book.history book.marks done.book.marks) }
     ensures followers { IfOk result (λ done. length done.watchers.items ≡ length feeds.items) }
     ensures heard { IfOk result (λ done. AllHeard Hears owners.now done.book 0 (map F.left feeds.items) done.all.items watchers.items done.watchers.items) }
     ensures follow { IfOk result (λ done. All (λ watcher. Watches watcher book.terms.which done.book.history) done.watchers.items) }

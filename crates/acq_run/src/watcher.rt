@@ -1,4 +1,4 @@
-ghost use Rattle.std.specs.Prelude.{ℕ, suc, ◌≡◌, List, length, take, All};
+ghost use Rattle.std.specs.Prelude.{ℕ, suc, ◌≡◌, ◌≤◌, List, [], ◌∷◌, length, take, All};
 ghost use Rattle.std.specs.Option.{ForSome};
 ghost use Rattle.mdf_layout.specs.declared.sample.Sample.{Sample};
 ghost use Rattle.acq_run.specs.Audience.{tells_of};
@@ -109,9 +109,9 @@ impl Follower<Audience> for Watcher {
     ghost hears_more = { hears_more };
 
     fn follow(&mut self, _shown: u64, note: Option<Told>)
-        requires { (which : ℕ) × (seen : List Sample) × Watches self.old which seen × tells_of note which (take _shown seen) }
+        requires { (which : ℕ) × (seen : List Sample) × Watches self.old which seen × (_shown ≤ length seen) × tells_of note which (take _shown seen) }
         ensures follows { (which : ℕ) (seen : List Sample) → Watches self.old which seen → tells_of note which (take _shown seen) → Watches self.new which seen }
-        ensures heard { Hears self.old 1 self.new }
+        ensures heard { Hears self.old (_shown ∷ []) self.new }
         ensures told { self.new.told ≡ told_with self.old.told note }
     {
         self.flushes = self.flushes.saturating_add(1);

@@ -43,7 +43,7 @@ overflow_add-accepted g c =
     omega (
       arith,
       few_more c.args.seat.now c.loop.seat (g.F.Feed.left c.args.feed.now) left c.loop.accepted c.loop.invariant.told.done c.perform.new.seat c.in-Ok.ensures.seat
-          task later c.in-Ok.more c.next-in-loop.ensures (task_of left task later c.next-in-loop.ensures c.in_default.not-End) c.in-Ok.ensures.done,
+          c.in-Ok.ensures.turn task later c.in-Ok.more c.next-in-loop.ensures (task_of left task later c.next-in-loop.ensures c.in_default.not-End) c.in-Ok.ensures.done,
       c.requires.ready.few,
     )
 
@@ -54,7 +54,7 @@ loop-preserved g c =
     let task = c.next-in-loop.result in
     record {
       told = told_on g.L.Follower.hears g.met.L.Follower.hears_more c.args.seat.now c.loop.seat (g.F.Feed.left c.args.feed.now) left c.loop.accepted
-          c.args.follower.now c.loop.follower c.loop.invariant.told c.perform.new.seat c.in-Ok.ensures.seat c.perform.new.follower
+          c.args.follower.now c.loop.follower c.loop.invariant.told c.perform.new.seat c.in-Ok.ensures.seat c.in-Ok.ensures.turn c.perform.new.follower
           task later c.in-Ok.more c.next-in-loop.ensures (task_of left task later c.next-in-loop.ensures c.in_default.not-End) c.in-Ok.ensures.done c.in-Ok.ensures.heard;
       follows = c.in-Ok.ensures.follows;
     }
@@ -65,7 +65,7 @@ returns-in-Err g c =
     let later = g.F.Feed.left c.next-in-loop.new.self in
     let task = c.next-in-loop.result in
     let stopped = heard_stopped g.L.Follower.hears g.met.L.Follower.hears_more c.args.seat.now c.loop.seat (g.F.Feed.left c.args.feed.now) left c.loop.accepted
-    c.args.follower.now c.loop.follower c.loop.invariant.told c.perform.new.seat c.in-Err.ensures.seat c.perform.new.follower
+    c.args.follower.now c.loop.follower c.loop.invariant.told c.perform.new.seat c.in-Err.ensures.seat c.in-Err.ensures.turn c.perform.new.follower
     task later c.in-Err.ended c.next-in-loop.ensures (task_of left task later c.next-in-loop.ensures c.in_default.not-End) c.in-Err.ensures.ended.0 c.in-Err.ensures.ended.1
     c.in-Err.ensures.unheard in
     record {
@@ -73,7 +73,7 @@ returns-in-Err g c =
       follows = c.in-Err.ensures.follows;
       heard = stopped;
       fed = fed_stopped c.args.seat.now c.loop.seat (g.F.Feed.left c.args.feed.now) left c.loop.accepted c.loop.invariant.told.done c.perform.new.seat
-          c.in-Err.ensures.seat task later c.in-Err.ended c.next-in-loop.ensures (task_of left task later c.next-in-loop.ensures c.in_default.not-End)
+          c.in-Err.ensures.seat c.in-Err.ensures.turn task later c.in-Err.ended c.next-in-loop.ensures (task_of left task later c.next-in-loop.ensures c.in_default.not-End)
           c.in-Err.ensures.ended.0 c.in-Err.ensures.ended.1;
       counted = c.in-Err.ensures.counted;
     }

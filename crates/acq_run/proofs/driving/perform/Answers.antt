@@ -1,5 +1,4 @@
-use Rattle.std.proofs.Common.{◌∷◌, [], refl, subst, sym}
-use Rattle.std.specs.Prelude.{IfOk}
+use Rattle.std.proofs.Common.{◌≡◌, ◌∷◌, [], List, length, ℕ, ap, arith, refl, subst, sym}
 use Rattle.acq_run.specs.Tasks.{flushes_of}
 use Rattle.acq_run.specs.Works.{Does}
 use Rattle.acq_run.proofs.Performing.{any_err, any_ok, append_counted, append_done, append_ended, flush_done, flush_failed, flush_stopped, follows_on}
@@ -19,12 +18,13 @@ returns-in-Sample g c =
     let appends = c.append.ensures.appends in
     record {
       seat = record { table_is = seat.0; number_is = seat.1 };
-      done = append_done v u source sample c.args.task answer result c.in-Sample.is c.appended.ensures appends;
-      ended = append_ended v u source sample g.D.Disk g.V.Shown number seat.3 c.args.task answer result c.in-Sample.is c.appended.ensures appends c.append.ensures.book;
-      counted = append_counted v u source sample g.D.Disk g.V.Shown number seat.3 answer result c.appended.ensures c.append.ensures.book;
+      turn = appends.1.turns;
+      done = append_done v u source sample c.append.ensures.asked c.args.task answer result c.in-Sample.is c.appended.ensures appends;
+      ended = append_ended v u source sample c.append.ensures.asked g.D.Disk g.V.Shown number seat.3 c.args.task answer result c.in-Sample.is c.appended.ensures appends c.append.ensures.book;
+      counted = append_counted v u source sample c.append.ensures.asked g.D.Disk g.V.Shown number seat.3 answer result c.appended.ensures c.append.ensures.book;
       follows = follows_on v u appends.0 _ appends.1 g.L.Follower.follows g.met.L.Follower.stays follower c.requires.follows;
-      heard = subst (λ t. IfOk result (λ _. g.L.Follower.hears follower (flushes_of (t ∷ [])) follower)) (sym c.in-Sample.is)
-          (any_ok (g.L.Follower.hears follower 0 follower) result (g.met.L.Follower.hears_none follower));
+      heard = any_ok ((shown : List ℕ) × (length shown ≡ flushes_of (c.args.task ∷ [])) × g.L.Follower.hears follower shown follower) result
+          ([], ap (λ t. flushes_of (t ∷ [])) (sym c.in-Sample.is), g.met.L.Follower.hears_none follower);
       unheard = any_err _ result refl;
     }
 
@@ -36,6 +36,7 @@ follow-requires g c =
       u.basis.terms.which,
       u.seen,
       follows_on v u flushes.0 [] flushes.1 g.L.Follower.follows g.met.L.Follower.stays c.args.follower.now c.requires.follows,
+      omega (arith, flushes.2.0, flushes.2.3),
       c.in-Done.ensures.noted,
     )
 
@@ -48,13 +49,14 @@ returns-in-Done g c =
     let flushes = c.in-Done.ensures.flushes in
     record {
       seat = record { table_is = seat.0; number_is = seat.1 };
+      turn = flushes.1.turns;
       done = subst (λ t. Does v u source (t ∷ []) 0) (sym c.in-Flush.is)
-          (flush_done g.D.Disk g.V.Shown v u source c.flush.new.seat.number seat.1 seat.3 c.in-Done.through c.in-Done.shown c.in-Done.note flushes);
+          (flush_done g.D.Disk g.V.Shown v u source c.flush.new.seat.number seat.1 seat.3 c.in-Done.through c.in-Done.shown c.in-Done.note flushes c.in-Done.ensures.asked);
       ended = tt;
       counted = tt;
       follows = c.follow.ensures.follows u.basis.terms.which u.seen
           (follows_on v u flushes.0 [] flushes.1 g.L.Follower.follows g.met.L.Follower.stays c.args.follower.now c.requires.follows) c.in-Done.ensures.noted;
-      heard = subst (λ t. g.L.Follower.hears c.args.follower.now (flushes_of (t ∷ [])) c.follow.new.self) (sym c.in-Flush.is) c.follow.ensures.heard;
+      heard = (c.in-Done.shown ∷ [], ap (λ t. flushes_of (t ∷ [])) (sym c.in-Flush.is), c.follow.ensures.heard);
       unheard = tt;
     }
 
@@ -65,9 +67,10 @@ returns-in-Stopped g c =
     let source = c.args.seat.now.number in
     let seat = c.in-Stopped.ensures.seat in
     let flushes = c.in-Stopped.ensures.flushes in
-    let stopped = flush_stopped g.D.Disk g.V.Shown v u source c.flush.new.seat.number seat.1 seat.3 c.in-Stopped.mark flushes c.in-Stopped.ensures.book in
+    let stopped = flush_stopped g.D.Disk g.V.Shown v u source c.flush.new.seat.number seat.1 seat.3 c.in-Stopped.mark flushes c.in-Stopped.ensures.asked c.in-Stopped.ensures.book in
     record {
       seat = record { table_is = seat.0; number_is = seat.1 };
+      turn = flushes.1.turns;
       done = tt;
       ended = (stopped.0, λ later. stopped.1 (c.args.task ∷ later));
       counted = tt;
@@ -84,9 +87,10 @@ returns-in-DiskFault g c =
     let seat = c.in-DiskFault.ensures.seat in
     let flushes = c.in-DiskFault.ensures.flushes in
     let book = c.in-DiskFault.ensures.book in
-    let failed = flush_failed g.D.Disk g.V.Shown v u source c.flush.new.seat.number seat.1 seat.3 c.in-DiskFault.before c.in-DiskFault.after flushes book in
+    let failed = flush_failed g.D.Disk g.V.Shown v u source c.flush.new.seat.number seat.1 seat.3 c.in-DiskFault.before c.in-DiskFault.after flushes c.in-DiskFault.ensures.asked book in
     record {
       seat = record { table_is = seat.0; number_is = seat.1 };
+      turn = flushes.1.turns;
       done = tt;
       ended = (failed.0, λ later. failed.1 (c.args.task ∷ later));
       counted = (book.old, book.new, book.turned, book.answers.0.before_is, book.answers.0.after_is);
