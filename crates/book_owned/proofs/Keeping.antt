@@ -1,9 +1,9 @@
 -- What a book keeps of its file, over the calls that change the file or the history.
-use Rattle.std.proofs.Common.{◌≡◌, ◌⊎◌, ◌-◌, ◌<◌, ◌≤◌, ℕ, Bool, true, false, List, [], ◌∷◌, ◌++◌, length, get_or, slice_get, Option, sym, ◌∙◌, ap, subst, inl, inr, ⊎_elim, arith, length-append}
+use Rattle.std.proofs.Common.{◌≡◌, ◌⊎◌, ◌-◌, ◌<◌, ◌≤◌, ℕ, Bool, true, false, List, [], ◌∷◌, ◌++◌, length, drop, get_or, slice_get, Option, sym, ◌∙◌, ap, subst, inl, inr, ⊎_elim, arith, length-append}
 use Rattle.std.specs.Prelude.{IsSomeAnd, is_some}
 use Rattle.std.specs.Bool.{OnTrue}
 use Rattle.std.specs.List.{All}
-use Rattle.std.proofs.lemmas.List.{get_or_append_left}
+use Rattle.std.proofs.lemmas.List.{drop_all, get_or_append_left}
 use Rattle.std.proofs.Math.Seq.{get_or-append_right}
 use Rattle.std.proofs.lemmas.List.Elements.{All-weaker, All-push}
 use Rattle.std.proofs.lemmas.Bool.{cases_lt}
@@ -13,6 +13,7 @@ use Rattle.mdf_disk.specs.Crash.{Adds, HoldsSince}
 use Rattle.mdf_disk.specs.State.{DiskState}
 use Rattle.mdf_disk.proofs.Crash.{adds_more, holds_after}
 use Rattle.mdf_layout.specs.Layout.{Layout}
+use Rattle.mdf_layout.specs.Record.{history_size}
 use Rattle.mdf_layout.specs.declared.sample.Sample.{Sample}
 use Rattle.mdf_gate.specs.Images.{IsNotMdf}
 use Rattle.mdf_gate.specs.Carried.{Carries}
@@ -21,7 +22,7 @@ use Rattle.book_owned.specs.Marks.{last_mark, durable, Rises, AreRising}
 use Rattle.book_owned.specs.Account.{Terms}
 use Rattle.book_owned.specs.Kept.{MarkHolds, MarksHold, StartHolds, IsKept}
 use Rattle.book_owned.specs.declared.mark.Mark.{Mark}
-use Rattle.book_owned.proofs.Lasts.{last_mark_at}
+use Rattle.book_owned.proofs.Lasts.{last_mark-append, last_mark_at}
 
 module _ (layouts : List Layout) (head : List ℕ) (history : List Sample) where
   abbrev pub carry : ℕ → List ℕ → Type 0
@@ -116,6 +117,7 @@ kept_later terms old new history marks adds later told kept = record {
       (through_most (is_some old.story) marks kept.marks_rise) kept.marks_hold;
   start_holds = start_later terms.layouts terms.head history old.story new.story terms.start (durable marks) adds kept.start_holds;
   marks_rise = subst (λ t. AreRising t marks) (sym told) kept.marks_rise;
+  pending = kept.pending;
 }
 
 -- A mark was made of the present moment, with all samples.
@@ -134,12 +136,16 @@ kept_marked terms disk before history marks mark kept past moment through more l
   start_holds = kept.start_holds;
   marks_rise = rising-append (is_some disk.story) marks mark before kept.marks_rise past (omega (arith, more, through)) (omega (arith, later, moment))
       (subst (λ n. OnTrue (is_some disk.story) (before < n)) (sym moment) strictly);
-}
+  pending = subst (λ samples. history_size terms.layouts samples ≤ terms.block_limit) (sym none) (omega arith);
+} where
+  none : drop (durable (marks ++ mark ∷ [])) history ≡ []
+  none = drop_all (durable (marks ++ mark ∷ [])) history (omega (arith, ap (λ m. m.through) (last_mark-append marks mark), through))
 
 -- The history grew.
 pub kept_longer : (terms : Terms) (disk : DiskState) (history : List Sample) (marks : List Mark) (sample : Sample)
-    → IsKept terms disk history marks → IsKept terms disk (history ++ sample ∷ []) marks
-kept_longer terms disk history marks sample kept = record {
+    → IsKept terms disk history marks → history_size terms.layouts (drop (durable marks) (history ++ sample ∷ [])) ≤ terms.block_limit
+    → IsKept terms disk (history ++ sample ∷ []) marks
+kept_longer terms disk history marks sample kept fits = record {
   marks_hold = All-weaker (MarkHolds terms.layouts terms.head disk.story disk.moment history) (MarkHolds terms.layouts terms.head disk.story disk.moment (history ++ sample ∷ [])) (λ mark h. record {
     past = h.past;
     within = omega (arith, h.within, length-append history (sample ∷ []));
@@ -148,6 +154,7 @@ kept_longer terms disk history marks sample kept = record {
   start_holds = λ file left. ⊎_elim inl
       (λ c. inr (carries_longer terms.layouts terms.head history (history ++ sample ∷ []) 0 file longer c)) (kept.start_holds file left);
   marks_rise = kept.marks_rise;
+  pending = fits;
 } where
   longer : IsPrefix history (history ++ sample ∷ [])
   longer = prefix_append history (sample ∷ [])

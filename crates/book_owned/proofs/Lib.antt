@@ -3,6 +3,7 @@ mod Flushing
 mod Keeping
 mod Lasts
 mod Putting
+mod Resting
 mod Showing
 mod Turning
 mod Happening

@@ -1,7 +1,7 @@
 -- The halves of a book when it begins, and when a sample was put into them.
-use Rattle.std.proofs.Common.{◌≡◌, ◌+◌, ◌<◌, ◌≤◌, ◌^◌, ℕ, Bool, zero, suc, List, [], ◌∷◌, ◌++◌, length, take, drop, get_or, refl, sym, ◌∙◌, ap, subst, arith, rules, length-append}
+use Rattle.std.proofs.Common.{◌≡◌, ◌+◌, ◌<◌, ◌≤◌, ◌^◌, ℕ, Bool, false, zero, suc, List, [], ◌∷◌, ◌++◌, length, take, drop, get_or, refl, sym, ◌∙◌, ap, subst, arith, rules, length-append}
 use Rattle.std.proofs.lemmas.List.{drop-append-le, take-append-le}
-use Rattle.std.proofs.lemmas.List.Sums.{sum_by-cons}
+use Rattle.std.proofs.lemmas.List.Sums.{sum_by-append, sum_by-cons}
 use Rattle.std.specs.Prelude.{is_some, IfSome}
 use Rattle.std.specs.List.{All, concat}
 use Rattle.std.proofs.lemmas.List.Elements.{All-push}
@@ -11,7 +11,7 @@ use Rattle.mdf_disk.specs.Crash.{HoldsSince}
 use Rattle.mdf_layout.specs.Layout.{Layout}
 use Rattle.mdf_layout.specs.Behind.{AreEncodingsBehind}
 use Rattle.mdf_layout.specs.Next.{AreNext}
-use Rattle.mdf_layout.specs.Record.{SampleFits, cost_of, history_cost, history_size}
+use Rattle.mdf_layout.specs.Record.{SampleFits, cost_of, encoded_size, history_cost, history_size}
 use Rattle.mdf_layout.specs.declared.sample.Sample.{Sample}
 use Rattle.mdf_layout.proofs.Behind.{pending_more, no_encodings}
 use Rattle.mdf_layout.proofs.Sizes.{encodings-length}
@@ -40,6 +40,18 @@ cost_one_more : (layouts : List Layout) (history : List Sample) (sample : Sample
 cost_one_more layouts history sample =
     let one : history_cost layouts (sample ∷ []) ≡ cost_of layouts sample + 0 = sum_by-cons (cost_of layouts) sample [] in
     omega (arith, history_cost-append layouts history (sample ∷ []), one)
+
+-- the pending records with that of one sample more
+size_one_more : (layouts : List Layout) (history : List Sample) (through : ℕ) (sample : Sample) → through ≤ length history
+    → history_size layouts (drop through (history ++ sample ∷ [])) ≡ history_size layouts (drop through history) + encoded_size layouts sample
+size_one_more layouts history through sample within =
+    let one : history_size layouts (sample ∷ []) ≡ encoded_size layouts sample + 0 = sum_by-cons (encoded_size layouts) sample [] in
+    omega (
+      arith,
+      ap (history_size layouts) (drop-append-le through history (sample ∷ []) within),
+      sum_by-append (encoded_size layouts) (drop through history) (sample ∷ []),
+      one,
+    )
 
 -- What is held in memory, when a sample was put into it.
 module _ {V : Type 0} (old new : InMemory V) (sample : Sample) (put : IsPut old new sample) where
@@ -90,8 +102,9 @@ showing_longer view now history longer sample marks grown within is =
 module _ {D V N : Type 0} (disk : DiskOf D) (view : ViewOf V N) where
   pub book_put : (old new : InMemory V) (file : Gated D) (sample : Sample) → IsBook disk view old file
       → IsPut old new sample → 1 ≤ old.marks.spare → old.held + cost_of old.shapes sample ≤ old.session_limit
+      → file.failed ≡ false → length old.block.bytes + encoded_size old.shapes sample ≤ old.block.limit
       → IsBook disk view new file
-  book_put old new file sample book put spare session =
+  book_put old new file sample book put spare session going fits =
       let at : InMemory V = record old { history = new.history; held = new.held; block = new.block; next = new.next } in
       let put_at : IsPut old at sample = subst (λ f. IsPut old f sample) put.rest put in
       let history = old.history.items in
@@ -99,14 +112,26 @@ module _ {D V N : Type 0} (disk : DiskOf D) (view : ViewOf V N) where
       let same : take through new.history.items ≡ take through history =
       ap (take through) put.history ∙ take-append-le through history (sample ∷ []) book.pending.through in
       let kept = subst (λ h. IsKept (terms_of disk view old file) (state_of disk file.disk) h old.marks.items) (sym put.history)
-      (kept_longer (terms_of disk view old file) (state_of disk file.disk) history old.marks.items sample book.back.kept) in
+      (kept_longer (terms_of disk view old file) (state_of disk file.disk) history old.marks.items sample book.back.kept
+      (omega (
+        arith,
+        fits,
+        size_one_more old.shapes history through sample book.pending.through,
+        encodings-length old.shapes (take through history) old.block.bytes (drop through history) (book.pending.records going),
+      ))) in
       subst (λ f. IsBook disk view f file) (sym put.rest) (record {
         counted = counted_put old at sample put_at book.counted session;
         pending = pending_put old at sample put_at through file.failed book.pending spare;
         shown = showing_longer view old.view history new.history.items sample old.marks.items put.history book.pending.through book.shown;
         back = record {
-          kept = record { marks_hold = kept.marks_hold; start_holds = kept.start_holds; marks_rise = kept.marks_rise };
-          written = λ going. subst (IsWritten (disk.content file.disk) (disk.story file.disk) file.first file.place old.shapes) (sym same) (book.back.written going);
+          kept = record {
+            marks_hold = kept.marks_hold;
+            start_holds = kept.start_holds;
+            marks_rise = kept.marks_rise;
+            pending = omega (arith, kept.pending, put.limit);
+          };
+          written = λ still. subst (λ most. IsWritten (disk.content file.disk) (disk.story file.disk) file.first file.place most old.shapes (take through new.history.items)) (sym put.limit)
+              (subst (IsWritten (disk.content file.disk) (disk.story file.disk) file.first file.place old.block.limit old.shapes) (sym same) (book.back.written still));
           reach = λ going. subst (λ h. file.place ≤ 2 ^ 61 + history_cost old.shapes h) (sym same) (book.back.reach going);
           near = λ going. subst (λ h. IfSome (disk.story file.disk) (λ _. file.place ≤ length (head_of (disk.story file.disk) file.first) + history_cost old.shapes h))
               (sym same) (book.back.near going);
@@ -170,10 +195,12 @@ module _ {D V N : Type 0} (disk : DiskOf D) (view : ViewOf V N) where
             marks_hold = subst (MarksHold front.shapes head (disk.story file.disk) (disk.moment file.disk) front.history.items) (sym marks_are) (λ k d below. all_one first mark_holds k d below);
             start_holds = λ f left. carries_begun front.shapes head front.history.items f (created.begun f left);
             marks_rise = subst (AreRising (is_some (disk.story file.disk))) (sym marks_are) (record { first = refl; rise = λ i j d less below. absurd (omega (arith, less, below)) });
+            pending = subst (λ samples. history_size front.shapes samples ≤ front.block.limit) (sym (dropped (durable front.marks.items) front.history.items history_is)) (omega arith);
           };
           written = λ going. record {
             blocks = [];
             rests = created.rests;
+            within = λ k d below. absurd (omega (arith, below));
             records = subst (AreEncodingsBehind front.shapes [] (concat [])) (sym (taken (durable front.marks.items))) (no_encodings front.shapes []);
           };
           reach = λ going. omega (arith, created.short);

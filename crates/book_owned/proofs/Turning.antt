@@ -3,7 +3,8 @@ use Rattle.std.proofs.Common.{◌≡◌, ◌≢◌, ◌+◌, ◌-◌, ◌<◌, �
 use Rattle.std.proofs.lemmas.List.{take_all, drop_all}
 use Rattle.std.specs.Prelude.{is_some, IfSome}
 use Rattle.std.specs.Bool.{OnTrue}
-use Rattle.std.specs.List.{concat}
+use Rattle.std.specs.List.{All, concat}
+use Rattle.std.proofs.lemmas.List.Elements.{All-push}
 use mathlib.Core.List.{IsPrefix}
 use Rattle.mdf_format.specs.Number.{aligned}
 use Rattle.mdf_disk.specs.Story.{Story}
@@ -191,6 +192,8 @@ module _ {D V N : Type 0} (disk : DiskOf D) (view : ViewOf V N) (front : InMemor
         let small = block_small layouts (take through history) (drop through history) front.block.bytes (book.pending.records going) some in
         let near : IfSome (disk.story file'.disk) (λ _. file'.place ≤ length terms.head + history_cost layouts history) =
         told_on (disk.story file.disk) (disk.story file'.disk) _ _ told (λ before. omega (arith, place, before, small, cost_parts layouts history through)) (book.back.near going) in
+        let short : length front.block.bytes ≤ front.block.limit =
+        omega (arith, encodings-length layouts (take through history) front.block.bytes (drop through history) (book.pending.records going), book.back.kept.pending) in
         let holds : HoldsSince (disk.story file'.disk) (disk.moment file'.disk) (Carries layouts terms.head history (length history)) =
         holds_told (disk.story file'.disk) (disk.moment file'.disk) (Carries layouts terms.head history (length history)) _ near
         (λ close f left. carries_opened layouts terms.head history history (written.blocks ++ front.block.bytes ∷ []) file'.place f
@@ -217,7 +220,13 @@ module _ {D V N : Type 0} (disk : DiskOf D) (view : ViewOf V N) (front : InMemor
           back = record {
             kept = subst (λ t. IsKept t (state_of disk file'.disk) history marks) (sym same)
                 (subst (IsKept terms (state_of disk file'.disk) history) (sym marks_are) kept1);
-            written = λ g. record { blocks = written.blocks ++ front.block.bytes ∷ []; rests = rest; records = subst (AreEncodingsBehind layouts [] _) (sym all) whole };
+            written = λ g. record {
+              blocks = written.blocks ++ front.block.bytes ∷ [];
+              rests = rest;
+              within = subst (λ most. All (λ body. length body ≤ most) (written.blocks ++ front.block.bytes ∷ [])) (sym limit)
+                  (All-push (λ body. length body ≤ front.block.limit) written.blocks front.block.bytes written.within short);
+              records = subst (AreEncodingsBehind layouts [] _) (sym all) whole;
+            };
             reach = λ g. subst (λ h. file'.place ≤ 2 ^ 61 + history_cost layouts h) (sym all)
                 (omega (arith, place, book.back.reach going, small, cost_parts layouts history through));
             near = λ g. subst (λ (t : Terms). IfSome (disk.story file'.disk) (λ _. file'.place ≤ length t.head + history_cost layouts (take (durable marks) history))) (sym same)

@@ -66,17 +66,18 @@ pub record IsPending {V : Type 0} (from : ℕ) (failed : Bool) (front : InMemory
   pub records : failed ≡ false → AreEncodingsBehind front.shapes (take from front.history.items) front.block.bytes (drop from front.history.items)
   pub room : front.block.bytes ≢ [] → 1 ≤ front.marks.spare
 
--- the file at rest holds the records of the durable samples
-pub record IsWritten (content : Option (List ℕ)) (story : Option Story) (first place : ℕ) (layouts : List Layout) (samples : List Sample) : Type 0 where
+-- the file at rest holds the records of the durable samples, in blocks with at most so many bytes of data
+pub record IsWritten (content : Option (List ℕ)) (story : Option Story) (first place most : ℕ) (layouts : List Layout) (samples : List Sample) : Type 0 where
   pub blocks : List (List ℕ)
   pub rests : RestsOn content story first blocks place
+  pub within : All (λ body. length body ≤ most) blocks
   pub records : AreEncodingsBehind layouts [] (concat blocks) samples
 
 -- What the file keeps whatever happens, and where it stands while no call failed: where the disk tells its story, no
 -- further behind its head than what the durable samples cost.
 pub record IsBack {D V : Type 0} (disk : DiskOf D) (front : InMemory V) (file : Gated D) (terms : Terms) : Type 0 where
   pub kept : IsKept terms (state_of disk file.disk) front.history.items front.marks.items
-  pub written : file.failed ≡ false → IsWritten (disk.content file.disk) (disk.story file.disk) file.first file.place front.shapes (take (durable front.marks.items) front.history.items)
+  pub written : file.failed ≡ false → IsWritten (disk.content file.disk) (disk.story file.disk) file.first file.place front.block.limit front.shapes (take (durable front.marks.items) front.history.items)
   pub reach : file.failed ≡ false → file.place ≤ 2 ^ 61 + history_cost front.shapes (take (durable front.marks.items) front.history.items)
   pub near : file.failed ≡ false
       → IfSome (disk.story file.disk) (λ _. file.place ≤ length terms.head + history_cost front.shapes (take (durable front.marks.items) front.history.items))

@@ -1,13 +1,15 @@
 -- What a book keeps of its file, whatever happens.
-use Rattle.std.specs.Prelude.{ℕ, ◌≤◌, ◌⊎◌, List, length, take, All, Option, is_some}
+use Rattle.std.specs.Prelude.{ℕ, ◌≤◌, ◌⊎◌, List, length, take, drop, All, Option, is_some}
 use mathlib.Core.List.{IsPrefix}
 use Rattle.mdf_disk.specs.Story.{Story}
 use Rattle.mdf_disk.specs.Crash.{HoldsSince}
 use Rattle.mdf_disk.specs.State.{DiskState}
 use Rattle.mdf_layout.specs.Layout.{Layout}
+use Rattle.mdf_layout.specs.Record.{history_size}
 use Rattle.mdf_layout.specs.declared.sample.Sample.{Sample}
 use Rattle.mdf_gate.specs.Images.{IsNotMdf}
 use Rattle.mdf_gate.specs.Carried.{Carries, IsCarried, IsEncoded}
+use Rattle.mdf_gate.specs.Recording.{IsOpened}
 use Rattle.book_owned.specs.Members.{ViewOf}
 use Rattle.book_owned.specs.Marks.{AreRising, durable}
 use Rattle.book_owned.specs.Account.{Terms}
@@ -30,11 +32,12 @@ abbrev pub StartHolds : List Layout → List ℕ → Option Story → ℕ → Li
 StartHolds layouts head story start history =
     HoldsSince story start (λ file. IsNotMdf file ⊎ Carries layouts head history 0 file)
 
--- What is true of a book's disk, whatever happens.
+-- What is true of a book's disk, whatever happens: the records of the samples that are not durable fit into one block.
 pub record IsKept (terms : Terms) (disk : DiskState) (history : List Sample) (marks : List Mark) : Type 0 where
   pub marks_hold : MarksHold terms.layouts terms.head disk.story disk.moment history marks
   pub start_holds : StartHolds terms.layouts terms.head disk.story terms.start history
   pub marks_rise : AreRising (is_some disk.story) marks
+  pub pending : history_size terms.layouts (drop (durable marks) history) ≤ terms.block_limit
 
 -- The view shows a beginning of the durable samples, and handed no other samples on.
 pub record IsShowing {V N : Type 0} (view : ViewOf V N) (now : V) (history : List Sample) (marks : List Mark) : Type 0 where
@@ -42,7 +45,13 @@ pub record IsShowing {V N : Type 0} (view : ViewOf V N) (now : V) (history : Lis
   pub shown : view.shows now (take (view.count now) history)
   pub handed : (handed : List Sample) → view.hands now handed → IsPrefix handed (take (durable marks) history)
 
--- the data of the file's opened blocks are the records of the durable samples, with the bits of no channel 0
+-- each opened block of the file has at most so many bytes of data
+abbrev pub HasBlocksOf : ℕ → List ℕ → Type 0
+HasBlocksOf most file = (blocks : List (List ℕ)) → IsOpened file blocks → All (λ body. length body ≤ most) blocks
+
+-- the data of the file's opened blocks are the records of the durable samples, with the bits of no channel 0, and no block
+-- has more data than the limit
 abbrev pub HoldsDurable : Terms → List Sample → List Mark → List ℕ → Type 0
 HoldsDurable terms history marks file =
     IsCarried terms.layouts file (take (durable marks) history) × IsEncoded terms.layouts file (take (durable marks) history)
+    × HasBlocksOf terms.block_limit file

@@ -7,5 +7,6 @@ mod Stages
 mod Buffers
 pub mod Carrying
 pub mod Once
+pub mod Rested
 pub mod Begun
 pub mod Appends

@@ -23,7 +23,14 @@ invariant_of-self-2 g c =
     let room = subst P (sym c.make_room.ensures.hands.rest) (subst P (sym c.reserve.ensures.rest) c.in_default.ensures.none.room) in
     book_put g.D.Disk g.V.Shown
     c.make_room.new.front c.accept.new.front c.make_room.new.file c.args.sample c.make_room.ensures.book c.accept.ensures.put
-    (omega (arith, c.make_room.ensures.hands.spare, c.in-Ok.ensures.room.1)) room
+    (omega (arith, c.make_room.ensures.hands.spare, c.in-Ok.ensures.room.1)) room c.in_default-make_room.ensures.going
+    (omega (
+      arith,
+      c.in_default-make_room.ensures.room,
+      c.encoded_size-size.ensures,
+      ap (λ f. encoded_size f.shapes c.args.sample) c.make_room.ensures.hands.rest,
+      ap (λ f. encoded_size f.shapes c.args.sample) c.reserve.ensures.rest,
+    ))
 
 pub returns-clause-kept : goal.returns-clause-kept
 returns-clause-kept g c = (invariant_of-self-2 g c).back.kept

@@ -1,4 +1,4 @@
-use Rattle.std.proofs.Common.{◌+◌, ◌≤◌, ◌≡◌, ◌∙◌, ap, false, sym, subst, arith, rules}
+use Rattle.std.proofs.Common.{◌+◌, ◌≤◌, ◌≡◌, ◌∙◌, ap, false, length, sym, subst, arith, rules}
 use Rattle.mdf_layout.specs.Record.{cost_of, encoded_size}
 use Rattle.book_owned.specs.Marks.{durable}
 use Rattle.book_owned.specs.Answers.{FitsBlock}
@@ -14,18 +14,25 @@ reserved g c =
     book_reserved g.D.Disk g.V.Shown c.self.inside.front c.reserve.new.front c.self.inside.file
     c.reserve.ensures.rest c.reserve.ensures.history c.reserve.ensures.marks c.reserve.ensures.spare c.self.invariant
 
-pub accept-requires-clause-block : goal.accept-requires-clause-block
-accept-requires-clause-block g c =
+-- the file has not failed, and the sample's record has room in the block
+not_failed : (g : given.Over) (c : After-reserve g) → c.self.inside.file.failed ≡ false
+not_failed g c = ap (λ a. a.stopped) c.self.view_is ∙ c.in_default.ensures.none.0
+
+has_room : (g : given.Over) (c : After-reserve g)
+    → length c.reserve.new.front.block.bytes + encoded_size c.reserve.new.front.shapes c.args.sample ≤ c.reserve.new.front.block.limit
+has_room g c =
     let front = c.self.inside.front in
     let sample = c.args.sample in
-    let going : c.self.inside.file.failed ≡ false = ap (λ a. a.stopped) c.self.view_is ∙ c.in_default.ensures.none.0 in
     omega (
       arith,
       subst (λ a. FitsBlock a sample) (sym c.self.view_is) c.requires.room,
-      pending_size (durable front.marks.items) front c.reserve.new.front c.reserve.ensures.rest (c.self.invariant.pending.records going),
+      pending_size (durable front.marks.items) front c.reserve.new.front c.reserve.ensures.rest (c.self.invariant.pending.records (not_failed g c)),
       ap (λ f. encoded_size f.shapes sample) c.reserve.ensures.rest,
       ap (λ f. f.block.limit) c.reserve.ensures.rest,
     )
+
+pub accept-requires-clause-block : goal.accept-requires-clause-block
+accept-requires-clause-block g c = has_room g (goal.at.accept-requires-clause-block g c).After-reserve
 
 pub invariant_of-self-2 : goal.invariant_of-self-2
 invariant_of-self-2 g c =
@@ -33,7 +40,8 @@ invariant_of-self-2 g c =
     let room : front.held + cost_of front.shapes c.args.sample ≤ front.session_limit = search rules in
     book_put g.D.Disk g.V.Shown front c.accept.new.front c.self.inside.file c.args.sample
     (reserved g (goal.at.invariant_of-self-2 g c).After-reserve)
-    c.accept.ensures.put (omega (arith, c.in-Ok.ensures.room.1)) room
+    c.accept.ensures.put (omega (arith, c.in-Ok.ensures.room.1)) room (not_failed g (goal.at.invariant_of-self-2 g c).After-reserve)
+    (has_room g (goal.at.invariant_of-self-2 g c).After-reserve)
 
 pub returns-clause-kept : goal.returns-clause-kept
 returns-clause-kept g c = (invariant_of-self-2 g c).back.kept
