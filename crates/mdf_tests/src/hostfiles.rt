@@ -43,6 +43,25 @@ fn read<D: Disk>(alloc: Global, name: Bytes, disk: &mut D) -> Result<Bytes, Load
     read_whole(alloc, disk, 5)
 }
 
+/// The three bytes from 2 on, and then the two from 1 on.
+fn read_inside<D: Disk>(name: Bytes, disk: &mut D) -> Result<([u8; 3], [u8; 2]), Failed>
+    requires asked { D.asked disk.old ≡ None }
+    requires untold { D.content disk.old ≡ None }
+{
+    let mut three = [0; 3];
+    let mut two = [0; 2];
+    disk.attach(name, Role::Read)?;
+    disk.read_at(2, &mut three)?;
+    disk.read_at(1, &mut two)?;
+    Ok((three, two))
+}
+
+/// Those of the file.
+fn inside(rt: &HostRuntime, name: Bytes) -> Result<([u8; 3], [u8; 2]), Failed> {
+    let mut disk = FileDisk::new(rt);
+    read_inside(name, &mut disk)
+}
+
 /// Whether the file has these bytes.
 fn has(rt: &HostRuntime, name: Bytes, want: &[u8]) -> Result<bool, LoadFault> {
     let mut disk = FileDisk::new(rt);
@@ -65,5 +84,6 @@ fn counts(rt: &HostRuntime) -> Result<((u64, u64), u64, u64), Fail> {
 fn a_real_file_is_made_and_read(rt: HostRuntime) -> Result<(), Fail> {
     assert_eq!(rt; counts(&rt)?, ((5, 5), 1, 1));
     assert!(rt; has(&rt, name(rt.alloc())?, b"abxyz")?);
+    assert_eq!(rt; inside(&rt, name(rt.alloc())?)?, (*b"xyz", *b"bx"));
     Ok(())
 }
