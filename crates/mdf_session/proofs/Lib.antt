@@ -1,3 +1,4 @@
 pub mod Units
 pub mod Counts
 pub mod Keeps
+mod Firsts

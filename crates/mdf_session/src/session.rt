@@ -1,8 +1,9 @@
-ghost use Rattle.std.specs.Prelude.{◌≡◌, ◌≤◌, ◌<◌, ℕ, List, Some, Ok, length, slice_index_or, true, IfOk, IfErr};
+ghost use Rattle.std.specs.Prelude.{◌≡◌, ◌≤◌, ◌<◌, ℕ, List, Some, Ok, length, slice_index_or, true, IfOk, IfErr, IfNone};
 ghost use Rattle.mdf_format.specs.Number.{bytes_at};
 ghost use Rattle.mdf_num.specs.Halt.{HaltCause, StopCause};
-ghost use Rattle.mdf_block.specs.Refusal.{Fails, Gives, GivesOf, Halts, IsPlain};
+ghost use Rattle.mdf_block.specs.Refusal.{Fails, Gives, GivesOf, Halts, HidesNone, IsPlain};
 ghost use Rattle.mdf_stream.specs.Parts.{ArePartsInside, stream_of, stream_size};
+ghost use Rattle.mdf_head.specs.declared.identity.Ident.{Ident};
 ghost use Rattle.mdf_content.specs.Fault.{read_refusal};
 ghost use Rattle.mdf_group.specs.declared.row.DataRow.{DataRow};
 ghost use Rattle.mdf_session.specs.Session.{HasFirst, recording, session};
@@ -39,14 +40,14 @@ struct Found {
 ///
 /// # Errors
 /// `NotMdf`, then `Version`, as `ident`; then `NotRecording` exactly where the file is finalized or its custom word is not 1;
-/// the span's own; and want of memory.
+/// and the span's own.
 #[tactic(auto, unfolding(crate::specs::Session::recording))]
 fn recording_in<P: Span>(span: &mut P) -> Result<Ident, Halt<ReadFault>>
     ensures found { (f : List ℕ) → P.bytes span.old ≡ Some f → Gives read_refusal result (recording f) }
     ensures plain { IfErr result (IsPlain read_refusal) }
     ensures same { P.bytes span.new ≡ P.bytes span.old }
     ensures size { P.size span.new ≡ P.size span.old }
-    ensures cause { HaltCause true (P.faults span.old) (P.faults span.new) result }
+    ensures cause { HaltCause P.may_want (P.faults span.old) (P.faults span.new) result }
 {
     let id = identity_in(span)?;
     if id.finalized || id.custom_flags != 1 {
@@ -180,6 +181,7 @@ impl Session {
 fn found_in<P: Span>(alloc: Global, span: &mut P) -> Result<Found, Halt<ReadFault>>
     ensures found { (f : List ℕ) → P.bytes span.old ≡ Some f → IfOk result (λ found. session f ≡ Ok (session_from f found)) }
     ensures refused { (f : List ℕ) → P.bytes span.old ≡ Some f → IfErr result (λ halt. Halts read_refusal halt (session f)) }
+    ensures first { (f : List ℕ) → P.bytes span.old ≡ Some f → HidesNone P.may_want result (recording f) }
     ensures plain { IfErr result (IsPlain read_refusal) }
     ensures stands { IfOk result (λ found. StandIn (P.size span.old) found.standing) }
     ensures counted { IfOk result (λ found. (content : List ℕ) → HasFirst found.tree.rows (with_content content found.standing)) }
@@ -200,6 +202,7 @@ fn found_in<P: Span>(alloc: Global, span: &mut P) -> Result<Found, Halt<ReadFaul
 fn found_of(alloc: Global, bytes: &[u8]) -> Result<Found, ReadFault>
     ensures found { IfOk result (λ found. session bytes.now ≡ Ok (session_from bytes.now found)) }
     ensures refused { IfErr result (λ fault. Fails (read_refusal fault) (session bytes.now)) }
+    ensures first { IfErr result (λ fault. IfNone (read_refusal fault) ((id : Ident) × (recording bytes.now ≡ Ok id))) }
     ensures stands { IfOk result (λ found. StandIn (length bytes.now) found.standing) }
     ensures counted { IfOk result (λ found. (content : List ℕ) → HasFirst found.tree.rows (with_content content found.standing)) }
 {
@@ -241,6 +244,7 @@ fn session_with(content: Bytes, found: Found) -> Session
 /// blocks, its records, and its values. The span's own; and want of memory.
 pub fn session_in<P: Span>(alloc: Global, span: &mut P) -> Result<Session, Halt<ReadFault>>
     ensures found { (f : List ℕ) → P.bytes span.old ≡ Some f → Gives read_refusal result (session f) }
+    ensures first { (f : List ℕ) → P.bytes span.old ≡ Some f → HidesNone P.may_want result (recording f) }
     ensures plain { IfErr result (IsPlain read_refusal) }
     ensures same { P.bytes span.new ≡ P.bytes span.old }
     ensures size { P.size span.new ≡ P.size span.old }
@@ -257,6 +261,7 @@ pub fn session_in<P: Span>(alloc: Global, span: &mut P) -> Result<Session, Halt<
 /// As `session_in`; and `Memory`.
 pub fn read_session(alloc: Global, bytes: &[u8]) -> Result<Session, ReadFault>
     ensures exact { GivesOf read_refusal result (session bytes.now) }
+    ensures first { IfErr result (λ fault. IfNone (read_refusal fault) ((id : Ident) × (recording bytes.now ≡ Ok id))) }
 {
     match session_in(alloc, &mut SliceSpan::new(bytes)) {
         Ok(session) => Ok(session),
@@ -272,6 +277,7 @@ pub fn read_session(alloc: Global, bytes: &[u8]) -> Result<Session, ReadFault>
 /// As `read_session`.
 pub fn session_of(alloc: Global, file: Bytes) -> Result<Session, ReadFault>
     ensures exact { GivesOf read_refusal result (session file) }
+    ensures first { IfErr result (λ fault. IfNone (read_refusal fault) ((id : Ident) × (recording file ≡ Ok id))) }
 {
     let found = found_of(alloc, file.as_slice())?;
     let content = moved_front(file, &found.standing.view, found.standing.size);
