@@ -45,11 +45,11 @@ pub record CanJoin (one other : Measured) : Type 0 where
   pub alike : AreAlike one.groups other.groups
   pub held : NoneWideTo one.groups other.groups (length one.groups)
 
--- why they are not: a group differs, or an offset is not held, or memory was wanted
+-- why they are not: a group differs, or an offset is not held; or they can be, and memory was wanted
 abbrev pub IsRefused : Measured → Measured → ConcatFault → Type 0
 IsRefused one other (faults.Differs group) = IsFirstDifference one.groups other.groups group
 IsRefused one other (faults.Wide group channel) = AreAlike one.groups other.groups × IsFirstWide one.groups other.groups group channel
-IsRefused one other faults.Memory = Unit {0}
+IsRefused one other faults.Memory = CanJoin one other
 IsRefused one other _ = ⊥
 
 -- the sorted file of the joined measurement, and what is told of it

@@ -1,4 +1,4 @@
-ghost use Rattle.std.specs.Prelude.{ℕ, ◌≡◌, List, IfOk};
+ghost use Rattle.std.specs.Prelude.{ℕ, ◌≡◌, ◌^◌, ◌≤◌, List, IfOk, OnErr};
 ghost use Rattle.tool_sort.specs.Kept.{StandsIn, IsSortedOf};
 ghost use Rattle.tool_sort.specs.Made.{sample_count, report_for, IsMadeOf};
 ghost use Rattle.tool_sort.specs.Sorted.{IsTitle};
@@ -11,7 +11,8 @@ use std::alloc::Global;
 
 /// How many samples the groups of a measurement have in all. A sum past the last u64 counts as want of memory.
 fn sample_count(measurement: &Measurement) -> Result<u64, Memory>
-    ensures { IfOk result (λ count. count ≡ sample_count measurement.now.groups) }
+    ensures count { IfOk result (λ count. count ≡ sample_count measurement.now.groups) }
+    ensures past { OnErr result (2 ^ 64 ≤ sample_count measurement.now.groups) }
 {
     let groups = measurement.groups();
     let mut count = 0u64;
@@ -27,8 +28,12 @@ fn sample_count(measurement: &Measurement) -> Result<u64, Memory>
 }
 
 /// What is told of the sorted file of a measurement.
+///
+/// # Errors
+/// `Memory` where there are more samples than a u64 counts.
 fn report_of(measurement: &Measurement) -> Result<Report, Memory>
-    ensures { IfOk result (λ report. report ≡ report_for measurement.now) }
+    ensures report { IfOk result (λ report. report ≡ report_for measurement.now) }
+    ensures past { OnErr result (2 ^ 64 ≤ sample_count measurement.now.groups) }
 {
     let samples = sample_count(measurement)?;
     Ok(Report {
