@@ -1,8 +1,8 @@
 -- How a book ends, whose sources have worked: flushed a last time, and closed.
-use Rattle.std.proofs.Common.{◌≡◌, ◌<◌, ℕ, inl, inr, ⊎_elim, true, false, true≢false, Bool, List, [], ◌∷◌, length, take, map, Option, Some, None, Result, refl, sym, ◌∙◌, ap, subst, arith, append-nil}
-use Rattle.std.specs.Prelude.{IfErr, MatchBool, is_some}
+use Rattle.std.proofs.Common.{◌≡◌, ◌<◌, ℕ, inl, inr, ⊎_elim, true, false, true≢false, Bool, List, [], ◌∷◌, length, replicate, take, map, Option, Some, None, Result, refl, sym, ◌∙◌, ap, subst, arith, append-nil}
+use Rattle.std.specs.Prelude.{IfErr, MatchBool}
 use Rattle.std.proofs.lemmas.Grind.{fold-append}
-use Rattle.mdf_disk.specs.State.{state_of}
+use Rattle.std.proofs.lemmas.List.{length-map}
 use Rattle.mdf_layout.specs.declared.sample.Sample.{Sample}
 use Rattle.mdf_gate.specs.Gated.{Gated}
 use Rattle.book_owned.specs.Members.{DiskOf}
@@ -29,6 +29,7 @@ use Rattle.mdf_record.specs.declared.sources.End.TheVariants as end_
 use Rattle.mdf_record.specs.declared.sources.TaskFeed.{TaskFeed}
 use Rattle.mdf_record.specs.declared.record.Recorded.{Recorded}
 use Rattle.mdf_record.proofs.Feeding.{ran_lists}
+use Rattle.mdf_record.proofs.Idle.{idle_run}
 use Rattle.mdf_record.proofs.Recording.{has_run}
 use Rattle.mdf_record.proofs.Runs.{ran_all}
 
@@ -95,12 +96,8 @@ pub works_run : {D N G : Type 0} (tells : DiskOf D) (shows : ViewOf Audience N) 
     → fed_by feeds ≡ map feds_of script.lists → Works tells owners begun (fed_by feeds) script.plan.live recorded
     → HasRun tells script file (outcome tells recorded.out recorded.history.items recorded.marks.items) recorded.end
 works_run tells shows script file view begun owners feeds recorded which_is begins owners_are feeds_are (inl none) =
-    let disk_is = none.disk ∙ begins.disk_is in
-    record {
-      comes = rw none.end_is (refl, ap (state_of tells) disk_is, none.history, none.marks);
-      asked_is = ap tells.asked disk_is;
-      told = ap (λ d. is_some (tells.story d)) disk_is;
-    }
+    idle_run tells shows script file view begun none.accepted recorded begins
+    (none.none ∙ ap (λ (n : ℕ). replicate n 0) (ap length feeds_are ∙ length-map script.lists feds_of)) none.closes
 works_run tells shows script file view begun owners feeds recorded which_is begins owners_are feeds_are (inr worked) =
     let ran = ran_lists script.plan.owners owners worked.driven feeds script.lists worked.all owners_are feeds_are worked.ran in
     has_run tells shows script file view begun worked.driven worked.flushed worked.accepted worked.ended worked.fault worked.note worked.shown recorded which_is begins

@@ -4,5 +4,7 @@ mod Feeding
 mod Begins
 pub mod Runs
 mod Recording
+mod Idle
 mod Recovering
+mod Texts
 mod Ending

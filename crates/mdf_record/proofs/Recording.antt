@@ -5,6 +5,7 @@ use Rattle.std.proofs.lemmas.Bool.{cases_eq, cond-true, cond-false, eq-eqb, ne_e
 use Rattle.std.proofs.lemmas.Option.{slice_get_cases}
 use Rattle.std.proofs.Math.Seq.{get_or-append_seam}
 use Rattle.std.proofs.lemmas.List.{take_all}
+use mathlib.Core.List.{IsPrefix}
 use Rattle.mdf_disk.specs.Story.{Story, Agrees, IsFresh, LeftSince}
 use Rattle.mdf_disk.specs.Crash.{Adds, HoldsSince}
 use Rattle.mdf_disk.proofs.Crash.{adds_none}
@@ -22,7 +23,7 @@ use Rattle.mdf_gate.specs.Images.{head_of, IsBegun}
 use Rattle.mdf_gate.proofs.Begun.{begun_holds}
 use Rattle.book_owned.specs.Account.{Account, Terms}
 use Rattle.book_owned.specs.Begun.{HasBegun}
-use Rattle.book_owned.specs.Kept.{HoldsDurable, IsKept}
+use Rattle.book_owned.specs.Kept.{HasBlocksOf, HoldsDurable, IsKept}
 use Rattle.mdf_gate.specs.Carried.{IsCarried, IsEncoded}
 use Rattle.book_owned.specs.Marks.{durable}
 use Rattle.book_view.specs.Known.{Note}
@@ -39,9 +40,9 @@ use Rattle.acq_run.specs.declared.work.Driven.{Driven}
 use Rattle.acq_run.specs.declared.work.Ended.{Ended}
 use Rattle.acq_run.specs.declared.work.Ended.TheVariants as work
 use Rattle.acq_run.proofs.Later.{all_later}
-use Rattle.mdf_record.specs.Sources.{RanAll, ends_of, feds_of, told_of}
+use Rattle.mdf_record.specs.Sources.{AreOwnMarked, RanAll, ends_of, feds_of, told_of}
 use Rattle.mdf_record.specs.Finish.{FileFaultComes, Finishes, FinishEnds, IsAllDurable, IsMade, IsUnmade, NoteComes, WantsToShow}
-use Rattle.mdf_record.specs.Record.{AreAccepted, AreEnds, CloseComes, EndedAt, IsComplete, IsFull, IsNext, IsRecorded, IsSaved, IsShort, IsUnshown, Outcome, SourceComes, live_of, outcome}
+use Rattle.mdf_record.specs.Record.{AreAccepted, AreEnds, CloseComes, EndedAt, IsComplete, IsFull, IsIdle, IsNext, IsRecorded, IsSaved, IsShort, IsUnshown, OfSources, Outcome, SourceComes, live_of, outcome}
 use Rattle.mdf_record.specs.Head.{script_head}
 use Rattle.mdf_record.specs.Recorded.{Closes, HasRun, RunComes, RecordComes}
 use Rattle.mdf_record.specs.declared.sources.End.{End}
@@ -100,6 +101,86 @@ live_comes false None which history None is noted = refl
 live_comes false None which history (Some note) is noted = absurd (omega (arith, is, noted.1.1))
 live_comes false (Some problem) which history last is noted = ap counted noted
 
+-- the terms of a book that was begun over a script
+abbrev pub begun_terms : {D N : Type 0} → DiskOf D → ViewOf Audience N → Script → Gated D → Audience → Terms
+begun_terms tells shows script file view = record {
+  layouts = script.plan.shapes;
+  block_limit = script.plan.block;
+  session_limit = script.plan.session;
+  which = shows.which view;
+  head = head_of (tells.story file.disk) file.first;
+  start = file.start;
+  faults = file.faults;
+  told = is_some (tells.story file.disk);
+  asked = tells.asked file.disk;
+}
+
+-- of what holds of a content, where that is told, a part does
+told_part : (told : Option (List ℕ)) (P Q : List ℕ → Type 0) → ((file : List ℕ) → P file → Q file) → IfSome told P → IfSome told Q
+told_part None P Q part holds = tt
+told_part (Some file) P Q part holds = part file holds
+
+-- such a book, when it was closed
+module _ {D N : Type 0} (tells : DiskOf D) (shows : ViewOf Audience N) (script : Script) (file : Gated D) (view : Audience) (book : Account D Audience)
+    (accepted : Stock ℕ) (live : Option ℕ) (problem : Option Fault) (recorded : Recorded D) (terms_are : book.terms ≡ begun_terms tells shows script file view)
+    (closes : Closes tells book accepted live problem recorded) where
+  abbrev head : List ℕ
+  head = head_of (tells.story file.disk) file.first
+
+  abbrev terms : Terms
+  terms = begun_terms tells shows script file view
+
+  abbrev closed : Outcome
+  closed = outcome tells book.disk book.history book.marks
+
+  kept : IsKept terms (state_of tells book.disk) book.history book.marks
+  kept = subst (λ t. IsKept t (state_of tells book.disk) book.history book.marks) terms_are closes.kept
+
+  pub closed_recorded : OfSources script (λ source tasks. IsPrefix (source_samples script.plan.owners book.history source) (samples_of tasks))
+      → OfSources script (λ source tasks. AreOwnMarked script.plan.owners source book.history book.marks
+      (λ n. n < length (source_samples script.plan.owners book.history source)) [] tasks)
+      → IsRecorded script head file.start closed
+  closed_recorded own flushes = record {
+    marks_hold = kept.marks_hold;
+    start_holds = kept.start_holds;
+    marks_rise = kept.marks_rise;
+    own_prefix = own;
+    flush_lines = flushes;
+    cost = subst (λ (t : Terms). history_cost t.layouts book.history ≤ t.session_limit) terms_are closes.within;
+    pending = kept.pending;
+  }
+
+  -- the file carries all of the history where all of it is durable
+  pub closed_saved : IsAllDurable book → IsSaved script.plan closed
+  closed_saved all =
+      let shapes = script.plan.shapes in
+      let marked = take (durable book.marks) book.history in
+      let holds = subst (λ (t : Terms). IfSome (tells.content book.disk) (HoldsDurable t book.history book.marks)) terms_are (closes.holds all.0) in
+      record {
+        all_durable = all.1;
+        holds = subst (λ samples. IfSome (tells.content book.disk) (λ disk. IsCarried shapes disk samples × IsEncoded shapes disk samples))
+            (ap (λ n. take n book.history) all.1 ∙ take_all (length book.history) book.history (omega arith))
+            (told_part (tells.content book.disk) (HoldsDurable terms book.history book.marks) (λ disk. IsCarried shapes disk marked × IsEncoded shapes disk marked)
+            (λ disk is. (is.0, is.1)) holds);
+        blocks = told_part (tells.content book.disk) (HoldsDurable terms book.history book.marks) (HasBlocksOf script.plan.block) (λ disk is. is.2) holds;
+      }
+
+  pub closed_run : IsRecorded script head file.start closed → AreAccepted script closed accepted.items → live ≡ live_of script.plan.live problem (length book.history)
+      → CloseComes script file.faults closed problem
+      → HasRun tells script file (outcome tells recorded.out recorded.history.items recorded.marks.items) recorded.end
+  closed_run is accepted_are live_is comes = record {
+    comes = rw (closes.end_is) (record {
+      recorded = rw (closes.disk, closes.history, closes.marks) is;
+      accepted_is = rw (closes.disk, closes.history, closes.marks) accepted_are;
+      samples_is = ap length (sym closes.history);
+      durable_is = ap durable (sym closes.marks);
+      live_is = live_is ∙ ap (λ (h : List Sample). live_of script.plan.live problem (length h)) (sym closes.history);
+      comes = rw (closes.disk, closes.history, closes.marks) comes;
+    });
+    asked_is = ap tells.asked closes.disk ∙ closes.asked_is ∙ ap (λ (t : Terms). t.asked) terms_are;
+    told = ap (λ d. is_some (tells.story d)) closes.disk ∙ closes.told ∙ ap (λ (t : Terms). t.told) terms_are;
+  }
+
 module _ {D N : Type 0} (tells : DiskOf D) (shows : ViewOf Audience N)
     (script : Script) (file : Gated D) (view : Audience)
     (begun driven flushed : Account D Audience) (accepted : Stock ℕ) (result : Result Unit End) (problem : Option Fault) (note : Option Note) (live : Option ℕ) (recorded : Recorded D)
@@ -107,27 +188,14 @@ module _ {D N : Type 0} (tells : DiskOf D) (shows : ViewOf Audience N)
     (begins : HasBegun tells shows file script.plan.shapes script.plan.block script.plan.session view begun)
     (same : driven.terms ≡ begun.terms) (ran : RanAll script.plan.owners driven script.lists accepted.items result)
     (finishes : Finishes driven flushed script.plan.live result problem note) (live_is : live ≡ counted note) (closes : Closes tells flushed accepted live problem recorded) where
-  abbrev head : List ℕ
-  head = head_of (tells.story file.disk) file.first
-
   abbrev owners : List ℕ
   owners = script.plan.owners
 
-  abbrev terms : Terms
-  terms = record {
-    layouts = script.plan.shapes;
-    block_limit = script.plan.block;
-    session_limit = script.plan.session;
-    which = shows.which view;
-    head = head;
-    start = file.start;
-    faults = file.faults;
-    told = is_some (tells.story file.disk);
-    asked = tells.asked file.disk;
-  }
-
-  terms_are : flushed.terms ≡ terms
+  terms_are : flushed.terms ≡ begun_terms tells shows script file view
   terms_are = finishes.steps.terms ∙ same ∙ begins.terms
+
+  abbrev left : Outcome
+  left = outcome tells flushed.disk flushed.history flushed.marks
 
   -- each source, in the book as it is at the end
   all : AllRan owners flushed 0 (map feds_of script.lists) ran.all
@@ -136,21 +204,10 @@ module _ {D N : Type 0} (tells : DiskOf D) (shows : ViewOf Audience N)
   at_source : (s : ℕ) (tasks : List Task) → slice_get script.lists s ≡ Some tasks → RanAt owners flushed s tasks ran.all s
   at_source s tasks there = ran_of owners flushed script.lists ran.all all s tasks there
 
-  kept : IsKept terms (state_of tells flushed.disk) flushed.history flushed.marks
-  kept = subst (λ t. IsKept t (state_of tells flushed.disk) flushed.history flushed.marks) terms_are closes.kept
-
-  abbrev left : Outcome
-  left = outcome tells flushed.disk flushed.history flushed.marks
-
-  recorded_is : IsRecorded script head file.start left
-  recorded_is = record {
-    marks_hold = kept.marks_hold;
-    start_holds = kept.start_holds;
-    marks_rise = kept.marks_rise;
-    own_prefix = λ s tasks there. let at = at_source s tasks there in own_begins owners flushed s tasks at.driven at.ran;
-    flush_lines = λ s tasks there. let at = at_source s tasks there in own_flushes owners flushed s tasks at.driven at.ran;
-    cost = subst (λ (t : Terms). history_cost t.layouts flushed.history ≤ t.session_limit) terms_are closes.within;
-  }
+  recorded_is : IsRecorded script (head_of (tells.story file.disk) file.first) file.start left
+  recorded_is = closed_recorded tells shows script file view flushed accepted live problem recorded terms_are closes
+      (λ s tasks there. let at = at_source s tasks there in own_begins owners flushed s tasks at.driven at.ran)
+      (λ s tasks there. let at = at_source s tasks there in own_flushes owners flushed s tasks at.driven at.ran)
 
   accepted_are : AreAccepted script left accepted.items
   accepted_are = record {
@@ -159,14 +216,8 @@ module _ {D N : Type 0} (tells : DiskOf D) (shows : ViewOf Audience N)
         ap (λ counts. slice_get counts s) ran.accepted_is ∙ at.accepted_is ∙ ap Some (at.ran.counted ∙ ap length (sym at.ran.own));
   }
 
-  -- the file carries all of the history where all of it is durable
   saved : IsAllDurable flushed → IsSaved script.plan left
-  saved all = record {
-    all_durable = all.1;
-    holds = subst (λ samples. IfSome (tells.content flushed.disk) (λ disk. IsCarried script.plan.shapes disk samples × IsEncoded script.plan.shapes disk samples))
-        (ap (λ n. take n flushed.history) all.1 ∙ take_all (length flushed.history) flushed.history (omega arith))
-        (subst (λ (t : Terms). IfSome (tells.content flushed.disk) (HoldsDurable t flushed.history flushed.marks)) terms_are (closes.holds all.0));
-  }
+  saved = closed_saved tells shows script file view flushed accepted live problem recorded terms_are closes
 
   -- all tasks were done
   completes : (r : Result Unit End) → result ≡ r → IsOk r → IsAllDurable flushed → IsComplete script left
@@ -247,9 +298,10 @@ module _ {D N : Type 0} (tells : DiskOf D) (shows : ViewOf Audience N)
       record { ends = (ends_of ran.all); are = ends_are durable_all; source = found.0; wanted = found.1; room = all_room (ends_of ran.all) (sym ran.told ∙ is) }
 
   -- memory was wanted for a sample, or for the view
-  short : IsAllDurable flushed → (result ≡ Err end_.Memory) ⊎ WantsToShow flushed script.plan.live result → IsShort script left ⊎ IsUnshown script left
+  short : IsAllDurable flushed → (result ≡ Err end_.Memory) ⊎ WantsToShow flushed script.plan.live result
+      → IsShort script left ⊎ (IsUnshown script left ⊎ IsIdle script left)
   short durable_all (inl is) = inl (wants is durable_all)
-  short durable_all (inr unshown) = inr (unshown.1, completes result refl unshown.0 durable_all, omega (arith, unshown.2))
+  short durable_all (inr unshown) = inr (inl (unshown.1, completes result refl unshown.0 durable_all, omega (arith, unshown.2)))
 
   ended : (problem' : Option Fault) → FinishEnds flushed script.plan.live result problem' → CloseComes script file.faults left problem'
   ended None ends = completes result refl ends.0 ends.1
@@ -259,20 +311,10 @@ module _ {D N : Type 0} (tells : DiskOf D) (shows : ViewOf Audience N)
   ended (Some _) ends = absurd ends
 
   pub has_run : HasRun tells script file (outcome tells recorded.out recorded.history.items recorded.marks.items) recorded.end
-  has_run = record {
-    comes = rw (closes.end_is) (record {
-      recorded = rw (closes.disk, closes.history, closes.marks) recorded_is;
-      accepted_is = rw (closes.disk, closes.history, closes.marks) accepted_are;
-      samples_is = ap length (sym closes.history);
-      durable_is = ap durable (sym closes.marks);
-      live_is = live_is ∙ live_comes script.plan.live problem (shows.which view) flushed.history note which_is
-          (subst (λ (t : Terms). NoteComes problem script.plan.live t.which flushed.history note) terms_are finishes.noted)
-          ∙ ap (λ (h : List Sample). live_of script.plan.live problem (length h)) (sym closes.history);
-      comes = rw (closes.disk, closes.history, closes.marks) (ended problem finishes.ends);
-    });
-    asked_is = ap tells.asked closes.disk ∙ closes.asked_is ∙ ap (λ (t : Terms). t.asked) terms_are;
-    told = ap (λ d. is_some (tells.story d)) closes.disk ∙ closes.told ∙ ap (λ (t : Terms). t.told) terms_are;
-  }
+  has_run = closed_run tells shows script file view flushed accepted live problem recorded terms_are closes recorded_is accepted_are
+      (live_is ∙ live_comes script.plan.live problem (shows.which view) flushed.history note which_is
+      (subst (λ (t : Terms). NoteComes problem script.plan.live t.which flushed.history note) terms_are finishes.noted))
+      (ended problem finishes.ends)
 
 -- of a story that is not told nothing is known to be left
 none_left : (s : Option Story) (t : ℕ) (file : List ℕ) → s ≡ None → ¬ LeftSince s t file
@@ -290,6 +332,7 @@ recorded_told script front front' None middle first start start' outcome' is tol
   own_prefix = recorded.own_prefix;
   flush_lines = recorded.flush_lines;
   cost = recorded.cost;
+  pending = recorded.pending;
 }
 recorded_told script front front' (Some s) (Some middle) (Some first) start start' outcome' is told told' front_is start_is recorded =
     subst (λ h. IsRecorded script h start' outcome') front_is (subst (λ n. IsRecorded script front n outcome') start_is recorded)

@@ -1,16 +1,16 @@
 -- The command `record OUT`.
-use Rattle.std.specs.Prelude.{ℕ, ◌≡◌, ◌⊎◌, Bool, true, false, ◌+◌, ◌≤◌, ◌<◌, List, [], ◌∷◌, ◌++◌, length, codes, slice_get, slice_index, take, All, Option, Some, None, IfSome, is_some, Result, Ok, Err}
+use Rattle.std.specs.Prelude.{ℕ, ◌≡◌, ◌⊎◌, Bool, true, false, ◌+◌, ◌≤◌, ◌<◌, List, [], ◌∷◌, ◌++◌, length, codes, slice_get, slice_index, take, drop, All, Option, Some, None, IfSome, is_some, Result, Ok, Err}
 use Rattle.std.specs.Fmt.{decimal}
 use mathlib.Core.List.{IsPrefix}
 use Rattle.mdf_format.specs.Cause.{Rose}
 use Rattle.mdf_disk.specs.State.{DiskState, state_of}
 use Rattle.book_owned.specs.Members.{DiskOf}
 use Rattle.mdf_layout.specs.History.{group_samples, source_samples}
-use Rattle.mdf_layout.specs.Record.{cost_of, history_cost}
+use Rattle.mdf_layout.specs.Record.{cost_of, history_cost, history_size}
 use Rattle.mdf_layout.specs.declared.sample.Sample.{Sample}
 use Rattle.mdf_gate.specs.Carried.{IsCarried, IsEncoded}
 use Rattle.book_owned.specs.Marks.{durable, AreRising}
-use Rattle.book_owned.specs.Kept.{MarksHold, StartHolds}
+use Rattle.book_owned.specs.Kept.{HasBlocksOf, MarksHold, StartHolds}
 use Rattle.book_owned.specs.declared.mark.Mark.{Mark}
 use Rattle.acq_script.specs.Tasks.{samples_of}
 use Rattle.acq_script.specs.declared.script.Plan.{Plan}
@@ -73,10 +73,11 @@ abbrev pub outcome : {C : Type 0} → DiskOf C → C → List Sample → List Ma
 outcome tells out history marks = record { disk = state_of tells out; history = history; marks = marks }
 
 -- All that was accepted is durable, and the file, where its disk tells it, carries just that, with the bits of no channel
--- 0.
+-- 0, in blocks that are no longer than the script says.
 pub record IsSaved (plan : Plan) (left : Outcome) : Type 0 where
   pub all_durable : durable left.marks ≡ length left.history
   pub holds : IfSome left.disk.content (λ file. IsCarried plan.shapes file left.history × IsEncoded plan.shapes file left.history)
+  pub blocks : IfSome left.disk.content (HasBlocksOf plan.block)
 
 -- this holds of each source of the script and its tasks
 abbrev pub OfSources : Script → (ℕ → List Task → Type 0) → Type 0
@@ -160,17 +161,25 @@ pub record IsShort (script : Script) (left : Outcome) : Type 0 where
 abbrev pub IsUnshown : Script → Outcome → Type 0
 IsUnshown script left = (script.plan.live ≡ true) × IsComplete script left × (0 < length left.history)
 
+-- No source could work, for want of memory: no sample was accepted, and there is the first mark alone.
+pub record IsIdle (script : Script) (left : Outcome) : Type 0 where
+  pub none : left.history ≡ []
+  pub one : length left.marks ≡ 1
+  pub saved : IsSaved script.plan left
+
 -- How a recording that was begun ends, where the disk's count of faults was `faults` before: all was done, the disk failed,
--- the session is full, or memory was wanted for a sample or a view. All that was accepted is saved but where the disk failed.
+-- the session is full, or memory was wanted for a sample, for a view or for the sources to work at all. All that was accepted
+-- is saved but where the disk failed.
 abbrev pub CloseComes : Script → ℕ → Outcome → Option Fault → Type 0
 CloseComes script faults left None = IsComplete script left
 CloseComes script faults left (Some fault.Device) = Rose faults left.disk.faults
 CloseComes script faults left (Some (fault.SessionFull held size limit)) = IsFull script left held size limit
-CloseComes script faults left (Some fault.Memory) = IsShort script left ⊎ IsUnshown script left
+CloseComes script faults left (Some fault.Memory) = IsShort script left ⊎ (IsUnshown script left ⊎ IsIdle script left)
 CloseComes script faults left (Some _) = ⊥
 
 -- What a recording of this script keeps, whatever happened: of its marks, of what a crash since its start may leave, of the
--- samples and the flushes of each source, and that all samples cost no more than the session limit.
+-- samples and the flushes of each source, that all samples cost no more than the session limit, and that the records of
+-- those that are not durable fit into one block.
 pub record IsRecorded (script : Script) (head : List ℕ) (start : ℕ) (left : Outcome) : Type 0 where
   pub marks_hold : MarksHold script.plan.shapes head left.disk.story left.disk.moment left.history left.marks
   pub start_holds : StartHolds script.plan.shapes head left.disk.story start left.history
@@ -179,3 +188,4 @@ pub record IsRecorded (script : Script) (head : List ℕ) (start : ℕ) (left : 
   pub flush_lines : OfSources script (λ source tasks. AreOwnMarked script.plan.owners source left.history left.marks
       (λ n. n < length (source_samples script.plan.owners left.history source)) [] tasks)
   pub cost : history_cost script.plan.shapes left.history ≤ script.plan.session
+  pub pending : history_size script.plan.shapes (drop (durable left.marks) left.history) ≤ script.plan.block

@@ -1,10 +1,10 @@
 -- The script that a source has, and why it is refused.
-use Rattle.std.specs.Prelude.{ℕ, ◌≡◌, ◌≤◌, ◌<◌, length, IfSome, Ok, Err}
+use Rattle.std.specs.Prelude.{ℕ, ◌≡◌, ◌≤◌, ◌<◌, List, length, IfSome, Ok, Err}
 use Rattle.std.specs.Io.KnownBytes.{IsAtEnd}
 use Rattle.mdf_format.specs.Cause.{Rose}
-use Rattle.mdf_port.specs.Source.{TakesFront}
+use Rattle.mdf_port.specs.Source.{TakesAtMost, TakesFront}
 use Rattle.mdf_port.specs.State.{SourceState}
-use Rattle.acq_script.specs.Script.{script_of}
+use Rattle.acq_script.specs.Script.{WantsIn, script_of}
 use Rattle.acq_script.specs.declared.script.Script.{Script}
 use Rattle.mdf_command.specs.declared.fault.Fault.{Fault}
 use Rattle.mdf_command.specs.declared.fault.Fault.TheVariants as fault
@@ -25,11 +25,18 @@ pub record SaysScript (old new : SourceState) (script : Script) : Type 0 where
   pub taken : IsTaken old new
   pub calm : new.faults ≡ old.faults
 
--- why a script is refused, by the source before and after
+-- why a text is no script: no rule admits a line of it, or memory was wanted for one for which it may be
+abbrev pub IsNoScript : List ℕ → Fault → Type 0
+IsNoScript text (fault.Script number) = script_of text ≡ Err number
+IsNoScript text fault.Memory = WantsIn text
+IsNoScript text _ = ⊥
+
+-- Why a script is refused, by the source before and after. Memory was wanted before more bytes were taken than a script has
+-- at most, and while the source did not fail.
 abbrev pub ScriptFaultCause : SourceState → SourceState → Fault → Type 0
 ScriptFaultCause old new fault.Source = Rose old.faults new.faults
 ScriptFaultCause old new (fault.ScriptOver limit) = (limit ≡ SCRIPT_LIMIT) × IfSome old.left (λ text. limit < length text)
-ScriptFaultCause old new fault.Memory = Unit {0}
+ScriptFaultCause old new fault.Memory = TakesAtMost old.left new.left SCRIPT_LIMIT × (new.faults ≡ old.faults)
 ScriptFaultCause old new (fault.Script number) =
     IfSome old.left (λ text. (script_of text ≡ Err number) × (length text ≤ SCRIPT_LIMIT)) × IsAtEnd new.left × (new.faults ≡ old.faults)
 ScriptFaultCause old new _ = ⊥

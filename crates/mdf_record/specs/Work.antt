@@ -1,5 +1,5 @@
 -- What the sources of a recording work with, and what is left when they have worked and the book is closed.
-use Rattle.std.specs.Prelude.{ℕ, ◌≡◌, ◌≤◌, ◌<◌, ◌⊎◌, Bool, List, [], length, map, All, Option, Result, MatchBool}
+use Rattle.std.specs.Prelude.{ℕ, ◌≡◌, ◌≤◌, ◌<◌, ◌⊎◌, Bool, List, [], length, map, replicate, All, Option, Some, None, Result, MatchBool}
 use Rattle.mdf_layout.specs.Stock.{Stock}
 use Rattle.mdf_layout.specs.declared.sample.Sample.{Sample}
 use Rattle.book_owned.specs.Account.{Account}
@@ -21,7 +21,6 @@ use Rattle.mdf_record.specs.declared.sources.End.{End}
 use Rattle.mdf_record.specs.declared.sources.TaskFeed.{TaskFeed}
 use Rattle.mdf_record.specs.declared.record.Prepared.{Prepared}
 use Rattle.mdf_record.specs.declared.record.Recorded.{Recorded}
-use Rattle.mdf_record.specs.declared.record.RecordEnd.TheVariants.{Refused}
 
 -- what each of these feeds has left
 abbrev pub fed_by : {G : Type 0} → List (TaskFeed G) → List (List Fed)
@@ -50,12 +49,11 @@ pub record MayWork {D G : Type 0} (owners : List ℕ) (book : Account D Audience
   pub none : prepared.accepted.items ≡ []
   pub room : length prepared.feeds.items ≤ prepared.accepted.spare
 
--- they did not, for want of memory
-pub record HasNotWorked {D : Type 0} (book : Account D Audience) (recorded : Recorded D) : Type 0 where
-  pub end_is : recorded.end ≡ Refused Memory
-  pub disk : recorded.out ≡ book.disk
-  pub history : recorded.history.items ≡ []
-  pub marks : recorded.marks.items ≡ []
+-- they did not, for want of memory: the book was closed with what it had, and none of so many sources accepted a sample
+pub record HasNotWorked {D : Type 0} (tells : DiskOf D) (sources : ℕ) (book : Account D Audience) (recorded : Recorded D) : Type 0 where
+  pub accepted : Stock ℕ
+  pub none : accepted.items ≡ replicate sources 0
+  pub closes : Closes tells book accepted None (Some Memory) recorded
 
 -- they did: the book was driven by all, flushed and closed
 pub record HasWorked {D : Type 0} (tells : DiskOf D) (owners : List ℕ) (book : Account D Audience) (feeds : List (List Fed)) (live : Bool) (recorded : Recorded D) : Type 0 where
@@ -76,4 +74,5 @@ pub record HasWorked {D : Type 0} (tells : DiskOf D) (owners : List ℕ) (book :
   pub closes : Closes tells flushed accepted shown fault recorded
 
 abbrev pub Works : {D : Type 0} → DiskOf D → List ℕ → Account D Audience → List (List Fed) → Bool → Recorded D → Type 0
-Works tells owners book feeds live recorded = HasNotWorked book recorded ⊎ HasWorked tells owners book feeds live recorded
+Works tells owners book feeds live recorded =
+    HasNotWorked tells (length feeds) book recorded ⊎ HasWorked tells owners book feeds live recorded

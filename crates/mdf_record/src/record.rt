@@ -1,11 +1,12 @@
 ghost use Rattle.std.specs.Prelude.{◌≡◌, ◌≤◌, ◌++◌, List, [], true, None, Ok, Err, length, IfOk, IfErr};
 ghost use Rattle.mdf_disk.specs.State.{state_of};
 ghost use Rattle.book_owned.specs.Begun.{HasBegun, IsAdmissible, IsNewFile};
+ghost use Rattle.acq_script.specs.Script.{script_of};
 ghost use Rattle.acq_script.specs.Stage.{IsScript};
 ghost use Rattle.acq_script.specs.Generated.{generated_script};
 ghost use Rattle.mdf_spell.specs.Recording.{head_file};
 ghost use Rattle.mdf_group.specs.Recordable.{AreRecordable};
-ghost use Rattle.mdf_record.specs.Script.{SaysScript, ScriptFaultComes};
+ghost use Rattle.mdf_record.specs.Script.{IsNoScript, SaysScript, ScriptFaultComes};
 ghost use Rattle.mdf_record.specs.Finish.{Finishes, ProblemComes};
 ghost use Rattle.mdf_record.specs.Created.{IsCreated, IsNotCreated};
 ghost use Rattle.mdf_port.specs.State.{sink_state, source_state};
@@ -19,7 +20,7 @@ ghost use Rattle.mdf_layout.specs.declared.sample.Sample.{Sample};
 
 use crate::gate::Gate;
 use crate::head::head_for;
-use crate::sources::{Accepted, End, TaskFeed, feeds_of, told_all};
+use crate::sources::{Accepted, End, TaskFeed, add_none, feeds_of, told_all};
 use acq_run::{Audience, Gathered, Watcher, last_look, record_live};
 use acq_script::{Script, Task, generated, read_script};
 use book_owned::{Book, Flush, Marks, Shown};
@@ -81,14 +82,23 @@ fn refused<C>(alloc: Global, fault: Fault, out: C) -> Recorded<C>
     }
 }
 
+/// The script that a text is.
+fn script_from(alloc: Global, text: &[u8]) -> Result<Script, Fault>
+    ensures says { IfOk result (λ script. script_of text.now ≡ Ok script) }
+    ensures script { IfOk result IsScript }
+    ensures fault { IfErr result (IsNoScript text.now) }
+{
+    Ok(read_script(alloc, text)?)
+}
+
 /// Reads the script of a source.
 fn read<S: Source>(alloc: Global, source: &mut S) -> Result<Script, Fault>
     ensures says { IfOk result (SaysScript (source_state S.Source source.old) (source_state S.Source source.new)) }
     ensures script { IfOk result IsScript }
     ensures fault { IfErr result (ScriptFaultComes (source_state S.Source source.old) (source_state S.Source source.new)) }
 {
-    let bytes = take_all(alloc, source, SCRIPT_LIMIT)?;
-    Ok(read_script(alloc, bytes.as_slice())?)
+    let text = take_all(alloc, source, SCRIPT_LIMIT)?;
+    script_from(alloc, text.as_slice())
 }
 
 /// Makes the file, with the head of a recording of these groups and no sample.
@@ -232,13 +242,19 @@ fn begin<R: Wait, C: Disk>(
     }
 }
 
-/// Closes a book with no sample that no source could work at.
-fn give_up<R: Wait, C: Disk>(rt: &R, alloc: Global, book: Book<C, Audience>) -> Recorded<C>
-    ensures { HasNotWorked book result }
+/// Closes a book that none of so many sources could work at, for want of memory.
+fn give_up<R: Wait, C: Disk>(
+    rt: &R,
+    book: Book<C, Audience>,
+    mut accepted: Accepted,
+    sources: usize,
+) -> Recorded<C>
+    requires none { accepted.items ≡ [] }
+    requires room { sources ≤ accepted.spare }
+    ensures gives_up { HasNotWorked C.Disk sources book result }
 {
-    let (out, _, _, view) = book.close();
-    view.end(rt);
-    refused(alloc, Fault::Memory, out)
+    add_none(&mut accepted, sources);
+    close(rt, book, accepted, None, Some(Fault::Memory))
 }
 
 /// Lets the sources record into a book with no sample, each in a thread of its own, and closes the book. Each watcher that has
@@ -259,6 +275,7 @@ fn work<'a, R: Threads + Wait + Sync, C: Disk + Send, G: Gate + Sync>(
         feeds,
         watchers,
     } = prepared;
+    let sources = feeds.len();
     match record_live(rt, alloc, book, owners, feeds, watchers) {
         Ok(gathered) => {
             let Gathered {
@@ -271,7 +288,7 @@ fn work<'a, R: Threads + Wait + Sync, C: Disk + Send, G: Gate + Sync>(
             let live = last_look(watchers, note);
             close(rt, book, accepted, live, fault)
         }
-        Err((_, book)) => give_up(rt, alloc, book),
+        Err((_, book)) => give_up(rt, book, accepted, sources),
     }
 }
 

@@ -1,5 +1,5 @@
 // The sources of a recording, each in a thread of its own.
-ghost use Rattle.std.specs.Prelude.{◌≡◌, ◌≤◌, ◌<◌, [], length, map, vec_len, IfOk};
+ghost use Rattle.std.specs.Prelude.{◌≡◌, ◌≤◌, ◌<◌, [], length, map, replicate, vec_len, IfOk};
 ghost use Rattle.std.specs.Vec.Iter.{into_iter_items};
 ghost use Rattle.mdf_record.specs.Sources.{counts_of, ends_of, fed_of, feds_of, told_of, worse, worst};
 
@@ -104,6 +104,17 @@ fn worse(first: Result<(), End>, next: Result<(), End>) -> Result<(), End>
             Err(end) => Err(end),
         },
         Err(end) => Err(end),
+    }
+}
+
+/// Adds that no sample was accepted, for each of so many sources. The room for it was found beforehand.
+pub(crate) fn add_none(accepted: &mut Accepted, sources: usize)
+    requires none { accepted.old.items ≡ [] }
+    requires room { sources ≤ accepted.old.spare }
+    ensures { accepted.new.items ≡ replicate sources 0 }
+{
+    for _source in 0..sources {
+        accepted.put(0);
     }
 }
 

@@ -1,4 +1,6 @@
-use Rattle.std.proofs.Common.{◌∙◌, ap, arith, inl, inr, refl}
+use Rattle.std.proofs.Common.{◌≡◌, ◌∙◌, ap, arith, inl, inr, length, refl, subst}
+use Rattle.mdf_record.specs.Sources.{feds_of}
+use Rattle.mdf_record.specs.Work.{HasNotWorked, fed_by}
 use Rattle.mdf_record.proofs.Begins.{note_of}
 use Rattle.mdf_record.proofs.Ending.{tasks_fed, tasks_of}
 use Rattle.mdf_record.proofs.Feeding.{ran_lists}
@@ -66,7 +68,10 @@ returns-in-Ok g c = record {
 
 pub returns-in-Err : goal.returns-in-Err
 returns-in-Err g c =
-    let up = c.give_up.ensures in
+    let feeds = c.args.prepared.feeds.items in
+    let count : c.len-sources.result ≡ length (fed_by feeds) =
+    omega (arith, c.len-sources.ensures, c.args.prepared.feeds.ok.0, length-map feeds (λ feed. feds_of feed.tasks.rest.items)) in
     record {
-      works = inl (record { end_is = up.end_is; disk = up.disk ∙ ap (λ book. book.disk) c.in-Err.ensures.back; history = up.history; marks = up.marks });
+      works = inl (subst (λ sources. HasNotWorked g.C.Disk sources c.args.book c.give_up.result) count
+          (subst (λ book. HasNotWorked g.C.Disk c.len-sources.result book c.give_up.result) c.in-Err.ensures.back c.give_up.ensures.gives_up));
     }
