@@ -91,7 +91,7 @@ words_falls f at left found is =
     subst (λ (y : Note × Budget). Falls left (note_cost y.0) y.1) (ok_injective _ _ text.2) whole
 
 -- a text is as long as what stands where the link leads
-size_is : (f : List ℕ) (at : ℕ) (found : Note) → IsNote f at found → note_size found ≡ text_size f at
+pub size_is : (f : List ℕ) (at : ℕ) (found : Note) → IsNote f at found → note_size found ≡ text_size f at
 size_is f at notes.Nothing is = sym (cond-true (nat_eq at 0) 0 _ (eq-eqb at 0 is))
 size_is f at (notes.Plain bytes) is = ap length is.2 ∙ sym (cond-false (nat_eq at 0) 0 _ (ne_eqb at 0 is.0))
 size_is f at (notes.Xml bytes) is = ap length is.2 ∙ sym (cond-false (nat_eq at 0) 0 _ (ne_eqb at 0 is.0))
@@ -162,7 +162,7 @@ counted_falls at size left found is =
     ]
 
 -- what `inner` finds costs what `cost` says
-abbrev Costs : (ℕ → Budget → Read (Conversion × Budget)) → (ℕ → Cost) → Type 0
+abbrev pub Costs : (ℕ → Budget → Read (Conversion × Budget)) → (ℕ → Cost) → Type 0
 Costs inner cost = (at : ℕ) (left : Budget) (found : Conversion × Budget) → inner at left ≡ Ok found → Falls left (cost at) found.1
 
 abbrev as_conv : Conversion × Budget → Read (Ref × Budget)
@@ -172,7 +172,7 @@ abbrev as_words : Note × Budget → Read (Ref × Budget)
 as_words found = Ok (refs.Words found.0, found.1)
 
 module _ (inner : ℕ → Budget → Read (Conversion × Budget)) (cost : ℕ → Cost) (costs : Costs inner cost) (f : List ℕ) where
-  ref_falls : (at : ℕ) (left : Budget) (found : Ref × Budget) → ref_by inner f at left ≡ Ok found → Falls left (ref_cost cost f at) found.1
+  pub ref_falls : (at : ℕ) (left : Budget) (found : Ref × Budget) → ref_by inner f at left ≡ Ok found → Falls left (ref_cost cost f at) found.1
   unfolding ref_by ref_cost
   ref_falls at left found is =
       let otherwise : Cost = cond (is_named f at Cc) (cost at) (bytes_of_texts (text_size f at)) in

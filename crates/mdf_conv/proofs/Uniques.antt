@@ -25,10 +25,10 @@ source_unique f at a b is_a is_b =
 letters_differ : (m t a b : ℕ) → a < b → m ≡ a → t ≡ b → m ≡ t → ⊥
 letters_differ m t a b less is_m is_t same = omega (arith, less, is_m, is_t, same)
 
-cc_is_not_tx : name_of Cc ≡ name_of Tx → ⊥
+pub cc_is_not_tx : name_of Cc ≡ name_of Tx → ⊥
 cc_is_not_tx same = letters_differ 67 84 67 84 (lit< tt) refl refl (ap (λ (bytes : List ℕ). get_or bytes 2 0) same)
 
-cc_is_not_md : name_of Cc ≡ name_of Md → ⊥
+pub cc_is_not_md : name_of Cc ≡ name_of Md → ⊥
 cc_is_not_md same = letters_differ 67 77 67 77 (lit< tt) refl refl (ap (λ (bytes : List ℕ). get_or bytes 2 0) same)
 
 no_words : (f : List ℕ) (at : ℕ) (note : Note) → at ≢ 0 → IsNote f at note → IsBlock f at Cc → ⊥
@@ -75,7 +75,7 @@ module _ (f : List ℕ) (IsOne IsOther : ℕ → Conversion → Type 0)
       (refs_unique at 4 is_a.references is_b.references (omega (arith, is_a.count, is_b.count)) is_a.each is_b.each)
       ∙ sym is_b.fields
 
-conv_block : (levels : ℕ) (f : List ℕ) (at : ℕ) (conversion : Conversion) → IsConversion levels f at conversion → IsBlock f at Cc
+pub conv_block : (levels : ℕ) (f : List ℕ) (at : ℕ) (conversion : Conversion) → IsConversion levels f at conversion → IsBlock f at Cc
 unfolding IsConversion
 conv_block zero f at conversion is = absurd is
 conv_block (suc levels) f at conversion is = is.block

@@ -48,3 +48,7 @@ pub record IsConversionBy (IsConv : ℕ → Conversion → Type 0) (file : List 
 unfoldable pub IsConversion : ℕ → List ℕ → ℕ → Conversion → Type 0
 IsConversion zero file at conversion = ⊥
 IsConversion (suc levels) file at conversion = IsConversionBy (IsConversion levels file) file at conversion
+
+-- the same, however many are open at once
+abbrev pub IsConversionAt : List ℕ → ℕ → Conversion → Type 0
+IsConversionAt file at conversion = (levels : ℕ) × IsConversion levels file at conversion

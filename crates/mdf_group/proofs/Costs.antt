@@ -67,7 +67,7 @@ module _ {A S : Type 0} (step : Step A S) (full_at : ℕ → Read (List A × ℕ
       ]
 
 -- the source and the conversion of a link
-source_link_falls : (f : List ℕ) (at : ℕ) (left : Budget) (found : Option SourceInfo × Budget) → source_of_link f at left ≡ Ok found
+pub source_link_falls : (f : List ℕ) (at : ℕ) (left : Budget) (found : Option SourceInfo × Budget) → source_of_link f at left ≡ Ok found
     → Falls left (source_link_cost found.0) found.1
 unfolding source_of_link
 source_link_falls f at left found is =
@@ -79,7 +79,7 @@ source_link_falls f at left found is =
           (source_falls f at left parts.0 parts.1)
     ]
 
-conv_link_falls : (f : List ℕ) (at : ℕ) (left : Budget) (found : Option Conversion × Budget) → conv_of_link f at left ≡ Ok found
+pub conv_link_falls : (f : List ℕ) (at : ℕ) (left : Budget) (found : Option Conversion × Budget) → conv_of_link f at left ≡ Ok found
     → Falls left (conv_link_cost f at) found.1
 unfolding conv_of_link conv_link_cost
 conv_link_falls f at left found is =
@@ -98,7 +98,7 @@ conv_link_falls f at left found is =
 
 -- three costs one after another
 -- a name and a source
-abbrev label_cost : Label → Cost
+abbrev pub label_cost : Label → Cost
 label_cost first = both (note_cost first.name) (source_link_cost first.source)
 
 label_falls : (f : List ℕ) (at : ℕ) (left : Budget) (found : Label × Budget) → label f at left ≡ Ok found
@@ -111,7 +111,7 @@ label_falls f at left found is =
     (falls_both left _ name.0.1 _ source.0.1 (words_falls f _ left name.0 name.1) (source_link_falls f _ name.0.1 source.0 source.1))
 
 -- what the links of a channel lead to
-abbrev origin_cost : List ℕ → ℕ → ChannelOrigin → Cost
+abbrev pub origin_cost : List ℕ → ℕ → ChannelOrigin → Cost
 origin_cost f at origin = both (label_cost (record { name = origin.name; source = origin.source })) (conv_link_cost f (link_at f at 4))
 
 origin_falls : (f : List ℕ) (at : ℕ) (left : Budget) (found : ChannelOrigin × Budget) → channel_origin f at left ≡ Ok found
@@ -123,7 +123,7 @@ origin_falls f at left found is =
     subst (λ (y : ChannelOrigin × Budget). Falls left (origin_cost f at y.0) y.1) (ok_injective _ _ conv.2)
     (falls_both left _ first.0.1 _ conv.0.1 (label_falls f at left first.0 first.1) (conv_link_falls f _ first.0.1 conv.0 conv.1))
 
-abbrev texts_cost : ChannelTexts → Cost
+abbrev pub texts_cost : ChannelTexts → Cost
 texts_cost texts = both (note_cost texts.unit) (note_cost texts.comment)
 
 texts_fall : (f : List ℕ) (at : ℕ) (left : Budget) (found : ChannelTexts × Budget) → channel_texts f at left ≡ Ok found
@@ -135,7 +135,7 @@ texts_fall f at left found is =
     subst (λ (y : ChannelTexts × Budget). Falls left (texts_cost y.0) y.1) (ok_injective _ _ comment.2)
     (falls_both left _ unit.0.1 _ comment.0.1 (words_falls f _ left unit.0 unit.1) (words_falls f _ unit.0.1 comment.0 comment.1))
 
-abbrev links_cost : List ℕ → ℕ → ChannelLinks → Cost
+abbrev pub links_cost : List ℕ → ℕ → ChannelLinks → Cost
 links_cost f at links =
     both (origin_cost f at (record { name = links.name; source = links.source; conv = links.conv }))
     (texts_cost (record { unit = links.unit; comment = links.comment }))
@@ -150,7 +150,7 @@ links_fall f at left found is =
     (falls_both left _ origin.0.1 _ texts.0.1 (origin_falls f at left origin.0 origin.1) (texts_fall f at origin.0.1 texts.0 texts.1))
 
 -- a channel
-channel_falls : (f : List ℕ) (at : ℕ) (left : Budget) (found : ChannelRow × ℕ × Budget) → channel f at left ≡ Ok found
+pub channel_falls : (f : List ℕ) (at : ℕ) (left : Budget) (found : ChannelRow × ℕ × Budget) → channel f at left ≡ Ok found
     → Falls left (channel_cost f found.0) found.2
 unfolding channel channel_of_block
 channel_falls f at left found is =
@@ -178,9 +178,9 @@ channels_take f most at left found is =
     most at left found is
 
 -- what a channel group takes
-record GroupTakes (cost : Cost) (count : ℕ) (left rest : Room) : Type 0 where
-  budget : Falls left.budget cost rest.budget
-  channels : rest.channels + count ≡ left.channels
+pub record GroupTakes (cost : Cost) (count : ℕ) (left rest : Room) : Type 0 where
+  pub budget : Falls left.budget cost rest.budget
+  pub channels : rest.channels + count ≡ left.channels
 
 abbrev group_links_cost : GroupLinks → Cost
 group_links_cost links = both (label_cost (record { name = links.name; source = links.source })) (note_cost links.comment)
@@ -208,7 +208,7 @@ contents_take f b left found is =
       channels = taken.1;
     })
 
-group_takes : (f : List ℕ) (at : ℕ) (left : Room) (found : GroupRow × ℕ × Room) → group f at left ≡ Ok found
+pub group_takes : (f : List ℕ) (at : ℕ) (left : Room) (found : GroupRow × ℕ × Room) → group f at left ≡ Ok found
     → GroupTakes (group_cost f found.0) (length found.0.channels) left found.2
 unfolding group
 group_takes f at left found is =
@@ -222,7 +222,7 @@ group_takes f at left found is =
     subst (λ (y : GroupRow × ℕ × Room). GroupTakes (group_cost f y.0) (length y.0.channels) left y.2) (ok_injective _ _ contents.2)
     (record { budget = falls_as left.budget _ _ _ all (omega arith) (omega arith) (omega arith); channels = taken.channels })
 
-abbrev channel_count : GroupRow → ℕ
+abbrev pub channel_count : GroupRow → ℕ
 channel_count row = length row.channels
 
 -- sums over one row more
@@ -248,10 +248,10 @@ groups_take f most at left found is =
     most at left found is
 
 -- what a data group takes
-record DataTakes (cost : Cost) (group_rows channel_rows : ℕ) (left rest : DataRoom) : Type 0 where
-  budget : Falls left.room.budget cost rest.room.budget
-  groups : rest.groups + group_rows ≡ left.groups
-  channels : rest.room.channels + channel_rows ≡ left.room.channels
+pub record DataTakes (cost : Cost) (group_rows channel_rows : ℕ) (left rest : DataRoom) : Type 0 where
+  pub budget : Falls left.room.budget cost rest.room.budget
+  pub groups : rest.groups + group_rows ≡ left.groups
+  pub channels : rest.room.channels + channel_rows ≡ left.room.channels
 
 data_contents_take : (f : List ℕ) (b : BlockAt) (left : DataRoom) (found : DataContents × DataRoom) → data_contents f b left ≡ Ok found
     → DataTakes (both (note_cost found.0.comment) (total (map (group_cost f) found.0.rows))) (length found.0.rows)
@@ -270,7 +270,7 @@ data_contents_take f b left found is =
       channels = taken.0.channels;
     })
 
-data_takes : (f : List ℕ) (at : ℕ) (left : DataRoom) (found : DataRow × ℕ × DataRoom) → data_group f at left ≡ Ok found
+pub data_takes : (f : List ℕ) (at : ℕ) (left : DataRoom) (found : DataRow × ℕ × DataRoom) → data_group f at left ≡ Ok found
     → DataTakes (data_cost f found.0) (length found.0.groups) (channels_of found.0) left found.2
 unfolding data_group
 data_takes f at left found is =
@@ -288,7 +288,7 @@ data_takes f at left found is =
       channels = taken.channels;
     })
 
-abbrev group_count : DataRow → ℕ
+abbrev pub group_count : DataRow → ℕ
 group_count row = length row.groups
 
 abbrev AllTake : List ℕ → DataRoom → List DataRow → DataRoom → Type 0

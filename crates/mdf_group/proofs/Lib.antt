@@ -9,4 +9,8 @@ mod Costs
 -- a refusal is true of the file
 pub mod Truths
 pub mod Uniques
+-- what stands with at most four conversions open at once stands in the standard's words
+pub mod Nested
 pub mod Reached
+-- what stands and is few is found
+pub mod Enough

@@ -89,7 +89,7 @@ channel_links_reached f at left links are no_source no_conv short =
     let fifth = words_reached f (link_at f at 7) two links.comment are.comment (omega (arith, short)) in
     rw (first, second, third, fourth, fifth) refl
 
-accepted_reached : (at kind data_type : ℕ) → is_refused_kind kind ≡ false → data_type ≤ 14 → accepted at kind data_type ≡ Ok tt
+pub accepted_reached : (at kind data_type : ℕ) → is_refused_kind kind ≡ false → data_type ≤ 14 → accepted at kind data_type ≡ Ok tt
 unfolding accepted
 accepted_reached at kind data_type read within =
     cond-false (is_refused_kind kind) _ _ read ∙ cond-false (nat_lt 14 data_type) _ _ (lt-leb 15 data_type (omega (arith, within)))

@@ -21,6 +21,7 @@ use Rattle.mdf_conv.specs.declared.row.SourceInfo.{SourceInfo}
 use Rattle.mdf_conv.specs.declared.row.Conversion.{Conversion}
 use Rattle.mdf_conv.specs.Conv.{words, source, conversion}
 use Rattle.mdf_conv.specs.Link.{source_of_link, conv_of_link}
+use Rattle.mdf_conv.specs.Standing.{IsConversion}
 use Rattle.mdf_conv.proofs.Founds.{ok_injective, words_found, source_found, conv_found}
 use Rattle.mdf_group.specs.declared.room.Label.{Label}
 use Rattle.mdf_group.specs.declared.room.ChannelOrigin.{ChannelOrigin}
@@ -37,7 +38,7 @@ use Rattle.mdf_group.specs.declared.row.DataRow.{DataRow}
 use Rattle.mdf_group.specs.Link.{label, channel_origin, channel_texts, channel_links, group_links, links_named}
 use Rattle.mdf_group.specs.Channel.{is_refused_kind, accepted, the_channel, channel_of_block, channel, channels_from}
 use Rattle.mdf_group.specs.Group.{the_group, group_contents, group, groups_from, the_data_group, data_contents, data_group, data_groups_from, groups}
-use Rattle.mdf_group.specs.Standing.{IsSourceLink, IsConvLink, AreDistinct, IsChannel, AreChannels, IsGroup, AreGroups, IsDataGroup, AreDataGroups}
+use Rattle.mdf_group.specs.Standing.{IsSourceLink, IsConvLinkBy, IsConvLink, AreDistinct, IsChannel, AreChannels, IsGroup, AreGroups, IsDataGroup, AreDataGroups}
 use Rattle.mdf_group.proofs.Onces.{chain_once, chain_some}
 
 -- a chain that is read, with what holds of each item
@@ -110,12 +111,15 @@ label_found f at left found is =
     subst (λ (y : Label × Budget). AreLabels f at y.0) (ok_injective _ _ source.2) whole
 
 -- what the links of a channel lead to
-pub record AreChannelLinks (f : List ℕ) (at : ℕ) (links : ChannelLinks) : Type 0 where
+pub record AreChannelLinksBy (IsConv : ℕ → Conversion → Type 0) (f : List ℕ) (at : ℕ) (links : ChannelLinks) : Type 0 where
   pub name : IsNote f (link_at f at 2) links.name
   pub source : IsSourceLink f (link_at f at 3) links.source
-  pub conv : IsConvLink f (link_at f at 4) links.conv
+  pub conv : IsConvLinkBy IsConv (link_at f at 4) links.conv
   pub unit : IsNote f (link_at f at 6) links.unit
   pub comment : IsNote f (link_at f at 7) links.comment
+
+abbrev pub AreChannelLinks : List ℕ → ℕ → ChannelLinks → Type 0
+AreChannelLinks f = AreChannelLinksBy (IsConversion 4 f) f
 
 -- the first of them
 record AreOrigins (f : List ℕ) (at : ℕ) (origin : ChannelOrigin) : Type 0 where

@@ -3,3 +3,4 @@ pub mod Heads
 pub mod Identities
 pub mod Lacks
 pub mod Spends
+pub mod Reached

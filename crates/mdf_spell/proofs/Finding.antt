@@ -21,7 +21,7 @@ use Rattle.mdf_tree.specs.Group.{past_channel, value_link, values_behind, placed
 use Rattle.mdf_spell.specs.Recording.{numbered, values_rows, variable_count, value_links, recording_groups, recording_blocks, recorded_row, recorded_head, recorded_history, head_file, IsRecordingTree, FindsHead, FindsGroups}
 use Rattle.mdf_tree.specs.Head.{placed_history}
 use Rattle.mdf_tree.proofs.Placing.{all_append}
-use Rattle.mdf_spell.proofs.HeadFinding.{head_reached}
+use Rattle.mdf_head.proofs.Reached.{head_reached}
 
 module _ (blocks : List Placed) where
   channels_plain : (n : ℕ) (values : List Link) (rows : List ChannelRow) → AllByRecursion IsPlainChannel rows

@@ -2,7 +2,6 @@ pub mod Trees
 mod Fronts
 mod Numbered
 mod Writables
-mod HeadFinding
 pub mod Finding
 pub mod Lists
 mod Links

@@ -187,10 +187,10 @@ chain_same f at kind (x ∷ xs) (y ∷ ys) chain_x some_x chain_y some_y =
     ∙ ap (λ (places : List ℕ). y ∷ places) (chain_same f (link_at f at 0) kind xs ys chain_x.2 some_x.1 chain_y.2 some_y.1)
 
 -- a DLBLOCK holds no data
-differ : (m n : ℕ) → m ≡ n → m < n → ⊥
+pub differ : (m n : ℕ) → m ≡ n → m < n → ⊥
 differ m n same below = omega arith
 
-not_list : (kind : Kind) → (kind ≡ Dt) ⊎ (kind ≡ Sd) → name_of kind ≡ name_of Dl → ⊥
+pub not_list : (kind : Kind) → (kind ≡ Dt) ⊎ (kind ≡ Sd) → name_of kind ≡ name_of Dl → ⊥
 not_list kind data_kind same =
     elim data_kind [
       | inl is ↦
@@ -201,7 +201,7 @@ not_list kind data_kind same =
           let byte : 68 ≡ 76 = ap (λ (xs : List ℕ). get_or xs 3 0) wrong in differ 68 76 byte (lit< tt)
     ]
 
-first_listed : (f : List ℕ) (at : ℕ) (lists : List ℕ) → at ≢ 0 → IsChain f at Dl lists → bytes_at 4 f at ≡ name_of Dl
+pub first_listed : (f : List ℕ) (at : ℕ) (lists : List ℕ) → at ≢ 0 → IsChain f at Dl lists → bytes_at 4 f at ≡ name_of Dl
 unfolding IsChain
 first_listed f at [] some chained = absurd (some chained)
 first_listed f at (place ∷ places) some chained = chained.1.named

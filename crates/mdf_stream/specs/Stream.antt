@@ -1,5 +1,5 @@
 -- The data stream of a link, in the standard's words and in no order of reading.
-use Rattle.std.specs.Prelude.{ℕ, zero, suc, ◌≡◌, ◌≢◌, ◌+◌, ◌-◌, List, [], ◌∷◌}
+use Rattle.std.specs.Prelude.{ℕ, zero, suc, ◌≡◌, ◌≢◌, ◌+◌, ◌-◌, ◌≤◌, List, [], ◌∷◌, length}
 use Rattle.std.specs.List.{flat_map, AllByRecursion}
 use Rattle.mdf_format.specs.Block.{link_at, links_at, body_at, IsBlock, IsChain}
 use Rattle.mdf_format.specs.declared.kind.Kind.{Kind}
@@ -27,3 +27,7 @@ pub data IsStream (file : List ℕ) (link : ℕ) (kind : Kind) (stream : List �
       (lists : List ℕ) → link ≢ 0 → IsChain file link Dl lists → AllByRecursion (λ place. place ≢ 0) lists
       → AllByRecursion (λ at. IsBlock file at kind) (listed file lists) → stream ≡ flat_map (body_at file) (listed file lists)
       → IsStream file link kind stream
+
+-- a link to data leads to at most 1,048,576 blocks, the DLBLOCKs counted
+abbrev pub LeadsToFew : List ℕ → ℕ → Type 0
+LeadsToFew file link = (lists : List ℕ) → IsChain file link Dl lists → length lists + length (listed file lists) ≤ 1048576
