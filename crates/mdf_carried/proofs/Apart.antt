@@ -9,8 +9,9 @@ use Rattle.mdf_head.specs.declared.entry.Head.{Head}
 use Rattle.mdf_group.specs.declared.row.GroupRow.{GroupRow}
 use Rattle.mdf_group.specs.declared.row.DataRow.{DataRow}
 use Rattle.mdf_group.specs.Recordable.{AreRecordable}
-use Rattle.mdf_group.specs.Standing.{AreDistinct, AreDataGroups}
+use Rattle.mdf_group.specs.Standing.{AreDistinct, StandDataGroups}
 use Rattle.mdf_group.proofs.Uniques.{data_groups_unique}
+use Rattle.mdf_group.proofs.Nested.{without_limit}
 use Rattle.mdf_model.proofs.Cases.{some_injective}
 use Rattle.mdf_model.proofs.Onces.{none_behind, head_unique}
 use Rattle.mdf_spell.specs.Recording.{recorded_row, recorded_head, recorded_history, IsRecordingTree}
@@ -42,7 +43,7 @@ row_is file start rows found tree is =
     let none : (kind : Kind) → IsBlock file 0 kind → ⊥ = none_behind file (codes "UnFinMF ") 85 unfinalized refl (lit< tt) in
     let heads : found.head ≡ head = head_unique file found.head head found.history (recorded_history start rows) is.stands tree.head in
     let same : found.rows ≡ row ∷ [] = data_groups_unique file none head.first_dg found.rows (row ∷ [])
-    (subst (λ (h : Head). AreDataGroups file h.first_dg found.rows) heads is.tree) tree.groups in
+    (subst (λ (h : Head). StandDataGroups file h.first_dg found.rows) heads is.tree) (without_limit file head.first_dg (row ∷ []) tree.groups) in
     some_injective found.row row (sym is.first ∙ ap (λ (rs : List DataRow). slice_get rs 0) same)
 
 pub ids_apart : RulesAgree → (file : List ℕ) (start : ℕ) (rows : List GroupRow) (found : Recovery) → AreRecordable rows

@@ -2,6 +2,7 @@
 use Rattle.std.proofs.Common.{ℕ, List, [], ◌∷◌, length, map, refl, sym, subst, inl}
 use Rattle.mdf_group.specs.declared.row.GroupRow.{GroupRow}
 use Rattle.mdf_group.specs.Recordable.{AreRecordable}
+use Rattle.mdf_group.proofs.Nested.{without_limit}
 use Rattle.mdf_layout.specs.declared.sample.Sample.{Sample}
 use Rattle.mdf_data.specs.Split.{IsRecordSplit}
 use Rattle.mdf_content.specs.Layouts.{layout_of}
@@ -29,7 +30,7 @@ carried_is_recovered agree start rows file samples are tree carried =
       found = recovery (recorded_head start rows) (recorded_history start rows) (row ∷ []) layouts row is pieces;
       recovery = record {
         stands = tree.head;
-        tree = tree.groups;
+        tree = without_limit file _ (row ∷ []) tree.groups;
         first = refl;
         records = record {
           id_size = inl (inl refl);

@@ -24,6 +24,7 @@ use Rattle.mdf_group.specs.declared.row.GroupRow.{GroupRow}
 use Rattle.mdf_group.specs.declared.row.DataRow.{DataRow}
 use Rattle.mdf_group.specs.Group.{is_variable}
 use Rattle.mdf_group.specs.Standing.{AreDataGroups}
+use Rattle.mdf_group.proofs.Nested.{without_limit}
 use Rattle.mdf_layout.specs.Layout.{Layout}
 use Rattle.mdf_content.specs.declared.contents.Contents.{Contents}
 use Rattle.mdf_content.specs.Layouts.{layout, layouts}
@@ -282,6 +283,17 @@ first_found f at (row ∷ rows) found are is = record {
   kept_is = is;
 }
 
+-- its data groups, none of whose conversions lies too deep
+pub session_rows : (f : List ℕ) (s : SessionParts) → session f ≡ Ok s → AreDataGroups f s.tree.head.first_dg s.tree.rows
+unfolding session
+session_rows f s is =
+    let made : Tree → Kept → SessionParts = λ all found. record { tree = all; kept = found } in
+    let one = bind_ok (recording f) (λ _. tree f >>= λ all. first_kept f all.rows >>= λ found. Ok (made all found)) s is in
+    let two = bind_ok (tree f) (λ all. first_kept f all.rows >>= λ found. Ok (made all found)) s one.2 in
+    let three = bind_ok (first_kept f two.0.rows) (λ found. Ok (made two.0 found)) s two.2 in
+    subst (λ (read : SessionParts). AreDataGroups f read.tree.head.first_dg read.tree.rows) (ok_injective (made two.0 three.0) s three.2)
+    (tree_found f two.0 two.1).rows
+
 -- all of a file
 pub session_found : (f : List ℕ) (s : SessionParts) → session f ≡ Ok s → (found : Recovery) × IsRecovery f found × IsSessionOf found s
 unfolding session
@@ -323,7 +335,7 @@ session_found f s is =
     } in
     let recovery : IsRecovery f found = record {
       stands = stands.head;
-      tree = stands.rows;
+      tree = without_limit f all.head.first_dg all.rows stands.rows;
       first = first.there;
       records = record {
         id_size = held.id_size;

@@ -10,7 +10,7 @@ use Rattle.mdf_data.proofs.Splits.{record_splits_agree}
 use Rattle.mdf_head.specs.declared.entry.Head.{Head}
 use Rattle.mdf_head.specs.declared.entry.History.{History}
 use Rattle.mdf_group.specs.declared.row.DataRow.{DataRow}
-use Rattle.mdf_group.specs.Standing.{AreDataGroups}
+use Rattle.mdf_group.specs.Standing.{StandDataGroups}
 use Rattle.mdf_group.proofs.Uniques.{data_groups_unique}
 use Rattle.mdf_layout.specs.Values.{sample_of}
 use Rattle.mdf_layout.specs.declared.sample.Entry.{Entry}
@@ -55,7 +55,7 @@ recoveries_agree f a b is_a is_b =
     let heads = head_unique f a.head b.head a.history b.history is_a.stands is_b.stands in
     let histories = history_unique f (none_at_first f unfinalized) a.head b.head a.history b.history is_a.stands is_b.stands in
     let rows = data_groups_unique f (none_at_first f unfinalized) b.head.first_dg a.rows b.rows
-    (subst (λ (h : Head). AreDataGroups f h.first_dg a.rows) heads is_a.tree) is_b.tree in
+    (subst (λ (h : Head). StandDataGroups f h.first_dg a.rows) heads is_a.tree) is_b.tree in
     let row : a.row ≡ b.row = some_injective a.row b.row (sym is_a.first ∙ ap (λ (rs : List DataRow). slice_get rs 0) rows ∙ is_b.first) in
     let records : a.records ≡ b.records = records_unique f b.row a.records b.records
     (subst (λ (r : DataRow). AreRecords f r a.records) row is_a.records) is_b.records in

@@ -8,7 +8,7 @@ use Rattle.mdf_head.specs.Head.{IsHead}
 use Rattle.mdf_group.specs.declared.row.GroupRow.{GroupRow}
 use Rattle.mdf_group.specs.declared.row.DataRow.{DataRow}
 use Rattle.mdf_group.specs.Group.{is_variable}
-use Rattle.mdf_group.specs.Standing.{AreDistinct, AreDataGroups}
+use Rattle.mdf_group.specs.Standing.{AreDistinct, StandDataGroups}
 use Rattle.mdf_content.specs.declared.contents.Contents.{Contents}
 use Rattle.mdf_content.specs.Records.{known_of}
 use Rattle.mdf_model.specs.Bodies.{bodies}
@@ -50,7 +50,7 @@ pub record Recovery : Type 0 where
 -- opened blocks hold the records.
 pub record IsRecovery (file : List ℕ) (found : Recovery) : Type 0 where
   pub stands : IsHead file found.head found.history
-  pub tree : AreDataGroups file found.head.first_dg found.rows
+  pub tree : StandDataGroups file found.head.first_dg found.rows
   pub first : slice_get found.rows 0 ≡ Some found.row
   pub records : AreRecords file found.row found.records
   pub groups : AllZip (IsGroupContents file found.row found.records) (sample_groups found.row) found.groups

@@ -91,7 +91,7 @@ data_next f row number found is =
     let counts = (data_found f row number found is).1 in next_is counts.0 row.groups number found.1 counts.1
 
 -- the identification
-mdf_is_true : (f : List ℕ) → IsMdf f → is_mdf f ≡ true
+pub mdf_is_true : (f : List ℕ) → IsMdf f → is_mdf f ≡ true
 mdf_is_true f is =
     let first = is_finalized f in
     let second = bytes_eq (bytes_at 8 f 0) (codes "UnFinMF ") in
@@ -100,7 +100,7 @@ mdf_is_true f is =
       | inr left_open ↦ or_right first second ((bytes_eq-Decides (bytes_at 8 f 0) (codes "UnFinMF ")).1 left_open)
     ])
 
-version_is_true : (f : List ℕ) → HasReadVersion f → has_read_version f ≡ true
+pub version_is_true : (f : List ℕ) → HasReadVersion f → has_read_version f ≡ true
 version_is_true f is =
     and_from (nat_le 400 (version_of f)) (nat_le (version_of f) 419) (le-leb 400 (version_of f) is.not_below) (le-leb (version_of f) 419 is.not_above)
 

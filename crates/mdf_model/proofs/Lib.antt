@@ -3,6 +3,8 @@ mod Answers
 pub mod Bodies
 pub mod Cases
 pub mod Channels
+-- what stands within the limits is read
+pub mod Complete
 mod Counted
 pub mod Files
 pub mod Founds

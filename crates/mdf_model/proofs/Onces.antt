@@ -21,7 +21,7 @@ use Rattle.mdf_group.specs.declared.row.ChannelRow.{ChannelRow}
 use Rattle.mdf_group.specs.declared.row.GroupRow.{GroupRow}
 use Rattle.mdf_group.specs.declared.row.DataRow.{DataRow}
 use Rattle.mdf_group.specs.Recordable.{is_of_values}
-use Rattle.mdf_group.specs.Standing.{AreDataGroups}
+use Rattle.mdf_group.specs.Standing.{StandDataGroups}
 use Rattle.mdf_group.proofs.Uniques.{data_groups_unique}
 use Rattle.mdf_layout.specs.Layout.{Layout}
 use Rattle.mdf_content.specs.declared.contents.Contents.{Contents}
@@ -149,7 +149,7 @@ pub rows_unique : (f : List ℕ) (a b : Head) (xs ys : List History) (ms ns : Li
 rows_unique f a b xs ys ms ns is_a is_b =
     let heads = head_unique f a b xs ys is_a.stands is_b.stands in
     data_groups_unique f (none_first f is_b.ident.finalized) b.first_dg is_a.rows is_b.rows
-    (subst (λ (h : Head). AreDataGroups f h.first_dg is_a.rows) heads is_a.tree) is_b.tree
+    (subst (λ (h : Head). StandDataGroups f h.first_dg is_a.rows) heads is_a.tree) is_b.tree
 
 pub measurements_agree : (f : List ℕ) (a b : Head) (xs ys : List History) (ms ns : List Measure) → IsMeasurement f a xs ms → IsMeasurement f b ys ns
     → (a ≡ b) × (xs ≡ ys) × (ms ≡ ns)

@@ -44,7 +44,7 @@ split_any : (stream : List ℕ) (id_size : ℕ) (known : List Known) (empties : 
 split_any stream zero known empties records rest some split = absurd (omega (arith, some))
 split_any stream (suc n) known empties records rest some split = split
 
-some_ids : (n : ℕ) → n ≢ 0 → 1 ≤ n
+pub some_ids : (n : ℕ) → n ≢ 0 → 1 ≤ n
 some_ids n some = grind (arith, some)
 
 -- as many empty records as may be

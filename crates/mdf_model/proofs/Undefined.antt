@@ -18,8 +18,9 @@ use Rattle.mdf_group.specs.declared.row.GroupRow.{GroupRow}
 use Rattle.mdf_group.specs.declared.row.DataRow.{DataRow}
 use Rattle.mdf_group.specs.Group.{is_variable}
 use Rattle.mdf_group.specs.Recordable.{is_of_values}
-use Rattle.mdf_group.specs.Standing.{AreDataGroups}
+use Rattle.mdf_group.specs.Standing.{StandDataGroups}
 use Rattle.mdf_group.proofs.Uniques.{data_groups_unique}
+use Rattle.mdf_group.proofs.Nested.{without_limit}
 use Rattle.mdf_layout.specs.Rule.{spot_in, BreaksRule}
 use Rattle.mdf_layout.specs.declared.field.FieldRow.{FieldRow}
 use Rattle.mdf_content.specs.declared.contents.Contents.{Contents}
@@ -37,7 +38,7 @@ use Rattle.mdf_model.proofs.Files.{refusal_true}
 use Rattle.mdf_model.proofs.Cases.{some_injective, two_ways}
 
 -- an item of a list, by its number
-all_get : {A : Type 0} (P : A → Type 0) (xs : List A) (i : ℕ) (x : A) → slice_get xs i ≡ Some x → AllByRecursion P xs → P x
+pub all_get : {A : Type 0} (P : A → Type 0) (xs : List A) (i : ℕ) (x : A) → slice_get xs i ≡ Some x → AllByRecursion P xs → P x
 all_get {A} P [] i x is all = let wrong : ◌≡◌ {A = Option A} None (Some x) = is in cc
 all_get P (y ∷ xs) zero x is all = subst P (some_injective y x is) all.0
 all_get P (y ∷ xs) (suc i) x is all = all_get P xs i x is all.1
@@ -57,7 +58,7 @@ numbered_get P k (y ∷ xs) zero x is all = subst (λ (n : ℕ). P n x) (none_on
 numbered_get P k (y ∷ xs) (suc j) x is all = subst (λ (n : ℕ). P n x) (next_on k j) (numbered_get P (k + 1) xs j x is all.1)
 
 -- what stands to an item of a list
-zip_get : {A B : Type 0} (R : A → B → Type 0) (xs : List A) (ys : List B) (n : ℕ) (x : A) → slice_get xs n ≡ Some x → AllZip R xs ys → (y : B) × R x y
+pub zip_get : {A B : Type 0} (R : A → B → Type 0) (xs : List A) (ys : List B) (n : ℕ) (x : A) → slice_get xs n ≡ Some x → AllZip R xs ys → (y : B) × R x y
 zip_get {A} R [] ys n x is all = let wrong : ◌≡◌ {A = Option A} None (Some x) = is in cc
 zip_get R (z ∷ xs) [] n x is all = absurd all
 zip_get {A} {B} R (z ∷ xs) (y ∷ ys) zero x is all = (y, subst (λ (a : A). R a y) (some_injective z x is) all.0)
@@ -80,7 +81,7 @@ rest_get {A} {B} test R x xs ys all =
     ]
 
 -- and to an item that passes a test
-picked_get : {A B C : Type 0} (key : ℕ → A → C) (test : C → Bool) (R : C → B → Type 0) (k : ℕ) (xs : List A) (ys : List B) (j : ℕ) (x : A)
+pub picked_get : {A B C : Type 0} (key : ℕ → A → C) (test : C → Bool) (R : C → B → Type 0) (k : ℕ) (xs : List A) (ys : List B) (j : ℕ) (x : A)
     → slice_get xs j ≡ Some x → test (key (k + j) x) ≡ true → AllZip R (filter test (keyed key k xs)) ys → (y : B) × R (key (k + j) x) y
 picked_get {A} key test R k [] ys j x is passes all = let wrong : ◌≡◌ {A = Option A} None (Some x) = is in cc
 picked_get {A} {B} {C} key test R k (z ∷ xs) ys zero x is passes all =
@@ -97,7 +98,7 @@ picked_get {A} {B} {C} key test R k (z ∷ xs) ys (suc j) x is passes all =
     (picked_get key test R (k + 1) xs behind.0 j x is (subst (λ (n : ℕ). test (key n x) ≡ true) (sym (next_on k j)) passes) behind.1)
 
 -- what a group of samples holds
-group_get : (f : List ℕ) (row : DataRow) (found : List Contents) (is : IsDataContents f row found) (k : ℕ) (group : GroupRow) → IsSampleGroup row k group
+pub group_get : (f : List ℕ) (row : DataRow) (found : List Contents) (is : IsDataContents f row found) (k : ℕ) (group : GroupRow) → IsSampleGroup row k group
     → (y : Contents) × IsContents f row is.records k group y
 group_get f row found is k group stands =
     let R : ℕ × GroupRow → Contents → Type 0 = λ g y. IsContents f row is.records g.0 g.1 y in
@@ -120,12 +121,12 @@ module _ (f : List ℕ) (row : DataRow) (found : List Contents) (is : IsDataCont
       let keeps = numbered_get Keeps 0 (layout_of group).rows b.c (field_of b.channel) there contents.1.ruled in
       subst (λ (n : ℕ). Keeps n (field_of b.channel)) (from_zero b.c) keeps b.breaks
 
-  no_lack : (at : ℕ) → LacksLayout row at → ⊥
+  pub no_lack : (at : ℕ) → LacksLayout row at → ⊥
   no_lack at (inl none) = none.1 is.id_size
   no_lack at (inr breaks) = no_break at breaks
 
   -- records
-  no_rest : (place : ℕ) → IsRestAt f row place → ⊥
+  pub no_rest : (place : ℕ) → IsRestAt f row place → ⊥
   no_rest place r =
       let split : IsDataSplit f row r.records (drop place r.stream) = record { stream = r.stream; is_stream = r.is_stream; split = r.split } in
       let same = split_unique f row r.records is.records (drop place r.stream) is.rest split is.split in
@@ -133,7 +134,7 @@ module _ (f : List ℕ) (row : DataRow) (found : List Contents) (is : IsDataCont
       omega (arith, none, length-drop place r.stream, r.some)
 
   -- counts
-  no_more : (before number said count : ℕ) → SaysMore f row before number said count → ⊥
+  pub no_more : (before number said count : ℕ) → SaysMore f row before number said count → ⊥
   no_more before number said count s =
       let same = split_unique f row s.records is.records s.rest is.rest s.split is.split in
       let contents = group_get f row found is s.k s.group s.is_group in
@@ -142,7 +143,7 @@ module _ (f : List ℕ) (row : DataRow) (found : List Contents) (is : IsDataCont
       omega (arith, counted, s.is_said, s.more, contents.1.enough)
 
   -- values
-  no_miss : (c i offset : ℕ) → MissesValue f row c i offset → ⊥
+  pub no_miss : (c i offset : ℕ) → MissesValue f row c i offset → ⊥
   no_miss c i offset m =
       let same = split_unique f row m.records is.records m.rest is.rest m.split is.split in
       let contents = group_get f row found is m.k m.group m.is_group in
@@ -182,7 +183,7 @@ undefined_is f refusal head history groups is about m =
       | inr one ↦
           let heads = head_unique f one.head head one.history history one.stands m.stands in
           let rows = data_groups_unique f (none_first f m.ident.finalized) head.first_dg one.rows m.rows
-          (subst (λ (h : Head). AreDataGroups f h.first_dg one.rows) heads one.tree) m.tree in
+          (subst (λ (h : Head). StandDataGroups f h.first_dg one.rows) heads (without_limit f one.head.first_dg one.rows one.tree)) m.tree in
           let there : slice_get m.rows one.n ≡ Some one.row = ap (λ (rs : List DataRow). slice_get rs one.n) (sym rows) ∙ one.there in
           let contents = zip_get (IsDataContents f) m.rows m.contents one.n one.row there m.hold in
           one_undefined f refusal about one contents.0 contents.1

@@ -23,6 +23,7 @@ use Rattle.mdf_group.specs.declared.row.DataRow.{DataRow}
 use Rattle.mdf_group.specs.Group.{groups}
 use Rattle.mdf_group.specs.Standing.{AreDataGroups}
 use Rattle.mdf_group.proofs.Stands.{all_found}
+use Rattle.mdf_group.proofs.Nested.{without_limit}
 use Rattle.mdf_content.specs.declared.contents.Contents.{Contents}
 use Rattle.mdf_content.specs.declared.contents.DataContents.{DataContents}
 use Rattle.mdf_block.specs.Every.{every}
@@ -184,7 +185,7 @@ measurement_of f all is = record {
   ident = is.ident;
   stands = is.tree.head;
   rows = all.tree.rows;
-  tree = is.tree.rows;
+  tree = without_limit f all.tree.head.first_dg all.tree.rows is.tree.rows;
   contents = map groups_of all.contents;
   hold = all_contents f all.tree.rows all.contents is.held;
   groups_are = same_measures all.tree.rows all.contents;
@@ -196,7 +197,13 @@ all_of f m is =
     let first = bind_ok (whole f) (λ all. Ok (measured all)) m is in
     (first.0, whole_found f first.0 first.1, ok_injective (measured first.0) m first.2)
 
-pub measurement_found : (f : List ℕ) (m : Measured) → measurement f ≡ Ok m → IsMeasurement f m.head m.history m.groups
-measurement_found f m is =
+-- none of its conversions lies too deep
+pub measurement_read : (f : List ℕ) (m : Measured) → measurement f ≡ Ok m
+    → (is : IsMeasurement f m.head m.history m.groups) × AreDataGroups f m.head.first_dg is.rows
+measurement_read f m is =
     let all = all_of f m is in
-    subst (λ (y : Measured). IsMeasurement f y.head y.history y.groups) all.2 (measurement_of f all.0 all.1)
+    subst (λ (y : Measured). (of : IsMeasurement f y.head y.history y.groups) × AreDataGroups f y.head.first_dg of.rows) all.2
+    (measurement_of f all.0 all.1, all.1.tree.rows)
+
+pub measurement_found : (f : List ℕ) (m : Measured) → measurement f ≡ Ok m → IsMeasurement f m.head m.history m.groups
+measurement_found f m is = (measurement_read f m is).0

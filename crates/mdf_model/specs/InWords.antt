@@ -9,7 +9,7 @@ use Rattle.mdf_head.specs.declared.entry.History.{History}
 use Rattle.mdf_head.specs.Head.{IsHead}
 use Rattle.mdf_group.specs.declared.row.GroupRow.{GroupRow}
 use Rattle.mdf_group.specs.declared.row.DataRow.{DataRow}
-use Rattle.mdf_group.specs.Standing.{AreDistinct, AreDataGroups}
+use Rattle.mdf_group.specs.Standing.{AreDistinct, StandDataGroups}
 use Rattle.mdf_content.specs.declared.contents.Contents.{Contents}
 use Rattle.mdf_model.specs.declared.part.Measure.{Measure}
 use Rattle.mdf_model.specs.Measurement.{holds_samples, paired}
@@ -32,7 +32,7 @@ pub record IsMeasurement (file : List ℕ) (head : Head) (history : List History
   pub ident : IsFinalizedMdf file
   pub stands : IsHead file head history
   pub rows : List DataRow
-  pub tree : AreDataGroups file head.first_dg rows
+  pub tree : StandDataGroups file head.first_dg rows
   pub contents : List (List Contents)
   pub hold : AllZip (IsDataContents file) rows contents
   pub groups_are : groups ≡ flat_map row_measures (zip rows contents)

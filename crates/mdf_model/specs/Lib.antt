@@ -6,4 +6,5 @@ pub mod Bodies
 pub mod Contents
 pub mod InWords
 pub mod Truth
+pub mod Limits
 pub mod Same

@@ -8,6 +8,7 @@ ghost use Rattle.mdf_group.specs.declared.row.GroupRow.{GroupRow};
 ghost use Rattle.mdf_model.specs.declared.part.Measure.{Measure};
 ghost use Rattle.mdf_model.specs.Measurement.{Measured, measurement};
 ghost use Rattle.mdf_model.specs.InWords.{IsMeasurement, IsValidFile};
+ghost use Rattle.mdf_model.specs.Limits.{IsWithinLimits};
 ghost use Rattle.mdf_model.specs.Same.{plain_flags, plain_channel, SameHead, SameRows};
 ghost use Rattle.mdf_model.specs.Truth.{IsAboutData, IsTrueOfFile};
 
@@ -32,6 +33,12 @@ pub fn strict_is_valid()
 pub fn a_refusal_is_true()
     ensures measured { (file : List ℕ) (refusal : Refusal) → measurement file ≡ Err refusal → IsTrueOfFile file refusal }
     ensures identified { (file : List ℕ) (refusal : Refusal) → identify file ≡ Err refusal → IsTrueOfFile file refusal }
+{}
+
+/// A file that has a measurement is read, where it is within the limits of the reader.
+pub fn what_is_measured_is_read()
+    ensures { (file : List ℕ) (head : Head) (history : List History) (groups : List Measure) → (is : IsMeasurement file head history groups)
+        → IsWithinLimits file head history is.rows → (m : Measured) × (measurement file ≡ Ok m) }
 {}
 
 /// A file whose layouts, records, counts or values are refused has no measurement.
