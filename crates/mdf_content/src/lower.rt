@@ -1,4 +1,4 @@
-ghost use Rattle.std.specs.Prelude.{◌≡◌, ◌^◌, ◌<◌, ℕ, List, Some, length, true, IfOk, IfErr};
+ghost use Rattle.std.specs.Prelude.{◌≡◌, ◌+◌, ◌*◌, ◌^◌, ◌<◌, ◌↔◌, ℕ, List, Some, length, true, IsTrue, IfOk, IfErr};
 ghost use Rattle.mdf_num.specs.Halt.{HaltCause, HaltReason};
 ghost use Rattle.mdf_block.specs.Refusal.{Gives, Halts, IsPlain, Read, Refuses};
 ghost use Rattle.mdf_stream.specs.Parts.{stream_of, stream_size, ArePartsInside};
@@ -31,6 +31,13 @@ fn data_halt(fault: DataFault) -> Halt<ReadFault>
     }
 }
 
+/// Whether a stream has more than twice as many bytes as the file, and one.
+fn is_too_long<P: Span>(view: &DataView, span: &P) -> bool
+    ensures { IsTrue result ↔ (2 * P.size span.now + 1 < stream_size view.now) }
+{
+    view.len() / 2 > span.len()
+}
+
 /// What a data link leads to, with the faults of this crate. A stream of more than twice as many bytes as the file has,
 /// which lists of the same blocks can make, counts as want of memory.
 pub(crate) fn view_of<P: Span>(
@@ -48,7 +55,7 @@ pub(crate) fn view_of<P: Span>(
 {
     match view_data_in(alloc, span, at, want) {
         Ok(view) => {
-            if view.len() / 2 > span.len() {
+            if is_too_long(&view, span) {
                 return Err(Halt::Memory);
             }
             Ok(view)

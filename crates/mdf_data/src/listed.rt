@@ -1,4 +1,4 @@
-ghost use Rattle.std.specs.Prelude.{◌≡◌, ◌^◌, ◌<◌, ◌++◌, ◌∷◌, [], length, slice_get, OnOk, OnErr};
+ghost use Rattle.std.specs.Prelude.{◌≡◌, ◌+◌, ◌^◌, ◌<◌, ◌≤◌, ◌↔◌, ◌++◌, ◌∷◌, [], length, slice_get, IsTrue, OnOk, OnErr};
 
 use mdf_num::{Memory, Numbers};
 use std::alloc::Global;
@@ -51,6 +51,13 @@ impl Listed {
         self.long.get(i - short).copied()
     }
 
+    /// Whether one place more would make 2^62.
+    fn is_full(&self) -> bool
+        ensures { IsTrue result ↔ (2 ^ 62 ≤ length self.now + 1) }
+    {
+        self.len() >= (1 << 62) - 1
+    }
+
     /// Adds a place at the end. After an error the places are as before.
     ///
     /// # Errors
@@ -59,7 +66,7 @@ impl Listed {
         ensures ok { OnOk result (self.new ≡ self.old ++ place ∷ []) }
         ensures err { OnErr result (self.new ≡ self.old) }
     {
-        if self.len() >= (1 << 62) - 1 {
+        if self.is_full() {
             return Err(Memory);
         }
         if place <= u32::MAX as u64 && self.long.is_empty() {
