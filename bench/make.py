@@ -9,6 +9,8 @@ unsorted   a finalized file with ids of 1 byte and three channel groups: a time 
            values, and a time and four numbers of 16 bits
 recording  a recording of the groups of `unsorted`, as `record` leaves it behind its last flush
 wide       such a recording of one channel group: a time and 99 numbers of 64 bits
+offsets    a finalized file of one channel group without records: a channel of variable length for each 200 bytes, whose offsets
+           lie in no order
 
 The records of a finalized file lie in data blocks (DTBLOCK) of 4,000,000 bytes, the last a shorter one, which a chain of lists
 (DLBLOCK) of at most 50 names, so some records lie across two blocks. Those of a recording lie in blocks of whole records of at
@@ -16,6 +18,7 @@ most 65,536 bytes, one behind the other, with a byte 0 behind the last.
 """
 
 import itertools
+import random
 import struct
 import sys
 
@@ -71,6 +74,14 @@ def words():
     return first
 
 
+def offsets(count):
+    """The first of so many channels of variable length."""
+    first = 0
+    for k in random.Random(1).sample(range(count), count):
+        first = channel(first, f"v{k}", 1, 10, 8 * k, 64)
+    return first
+
+
 def group(after, first, name, number, count, flags, length):
     body = struct.pack("<QQHHIII", number, count, flags, 0, 0, length, 0)
     return place(b"CG", [after, first, text(name), 0, 0, 0], body)
@@ -111,10 +122,15 @@ elif shape == "wide":
     id_size, count = 1, size // WIDE
     first = group(0, timed(words()), "words", 1, 0, 0, 800)
     total, records = WIDE * count, map(broad, range(count))
+elif shape == "offsets":
+    id_size, count = 0, size // 200
+    first = group(0, offsets(count), "offsets", 0, 0, 0, 8 * count)
+    total, records = 0, iter(())
 else:
     sys.exit(__doc__)
 
-data_group = place(b"DG", [0, first, len(head) + 64, 0], struct.pack("<B7x", id_size))
+content = len(head) + 64 if total or is_recording else 0
+data_group = place(b"DG", [0, first, content, 0], struct.pack("<B7x", id_size))
 struct.pack_into("<QQ", head, 64 + 24, data_group, entry)
 out.write(head)
 

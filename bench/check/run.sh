@@ -2,6 +2,7 @@
 # Compares `check` of finalized files with a twin in straight C that reads a file whole and goes over its records in a plain
 # loop. Of files of 500 MB, one whose records have no ids and one of three groups with ids, it prints the best time of each in
 # microseconds and their ratio, which is to be at most 3; of files of 5 MB, where valgrind is there, the same of instructions.
+# Last it prints the best times for 100,000 and for 10,000 channels of variable length in one group, whose ratio is to be at most 20.
 #
 # usage: bench/check/run.sh [RUNS]
 #
@@ -34,3 +35,11 @@ for shape in sorted unsorted; do
     fi
     compare "$shape" 500000000 best microseconds
 done
+
+for size in 20000000 2000000; do
+    python3 "$here/../make.py" offsets "$size" "$work/offsets.mf4"
+    "$program" check "$work/offsets.mf4" > "$work/ours"
+    grep -qx valid "$work/ours"
+    times+=("$(best /dev/null "$program" check "$work/offsets.mf4")")
+done
+ratio "offsets: check" "100,000 channels" "${times[0]}" "10,000 channels" "${times[1]}"
