@@ -6,7 +6,6 @@ use Rattle.std.specs.Prelude.{sum_by}
 use Rattle.std.specs.List.{flat_map}
 use Rattle.mdf_block.specs.declared.item.Item.{Item}
 use Rattle.mdf_block.specs.declared.link.Link.{Link}
-use Rattle.mdf_block.specs.declared.link.Link.TheVariants as links
 use Rattle.mdf_format.specs.Number.{aligned}
 use Rattle.mdf_format.specs.Block.{header_size}
 use Rattle.mdf_block.specs.Draft.{Placed, size_of, room_of, block_bytes, HasLink, with_link}

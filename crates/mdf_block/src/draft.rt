@@ -1,4 +1,4 @@
-ghost use Rattle.std.specs.Prelude.{◌≡◌, ◌+◌, ◌^◌, ◌<◌, [], ◌∷◌, ◌++◌, length, IfOk, OnOk, OnErr};
+ghost use Rattle.std.specs.Prelude.{◌≡◌, ◌+◌, ◌^◌, ◌<◌, ◌≤◌, ◌↔◌, [], ◌∷◌, ◌++◌, length, IsTrue, IfOk, OnOk, OnErr};
 ghost use Rattle.mdf_block.specs.Draft.{Placed, unlinked, linked, end_of, address_of, written, HasLink, with_link, AllStand};
 
 use crate::Link;
@@ -17,6 +17,27 @@ const BODY: usize = 1 << 60;
 
 /// `place_linked` answers want of memory where the file would go on past this address.
 const END: u64 = 1 << 61;
+
+/// Whether blocks, or the links of a block, are few enough.
+fn are_few(count: usize) -> bool
+    ensures { IsTrue result ↔ (count < 2 ^ 31) }
+{
+    count < MOST
+}
+
+/// Whether a body is short enough.
+fn is_short(body: usize) -> bool
+    ensures { IsTrue result ↔ (body ≤ 2 ^ 60) }
+{
+    body <= BODY
+}
+
+/// Whether a file that ends here may go on.
+fn may_go_on(end: u64) -> bool
+    ensures { IsTrue result ↔ (end ≤ 2 ^ 61) }
+{
+    end <= END
+}
 
 /// A file to be written: blocks behind the 64 bytes of the identification, each at the next multiple of 8. Contracts
 /// see it as the list of its blocks.
@@ -63,10 +84,10 @@ impl Draft {
         ensures ok { OnOk result (self.new ≡ self.old ++ linked kind links.items body ∷ []) }
         ensures err { OnErr result (self.new ≡ self.old) }
     {
-        if self.items.len() >= MOST
-            || links.len() >= MOST
-            || body.as_slice().len() > BODY
-            || self.end > END
+        if !are_few(self.items.len())
+            || !are_few(links.len())
+            || !is_short(body.as_slice().len())
+            || !may_go_on(self.end)
         {
             return Err(Memory);
         }

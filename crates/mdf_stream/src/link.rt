@@ -1,9 +1,9 @@
-ghost use Rattle.std.specs.Prelude.{◌≡◌, ◌-◌, ◌++◌, ◌∷◌, [], ℕ, List, Some, length, true, IfOk, IfErr, IfSome, OnOk};
+ghost use Rattle.std.specs.Prelude.{◌≡◌, ◌+◌, ◌-◌, ◌^◌, ◌<◌, ◌↔◌, ◌++◌, ◌∷◌, [], ℕ, List, Some, length, true, IsTrue, IfOk, IfErr, IfSome, OnOk};
 ghost use Rattle.mdf_num.specs.Halt.{HaltCause};
 ghost use Rattle.mdf_block.specs.Refusal.{Gives, GivesOf, IsPlain};
 ghost use Rattle.mdf_block.specs.Block.{block, IsInside, IsFilled};
 ghost use Rattle.mdf_block.specs.Each.{each};
-ghost use Rattle.mdf_stream.specs.Parts.{IsPartInside, ArePartsInside, stream_of};
+ghost use Rattle.mdf_stream.specs.Parts.{IsPartInside, ArePartsInside, stream_of, stream_size};
 ghost use Rattle.mdf_stream.specs.Link.{data_refusal, data_block, named_block, listed_parts, one_part, data_parts, part_of, joined};
 ghost use Rattle.mdf_stream.specs.Truth.{IsTrueOfLink, IfFault};
 ghost use Rattle.mdf_stream.specs.Stream.{IsStream};
@@ -159,11 +159,25 @@ impl Walk for Lists {
     }
 }
 
+/// Whether a part ends before the last u64.
+fn is_bounded(part: Part) -> bool
+    ensures { IsTrue result ↔ (part.at + part.len < 2 ^ 64) }
+{
+    part.len <= u64::MAX - part.at
+}
+
+/// Whether a view with so many bytes more has fewer than 2^62.
+fn has_room(view: &DataView, len: u64) -> bool
+    ensures { IsTrue result ↔ (stream_size view.now + len < 2 ^ 62) }
+{
+    len < LONGEST - view.len()
+}
+
 /// Adds a part at the end of a view.
 fn add_one(view: &mut DataView, part: Part) -> Result<(), Memory>
     ensures { OnOk result (view.new ≡ view.old ++ part ∷ []) }
 {
-    if part.len > u64::MAX - part.at || part.len >= LONGEST - view.len() {
+    if !is_bounded(part) || !has_room(view, part.len) {
         return Err(Memory);
     }
     view.add(part.at, part.len)

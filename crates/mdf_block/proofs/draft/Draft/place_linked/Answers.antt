@@ -8,6 +8,7 @@ invariant_of-self-2 c =
     let inside = c.self.inside in
     rw (c.in_ok-push.ensures.items, c.room_of-room.ensures) (
       laid_push 64 inside.items.items inside.end _ c.self.invariant.0 refl,
-      linked_small inside.end (linked c.args.kind c.args.links.items c.args.body) (omega (arith, c.if-self-gt-END.false)) (omega (arith, c.if-len-ge-MOST-2.false, c.len-else-len-ge-MOST.ensures))
-          (omega (arith, c.if-as_slice-gt-BODY.false, ap (λ (bytes : List ℕ). length bytes) c.as_slice.ensures)),
+      linked_small inside.end (linked c.args.kind c.args.links.items c.args.body) (c.if-not-may_go_on.ensures.0 refl)
+          (omega (arith, c.if-not-are_few-2.ensures.0 refl, c.len-else-not-are_few.ensures))
+          (omega (arith, c.if-not-is_short.ensures.0 refl, ap (λ (bytes : List ℕ). length bytes) c.as_slice.ensures)),
     )
