@@ -1,8 +1,12 @@
 -- The input file of a command.
-use Rattle.std.specs.Prelude.{ℕ, ◌≡◌, ◌<◌, ◌≤◌, ◌⊎◌, List, length, true, IfSome, Result, Ok, Err}
+use Rattle.std.specs.Prelude.{ℕ, ◌≡◌, ◌<◌, ◌≤◌, ◌⊎◌, List, length, true, Option, IfSome, Result, Ok, Err}
 use Rattle.mdf_format.specs.Cause.{Rose}
+use Rattle.mdf_block.specs.Refusal.{Refusal}
+use Rattle.mdf_content.specs.Fault.{read_refusal}
+use Rattle.mdf_content.specs.declared.fault.ReadFault.{ReadFault}
 use Rattle.mdf_disk.specs.State.{DiskState}
-use Rattle.mdf_command.specs.Faults.{INPUT_LIMIT}
+use Rattle.mdf_tool.specs.Tool.{fault_or_memory}
+use Rattle.mdf_command.specs.Faults.{INPUT_LIMIT, fault_of_tool}
 use Rattle.mdf_command.specs.declared.fault.Fault.{Fault}
 use Rattle.mdf_command.specs.declared.fault.Fault.TheVariants as fault
 
@@ -33,3 +37,10 @@ LoadFaultComes old new _ = ⊥
 abbrev pub LoadComes : DiskState → DiskState → Result (List ℕ) Fault → Type 0
 LoadComes old new (Ok file) = IsLoaded old file
 LoadComes old new (Err fault) = LoadFaultComes old new fault
+
+-- the fault of an input that was not read: it is refused, or memory was wanted where no refusal stands for it
+abbrev pub unread_fault : ReadFault → Option Refusal → Fault
+unread_fault fault refusal = fault_of_tool (fault_or_memory fault refusal)
+
+abbrev pub fault_of_read : ReadFault → Fault
+fault_of_read fault = unread_fault fault (read_refusal fault)

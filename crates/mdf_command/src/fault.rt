@@ -1,6 +1,7 @@
 ghost use Rattle.std.specs.Prelude.{◌≡◌};
-ghost use Rattle.mdf_command.specs.declared.fault.Fault.TheVariants.{Gate, Device, Read, Memory as NoMemory};
+ghost use Rattle.mdf_command.specs.declared.fault.Fault.TheVariants.{Gate, Device, Memory as NoMemory};
 ghost use Rattle.mdf_command.specs.Faults.{fault_of_load, fault_of_script, fault_of_take, fault_of_tool, gate_line, read_line, refusal_line};
+ghost use Rattle.mdf_command.specs.Load.{fault_of_read};
 ghost use Rattle.mdf_command.specs.Parts.{parts_line};
 ghost use Rattle.mdf_content.specs.Fault.{read_refusal};
 ghost use Rattle.mdf_block.specs.Refusal.{Cycles, Offset};
@@ -35,7 +36,7 @@ pub enum Fault {
     Memory,
     /// No rule admits this line of the script after the lines before it, counted from 1.
     Script { line: u64 },
-    /// The input is no finalized file that can be read, or there was no memory for it.
+    /// The input is refused. Want of memory is never in it.
     Read(ReadFault),
     /// The input has only so many groups with samples, and none of the number that was said.
     NoGroup { said: u64, groups: u32 },
@@ -173,10 +174,13 @@ impl From<GateFault> for Fault {
 }
 
 impl From<ReadFault> for Fault {
-    ghost from_gives = { λ read fault. fault ≡ Read read };
+    ghost from_gives = { λ read fault. fault ≡ fault_of_read read };
 
     fn from(fault: ReadFault) -> Self {
-        Fault::Read(fault)
+        match fault {
+            ReadFault::Memory => Fault::Memory,
+            fault => Fault::Read(fault),
+        }
     }
 }
 

@@ -1,2 +1,4 @@
+mod Printed
+mod Tables
 mod Totals
 mod Truths

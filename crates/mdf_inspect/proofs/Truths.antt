@@ -1,7 +1,6 @@
 -- What is refused of a file that is asked about is true of it.
-use Rattle.std.proofs.Common.{◌≡◌, ◌≤◌, ℕ, List, length}
-use Rattle.std.specs.Prelude.{IfSome}
-use Rattle.mdf_block.specs.Refusal.{Fails}
+use Rattle.std.proofs.Common.{◌≡◌, ℕ, List, Option, Some, None, IsSome, true, refl, sym, subst, inl, inr}
+use Rattle.mdf_block.specs.Refusal.{Fails, Refusal}
 use Rattle.mdf_block.proofs.Truths.{Refusing, refusing_none, refusing_then, fails_with}
 use Rattle.mdf_head.specs.Ident.{identify}
 use Rattle.mdf_content.specs.declared.fault.ReadFault.{ReadFault}
@@ -10,10 +9,10 @@ use Rattle.mdf_model.specs.Measurement.{measurement}
 use Rattle.mdf_model.specs.Truth.{IsTrueOfFile}
 use Rattle.mdf_model.proofs.Files.{identify_refused, measurement_true}
 use Rattle.mdf_disk.specs.State.{DiskState}
-use Rattle.mdf_command.specs.Faults.{INPUT_LIMIT}
-use Rattle.mdf_command.specs.declared.fault.Fault.TheVariants.{Read}
-use Rattle.mdf_command.proofs.Told.{of_file}
-use Rattle.mdf_inspect.specs.Reading.{reading, IsRefused, ReadingFaultComes}
+use Rattle.mdf_command.specs.Load.{IsLoaded, LoadFaultComes, unread_fault}
+use Rattle.mdf_command.specs.declared.fault.Fault.{Fault}
+use Rattle.mdf_command.specs.declared.fault.Fault.TheVariants as fault
+use Rattle.mdf_inspect.specs.Reading.{reading, ReadingFaultComes}
 
 reading_true : (f : List ℕ) → Refusing (IsTrueOfFile f) (reading f)
 unfolding reading
@@ -21,12 +20,24 @@ reading_true f =
     refusing_then (IsTrueOfFile f) (identify f) _ (record { tells = identify_refused f }) (λ id _.
     refusing_then (IsTrueOfFile f) (measurement f) _ (measurement_true f) (λ found _. refusing_none (IsTrueOfFile f) _))
 
--- what is known of the bytes that were read is known of the file, where it is told
-pub refused_comes : (old new : DiskState) (bytes : List ℕ) (refused : ReadFault) → IfSome old.content (λ file. bytes ≡ file)
-    → Fails (read_refusal refused) (reading bytes) → length bytes ≤ INPUT_LIMIT → ReadingFaultComes old new (Read refused)
-refused_comes old new bytes refused same failed short =
-    of_file old.content bytes (IsRefused refused) same (record {
-      is_refused = failed;
-      holds = fails_with (IsTrueOfFile bytes) (read_refusal refused) (reading bytes) (reading_true bytes) failed;
-      short = short;
-    })
+module _ (old new : DiskState) where
+  -- a file that was not loaded is not read
+  pub unloaded_comes : (problem : Fault) → LoadFaultComes old new problem → ReadingFaultComes old new problem
+  unloaded_comes fault.Memory comes = inl comes
+  unloaded_comes (fault.Read refused) comes = absurd comes
+  unloaded_comes problem comes = comes
+
+  -- one that was loaded is refused, or memory was wanted to read it
+  pub unread_comes : (bytes : List ℕ) → IsLoaded old bytes → new.attached ≡ true → (refused : ReadFault) (refusal : Option Refusal) → read_refusal refused ≡ refusal
+      → Fails refusal (reading bytes) → ReadingFaultComes old new (unread_fault refused refusal)
+  unread_comes bytes loaded attached refused None is failed = inr (record { file = bytes; loaded = loaded; attached = attached })
+  unread_comes bytes loaded attached refused (Some refusal) is failed =
+      let fails = subst (λ (one : Option Refusal). Fails one (reading bytes)) (sym is) failed in (
+        bytes,
+        loaded,
+        record {
+          some = subst IsSome (sym is) refl;
+          is_refused = fails;
+          holds = fails_with (IsTrueOfFile bytes) (read_refusal refused) (reading bytes) (reading_true bytes) fails;
+        },
+      )

@@ -1,5 +1,5 @@
 -- The command `opened IN`.
-use Rattle.std.specs.Prelude.{ℕ, ◌≤◌, List, [], ◌∷◌, length, codes, IfSome, Result, Ok, Err}
+use Rattle.std.specs.Prelude.{ℕ, List, [], ◌∷◌, codes, Result, Ok, Err}
 use Rattle.std.specs.Fmt.{decimal}
 use Rattle.mdf_disk.specs.State.{DiskState}
 use Rattle.mdf_port.specs.State.{SinkState}
@@ -8,8 +8,8 @@ use Rattle.mdf_gate.specs.Recording.{HasNoOpened}
 use Rattle.mdf_gate.specs.Fault.{HasFault}
 use Rattle.mdf_gate.specs.declared.answer.Opened.{Opened}
 use Rattle.mdf_command.specs.Texts.{line, Prints}
-use Rattle.mdf_command.specs.Faults.{INPUT_LIMIT, fault_line, fault_status}
-use Rattle.mdf_command.specs.Load.{LoadFaultComes}
+use Rattle.mdf_command.specs.Faults.{fault_line, fault_status}
+use Rattle.mdf_command.specs.Load.{IsLoaded, LoadFaultComes}
 use Rattle.mdf_command.specs.declared.fault.Fault.{Fault}
 use Rattle.mdf_command.specs.declared.fault.Fault.TheVariants as fault
 
@@ -17,17 +17,16 @@ use Rattle.mdf_command.specs.declared.fault.Fault.TheVariants as fault
 abbrev pub opened_line : Opened → List ℕ
 opened_line count = line (codes "blocks " ∷ decimal count.blocks ∷ codes " bytes " ∷ decimal count.bytes ∷ [])
 
--- The blocks were not counted only where this holds of the disk of the input before and after: the file is refused, or could
--- not be loaded.
+-- The blocks were not counted only where this holds of the disk of the input before and after: a file was loaded of it that is
+-- refused, or none could be loaded.
 abbrev pub OpenedFaultComes : DiskState → DiskState → Fault → Type 0
-OpenedFaultComes old new (fault.Gate refused) =
-    IfSome old.content (λ file. HasFault file refused × HasNoOpened file × (length file ≤ INPUT_LIMIT))
+OpenedFaultComes old new (fault.Gate refused) = (file : List ℕ) × IsLoaded old file × HasFault file refused × HasNoOpened file
 OpenedFaultComes old new problem = LoadFaultComes old new problem
 
--- The command ends with this count or this fault only where the file, if its disk tells it, has that count or that
--- fault, or the disk's count of faults says that it failed.
+-- The command ends with this count or this fault only where a file was loaded, which is the one that its disk tells, if it tells
+-- one, and has that count or that fault; or where the disk's count of faults says that it failed.
 abbrev pub OpenedComes : DiskState → DiskState → Result Opened Fault → Type 0
-OpenedComes old new (Ok count) = IfSome old.content (λ file. IsCountOf file count × (length file ≤ INPUT_LIMIT))
+OpenedComes old new (Ok count) = (file : List ℕ) × IsLoaded old file × IsCountOf file count
 OpenedComes old new (Err problem) = OpenedFaultComes old new problem
 
 abbrev pub opened_text : Result Opened Fault → List ℕ

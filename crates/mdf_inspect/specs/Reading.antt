@@ -1,5 +1,5 @@
 -- What the commands `check IN` and `info IN` read of a file.
-use Rattle.std.specs.Prelude.{ℕ, ◌≡◌, ◌≤◌, ◌↔◌, List, length, IsTrue, IfSome, Result, Ok, Err}
+use Rattle.std.specs.Prelude.{ℕ, ◌≡◌, ◌↔◌, ◌⊎◌, List, true, IsTrue, IsSome, IfSome, Result, Ok, Err}
 use Rattle.mdf_block.specs.Refusal.{Read, ◌>>=◌, Fails}
 use Rattle.mdf_head.specs.Ident.{identify}
 use Rattle.mdf_content.specs.declared.fault.ReadFault.{ReadFault}
@@ -10,8 +10,8 @@ use Rattle.mdf_model.specs.Truth.{IsTrueOfFile}
 use Rattle.mdf_disk.specs.State.{DiskState}
 use Rattle.mdf_port.specs.State.{SinkState}
 use Rattle.mdf_command.specs.Texts.{Prints}
-use Rattle.mdf_command.specs.Faults.{INPUT_LIMIT, fault_line, fault_status}
-use Rattle.mdf_command.specs.Load.{LoadFaultComes}
+use Rattle.mdf_command.specs.Faults.{fault_line, fault_status}
+use Rattle.mdf_command.specs.Load.{IsLoaded, LoadFaultComes, LoadWants}
 use Rattle.mdf_command.specs.declared.fault.Fault.{Fault}
 use Rattle.mdf_command.specs.declared.fault.Fault.TheVariants as fault
 use Rattle.mdf_inspect.specs.declared.reading.Reading.{Reading}
@@ -24,16 +24,27 @@ reading file = do
   Ok (record { version = id.ver; measurement = found })
 
 -- The file is refused, and what is said of it is true: of its identification, of a block at the address, or of one of its
--- data groups. Want of memory says nothing of it.
+-- data groups. It is never refused for want of memory.
 pub record IsRefused (refused : ReadFault) (file : List ℕ) : Type 0 where
+  pub some : IsSome (read_refusal refused)
   pub is_refused : Fails (read_refusal refused) (reading file)
   pub holds : IfSome (read_refusal refused) (IsTrueOfFile file)
-  pub short : length file ≤ INPUT_LIMIT
 
--- The file could not be read only where this holds of the disk of the input before and after: the file is refused, or could
--- not be loaded.
+-- memory was wanted to read a file that was loaded
+pub record WantsToRead (old new : DiskState) : Type 0 where
+  pub file : List ℕ
+  pub loaded : IsLoaded old file
+  pub attached : new.attached ≡ true
+
+-- memory was wanted for the file, or to read it
+abbrev pub InputWants : DiskState → DiskState → Type 0
+InputWants old new = LoadWants old new ⊎ WantsToRead old new
+
+-- Nothing was read only where this holds of the disk of the input before and after: a file was loaded of it that is refused, or
+-- memory was wanted, or no file could be loaded.
 abbrev pub ReadingFaultComes : DiskState → DiskState → Fault → Type 0
-ReadingFaultComes old new (fault.Read refused) = IfSome old.content (IsRefused refused)
+ReadingFaultComes old new (fault.Read refused) = (file : List ℕ) × IsLoaded old file × IsRefused refused file
+ReadingFaultComes old new fault.Memory = InputWants old new
 ReadingFaultComes old new problem = LoadFaultComes old new problem
 
 -- What is read of a file is its measurement, and it is strict exactly where the file is valid.
@@ -41,11 +52,11 @@ pub record IsReading (found : Reading) (file : List ℕ) : Type 0 where
   pub is_read : reading file ≡ Ok found
   pub measured : IsMeasurement file found.measurement.head found.measurement.history found.measurement.groups
   pub valid : IsTrue found.measurement.strict ↔ IsValidFile file
-  pub short : length file ≤ INPUT_LIMIT
 
--- This was read, or the file could not be read, only where the disk of the input says so before and after.
+-- This was read of a file that was loaded, which is the one that the disk of the input tells, if it tells one; or nothing was
+-- read, only where that disk says so before and after.
 abbrev pub ReadingComes : DiskState → DiskState → Result Reading Fault → Type 0
-ReadingComes old new (Ok found) = IfSome old.content (IsReading found)
+ReadingComes old new (Ok found) = (file : List ℕ) × IsLoaded old file × IsReading found file
 ReadingComes old new (Err fault) = ReadingFaultComes old new fault
 
 abbrev pub reading_status : Result Reading Fault → ℕ
