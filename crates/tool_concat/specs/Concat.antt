@@ -1,7 +1,6 @@
 -- How `concat` ends, and what a crash inside it leaves.
 use Rattle.std.specs.Prelude.{ℕ, ◌≡◌, ◌⊎◌, ◌+◌, ◌-◌, ◌^◌, min, List, length, Result, Ok, Err, IsSome, codes}
 use Rattle.mdf_format.specs.Cause.{Rose}
-use Rattle.mdf_format.specs.Identification.{IsMdf}
 use Rattle.mdf_block.specs.Refusal.{Fails}
 use Rattle.mdf_content.specs.Fault.{read_refusal}
 use Rattle.mdf_disk.specs.State.{DiskState}
@@ -10,6 +9,7 @@ use Rattle.mdf_seal.specs.Seal.{IsKept}
 use Rattle.tool_sort.specs.Kept.{IsSortedOf}
 use Rattle.tool_sort.specs.Made.{report_for}
 use Rattle.tool_sort.specs.Sorted.{sorted_file}
+use Rattle.mdf_tool.specs.Tool.{IsSealed}
 use Rattle.mdf_tool.specs.declared.made.Report.{Report}
 use Rattle.tool_concat.specs.declared.fault.ConcatFault.{ConcatFault}
 use Rattle.tool_concat.specs.declared.fault.ConcatFault.TheVariants as faults
@@ -71,6 +71,6 @@ ConcatEnds asked old new (Err (faults.Wide group channel)) = TooWide asked group
 ConcatEnds asked old new (Err faults.Failed) = Rose old.faults new.faults
 ConcatEnds asked old new (Err faults.Memory) = new ≡ old
 
--- what a crash may leave: no MDF, or that file
+-- what a crash may leave: a file under its seal, or that file
 abbrev pub IsConcatImage : Joining → List ℕ → Type 0
-IsConcatImage asked image = (¬ IsMdf image) ⊎ ((report : Report) × IsConcatOf asked image report)
+IsConcatImage asked image = IsSealed image ⊎ ((report : Report) × IsConcatOf asked image report)
