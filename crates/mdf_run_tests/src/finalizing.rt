@@ -3,7 +3,7 @@
 use crate::files::{FINALIZE, File, SORT, bytes_of, sorted};
 use crate::kinds::EMPTY;
 use crate::recordings::Part;
-use crate::runs::{COUNTING, Given, Left, all_stand, made_of};
+use crate::runs::{COUNTING, Given, Left, THREE_TEXTS, all_stand, made_of};
 use mdf_num::Bytes;
 use std::process::Abort;
 use std::sync::Wait;
@@ -24,6 +24,18 @@ const SORTED: [Part; 11] = [
     (1184, b"##DT\0\0\0\0\x30\0\0\0\0\0\0\0"),
     (1208, b"\x01\0\0\0\0\0\0\0\x02\0\0\0\0\0\0\0"),
     (1224, b"\x03\0\0\0\0\0\0\0"),
+];
+
+// The sorted file of the values of variable length empty, `ab` and `c`: the group's count of 3 at 936, the link of its channel to the
+// values at 1056, the offsets 0, 4 and 10 in the DT at 1184, and in the SD at 1232 the values, each behind its length: 15 bytes.
+const TEXTS_SORTED: [Part; 7] = [
+    (928, b"\0\0\0\0\0\0\0\0\x03\0\0\0\0\0\0\0"),
+    (1056, b"\xD0\x04\0\0\0\0\0\0"),
+    (1184, b"##DT\0\0\0\0\x30\0\0\0\0\0\0\0\0\0\0\0\0\0\0\0"),
+    (1208, b"\0\0\0\0\0\0\0\0\x04\0\0\0\0\0\0\0"),
+    (1224, b"\x0A\0\0\0\0\0\0\0"),
+    (1232, b"##SD\0\0\0\0\x27\0\0\0\0\0\0\0\0\0\0\0\0\0\0\0"),
+    (1256, b"\0\0\0\0\x02\0\0\0ab\x01\0\0\0c\0"),
 ];
 
 // A command and its input; what is printed, how many bytes the file has that is made, and parts of it. The finished file of a
@@ -72,6 +84,13 @@ const MADE: &[Makes] = &[
         "0 groups 1 samples 3 dropped 0\n",
         1232,
         &SORTED,
+    ),
+    (
+        SORT,
+        File::Finished(THREE_TEXTS),
+        "0 groups 1 samples 3 dropped 0\n",
+        1272,
+        &TEXTS_SORTED,
     ),
     // a recording is not sorted
     (

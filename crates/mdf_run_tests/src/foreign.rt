@@ -129,6 +129,19 @@ const TWO_DATA_BLOCKS: [Part; 10] = [
     (1930, b"\xE0?\x04"),
 ];
 
+// The first group's acquisition source at 1800, an ECU at a CAN bus, with a name at 1856 and a path at 1888.
+const WITH_SOURCE: [Part; 9] = [
+    (400, b"\x08\x07"),
+    (1800, b"##SI\0\0\0\0\x38\0\0\0\0\0\0\0\x03"),
+    (1824, b"\x40\x07"),
+    (1832, b"\x60\x07"),
+    (1848, b"\x01\x02"),
+    (1856, b"##TX\0\0\0\0\x20"),
+    (1880, b"ECU"),
+    (1888, b"##TX\0\0\0\0\x20"),
+    (1912, b"CAN 1"),
+];
+
 const CHECK: &[&str] = &["check", "in.mf4"];
 
 const INFO: &[&str] = &["info", "in.mf4"];
@@ -160,6 +173,15 @@ const READ: &[(Asked, &str)] = &[
     (
         Asked(INFO, File::TwoGroups, &TWO_DATA_BLOCKS, &[], &[]),
         "0 version 410\ngroup 0 engine channels 2 samples 2\ngroup 1 gearbox channels 2 samples 2\ngroups 2 samples 4 dropped 0\n",
+    ),
+    (
+        Asked(CHECK, File::TwoGroups, &WITH_SOURCE, &[], &[]),
+        "0 valid\n",
+    ),
+    // a source that is none
+    (
+        Asked(CHECK, File::TwoGroups, &[(400, b"\x08\x07")], &[], &[]),
+        "3 block at 1800 is not ##SI\n",
     ),
 ];
 

@@ -1,8 +1,8 @@
 //! Two files that are joined into one, and pairs that are not.
 
-use crate::files::{FINALIZE, changed, finished};
+use crate::files::{FINALIZE, File, bytes_of, changed, finished};
 use crate::recordings::Part;
-use crate::runs::{COUNTING, Given, Left, made_of};
+use crate::runs::{COUNTING, Given, Left, THREE_TEXTS, made_of};
 use crate::tables::{Made, all_are_made};
 use crate::told::is_told;
 use mdf_num::Bytes;
@@ -18,14 +18,11 @@ pub const CONCAT: Given<'static> = Given {
     ..FINALIZE
 };
 
-// The same channel with numbers of 32 bits; two groups, of which the first is the same; and values of 1, 2 and 1 bytes, whose
-// stream has 5, 6 and 5.
-const NARROW: &str = "group 0 g\nchannel t u32 master\nbegin\n0 1\nend\n";
+// The same recording with numbers of 32 bits; and two groups, of which the first is the same.
+const NARROW: &str = "group 0 g\nchannel t u32 master\nbegin\n0 1\n0 2\n! 0\n0 3\nend\n";
 
 const TWO_GROUPS: &str =
     "group 0 g\nchannel t u64 master\ngroup 0 h\nchannel y u8\nbegin\n0 1\n1 7\nend\n";
-
-const TEXTS: &str = "group 0 g\nchannel v var\nbegin\n0 x\n0 x6162\n0 x63\nend\n";
 
 /// What is left where these two files are joined.
 fn concat_of<R>(rt: &R, first: Bytes, second: &Bytes) -> Result<Left, Fail>
@@ -39,18 +36,17 @@ where
     made_of(rt, given, first)
 }
 
-// The script of a recording; what is printed where it is joined with itself, and what `check` and `export` say of the file.
+// What is printed and exported of three numbers that are joined with themselves.
+const TWICE: &str =
+    "0 groups 1 samples 6 dropped 0\n0 valid\n0 index,t\n0,1\n1,2\n2,3\n3,1\n4,2\n5,3\n";
+
+// A file; what is printed where it is joined with itself, and what `check` and `export` say of the file that is made.
 const JOINED: &[(Made, &str)] = &[
+    (Made(CONCAT_WORDS, File::Finished(COUNTING)), TWICE),
+    (Made(CONCAT_WORDS, File::Sorted(COUNTING)), TWICE),
+    (Made(CONCAT_WORDS, File::Finished(NARROW)), TWICE),
     (
-        Made(CONCAT_WORDS, COUNTING),
-        "0 groups 1 samples 6 dropped 0\n0 valid\n0 index,t\n0,1\n1,2\n2,3\n3,1\n4,2\n5,3\n",
-    ),
-    (
-        Made(CONCAT_WORDS, NARROW),
-        "0 groups 1 samples 2 dropped 0\n0 valid\n0 index,t\n0,1\n1,1\n",
-    ),
-    (
-        Made(CONCAT_WORDS, TEXTS),
+        Made(CONCAT_WORDS, File::Finished(THREE_TEXTS)),
         "0 groups 1 samples 6 dropped 0\n0 valid\n0 index,v\n0,x\n1,x6162\n2,x63\n3,x\n4,x6162\n5,x63\n",
     ),
 ];
@@ -60,8 +56,8 @@ fn joined_with_itself(rt: HostRuntime) -> Result<(), Fail> {
     all_are_made(&rt, JOINED)
 }
 
-/// The scripts of two recordings.
-struct Apart(&'static str, &'static str);
+/// Two files.
+struct Apart(File, File);
 
 /// What is printed, and how many bytes the file has that is made.
 fn length_told(alloc: Global, left: &Left) -> Result<String, Fail> {
@@ -73,17 +69,29 @@ fn apart_told<R>(rt: &R, row: &Apart) -> Result<String, Fail>
 where
     R: AllocGlobal + Threads + Wait + Sync,
 {
-    let second = finished(rt, row.1)?;
-    let left = concat_of(rt, finished(rt, row.0)?, &second)?;
+    let second = bytes_of(rt, &row.1)?;
+    let left = concat_of(rt, bytes_of(rt, &row.0)?, &second)?;
     length_told(rt.alloc(), &left)
 }
 
-// The scripts of two recordings of which the files can't be joined, and why, and that nothing is made.
+// Two files that can't be joined, and why, and that nothing is made.
 const APART: &[(Apart, &str)] = &[
-    (Apart(COUNTING, NARROW), "3 differs group 0\n0"),
-    (Apart(NARROW, COUNTING), "3 differs group 0\n0"),
-    (Apart(COUNTING, TWO_GROUPS), "3 differs group 1\n0"),
-    (Apart(TWO_GROUPS, COUNTING), "3 differs group 1\n0"),
+    (
+        Apart(File::Sorted(COUNTING), File::Sorted(NARROW)),
+        "3 differs group 0\n0",
+    ),
+    (
+        Apart(File::Finished(NARROW), File::Finished(COUNTING)),
+        "3 differs group 0\n0",
+    ),
+    (
+        Apart(File::Finished(COUNTING), File::Finished(TWO_GROUPS)),
+        "3 differs group 1\n0",
+    ),
+    (
+        Apart(File::Finished(TWO_GROUPS), File::Finished(COUNTING)),
+        "3 differs group 1\n0",
+    ),
 ];
 
 #[test]
@@ -107,8 +115,8 @@ where
     Ok(left.line)
 }
 
-// What is put into both files, and what is printed. The bits of an offset stand at 880; the offsets are 0, 5 and 11 in a stream of
-// 16 bytes.
+// What is put into both files, and what is printed. The bits of an offset stand at 880; the offsets are 0, 4 and 10 in a stream of
+// 15 bytes, so those of the second file become 15, 19 and 25.
 const CHANGED: &[(Changed, &str)] = &[
     (
         Changed(&[(880, b"\x05")], &[(880, b"\x05")]),
@@ -125,7 +133,7 @@ const CHANGED: &[(Changed, &str)] = &[
 
 #[test]
 fn changed_files_are_joined_or_refused(rt: HostRuntime) -> Result<(), Fail> {
-    let file = finished(&rt, TEXTS)?;
+    let file = finished(&rt, THREE_TEXTS)?;
     for (row, want) in CHANGED {
         is_told(&rt, changed_told(&rt, &file, row), *want)?;
     }

@@ -3,7 +3,9 @@
 use crate::recordings::Part;
 use crate::runs::{all_stand, recorded};
 use mdf_gate::opened;
+use std::sync::Wait;
 use std::test::Fail;
+use std::thread::Threads;
 
 // A channel of every type: two groups of one source, so that the order of their samples is that of the lines.
 const EVERY_TYPE: &str = "block 256
@@ -64,13 +66,6 @@ fn has_blocks(file: &[u8], parts: &[&[u8]]) -> bool {
     rest == b"\0".as_slice()
 }
 
-#[test]
-fn a_channel_of_every_type_is_recorded(rt: HostRuntime) -> Result<(), Fail> {
-    let file = recorded(&rt, EVERY_TYPE)?;
-    assert!(rt; has_blocks(file.as_slice(), &EVERY_RECORD));
-    Ok(())
-}
-
 // Two channels of variable length, with the values nothing and xy, ab and z, and c and nothing.
 const THREE_VALUES: &str = "group 0 g
 channel v var
@@ -93,10 +88,34 @@ const VALUE_RECORDS: [&[u8]; 5] = [
     b"\0",
 ];
 
+// Numbers of 3 and of 7 bits in one record, 5 and 86: 5 + 8 * 86 is 693, or B5 02 behind the id.
+const TWO_FIELDS: &str = "group 0 g\nchannel a u3\nchannel b u7\nbegin\n0 5 86\nend\n";
+
+const FIELD_RECORDS: [&[u8]; 2] = [
+    b"##DT\0\0\0\0\x1B\0\0\0\0\0\0\0\0\0\0\0\0\0\0\0",
+    b"\x01\xB5\x02\0\0\0\0\0",
+];
+
+// Scripts, and what stands from the first place of their recordings on.
+const RECORDED: &[(&str, &[&[u8]])] = &[
+    (EVERY_TYPE, &EVERY_RECORD),
+    (THREE_VALUES, &VALUE_RECORDS),
+    (TWO_FIELDS, &FIELD_RECORDS),
+];
+
+/// Whether the recording of a script has these parts there.
+fn has_recorded<R>(rt: &R, script: &str, parts: &[&[u8]]) -> Result<bool, Fail>
+where
+    R: AllocGlobal + Threads + Wait + Sync,
+{
+    Ok(has_blocks(recorded(rt, script)?.as_slice(), parts))
+}
+
 #[test]
-fn offsets_and_stream_of_variable_values(rt: HostRuntime) -> Result<(), Fail> {
-    let file = recorded(&rt, THREE_VALUES)?;
-    assert!(rt; has_blocks(file.as_slice(), &VALUE_RECORDS));
+fn channels_are_recorded_with_their_offsets_and_values(rt: HostRuntime) -> Result<(), Fail> {
+    for (script, parts) in RECORDED {
+        assert!(rt; has_recorded(&rt, *script, *parts)?, "{script}");
+    }
     Ok(())
 }
 

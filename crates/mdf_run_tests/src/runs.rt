@@ -1,6 +1,7 @@
 ghost use Rattle.std.specs.Prelude.{◌≡◌, None, IfOk};
 
-use crate::files::{Asked, File, all_are_told};
+use crate::files::{Asked, FINALIZE, File, all_are_told};
+use crate::kinds::EMPTY;
 use crate::recordings::Part;
 use crate::told::is_told;
 use book_owned::Marks;
@@ -275,6 +276,18 @@ where
     )
 }
 
+/// What is printed and left of a command over this disk, where a file of five bytes has the name of the output.
+pub fn over_taken<R, A>(rt: &R, given: Given<'_>, first: A) -> Result<String, Fail>
+where
+    R: AllocGlobal + Threads + Wait + Sync,
+    A: Disk + Drop,
+    requires { A.asked first ≡ None }
+{
+    let taken = disk_with(rt.alloc(), Bytes::from_slice(rt.alloc(), b"taken")?, &[])?;
+    let left = left_under(rt, given, first, taken, &Open)?;
+    Ok(left.recorded)
+}
+
 pub fn record_told<R>(rt: &R, given: Given<'_>, out: MemoryDisk) -> Result<String, Fail>
 where
     R: AllocGlobal + Threads + Wait + Sync,
@@ -496,17 +509,24 @@ impl Disk for Large {
     }
 }
 
-#[test]
-fn an_input_over_the_limit_is_refused(rt: HostRuntime) -> Result<(), Fail> {
+/// What is printed and left of a command over that disk, where the name of the output is taken.
+fn large_told<R>(rt: &R, given: Given<'_>) -> Result<String, Fail>
+where
+    R: AllocGlobal + Threads + Wait + Sync,
+{
     let first = Large {
         asked: None,
         faults: FaultCount::zero(),
     };
-    is_told(
-        &rt,
-        told(&rt, asking(OPEN, &[]), first),
-        "5 input over 536870913 536870912\n",
-    )
+    over_taken(rt, given, first)
+}
+
+const LARGE: &str = "5 input over 536870913 536870912\nfile 5 history 0 marks []";
+
+#[test]
+fn an_input_over_the_limit_is_refused(rt: HostRuntime) -> Result<(), Fail> {
+    is_told(&rt, large_told(&rt, asking(OPEN, &[])), LARGE)?;
+    is_told(&rt, large_told(&rt, FINALIZE), LARGE)
 }
 
 // Three samples of one channel, with a flush after the second.
@@ -529,7 +549,7 @@ pub const TWO_SOURCES: &str =
 
 // A channel of variable length, whose group of values adds 104 bytes to the head. Each sample has 9 bytes, and 5 and the
 // length of its value.
-const THREE_TEXTS: &str = "group 0 g\nchannel v var\nbegin\n0 x\n0 x6162\n0 x63\nend\n";
+pub const THREE_TEXTS: &str = "group 0 g\nchannel v var\nbegin\n0 x\n0 x6162\n0 x63\nend\n";
 
 // The first sample fills a block, and the second is longer.
 const FULL_BLOCK: &str =
@@ -542,6 +562,10 @@ const RECORDED: &[(Recording, &str)] = &[
     (
         Recording(COUNTING, &[], &[], &[]),
         "0 source 0 accepted 3\nsamples 3 durable 3\nfile 857 history 3 marks [0, 2, 3]",
+    ),
+    (
+        Recording(EMPTY, &[], &[], &[]),
+        "0 source 0 accepted 0\nsamples 0 durable 0\nfile 769 history 0 marks [0]",
     ),
     (
         Recording(SMALL_BLOCKS, &[], &[], &[]),
@@ -661,17 +685,6 @@ where
 #[test]
 fn a_script_is_recorded(rt: HostRuntime) -> Result<(), Fail> {
     all_are_recorded(&rt, RECORDED)
-}
-
-#[test]
-fn a_taken_name_is_not_recorded_over(rt: HostRuntime) -> Result<(), Fail> {
-    let alloc = rt.alloc();
-    let taken = MemoryDisk::holding(alloc, Bytes::from_slice(alloc, b"taken")?);
-    is_told(
-        &rt,
-        record_told(&rt, record(COUNTING, &[], &[]), taken),
-        "4 device fault\nfile 5 history 0 marks []",
-    )
 }
 
 /// The bytes of a recording of this script.

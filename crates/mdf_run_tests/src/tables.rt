@@ -1,6 +1,6 @@
 //! What `cut` makes of a finished file, and the tables that `export` prints.
 
-use crate::files::{Asked, File, all_are_told, finished};
+use crate::files::{Asked, File, all_are_told, bytes_of};
 use crate::runs::{COUNTING, Given, Left, asking, made_of, said};
 use crate::told::is_told;
 use mdf_num::Bytes;
@@ -13,6 +13,8 @@ use std::thread::Threads;
 const ENGINE: &[&str] = &["export", "in.mf4", "0"];
 
 const GEARBOX: &[&str] = &["export", "in.mf4", "1"];
+
+const FINISHED: File = File::Finished(COUNTING);
 
 // The group; what is changed in the file of the two data groups engine and gearbox; which call of the sink fails; the status
 // and what is printed. The time is a float of 64 bits, of which the bits are told: those of 0.5 are 4602678819172646912.
@@ -85,16 +87,15 @@ where
     made_line(rt.alloc(), made.line.as_str(), &said)
 }
 
-/// The words of a command that makes a file, and the script of a recording whose finished file is its input, and its second
-/// input too.
-pub struct Made(pub &'static [&'static str], pub &'static str);
+/// The words of a command that makes a file, and its input, which is its second input too.
+pub struct Made(pub &'static [&'static str], pub File);
 
 /// What is left of that command.
 fn left_of<R>(rt: &R, row: &Made) -> Result<Left, Fail>
 where
     R: AllocGlobal + Threads + Wait + Sync,
 {
-    let file = finished(rt, row.1)?;
+    let file = bytes_of(rt, &row.1)?;
     let given = Given {
         second: file.as_slice(),
         ..asking(row.0, &[])
@@ -121,9 +122,9 @@ where
     Ok(())
 }
 
-// The words and the script; what is printed, and what `check` and `export` say of the file that is made.
+// The words and the file; what is printed, and what `check` and `export` say of the file that is made.
 const SORTED: &[(Made, &str)] = &[(
-    Made(&["sort", "in.mf4", "out.mf4"], COUNTING),
+    Made(&["sort", "in.mf4", "out.mf4"], FINISHED),
     "0 groups 1 samples 3 dropped 0\n0 valid\n0 index,t\n0,1\n1,2\n2,3\n",
 )];
 
@@ -136,26 +137,40 @@ fn finalized_checked_sorted_exported(rt: HostRuntime) -> Result<(), Fail> {
 // is made.
 const CUTS: &[(Made, &str)] = &[
     (
-        Made(&["cut", "in.mf4", "out.mf4", "2", "2"], COUNTING),
+        Made(&["cut", "in.mf4", "out.mf4", "2", "2"], FINISHED),
         "0 groups 1 samples 0 dropped 0\n0 valid\n0 index,t\n",
     ),
     (
-        Made(&["cut", "in.mf4", "out.mf4", "1", "3"], COUNTING),
+        Made(&["cut", "in.mf4", "out.mf4", "1", "3"], FINISHED),
         "0 groups 1 samples 2 dropped 0\n0 valid\n0 index,t\n0,1\n1,2\n",
     ),
     (
         Made(
             &["cut", "in.mf4", "out.mf4", "-9223372036854775808", "2"],
-            COUNTING,
+            FINISHED,
         ),
         "0 groups 1 samples 1 dropped 0\n0 valid\n0 index,t\n0,1\n",
     ),
     (
         Made(
             &["cut", "in.mf4", "out.mf4", "3", "18446744073709551615"],
-            COUNTING,
+            FINISHED,
         ),
         "0 groups 1 samples 1 dropped 0\n0 valid\n0 index,t\n0,3\n",
+    ),
+    (
+        Made(
+            &["cut", "in.mf4", "out.mf4", "5", "5"],
+            File::Sorted(COUNTING),
+        ),
+        "0 groups 1 samples 0 dropped 0\n0 valid\n0 index,t\n",
+    ),
+    (
+        Made(
+            &["cut", "in.mf4", "out.mf4", "2", "4"],
+            File::Sorted(COUNTING),
+        ),
+        "0 groups 1 samples 2 dropped 0\n0 valid\n0 index,t\n0,2\n1,3\n",
     ),
 ];
 
