@@ -2,14 +2,17 @@
 ghost use Rattle.std.specs.Prelude.{◌≡◌, None};
 
 use crate::cuts::CUT;
-use crate::files::{FINALIZE, FINALIZE_WORDS, File, SORT, bytes_of};
+use crate::files::{FINALIZE, File, SORT, bytes_of, finalized};
+use crate::generated::GEN_TEN;
 use crate::joined::CONCAT;
 use crate::runs::{
-    COUNTING, Given, Kept, asking, disk_with, failing_disk, file_made, left_by, ran, record, said,
+    COUNTING, Given, Kept, asking, disk_with, failing_disk, file_made, left_by, over_taken, ran,
+    record, said, stands,
 };
-use crate::told::is_status;
+use crate::told::{is_status, is_told};
 use book_owned::Marks;
 use mdf_disk::{Disk, Fuse, MemoryDisk};
+use mdf_layout::{Sample, Samples, Value};
 use mdf_num::Bytes;
 use mdf_run::Finished;
 use std::process::Abort;
@@ -17,28 +20,37 @@ use std::sync::Wait;
 use std::test::Fail;
 use std::thread::Threads;
 
-// How many calls of its disk the recording makes: eight for the file and its head, and four for each of its two blocks.
+const RECORD: Given<'static> = Given {
+    words: &["record", "out.mf4"],
+    script: COUNTING,
+    ..FINALIZE
+};
+
+// How many calls of its disk that recording makes: eight for the file and its head, and four for each of its two blocks.
 const CALLS: u64 = 16;
 
-// What `finalize` prints of a recording with so many samples.
-const SAMPLES: [&str; 4] = [
-    "0 groups 1 samples 0 dropped 0\n",
-    "0 groups 1 samples 1 dropped 0\n",
-    "0 groups 1 samples 2 dropped 0\n",
-    "0 groups 1 samples 3 dropped 0\n",
+// What `export` prints of so many samples, which are the first of the numbers 1, 2 and 3.
+const TABLES: [&str; 4] = [
+    "0 index,t\n",
+    "0 index,t\n0,1\n",
+    "0 index,t\n0,1\n1,2\n",
+    "0 index,t\n0,1\n1,2\n2,3\n",
 ];
 
 /// The number of samples that this text is printed of.
 fn count_of(text: &str) -> Option<u64> {
     for count in 0u64..4 {
-        if SAMPLES[count as usize] == text {
+        if TABLES[count as usize] == text {
             return Some(count);
         }
     }
     None
 }
 
-/// How many samples are found in what a crash left: none in a file that is no MDF file. None where it is not finalized.
+const EXPORT_WORDS: &[&str] = &["export", "in.mf4", "0"];
+
+/// How many of the numbers 1, 2 and 3 are found in what a crash left: none in a file that is no MDF file. None where it is not
+/// finalized, or has others.
 fn found<R>(rt: &R, left: Bytes) -> Result<Option<u64>, Fail>
 where
     R: AllocGlobal + Threads + Wait + Sync,
@@ -46,8 +58,26 @@ where
     if !left.as_slice().starts_with(b"UnFinMF ") {
         return Ok(Some(0));
     }
-    let text = said(rt, FINALIZE_WORDS, left)?;
+    let text = said(rt, EXPORT_WORDS, finalized(rt, left)?)?;
     Ok(count_of(text.as_str()))
+}
+
+/// The number of a sample of one.
+fn number_of(sample: Option<&Sample>) -> Option<u64> {
+    match sample?.values.get(0)?.value {
+        Value::Unsigned(number) => Some(number),
+        _ => None,
+    }
+}
+
+/// Whether the samples are the numbers from 1 on.
+fn counts_up(history: &Samples) -> bool {
+    for place in 0..history.len() {
+        if number_of(history.get(place)) != Some(place + 1) {
+            return false;
+        }
+    }
+    true
 }
 
 /// How many samples were marked before this call of the disk: its first call attaches the file, and each other writes or syncs.
@@ -76,7 +106,7 @@ fn is_sealed(left: &[u8], whole: &[u8]) -> bool {
 }
 
 /// What is said of each file that a crash inside a call of the disk may leave: that it holds what was marked, where so many calls
-/// reach the disk at most; or that it is sealed, where this is the whole.
+/// reach the disk at most, and the numbers from 1 on were accepted; or that it is sealed, where this is the whole.
 #[derive(Drop)]
 enum Images<'a> {
     Hold(u64),
@@ -146,6 +176,7 @@ where
     let disk = finished.out.kept();
     if let Images::Hold(most) = images {
         assert!(rt; disk.calls() <= *most);
+        assert!(rt; counts_up(&finished.history));
     }
     images_stand(rt, finished, disk, images)
 }
@@ -190,7 +221,7 @@ where
 {
     status_over(
         rt,
-        record(COUNTING, &[], &[]),
+        RECORD,
         MemoryDisk::new(rt.alloc()),
         Fuse::new(disk, most),
         &Images::Hold(most),
@@ -228,6 +259,60 @@ fn a_recording_stands_a_stop_at_each_call_of_its_disk(rt: HostRuntime) -> Result
         is_status(&rt, status_stopped_after(&rt, calls), 4)?;
     }
     is_status(&rt, status_stopped_after(&rt, CALLS), 0)
+}
+
+/// How many samples are found in what a crash inside each call leaves, by each pick; 9 where it is not finalized.
+fn found_in_each<R>(rt: &R, disk: &MemoryDisk) -> Result<String, Fail>
+where
+    R: AllocGlobal + Threads + Wait + Sync,
+{
+    let mut told = String::new(rt.alloc());
+    for call in 0..disk.calls() {
+        for pick in 0u8..4 {
+            let count = found(rt, disk.image(call, pick)?)?.unwrap_or(9);
+            write!(told, "{count}")?;
+        }
+        told.push(' ')?;
+    }
+    Ok(told)
+}
+
+// The picks are: nothing of what was written since the last sync, all of it, and 0xFF or `#` in the place of each byte of it. The
+// calls 0 to 7 make the file. The gate of the first block is written and synced in the calls 10 and 11, and that of the second one
+// in 14 and 15; `#` opens it.
+const FOUND: &str =
+    "0000 0000 0000 0000 0000 0000 0000 0000 0000 0000 0202 0202 2222 2222 2323 2323 ";
+
+const FILLED: [u8; 40] = [0xFF; 40];
+
+/// Whether the second block's first write, in the call 12, is one of 40 bytes from 817 on.
+fn has_second_write(disk: &MemoryDisk) -> Result<bool, Fail> {
+    if disk.calls() != CALLS {
+        return Ok(false);
+    }
+    let left = disk.image(12, 2)?;
+    Ok(
+        left.as_slice().len() == 857
+            && stands(left.as_slice(), (816, b"\0"))
+            && stands(left.as_slice(), (817, &FILLED)),
+    )
+}
+
+/// Asserts what a crash inside each call leaves.
+fn is_found<R>(rt: &R, disk: &MemoryDisk) -> Result<(), Fail>
+where
+    R: AllocGlobal + Threads + Wait + Sync + Abort,
+{
+    assert!(rt; has_second_write(disk)?);
+    is_told(rt, found_in_each(rt, disk), FOUND)
+}
+
+#[test]
+fn a_stop_inside_each_call_leaves_so_many_samples(rt: HostRuntime) -> Result<(), Fail> {
+    let first = MemoryDisk::new(rt.alloc());
+    let out = MemoryDisk::new(rt.alloc());
+    let ended = ran(&rt, RECORD, first, out)?;
+    is_found(&rt, &ended.finished.out)
 }
 
 /// The status of a command that makes a file of this one, over a disk that fails at this call. Its images are sealed.
@@ -310,11 +395,12 @@ const READING: &[(&[&str], File)] = &[
     (&["export", "in.mf4", "0"], FINISHED),
 ];
 
-/// A command without a script over this second input, whose sink fails at these calls.
-fn command<'a>(words: &'a [&'a str], second: &'a Bytes, failing: &'a [u64]) -> Given<'a> {
+/// This command over this second input, with a sink that fails at these calls.
+fn command<'a>(given: Given<'a>, second: &'a Bytes, failing: &'a [u64]) -> Given<'a> {
     Given {
         second: second.as_slice(),
-        ..asking(words, failing)
+        failing,
+        ..given
     }
 }
 
@@ -334,7 +420,8 @@ where
     R: AllocGlobal + Threads + Wait + Sync,
 {
     let second = file.copy()?;
-    status_of(rt, command(words, &second, &[]), file, &[call])
+    let given = command(asking(words, &[]), &second, &[]);
+    status_of(rt, given, file, &[call])
 }
 
 /// Asserts that a fault of each call of an input is told. It is attached, its size is asked for, and it is read.
@@ -415,22 +502,22 @@ fn a_fault_of_each_call_of_the_source_is_told(rt: HostRuntime) -> Result<(), Fai
 }
 
 /// The status of a command, whose second input is the same file, where this call of the sink fails.
-fn sink_status<R>(rt: &R, words: &[&str], file: &Bytes, call: u64) -> Result<u8, Fail>
+fn sink_status<R>(rt: &R, given: Given<'_>, file: &Bytes, call: u64) -> Result<u8, Fail>
 where
     R: AllocGlobal + Threads + Wait + Sync,
 {
     let second = file.copy()?;
     let failing = [call];
-    status_of(rt, command(words, &second, &failing), file, &[])
+    status_of(rt, command(given, &second, &failing), file, &[])
 }
 
 /// How many calls of the sink a command makes: each of these that fails is told by the status 6.
-fn gives<R>(rt: &R, words: &[&str], file: &Bytes) -> Result<u64, Fail>
+fn gives<R>(rt: &R, given: Given<'_>, file: &Bytes) -> Result<u64, Fail>
 where
     R: AllocGlobal + Threads + Wait + Sync + Abort,
 {
     for call in 0u64..64 {
-        let status = sink_status(rt, words, file, call)?;
+        let status = sink_status(rt, given, file, call)?;
         if status == 0 {
             return Ok(call);
         }
@@ -439,19 +526,62 @@ where
     Ok(64)
 }
 
-/// The same of this file.
-fn gives_over<R>(rt: &R, words: &[&str], file: &File) -> Result<u64, Fail>
+/// Asserts that over this file it makes some, and fewer than 64.
+fn tells_faults_of_sink<R>(rt: &R, given: Given<'_>, file: &File) -> Result<(), Fail>
 where
     R: AllocGlobal + Threads + Wait + Sync + Abort,
 {
-    gives(rt, words, &bytes_of(rt, file)?)
+    let calls = gives(rt, given, &bytes_of(rt, file)?)?;
+    assert!(rt; 0 < calls && calls < 64);
+    Ok(())
 }
+
+const NO_FILE: File = File::TwoBlocks(0);
+
+// The other command that records.
+const GEN: Given<'static> = Given {
+    words: GEN_TEN,
+    ..FINALIZE
+};
 
 #[test]
 fn a_fault_of_each_call_of_the_sink_is_told(rt: HostRuntime) -> Result<(), Fail> {
     for (words, file) in READING {
-        let calls = gives_over(&rt, *words, file)?;
-        assert!(rt; 0 < calls && calls < 64);
+        tells_faults_of_sink(&rt, asking(*words, &[]), file)?;
+    }
+    tells_faults_of_sink(&rt, RECORD, &NO_FILE)?;
+    tells_faults_of_sink(&rt, GEN, &NO_FILE)
+}
+
+// Commands that make a file, and files, of which some are refused.
+const TAKEN: &[(Given<'static>, File)] = &[
+    (RECORD, NO_FILE),
+    (GEN, NO_FILE),
+    (FINALIZE, COUNTED),
+    (FINALIZE, FINISHED),
+    (SORT, FINISHED),
+    (SORT, COUNTED),
+    (CUT, COUNTED),
+    (CONCAT, COUNTED),
+];
+
+/// What is printed and left where the name of the output is taken.
+fn taken_told<R>(rt: &R, given: Given<'_>, file: &File) -> Result<String, Fail>
+where
+    R: AllocGlobal + Threads + Wait + Sync,
+{
+    let first = disk_with(rt.alloc(), bytes_of(rt, file)?, &[])?;
+    over_taken(rt, given, first)
+}
+
+#[test]
+fn a_taken_name_is_told_before_an_input_is_refused(rt: HostRuntime) -> Result<(), Fail> {
+    for (given, file) in TAKEN {
+        is_told(
+            &rt,
+            taken_told(&rt, *given, file),
+            "4 device fault\nfile 5 history 0 marks []",
+        )?;
     }
     Ok(())
 }

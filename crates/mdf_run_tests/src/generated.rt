@@ -39,7 +39,17 @@ end
 const TEN_TOLD: &str =
     "0 source 0 accepted 3\nsource 1 accepted 3\nsource 2 accepted 2\nsource 3 accepted 2\nsamples 10 durable 10\n";
 
-const GEN_TEN: &[&str] = &["gen", "10", "out.mf4"];
+pub const GEN_TEN: &[&str] = &["gen", "10", "out.mf4"];
+
+// Behind each thousandth sample of a source stands a flush: of 4,004 samples each source has 1,001.
+const FLUSHED: &str =
+    "0 source 0 accepted 1001\nsource 1 accepted 1001\nsource 2 accepted 1001\nsource 3 accepted 1001\nsamples 4004 durable 4004\n";
+
+// The words, and what is printed.
+const GENERATED: &[(&[&str], &str)] = &[
+    (GEN_TEN, TEN_TOLD),
+    (&["gen", "4004", "out.mf4"], FLUSHED),
+];
 
 /// The sorted file of a recording. That is one whatever the order in which the sources ran.
 fn sorted_of<R>(rt: &R, given: Given<'_>) -> Result<Bytes, Fail>
@@ -69,15 +79,22 @@ where
 #[test]
 fn ten_samples_are_generated(rt: HostRuntime) -> Result<(), Fail> {
     assert!(rt; is_same(&rt)?);
-    is_told(&rt, said(&rt, GEN_TEN, Bytes::empty(rt.alloc())), TEN_TOLD)
+    Ok(())
 }
 
-// Behind each thousandth sample of a source stands a flush: of 4,004 samples each source has 1,001.
-const FLUSHED: &str =
-    "0 source 0 accepted 1001\nsource 1 accepted 1001\nsource 2 accepted 1001\nsource 3 accepted 1001\nsamples 4004 durable 4004\n";
+#[test]
+fn generated_samples_are_recorded(rt: HostRuntime) -> Result<(), Fail> {
+    for (words, want) in GENERATED {
+        is_told(&rt, said(&rt, *words, Bytes::empty(rt.alloc())), *want)?;
+    }
+    Ok(())
+}
+
+const MILLION: &str =
+    "0 source 0 accepted 250000\nsource 1 accepted 250000\nsource 2 accepted 250000\nsource 3 accepted 250000\nsamples 1000000 durable 1000000\n";
 
 #[test]
-fn a_thousandth_sample_is_flushed(rt: HostRuntime) -> Result<(), Fail> {
-    let words = ["gen", "4004", "out.mf4"];
-    is_told(&rt, said(&rt, &words, Bytes::empty(rt.alloc())), FLUSHED)
+fn a_million_samples_are_recorded(rt: HostRuntime) -> Result<(), Fail> {
+    let words = ["gen", "1000000", "out.mf4"];
+    is_told(&rt, said(&rt, &words, Bytes::empty(rt.alloc())), MILLION)
 }
