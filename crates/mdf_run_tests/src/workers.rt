@@ -1,13 +1,16 @@
 //! The sources of a recording at work at once.
 
-use crate::runs::{TWO_SOURCES, left_under, record, record_told};
+use crate::files::{finalized, sorted, sorted_from};
+use crate::recordings::Part;
+use crate::runs::{TWO_SOURCES, all_stand, left_under, record, record_told, stands};
 use crate::told::is_told;
 use mdf_disk::MemoryDisk;
+use mdf_num::Bytes;
 use mdf_run::Gate;
 use std::process::Abort;
 use std::sync::Wait;
-use std::sync::atomic::AtomicBool;
 use std::sync::atomic::Ordering::SeqCst;
+use std::sync::atomic::{AtomicBool, AtomicU64};
 use std::test::Fail;
 use std::thread::{Threads, yield_now};
 
@@ -70,6 +73,134 @@ fn two_sources_record_at_once(rt: HostRuntime) -> Result<(), Fail> {
     )?;
     assert!(rt; !meeting.in_vain.load(SeqCst));
     Ok(())
+}
+
+// Two samples of each of two sources, with a flush behind those of each.
+const FLUSHED: &str =
+    "group 0 a\nchannel x u8\ngroup 1 b\nchannel y u8\nbegin\n0 1\n0 2\n! 0\n1 7\n1 8\n! 1\nend\n";
+
+/// The places of a source's two samples in the order of all, and how often it has passed.
+#[derive(Drop)]
+struct Turns {
+    places: [u64; 2],
+    passes: AtomicU64,
+}
+
+/// A gate that lets the samples of two sources pass in an order, each when those before it were accepted. That a sample was
+/// accepted is known by the next pass of its source.
+#[derive(Drop)]
+struct Order {
+    first: Turns,
+    second: Turns,
+    accepted: AtomicU64,
+    in_vain: AtomicBool,
+}
+
+impl Order {
+    /// Waits until so many samples were accepted.
+    fn wait_for(&self, samples: u64) {
+        for _ in 0..LOOKS {
+            if self.accepted.load(SeqCst) >= samples {
+                return;
+            }
+            yield_now();
+        }
+        self.in_vain.store(true, SeqCst);
+    }
+}
+
+impl Gate for Order {
+    fn pass(&self, source: u8) {
+        let turns = if source == 0 {
+            &self.first
+        } else {
+            &self.second
+        };
+        let pass = turns.passes.fetch_add(1, SeqCst);
+        if pass > 0 {
+            self.accepted.fetch_add(1, SeqCst);
+        }
+        if let Some(place) = turns.places.get(pass as usize) {
+            self.wait_for(*place);
+        }
+    }
+}
+
+/// The places of the samples of the first source and of the second, and the records in that order, with the ids 1 and 2.
+type Ordered = ([u64; 2], [u64; 2], &'static [u8]);
+
+// The six orders. The records stand at 1328 in the finished file.
+const ORDERS: &[Ordered] = &[
+    ([0, 1], [2, 3], b"\x01\x01\x01\x02\x02\x07\x02\x08"),
+    ([0, 2], [1, 3], b"\x01\x01\x02\x07\x01\x02\x02\x08"),
+    ([0, 3], [1, 2], b"\x01\x01\x02\x07\x02\x08\x01\x02"),
+    ([1, 2], [0, 3], b"\x02\x07\x01\x01\x01\x02\x02\x08"),
+    ([1, 3], [0, 2], b"\x02\x07\x01\x01\x02\x08\x01\x02"),
+    ([2, 3], [0, 1], b"\x02\x07\x02\x08\x01\x01\x01\x02"),
+];
+
+// The sorted file of each: the records of the one group in the DT at 1184, and those of the other in the DT at 1608.
+const ORDERED: [Part; 4] = [
+    (1184, b"##DT\0\0\0\0\x1A\0\0\0\0\0\0\0\0\0\0\0\0\0\0\0"),
+    (1208, b"\x01\x02\0\0\0\0\0\0##DG"),
+    (1608, b"##DT\0\0\0\0\x1A\0\0\0\0\0\0\0\0\0\0\0\0\0\0\0"),
+    (1632, b"\x07\x08\0\0\0\0\0\0"),
+];
+
+/// The finished file of a recording under this gate.
+fn finished_under<R>(rt: &R, order: &Order) -> Result<Bytes, Fail>
+where
+    R: AllocGlobal + Threads + Wait + Sync,
+{
+    let first = MemoryDisk::new(rt.alloc());
+    let out = MemoryDisk::new(rt.alloc());
+    let left = left_under(rt, record(FLUSHED, &[], &[]), first, out, order)?;
+    finalized(rt, left.file)
+}
+
+/// A gate that has let nobody pass.
+fn order_of(row: &Ordered) -> Order {
+    Order {
+        first: Turns {
+            places: row.0,
+            passes: AtomicU64::new(0),
+        },
+        second: Turns {
+            places: row.1,
+            passes: AtomicU64::new(0),
+        },
+        accepted: AtomicU64::new(0),
+        in_vain: AtomicBool::new(false),
+    }
+}
+
+/// The sorted file of a recording whose samples were accepted in this order.
+fn sorted_in<R>(rt: &R, row: &Ordered) -> Result<Bytes, Fail>
+where
+    R: AllocGlobal + Threads + Wait + Sync + Abort,
+{
+    let order = order_of(row);
+    let file = finished_under(rt, &order)?;
+    assert!(rt; stands(file.as_slice(), (1328, row.2)) && !order.in_vain.load(SeqCst));
+    sorted_from(rt, file)
+}
+
+/// Asserts that this is the sorted file of each order.
+fn is_sorted<R>(rt: &R, want: &[u8]) -> Result<(), Fail>
+where
+    R: AllocGlobal + Threads + Wait + Sync + Abort,
+{
+    assert!(rt; want.len() == 1640);
+    all_stand(rt, want, &ORDERED);
+    for row in ORDERS {
+        assert!(rt; sorted_in(rt, row)?.as_slice() == want);
+    }
+    Ok(())
+}
+
+#[test]
+fn six_orders_of_two_sources_have_one_sorted_file(rt: HostRuntime) -> Result<(), Fail> {
+    is_sorted(&rt, sorted(&rt, TWO_SOURCES)?.as_slice())
 }
 
 // The first source has no room for its third sample, since each costs 145, but the second has room for its one, which costs
