@@ -14,7 +14,7 @@ use Rattle.book_owned.specs.declared.mark.Mark.{Mark}
 use Rattle.book_shared.specs.Basis.{Basis, holding}
 use Rattle.book_shared.specs.Causes.{times_of, AreCaused, HandsOver, MarksCaused}
 use Rattle.book_shared.specs.Plays.{asked_in, given, MakesMark}
-use Rattle.book_shared.specs.Rule.{total, asks, AskedOf, World}
+use Rattle.book_shared.specs.Rule.{asks, AskedOf, World}
 use Rattle.book_shared.specs.declared.view.View.{View}
 use Rattle.book_shared.proofs.Lists.{one_if}
 use Rattle.book_shared.proofs.Sums.{total-set, term_le}
