@@ -19,10 +19,12 @@ use Rattle.acq_script.specs.declared.script.Script.{Script}
 use Rattle.acq_script.specs.declared.script.Task.{Task}
 use Rattle.mdf_command.specs.declared.fault.Fault.{Fault}
 use Rattle.mdf_command.specs.declared.fault.Fault.TheVariants as fault
-use Rattle.mdf_record.specs.Finish.{FinishEnds, Finishes, IsAllDurable, ProblemComes}
+use Rattle.mdf_record.specs.Finish.{FinishEnds, Finishes, IsAllDurable, MarksLast, ProblemComes}
 use Rattle.mdf_record.specs.Record.{outcome}
 use Rattle.mdf_record.specs.Recorded.{HasRun}
 use Rattle.mdf_record.specs.Sources.{feds_of}
+use Rattle.book_shared.specs.Causes.{MarksCaused}
+use Rattle.acq_run.specs.Ran.{AskedFor}
 use Rattle.mdf_record.specs.Work.{Works, fed_by}
 use Rattle.mdf_record.specs.declared.sources.End.{End}
 use Rattle.mdf_record.specs.declared.sources.End.TheVariants as end_
@@ -32,6 +34,10 @@ use Rattle.mdf_record.proofs.Feeding.{ran_lists}
 use Rattle.mdf_record.proofs.Idle.{idle_run}
 use Rattle.mdf_record.proofs.Recording.{has_run}
 use Rattle.mdf_record.proofs.Runs.{ran_all}
+
+-- the mark that it made
+pub marks_last : {D : Type 0} (disk : DiskOf D) (old new : Account D Audience) → MarksAll disk old new → MarksLast old new
+marks_last disk old new marks = ⊎_elim (λ same. inl same.0) (λ adds. inr (adds.0, adds.1, adds.2)) marks
 
 -- the last flush was done
 module _ {D : Type 0} (disk : DiskOf D) (old new : Account D Audience) (live : Bool) (driven : Result Unit End) (shown through : ℕ)
@@ -101,5 +107,8 @@ works_run tells shows script file view begun owners feeds recorded which_is begi
 works_run tells shows script file view begun owners feeds recorded which_is begins owners_are feeds_are (inr worked) =
     let ran = ran_lists script.plan.owners owners worked.driven feeds script.lists worked.all owners_are feeds_are worked.ran in
     has_run tells shows script file view begun worked.driven worked.flushed worked.accepted worked.ended worked.fault worked.note worked.shown recorded which_is begins
-    worked.terms (ran_all script.plan.owners worked.driven script.lists worked.accepted.items worked.ended worked.all ran worked.accepted_is worked.told)
+    worked.terms
+    (subst (λ fs. MarksCaused (AskedFor script.plan.owners 0 fs worked.driven.history) begun.terms.layouts begun.terms.block_limit worked.driven.history begun.marks worked.driven.marks) feeds_are
+    (subst (λ os. MarksCaused (AskedFor os 0 (fed_by feeds) worked.driven.history) begun.terms.layouts begun.terms.block_limit worked.driven.history begun.marks worked.driven.marks) owners_are worked.marks))
+    worked.last (ran_all script.plan.owners worked.driven script.lists worked.accepted.items worked.ended worked.all ran worked.accepted_is worked.told)
     worked.finishes worked.shown_is worked.closes

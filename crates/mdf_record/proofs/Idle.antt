@@ -24,6 +24,7 @@ use Rattle.mdf_record.specs.Record.{AreAccepted, IsRecorded, Outcome, live_of, o
 use Rattle.mdf_record.specs.Recorded.{Closes, HasRun}
 use Rattle.mdf_record.specs.declared.record.Recorded.{Recorded}
 use Rattle.mdf_record.proofs.Recording.{closed_recorded, closed_run, closed_saved}
+use Rattle.mdf_record.proofs.Causing.{have_none}
 use Rattle.mdf_record.proofs.Runs.{none_own}
 
 -- one of so many sources, none of which accepted a sample
@@ -49,6 +50,7 @@ module _ {D N : Type 0} (tells : DiskOf D) (shows : ViewOf Audience N) (script :
       (λ s tasks there. subst (λ (h : List Sample). IsPrefix (source_samples script.plan.owners h s) (samples_of tasks)) (sym begins.history) (samples_of tasks, refl))
       (λ s tasks there. none_own script.plan.owners s begun.history begun.marks (length (source_samples script.plan.owners begun.history s)) [] tasks
       (omega (arith, ap (λ (h : List Sample). length (source_samples script.plan.owners h s)) begins.history)))
+      (have_none script (record { moment = tells.moment file.disk; through = 0 }) begun.marks begun.history begins.marks refl)
 
   accepted_are : AreAccepted script left accepted.items
   accepted_are = record {

@@ -3,6 +3,7 @@ mod Lengths
 mod Feeding
 mod Begins
 pub mod Runs
+mod Causing
 mod Recording
 mod Idle
 mod Recovering

@@ -1,5 +1,5 @@
 -- A book that was driven, flushed and closed says how the recording ended.
-use Rattle.std.proofs.Common.{◌≡◌, ◌≢◌, ◌≤◌, ◌+◌, map, Bool, true, false, inl, inr, ⊎_elim, ℕ, List, [], ◌∷◌, ◌++◌, length, Option, Some, None, Result, Ok, Err, true≢false, get_or, take, refl, sym, ◌∙◌, ap, subst, arith, length-append}
+use Rattle.std.proofs.Common.{◌≡◌, ◌≢◌, ◌≤◌, ◌+◌, map, Bool, true, false, inl, inr, ⊎_elim, ℕ, List, [], ◌∷◌, ◌++◌, length, Option, Some, None, Result, Ok, Err, true≢false, get_or, take, refl, sym, ◌∙◌, ap, subst, arith, append-nil, length-append}
 use Rattle.std.specs.Prelude.{◌<◌, ◌⊎◌, slice_get, slice_index, is_some, IsOk, IfSome, IfOk, IfErr, MatchBool, cond, ◌==◌}
 use Rattle.std.proofs.lemmas.Bool.{cases_eq, cond-true, cond-false, eq-eqb, ne_eqb}
 use Rattle.std.proofs.lemmas.Option.{slice_get_cases}
@@ -35,13 +35,14 @@ use Rattle.acq_script.specs.declared.script.Script.{Script}
 use Rattle.mdf_carried.specs.Recovers.{IsReadHead}
 use Rattle.acq_script.specs.declared.script.Task.{Task}
 use Rattle.acq_run.specs.Works as Fed
-use Rattle.acq_run.specs.Ran.{AllRan}
+use Rattle.book_shared.specs.Causes.{MarksCaused}
+use Rattle.acq_run.specs.Ran.{AllRan, AskedFor}
 use Rattle.acq_run.specs.declared.work.Driven.{Driven}
 use Rattle.acq_run.specs.declared.work.Ended.{Ended}
 use Rattle.acq_run.specs.declared.work.Ended.TheVariants as work
 use Rattle.acq_run.proofs.Later.{all_later}
 use Rattle.mdf_record.specs.Sources.{AreOwnMarked, RanAll, ends_of, feds_of, told_of}
-use Rattle.mdf_record.specs.Finish.{FileFaultComes, Finishes, FinishEnds, IsAllDurable, IsMade, IsUnmade, NoteComes, WantsToShow}
+use Rattle.mdf_record.specs.Finish.{FileFaultComes, Finishes, FinishEnds, IsAllDurable, IsMade, IsUnmade, MarksLast, NoteComes, WantsToShow}
 use Rattle.mdf_record.specs.Record.{AreAccepted, AreEnds, CloseComes, EndedAt, IsComplete, IsFull, IsIdle, IsNext, IsRecorded, IsSaved, IsShort, IsUnshown, OfSources, Outcome, SourceComes, live_of, outcome}
 use Rattle.mdf_record.specs.Head.{script_head}
 use Rattle.mdf_record.specs.Recorded.{Closes, HasRun, RunComes, RecordComes}
@@ -52,6 +53,8 @@ use Rattle.mdf_command.specs.declared.fault.Fault.TheVariants as fault
 use Rattle.mdf_record.specs.declared.record.Recorded.{Recorded}
 use Rattle.mdf_record.specs.declared.record.RecordEnd.{RecordEnd}
 use Rattle.mdf_record.specs.declared.record.RecordEnd.TheVariants.{Refused, Closed}
+use Rattle.mdf_record.specs.Causes.{HaveCauses}
+use Rattle.mdf_record.proofs.Causing.{have_causes}
 use Rattle.mdf_record.proofs.Feeding.{next_task, samples_of-append}
 use Rattle.mdf_record.proofs.Runs.{RanAt, RanTasks, accepted-length, all_room, each_done, first_full, hows-length, own_begins, own_flushes, ran_of, whole_ran, worst_err}
 
@@ -139,13 +142,14 @@ module _ {D N : Type 0} (tells : DiskOf D) (shows : ViewOf Audience N) (script :
   pub closed_recorded : OfSources script (λ source tasks. IsPrefix (source_samples script.plan.owners book.history source) (samples_of tasks))
       → OfSources script (λ source tasks. AreOwnMarked script.plan.owners source book.history book.marks
       (λ n. n < length (source_samples script.plan.owners book.history source)) [] tasks)
-      → IsRecorded script head file.start closed
-  closed_recorded own flushes = record {
+      → HaveCauses script book.history book.marks → IsRecorded script head file.start closed
+  closed_recorded own flushes causes = record {
     marks_hold = kept.marks_hold;
     start_holds = kept.start_holds;
     marks_rise = kept.marks_rise;
     own_prefix = own;
     flush_lines = flushes;
+    causes = causes;
     cost = subst (λ (t : Terms). history_cost t.layouts book.history ≤ t.session_limit) terms_are closes.within;
     pending = kept.pending;
   }
@@ -186,7 +190,9 @@ module _ {D N : Type 0} (tells : DiskOf D) (shows : ViewOf Audience N)
     (begun driven flushed : Account D Audience) (accepted : Stock ℕ) (result : Result Unit End) (problem : Option Fault) (note : Option Note) (live : Option ℕ) (recorded : Recorded D)
     (which_is : MatchBool script.plan.live (0 < shows.which view) (shows.which view ≡ 0))
     (begins : HasBegun tells shows file script.plan.shapes script.plan.block script.plan.session view begun)
-    (same : driven.terms ≡ begun.terms) (ran : RanAll script.plan.owners driven script.lists accepted.items result)
+    (same : driven.terms ≡ begun.terms)
+    (caused : MarksCaused (AskedFor script.plan.owners 0 (map feds_of script.lists) driven.history) begun.terms.layouts begun.terms.block_limit driven.history begun.marks driven.marks)
+    (last : MarksLast driven flushed) (ran : RanAll script.plan.owners driven script.lists accepted.items result)
     (finishes : Finishes driven flushed script.plan.live result problem note) (live_is : live ≡ counted note) (closes : Closes tells flushed accepted live problem recorded) where
   abbrev owners : List ℕ
   owners = script.plan.owners
@@ -208,6 +214,9 @@ module _ {D N : Type 0} (tells : DiskOf D) (shows : ViewOf Audience N)
   recorded_is = closed_recorded tells shows script file view flushed accepted live problem recorded terms_are closes
       (λ s tasks there. let at = at_source s tasks there in own_begins owners flushed s tasks at.driven at.ran)
       (λ s tasks there. let at = at_source s tasks there in own_flushes owners flushed s tasks at.driven at.ran)
+      (have_causes script (record { moment = tells.moment file.disk; through = 0 }) begun.marks driven.marks flushed.marks driven.history flushed.history begins.marks refl
+      (subst (λ (t : Terms). MarksCaused (AskedFor owners 0 (map feds_of script.lists) driven.history) t.layouts t.block_limit driven.history begun.marks driven.marks) begins.terms caused)
+      (finishes.steps.history ∙ append-nil driven.history) last)
 
   accepted_are : AreAccepted script left accepted.items
   accepted_are = record {
@@ -331,6 +340,7 @@ recorded_told script front front' None middle first start start' outcome' is tol
   marks_rise = recorded.marks_rise;
   own_prefix = recorded.own_prefix;
   flush_lines = recorded.flush_lines;
+  causes = recorded.causes;
   cost = recorded.cost;
   pending = recorded.pending;
 }

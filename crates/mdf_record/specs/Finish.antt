@@ -11,6 +11,7 @@ use Rattle.mdf_disk.specs.declared.role.Role.TheVariants.{Create}
 use Rattle.mdf_gate.specs.Images.{IsBegun}
 use Rattle.book_owned.specs.Marks.{durable}
 use Rattle.book_owned.specs.Account.{Account, Steps}
+use Rattle.book_owned.specs.declared.mark.Mark.{Mark}
 use Rattle.mdf_record.specs.declared.sources.End.{End}
 use Rattle.mdf_record.specs.declared.sources.End.TheVariants as end_
 use Rattle.mdf_command.specs.declared.fault.Fault.{Fault}
@@ -33,6 +34,10 @@ pub record IsUnmade (name head : List ℕ) (old new : DiskState) (fault : Fault)
   pub asked_is : (new.asked ≡ None) ⊎ (new.asked ≡ Some (name, Create))
   pub begun : HoldsSince new.story old.moment (IsBegun head)
   pub comes : FileFaultComes head old new fault
+
+-- a last flush made no mark, or one through all samples
+abbrev pub MarksLast : {D : Type 0} → Account D Audience → Account D Audience → Type 0
+MarksLast old new = (new.marks ≡ old.marks) ⊎ ((mark : Mark) × (new.marks ≡ old.marks ++ mark ∷ []) × (mark.through ≡ length old.history))
 
 -- all samples are durable
 abbrev pub IsAllDurable : {D V : Type 0} → Account D V → Type 0

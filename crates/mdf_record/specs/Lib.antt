@@ -2,6 +2,7 @@ pub mod Head
 pub mod Sources
 pub mod Script
 pub mod Finish
+pub mod Causes
 pub mod Record
 pub mod Recovers
 pub mod Created

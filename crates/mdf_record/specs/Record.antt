@@ -18,6 +18,7 @@ use Rattle.acq_script.specs.declared.script.Script.{Script}
 use Rattle.acq_script.specs.declared.script.Task.{Task}
 use Rattle.mdf_command.specs.Texts.{line, numbered}
 use Rattle.mdf_command.specs.Faults.{fault_line, fault_status}
+use Rattle.mdf_record.specs.Causes.{HaveCauses}
 use Rattle.mdf_record.specs.Sources.{AreOwnMarked, HadRoom}
 use Rattle.mdf_record.specs.declared.sources.End.{End}
 use Rattle.mdf_record.specs.declared.sources.End.TheVariants as end_
@@ -187,5 +188,6 @@ pub record IsRecorded (script : Script) (head : List ℕ) (start : ℕ) (left : 
   pub own_prefix : OfSources script (λ source tasks. IsPrefix (source_samples script.plan.owners left.history source) (samples_of tasks))
   pub flush_lines : OfSources script (λ source tasks. AreOwnMarked script.plan.owners source left.history left.marks
       (λ n. n < length (source_samples script.plan.owners left.history source)) [] tasks)
+  pub causes : HaveCauses script left.history left.marks
   pub cost : history_cost script.plan.shapes left.history ≤ script.plan.session
   pub pending : history_size script.plan.shapes (drop (durable left.marks) left.history) ≤ script.plan.block

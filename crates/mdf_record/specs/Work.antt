@@ -5,7 +5,8 @@ use Rattle.mdf_layout.specs.declared.sample.Sample.{Sample}
 use Rattle.book_owned.specs.Account.{Account}
 use Rattle.book_owned.specs.Members.{DiskOf}
 use Rattle.book_view.specs.Known.{Note}
-use Rattle.acq_run.specs.Ran.{AllMayFeed, AllRan}
+use Rattle.book_shared.specs.Causes.{MarksCaused}
+use Rattle.acq_run.specs.Ran.{AllMayFeed, AllRan, AskedFor}
 use Rattle.acq_run.specs.declared.tasks.Fed.{Fed}
 use Rattle.acq_run.specs.declared.work.Driven.{Driven}
 use Rattle.acq_run.specs.Audience.{count_in, hands_in, shows_in, which_in}
@@ -14,7 +15,7 @@ use Rattle.acq_run.specs.declared.audience.Audience.{Audience}
 use Rattle.acq_script.specs.declared.script.Task.{Task}
 use Rattle.mdf_command.specs.declared.fault.Fault.{Fault}
 use Rattle.mdf_command.specs.declared.fault.Fault.TheVariants.{Memory}
-use Rattle.mdf_record.specs.Finish.{Finishes}
+use Rattle.mdf_record.specs.Finish.{Finishes, MarksLast}
 use Rattle.mdf_record.specs.Recorded.{Closes}
 use Rattle.mdf_record.specs.Sources.{counts_of, ends_of, feds_of, worst}
 use Rattle.mdf_record.specs.declared.sources.End.{End}
@@ -67,6 +68,8 @@ pub record HasWorked {D : Type 0} (tells : DiskOf D) (owners : List ℕ) (book :
   pub shown : Option ℕ
   pub terms : driven.terms ≡ book.terms
   pub ran : AllRan owners driven 0 feeds all
+  pub marks : MarksCaused (AskedFor owners 0 feeds driven.history) book.terms.layouts book.terms.block_limit driven.history book.marks driven.marks
+  pub last : MarksLast driven flushed
   pub accepted_is : accepted.items ≡ counts_of all
   pub told : ended ≡ worst (ends_of all)
   pub finishes : Finishes driven flushed live ended fault note

@@ -7,7 +7,7 @@ ghost use Rattle.acq_script.specs.Generated.{generated_script};
 ghost use Rattle.mdf_spell.specs.Recording.{head_file};
 ghost use Rattle.mdf_group.specs.Recordable.{AreRecordable};
 ghost use Rattle.mdf_record.specs.Script.{IsNoScript, SaysScript, ScriptFaultComes};
-ghost use Rattle.mdf_record.specs.Finish.{Finishes, ProblemComes};
+ghost use Rattle.mdf_record.specs.Finish.{Finishes, MarksLast, ProblemComes};
 ghost use Rattle.mdf_record.specs.Created.{IsCreated, IsNotCreated};
 ghost use Rattle.mdf_port.specs.State.{sink_state, source_state};
 ghost use Rattle.mdf_command.specs.Texts.{Gives, Prints, numbered};
@@ -168,6 +168,7 @@ fn finish<R: Threads + Wait + Sync, C: Disk>(
 ) -> (Option<Fault>, Option<Told>)
     requires stopped { IfErr driven (λ end_. end_ ≡ End.Stopped → book.old.stopped ≡ true) }
     ensures finishes { Finishes book.old book.new live driven result.0 result.1 }
+    ensures last { MarksLast book.old book.new }
 {
     match book.flush(rt) {
         Flush::DiskFault { .. } | Flush::Stopped { .. } => (Some(Fault::Device), None),
