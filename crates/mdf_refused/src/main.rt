@@ -1,0 +1,11 @@
+//! The program, stored with a run that ends with a refusal.
+#![tactic(auto)]
+
+use mdf_hostfile::FileDisk;
+use mdf_program::start;
+use std::process::ExitCode;
+
+fn main(rt: HostRuntime) -> ExitCode {
+    let (first, second, out) = (FileDisk::new(&rt), FileDisk::new(&rt), FileDisk::new(&rt));
+    start(&rt, rt.stdin(), rt.stdout(), first, second, out)
+}
