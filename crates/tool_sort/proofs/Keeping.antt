@@ -5,6 +5,7 @@ use Rattle.std.specs.List.{flat_map, AllByRecursion, AllZip}
 use Rattle.mdf_format.specs.Identification.{standard_flags, custom_flags}
 use Rattle.mdf_block.specs.Draft.{Placed, link_number, block_bytes, written, AllStand}
 use Rattle.mdf_group.specs.declared.row.GroupRow.{GroupRow}
+use Rattle.mdf_group.proofs.Nested.{without_limit}
 use Rattle.mdf_tree.specs.Text.{IsText}
 use Rattle.mdf_tree.specs.Group.{next_link, IsDataGroupWritable}
 use Rattle.mdf_tree.specs.Head.{placed_history, head_blocks, entry_text, new_entry, IsEntryWritable}
@@ -95,7 +96,7 @@ sorted_kept source rest m title now named in_time is fit all =
       ident = ident.0;
       stands = head;
       rows = placed_rows blocks n m.groups;
-      tree = tree.0;
+      tree = without_limit file (link_number blocks link) (placed_rows blocks n m.groups) tree.0;
       contents = all_contents m.groups;
       hold = hold.0;
       groups_are = groups_are source blocks n m.groups is.groups;

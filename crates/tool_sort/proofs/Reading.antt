@@ -1,20 +1,24 @@
 -- The groups of a file's measurement stand in it.
 use Rattle.std.proofs.Common.{◌≡◌, ◌+◌, ℕ, Bool, true, false, List, [], ◌∷◌, refl, sym, subst}
-use Rattle.std.specs.Prelude.{filter, zip}
+use Rattle.std.specs.Prelude.{Result, Ok, Err, IfOk, filter, zip}
 use Rattle.std.specs.List.{flat_map, enumerate_from, AllByRecursion, AllZip}
 use Rattle.mdf_format.specs.Block.{link_at}
+use Rattle.mdf_block.specs.Refusal.{GivesOf}
 use Rattle.mdf_block.specs.Text.{IsNote}
 use Rattle.mdf_stream.proofs.Links.{all_more}
 use Rattle.mdf_data.specs.Split.{Record}
 use Rattle.mdf_group.specs.declared.row.GroupRow.{GroupRow}
 use Rattle.mdf_group.specs.declared.row.DataRow.{DataRow}
 use Rattle.mdf_group.specs.Group.{is_variable}
-use Rattle.mdf_group.specs.Standing.{IsGroup, IsDataGroup}
+use Rattle.mdf_group.specs.Standing.{IsGroup, IsDataGroup, AreDataGroups}
 use Rattle.mdf_content.specs.declared.contents.Contents.{Contents}
+use Rattle.mdf_content.specs.declared.fault.ReadFault.{ReadFault}
+use Rattle.mdf_content.specs.Fault.{read_refusal}
 use Rattle.mdf_spell.specs.Standing.{AreBytes}
-use Rattle.mdf_model.specs.Measurement.{Measured, holds_samples, paired}
+use Rattle.mdf_model.specs.Measurement.{Measured, holds_samples, paired, measurement}
 use Rattle.mdf_model.specs.Contents.{IsContents, is_of_samples, IsDataContents}
 use Rattle.mdf_model.specs.InWords.{row_measures, IsMeasurement}
+use Rattle.mdf_model.proofs.Wholes.{measurement_read}
 use Rattle.tool_sort.specs.Kept.{IsMeasureIn, StandsIn}
 
 module _ (file : List ℕ) (row : DataRow) (records : List Record) (place : ℕ) (noted : IsNote file place row.comment) where
@@ -60,9 +64,16 @@ data_in file (row ∷ rows) (found ∷ contents) each hold =
     (groups_in file row hold.0.records (link_at file row.at 3) each.0.comment 0 row.groups found each.0.groups.each hold.0.groups)
     (data_in file rows contents each.1 hold.1)
 
-pub measured_stands : (file : List ℕ) (m : Measured) → AreBytes file → IsMeasurement file m.head m.history m.groups → StandsIn file m
-measured_stands file m bytes is = record {
+pub measured_stands : (file : List ℕ) (m : Measured) → AreBytes file → (is : IsMeasurement file m.head m.history m.groups)
+    → AreDataGroups file m.head.first_dg is.rows → StandsIn file m
+measured_stands file m bytes is rows = record {
   bytes = bytes;
   head = is.stands;
-  groups = subst (AllByRecursion (IsMeasureIn file)) (sym is.groups_are) (data_in file is.rows is.contents is.tree.each is.hold);
+  groups = subst (AllByRecursion (IsMeasureIn file)) (sym is.groups_are) (data_in file is.rows is.contents rows.each is.hold);
 }
+
+-- what is read stands
+pub read_stands : (file : List ℕ) (result : Result Measured ReadFault) → AreBytes file → GivesOf read_refusal result (measurement file)
+    → IfOk result (StandsIn file)
+read_stands file (Ok m) bytes is = let found = measurement_read file m is in measured_stands file m bytes found.0 found.1
+read_stands file (Err fault) bytes is = tt

@@ -2,15 +2,17 @@ ghost use Rattle.std.specs.Prelude.{ℕ, ◌≡◌, List};
 ghost use Rattle.mdf_model.specs.declared.part.Measure.{Measure};
 ghost use Rattle.mdf_model.specs.Measurement.{Measured, with_content};
 ghost use Rattle.mdf_content.specs.Samples.{AreSamples};
+ghost use Rattle.mdf_group.specs.Standing.{AreDataGroups};
 ghost use Rattle.mdf_spell.specs.Standing.{AreBytes};
 ghost use Rattle.mdf_model.specs.InWords.{IsMeasurement};
 ghost use Rattle.tool_sort.specs.Kept.{IsMeasureIn, StandsIn};
 ghost use Rattle.tool_sort.specs.Same.{SameMeasured};
 ghost use Rattle.tool_sort.specs.Sorted.{sorted_file};
 
-/// The measurement of a file stands in it.
+/// The measurement of a file stands in it, where no conversion is the fifth that is open at once.
 pub fn a_measurement_stands()
-    ensures { (file : List ℕ) (m : Measured) → AreBytes file → IsMeasurement file m.head m.history m.groups → StandsIn file m }
+    ensures { (file : List ℕ) (m : Measured) → AreBytes file → (is : IsMeasurement file m.head m.history m.groups)
+        → AreDataGroups file m.head.first_dg is.rows → StandsIn file m }
 {}
 
 /// A group stands in a file whatever records of its layout it has.
