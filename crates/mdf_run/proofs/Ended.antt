@@ -22,7 +22,7 @@ use Rattle.mdf_record.specs.Recovers.{IsFinalizable}
 use Rattle.mdf_command.specs.Faults.{INPUT_LIMIT}
 use Rattle.mdf_command.specs.Words.{Asks, AsksConcat, AsksCut, AsksExport, AsksFinalize, AsksInput, AsksOutput, AsksRecord, AsksSecond, AsksSort, AsksToMake, IsUsage, Request, input_of, output_of, second_of}
 use Rattle.mdf_command.specs.Words as words
-use Rattle.mdf_run.specs.Kept.{AreJoinable, AsksToJoin, HasGroup, IfRecorded, IsDoneOrLacked, IsMeasured, Keeps, OfRecording, RecordsNothing}
+use Rattle.mdf_run.specs.Kept.{AreJoinable, AsksToJoin, HasGroup, IfRecorded, IsDoneOrLacked, IsDurable, IsMeasured, Keeps, OfRecording, RecordsNothing}
 use Rattle.mdf_run.specs.Asked.{AsksOnly, IsOnlyMade, IsOnlyRead, IsUnrecorded, TakesNothing, input_asked, output_asked, request_for, second_asked}
 use Rattle.mdf_run.specs.Ends.{Ends, EndsShow, HasEnded, IsCaused, Told}
 use Rattle.mdf_run.specs.declared.asked.Asked.{Asked}
@@ -103,10 +103,10 @@ of_kept said (Some (Make input output tool)) t ended asks P keeps =
     (λ name also text told script means. absurd (nothing.0 name also), λ samples name also. absurd (nothing.1 samples name also))
 
 pub if_recovered : (said : List (List ℕ)) (asked : Option Asked) (t : Told) → HasEnded asked t → Says said asked → (P : Type 0)
-    → (AreRecovered t.out.moment t.left → P) → IfRecorded said P
+    → (AreRecovered t.out.moment t.left → IsDurable t.status t.left.history t.left.marks → P) → IfRecorded said P
 if_recovered said None t ended none P recovered = if_none said P none
 if_recovered said (Some (Record output origin)) t ended asks P recovered =
-    (λ name also. recovered ended.ends.recovered, λ samples name also. recovered ended.ends.recovered)
+    let holds = recovered ended.ends.recovered ended.ends.durable in (λ name also. holds, λ samples name also. holds)
 if_recovered said (Some (Show input view)) t ended asks P recovered =
     let nothing = records_nothing said (Show input view) tt asks in
     (λ name also. absurd (nothing.0 name also), λ samples name also. absurd (nothing.1 samples name also))

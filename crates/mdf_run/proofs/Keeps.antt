@@ -18,7 +18,7 @@ use Rattle.mdf_command.specs.Faults.{fault_status, refused_status}
 use Rattle.mdf_disk.specs.Crash.{HoldsSince}
 use Rattle.mdf_gate.specs.Images.{IsBegun}
 use Rattle.mdf_record.specs.Head.{script_head}
-use Rattle.mdf_run.specs.Kept.{IsDone, IsReported, Keeps}
+use Rattle.mdf_run.specs.Kept.{IsDone, IsDurable, IsReported, Keeps}
 use Rattle.mdf_record.specs.Record.{AreAccepted, CloseComes, IsComplete, Outcome, fault_code, fault_text, live_of, live_text, record_status, record_text, summary_text}
 use Rattle.mdf_record.specs.Script.{SCRIPT_LIMIT}
 use Rattle.mdf_record.specs.Recorded.{IsClosed, IsNotBegun, IsRefused, IsUnread, RecordComes}
@@ -67,7 +67,8 @@ saves script faults left result None is other comes = comes.saved.all_durable
 saves script faults left result (Some fault.Device) is other comes = absurd (⊎_elim other other is)
 saves script faults left result (Some (fault.SessionFull held size limit)) is other comes = comes.are.saved.all_durable
 saves script faults left result (Some fault.Memory) is other comes =
-    ⊎_elim (λ short. short.are.saved.all_durable) (λ unshown. unshown.1.saved.all_durable) comes
+    ⊎_elim (λ short. short.are.saved.all_durable)
+    (λ other. ⊎_elim (λ unshown. unshown.1.saved.all_durable) (λ idle. idle.saved.all_durable) other) comes
 saves script faults left result (Some _) is other comes = absurd comes
 
 -- a status 0 was printed only with all of the text, of a command that ended so
@@ -131,9 +132,8 @@ module _ (Says : Script → Type 0) (Refuses : Fault → Type 0) (name : List �
     marks_rise = inl refl;
     own_prefix = λ source tasks there. (samples_of tasks, refl);
     flush_lines = λ source tasks there. none_own script.plan.owners source [] [] 0 [] tasks (omega arith);
+    pending = omega arith;
     complete = λ done. absurd (not_done problem status is done);
-    some_marks = λ done. absurd (not_done problem status is done);
-    saved = λ begun. absurd (omega (arith, begun.0));
     reported = λ ok. absurd (not_done problem status is (inl ok));
   }) where
     begun : IsUnread Refuses out disk problem ⊎ IsNotBegun Says name now out disk problem → HoldsSince disk.story out.moment (IsBegun (script_head now script))
@@ -156,9 +156,8 @@ module _ (Says : Script → Type 0) (Refuses : Fault → Type 0) (name : List �
         marks_rise = inr recorded.marks_rise;
         own_prefix = recorded.own_prefix;
         flush_lines = recorded.flush_lines;
+        pending = recorded.pending;
         complete = λ done. completes script out.faults left status problem is done comes;
-        some_marks = λ done. some_from marks recorded.marks_rise.first;
-        saved = λ begun. saves script out.faults left status problem is begun.1 comes;
         reported = λ ok. reports script left sink sink' status ok accepted samples last live problem is accepted_is closed.samples_is closed.durable_is
             (completes script out.faults left status problem is (inl ok) comes) live_is
             (all_printed (summary_text accepted samples last ++ (live_text live ++ fault_text problem)) (fault_code problem) sink sink' status ok prints);
@@ -169,3 +168,26 @@ module _ (Says : Script → Type 0) (Refuses : Fault → Type 0) (name : List �
   recording_keeps (Refused problem) comes prints =
       of_refused problem comes (was_status (record_text (Refused problem)) (record_status (Refused problem)) sink sink' status prints)
   recording_keeps (Closed accepted samples last live problem) comes prints = of_closed accepted.items samples last live problem comes prints
+
+-- all is durable of a recording, whatever its script is
+module _ (Says : Script → Type 0) (Refuses : Fault → Type 0) (name : List ℕ) (now : ℕ) (out : DiskState) (left : Outcome) (sink sink' : SinkState) (status : ℕ) where
+  durable_refused : (problem : Fault) → IsRefused Says Refuses name now out left problem
+      → (status ≡ fault_status problem) ⊎ (status ≡ unwritten_status (fault_status problem)) → IsDurable status left.history left.marks
+  durable_refused problem refused is = λ ended.
+      ⊎_elim (λ done. absurd (not_done problem status is done)) (λ begun. absurd (omega (arith, begun.0, ap length refused.marks))) ended
+
+  durable_closed : (accepted : List ℕ) (samples last : ℕ) (live : Option ℕ) (problem : Option Fault) → IsClosed Says name now out left accepted samples last live problem
+      → (status ≡ fault_code problem) ⊎ (status ≡ unwritten_status (fault_code problem)) → IsDurable status left.history left.marks
+  durable_closed accepted samples last live problem closed is = λ ended. (
+    some_from left.marks closed.recorded.marks_rise.first,
+    ⊎_elim (λ done. (completes closed.script out.faults left status problem is done closed.comes).saved.all_durable)
+        (λ begun. saves closed.script out.faults left status problem is begun.1 closed.comes) ended,
+  )
+
+  pub recording_durable : (end : RecordEnd) → RecordComes Says Refuses name now out left end
+      → Prints (record_text end) (record_status end) sink sink' status → IsDurable status left.history left.marks
+  recording_durable (Refused problem) comes prints =
+      durable_refused problem comes (was_status (record_text (Refused problem)) (record_status (Refused problem)) sink sink' status prints)
+  recording_durable (Closed accepted samples last live problem) comes prints =
+      durable_closed accepted.items samples last live problem comes
+      (was_status (record_text (Closed accepted samples last live problem)) (fault_code problem) sink sink' status prints)

@@ -24,7 +24,7 @@ use Rattle.mdf_record.specs.Record.{Outcome}
 use Rattle.mdf_record.specs.Recorded.{EndsGenerated, EndsRecord}
 use Rattle.mdf_record.specs.Recovers.{AreRecovered}
 use Rattle.mdf_run.specs.Asked.{IsUnrecorded}
-use Rattle.mdf_run.specs.Kept.{Keeps}
+use Rattle.mdf_run.specs.Kept.{IsDurable, Keeps}
 use Rattle.mdf_run.specs.declared.asked.Asked.{Asked}
 use Rattle.mdf_run.specs.declared.asked.Asked.TheVariants.{Show, Make, Record}
 use Rattle.mdf_run.specs.declared.asked.View.{View}
@@ -82,6 +82,7 @@ pub record EndsRecording (origin : Origin) (name : List ℕ) (now : ℕ) (source
   pub ends : EndsOrigin origin name now source source' out left sink sink' status
   pub keeps : OfOrigin origin source.left (λ script. Keeps out.moment now script left.disk left.history left.marks sink sink' status)
   pub recovered : AreRecovered out.moment left
+  pub durable : IsDurable status left.history left.marks
   pub caused : IsCaused (Rose source.faults source'.faults) (Rose out.faults left.disk.faults) (Rose sink.faults sink'.faults) status
 
 -- What a run was given and what it left, as each part tells it before and after.

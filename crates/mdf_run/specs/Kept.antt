@@ -1,10 +1,11 @@
 -- What `run` keeps of a recording, whatever happens.
-use Rattle.std.specs.Prelude.{ℕ, ◌≡◌, ◌≢◌, ◌⊎◌, ◌<◌, List, [], length, Option, Some, Ok, is_some, ◌++◌, None}
+use Rattle.std.specs.Prelude.{ℕ, ◌≡◌, ◌≢◌, ◌⊎◌, ◌<◌, ◌≤◌, List, [], length, drop, Option, Some, Ok, is_some, ◌++◌, None}
 use Rattle.std.specs.Io.KnownBytes.{Appends}
 use mathlib.Core.List.{IsPrefix}
 use Rattle.mdf_disk.specs.State.{DiskState}
 use Rattle.mdf_port.specs.State.{SinkState}
 use Rattle.mdf_layout.specs.History.{source_samples}
+use Rattle.mdf_layout.specs.Record.{history_size}
 use Rattle.mdf_layout.specs.declared.sample.Sample.{Sample}
 use Rattle.book_owned.specs.Kept.{MarksHold, StartHolds}
 use Rattle.book_owned.specs.Marks.{AreRising, durable}
@@ -55,6 +56,11 @@ IsDoneOrLacked status = (status ≡ 0) ⊎ ((status ≡ 4) ⊎ ((status ≡ 6) �
 abbrev pub HasSaved : ℕ → List Mark → Type 0
 HasSaved status marks = (0 < length marks) × (status ≢ 4)
 
+-- A recording that did what it was asked for, or that was begun and in which no disk failed, has marks, and all that was
+-- accepted is durable.
+abbrev pub IsDurable : ℕ → List Sample → List Mark → Type 0
+IsDurable status history marks = IsDone status ⊎ HasSaved status marks → (0 < length marks) × (durable marks ≡ length history)
+
 -- the file is a finalized one that is read
 pub record IsMeasured (file : List ℕ) : Type 0 where
   pub found : Measured
@@ -91,7 +97,6 @@ pub record Keeps (start now : ℕ) (script : Script) (disk : DiskState) (history
   pub own_prefix : OfSources script (λ source tasks. IsPrefix (source_samples script.plan.owners history source) (samples_of tasks))
   pub flush_lines : OfSources script (λ source tasks. AreOwnMarked script.plan.owners source history marks
       (λ n. n < length (source_samples script.plan.owners history source)) [] tasks)
+  pub pending : history_size script.plan.shapes (drop (durable marks) history) ≤ script.plan.block
   pub complete : IsDone status → IsComplete script (record { disk = disk; history = history; marks = marks })
-  pub some_marks : IsDone status → 0 < length marks
-  pub saved : HasSaved status marks → durable marks ≡ length history
   pub reported : status ≡ 0 → IsReported script disk history marks old new

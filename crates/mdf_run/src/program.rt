@@ -1,10 +1,10 @@
-ghost use Rattle.std.specs.Prelude.{◌≡◌, ◌↔◌, ◌⊎◌, ◌<◌, ◌≤◌, List, ℕ, ℤ, [], length, None, is_some, IfSome};
+ghost use Rattle.std.specs.Prelude.{◌≡◌, ◌↔◌, ◌⊎◌, ◌<◌, ◌≤◌, List, ℕ, ℤ, [], length, drop, None, is_some, IfSome};
 ghost use mathlib.Core.List.{IsPrefix};
 ghost use Rattle.mdf_format.specs.Cause.{Rose};
 ghost use Rattle.mdf_port.specs.State.{sink_state, source_state};
 ghost use Rattle.mdf_disk.specs.State.{state_of};
 ghost use Rattle.book_owned.specs.Kept.{MarksHold, StartHolds};
-ghost use Rattle.book_owned.specs.Marks.{AreRising, last_mark};
+ghost use Rattle.book_owned.specs.Marks.{AreRising, durable, last_mark};
 ghost use Rattle.acq_script.specs.Tasks.{samples_of};
 ghost use Rattle.mdf_command.specs.Words.{AsksCheck, AsksConcat, AsksCut, AsksExport, AsksFinalize, AsksGenerated, AsksInfo, AsksOpened, AsksRecord, AsksSort, AsksInput, AsksOutput, AsksSecond, AsksToMake, IsUsage};
 ghost use Rattle.mdf_command.specs.Texts.{Prints, usage_line};
@@ -23,6 +23,7 @@ ghost use Rattle.mdf_inspect.specs.Info.{EndsInfo};
 ghost use Rattle.mdf_inspect.specs.Export.{EndsExport};
 ghost use Rattle.mdf_record.specs.Sources.{AreOwnMarked};
 ghost use Rattle.mdf_layout.specs.History.{source_samples};
+ghost use Rattle.mdf_layout.specs.Record.{history_size};
 ghost use Rattle.mdf_record.specs.Head.{script_head};
 ghost use Rattle.mdf_record.specs.Record.{IsComplete, OfSources, outcome};
 ghost use Rattle.mdf_record.specs.Recorded.{EndsGenerated, EndsRecord};
@@ -108,7 +109,7 @@ where
         (sink_state K.Sink sink.old) (sink_state K.Sink sink.new) result.status }
 
     // What a recording keeps, whatever happens: of each crash, of the marks, of the samples of each source and of its
-    // flushes; and what it has done where the status is 0, or 6.
+    // flushes, and that what is not durable fits into one block; and what it has done where the status is 0, or 6.
     ensures marks_hold { OfRecording words.now (S.left source.old) (λ script. MarksHold script.plan.shapes (script_head now_ns script)
         (C.story result.out) (C.moment result.out) result.history.items result.marks.items) }
     ensures start_holds { OfRecording words.now (S.left source.old) (λ script. StartHolds script.plan.shapes (script_head now_ns script)
@@ -120,6 +121,8 @@ where
     ensures flush_lines { OfRecording words.now (S.left source.old) (λ script. OfSources script (λ number tasks.
         AreOwnMarked script.plan.owners number result.history.items result.marks.items
         (λ n. n < length (source_samples script.plan.owners result.history.items number)) [] tasks)) }
+    ensures pending { OfRecording words.now (S.left source.old) (λ script.
+        history_size script.plan.shapes (drop (durable result.marks.items) result.history.items) ≤ script.plan.block) }
     ensures complete { OfRecording words.now (S.left source.old) (λ script. IsDone result.status
         → IsComplete script (outcome C.Disk result.out result.history.items result.marks.items)) }
 
@@ -136,7 +139,7 @@ where
         (MarksRecover (C.story result.out) (C.moment result.out) result.history.items result.marks.items) }
     ensures start_recovers { IfRecorded words.now
         (StartRecovers (C.story result.out) (C.moment out) result.history.items) }
-    ensures all_recovered { OfRecording words.now (S.left source.old) (λ _. IsDone result.status ⊎ HasSaved result.status result.marks.items
+    ensures all_recovered { IfRecorded words.now (IsDone result.status ⊎ HasSaved result.status result.marks.items
         → HoldsSince (C.story result.out) (last_mark result.marks.items).moment (λ file. IsRecovered file result.history.items)) }
 
     // Each file that a recording leaves but those that are no MDF, and each other that is read as a recording and is not too

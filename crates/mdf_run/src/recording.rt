@@ -11,7 +11,7 @@ ghost use Rattle.mdf_record.specs.Recorded.{EndsGenerated, EndsRecord};
 ghost use Rattle.mdf_record.specs.Recovers.{AreRecovered};
 ghost use Rattle.mdf_run.specs.Asked.{HasCount, IsOnlyMade, TakesNone};
 ghost use Rattle.mdf_run.specs.Ends.{EndsRecording};
-ghost use Rattle.mdf_run.specs.Kept.{Keeps};
+ghost use Rattle.mdf_run.specs.Kept.{IsDurable, Keeps};
 
 use crate::asked::Origin;
 use crate::finished::{Finished, with_recording};
@@ -49,6 +49,7 @@ where
         → Keeps (C.moment out) now_ns script (state_of C.Disk result.out) result.history.items result.marks.items
         (sink_state K.Sink sink.old) (sink_state K.Sink sink.new) result.status }
     ensures recovered { AreRecovered (C.moment out) (outcome C.Disk result.out result.history.items result.marks.items) }
+    ensures durable { IsDurable result.status result.history.items result.marks.items }
     ensures untouched { C.asked result.out ≡ None → result.out ≡ out }
     ensures first { result.first ≡ first }
     ensures usage { result.status ≢ 1 }
@@ -85,6 +86,7 @@ where
     ensures keeps { Keeps (C.moment out) now_ns (generated_script samples) (state_of C.Disk result.out) result.history.items result.marks.items
         (sink_state K.Sink sink.old) (sink_state K.Sink sink.new) result.status }
     ensures recovered { AreRecovered (C.moment out) (outcome C.Disk result.out result.history.items result.marks.items) }
+    ensures durable { IsDurable result.status result.history.items result.marks.items }
     ensures untouched { C.asked result.out ≡ None → result.out ≡ out }
     ensures first { result.first ≡ first }
     ensures usage { result.status ≢ 1 }

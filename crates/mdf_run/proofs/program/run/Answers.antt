@@ -1,5 +1,5 @@
 use Rattle.mdf_command.specs.Words.{opened, recorded, finalized, checked, described, sorted, cut, exported, joined, generated}
-use Rattle.mdf_run.proofs.Recovered.{all_is_recovered, has_saved}
+use Rattle.mdf_run.proofs.Recovered.{all_is_recovered}
 use Rattle.mdf_run.proofs.Ended.{as_input, as_output, as_second, concats, cuts, disk_failed, ends_as, exports, finalizes, if_recovered, of_kept, out_alone, second_alone, sink_failed, sorts, source_failed, takes_nothing, unrecorded, usage_is, usage_printed}
 use Rattle.mdf_run.proofs.program.run.Goals as goal
 
@@ -54,6 +54,9 @@ returns-clause-own_prefix g c = of_kept c.args.words.now _ _ c.answer.ensures.en
 pub returns-clause-flush_lines : goal.returns-clause-flush_lines
 returns-clause-flush_lines g c = of_kept c.args.words.now _ _ c.answer.ensures.ended c.asked_of-asked.ensures.asked _ (λ script keeps recovered. keeps.flush_lines)
 
+pub returns-clause-pending : goal.returns-clause-pending
+returns-clause-pending g c = of_kept c.args.words.now _ _ c.answer.ensures.ended c.asked_of-asked.ensures.asked _ (λ script keeps recovered. keeps.pending)
+
 pub returns-clause-complete : goal.returns-clause-complete
 returns-clause-complete g c = of_kept c.args.words.now _ _ c.answer.ensures.ended c.asked_of-asked.ensures.asked _ (λ script keeps recovered. keeps.complete)
 
@@ -61,14 +64,14 @@ pub returns-clause-live : goal.returns-clause-live
 returns-clause-live g c = of_kept c.args.words.now _ _ c.answer.ensures.ended c.asked_of-asked.ensures.asked _ (λ script keeps recovered. keeps.reported)
 
 pub returns-clause-marks_recover : goal.returns-clause-marks_recover
-returns-clause-marks_recover g c = if_recovered c.args.words.now _ _ c.answer.ensures.ended c.asked_of-asked.ensures.asked _ (λ recovered. recovered.marks_recover)
+returns-clause-marks_recover g c = if_recovered c.args.words.now _ _ c.answer.ensures.ended c.asked_of-asked.ensures.asked _ (λ recovered durable. recovered.marks_recover)
 
 pub returns-clause-start_recovers : goal.returns-clause-start_recovers
-returns-clause-start_recovers g c = if_recovered c.args.words.now _ _ c.answer.ensures.ended c.asked_of-asked.ensures.asked _ (λ recovered. recovered.start_recovers)
+returns-clause-start_recovers g c = if_recovered c.args.words.now _ _ c.answer.ensures.ended c.asked_of-asked.ensures.asked _ (λ recovered durable. recovered.start_recovers)
 
 pub returns-clause-all_recovered : goal.returns-clause-all_recovered
-returns-clause-all_recovered g c = of_kept c.args.words.now _ _ c.answer.ensures.ended c.asked_of-asked.ensures.asked _ (λ script keeps recovered ends.
-    all_is_recovered _ _ _ _ recovered.marks_recover (has_saved _ _ _ _ _ _ _ _ _ keeps ends))
+returns-clause-all_recovered g c = if_recovered c.args.words.now _ _ c.answer.ensures.ended c.asked_of-asked.ensures.asked _ (λ recovered durable ends.
+    all_is_recovered _ _ _ _ recovered.marks_recover (durable ends))
 
 pub returns-clause-finalizes : goal.returns-clause-finalizes
 returns-clause-finalizes g c = finalizes c.args.words.now _ _ c.answer.ensures.ended c.asked_of-asked.ensures.asked

@@ -7,5 +7,6 @@ returns-in-Source-clause-ends g c =
       ends = r.ends;
       keeps = r.keeps;
       recovered = r.recovered;
+      durable = r.durable;
       caused = record { usage = r.usage; source = r.source_fault; device = r.device_fault; sink = r.sink_fault };
     })

@@ -3,7 +3,7 @@ use Rattle.mdf_port.specs.State.{sink_state}
 use Rattle.mdf_disk.specs.State.{state_of}
 use Rattle.acq_script.specs.Generated.{generated_script}
 use Rattle.mdf_command.specs.declared.fault.Fault.TheVariants.{Memory}
-use Rattle.mdf_run.proofs.Keeps.{recording_keeps}
+use Rattle.mdf_run.proofs.Keeps.{recording_durable, recording_keeps}
 use Rattle.mdf_run.proofs.recording.record_generated.Goals as goal
 
 pub returns-clause-ends : goal.returns-clause-ends
@@ -20,3 +20,11 @@ returns-clause-keeps g c =
     rw (w.status, w.out, w.history, w.marks) (recording_keeps (λ script. script ≡ generated_script n) (λ fault. fault ≡ Memory) _ c.args.now_ns (state_of g.C.Disk c.args.out)
     (state_of g.C.Disk r.result.1.out) _ _ (sink_state g.K.Sink c.args.sink.now) (sink_state g.K.Sink r.new.sink) r.result.0 (generated_script n) (λ other says. says)
     r.result.1.end r.ensures.comes r.ensures.printed)
+
+pub returns-clause-durable : goal.returns-clause-durable
+returns-clause-durable g c =
+    let w = c.with_recording.ensures in
+    let r = c.run_generated-status in
+    let n = c.args.samples in
+    rw (w.status, w.history, w.marks) (recording_durable (λ script. script ≡ generated_script n) (λ fault. fault ≡ Memory) _ c.args.now_ns (state_of g.C.Disk c.args.out)
+    _ (sink_state g.K.Sink c.args.sink.now) (sink_state g.K.Sink r.new.sink) r.result.0 r.result.1.end r.ensures.comes r.ensures.printed)
