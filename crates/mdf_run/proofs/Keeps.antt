@@ -132,6 +132,7 @@ module _ (Says : Script → Type 0) (Refuses : Fault → Type 0) (name : List �
     marks_rise = inl refl;
     own_prefix = λ source tasks there. (samples_of tasks, refl);
     flush_lines = λ source tasks there. none_own script.plan.owners source [] [] 0 [] tasks (omega arith);
+    causes = inl refl;
     pending = omega arith;
     complete = λ done. absurd (not_done problem status is done);
     reported = λ ok. absurd (not_done problem status is (inl ok));
@@ -156,6 +157,7 @@ module _ (Says : Script → Type 0) (Refuses : Fault → Type 0) (name : List �
         marks_rise = inr recorded.marks_rise;
         own_prefix = recorded.own_prefix;
         flush_lines = recorded.flush_lines;
+        causes = inr recorded.causes;
         pending = recorded.pending;
         complete = λ done. completes script out.faults left status problem is done comes;
         reported = λ ok. reports script left sink sink' status ok accepted samples last live problem is accepted_is closed.samples_is closed.durable_is

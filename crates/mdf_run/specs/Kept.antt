@@ -18,6 +18,7 @@ use Rattle.mdf_command.specs.Words.{AsksConcat, AsksGenerated, AsksRecord}
 use Rattle.mdf_model.specs.Measurement.{Measured, measurement}
 use Rattle.tool_concat.specs.Difference.{AreAlike}
 use Rattle.tool_concat.specs.Wide.{NoneWideTo}
+use Rattle.mdf_record.specs.Causes.{HaveCauses}
 use Rattle.mdf_record.specs.Head.{script_head}
 use Rattle.mdf_record.specs.Record.{AreAccepted, IsComplete, OfSources, live_of, live_text, summary_text}
 use Rattle.mdf_record.specs.Sources.{AreOwnMarked}
@@ -97,6 +98,7 @@ pub record Keeps (start now : ℕ) (script : Script) (disk : DiskState) (history
   pub own_prefix : OfSources script (λ source tasks. IsPrefix (source_samples script.plan.owners history source) (samples_of tasks))
   pub flush_lines : OfSources script (λ source tasks. AreOwnMarked script.plan.owners source history marks
       (λ n. n < length (source_samples script.plan.owners history source)) [] tasks)
+  pub causes : (marks ≡ []) ⊎ HaveCauses script history marks
   pub pending : history_size script.plan.shapes (drop (durable marks) history) ≤ script.plan.block
   pub complete : IsDone status → IsComplete script (record { disk = disk; history = history; marks = marks })
   pub reported : status ≡ 0 → IsReported script disk history marks old new

@@ -24,6 +24,7 @@ ghost use Rattle.mdf_inspect.specs.Export.{EndsExport};
 ghost use Rattle.mdf_record.specs.Sources.{AreOwnMarked};
 ghost use Rattle.mdf_layout.specs.History.{source_samples};
 ghost use Rattle.mdf_layout.specs.Record.{history_size};
+ghost use Rattle.mdf_record.specs.Causes.{HaveCauses};
 ghost use Rattle.mdf_record.specs.Head.{script_head};
 ghost use Rattle.mdf_record.specs.Record.{IsComplete, OfSources, outcome};
 ghost use Rattle.mdf_record.specs.Recorded.{EndsGenerated, EndsRecord};
@@ -123,6 +124,8 @@ where
         (λ n. n < length (source_samples script.plan.owners result.history.items number)) [] tasks)) }
     ensures pending { OfRecording words.now (S.left source.old) (λ script.
         history_size script.plan.shapes (drop (durable result.marks.items) result.history.items) ≤ script.plan.block) }
+    ensures marks_have_causes { OfRecording words.now (S.left source.old) (λ script.
+        (result.marks.items ≡ []) ⊎ HaveCauses script result.history.items result.marks.items) }
     ensures complete { OfRecording words.now (S.left source.old) (λ script. IsDone result.status
         → IsComplete script (outcome C.Disk result.out result.history.items result.marks.items)) }
 

@@ -57,6 +57,9 @@ returns-clause-flush_lines g c = of_kept c.args.words.now _ _ c.answer.ensures.e
 pub returns-clause-pending : goal.returns-clause-pending
 returns-clause-pending g c = of_kept c.args.words.now _ _ c.answer.ensures.ended c.asked_of-asked.ensures.asked _ (λ script keeps recovered. keeps.pending)
 
+pub returns-clause-marks_have_causes : goal.returns-clause-marks_have_causes
+returns-clause-marks_have_causes g c = of_kept c.args.words.now _ _ c.answer.ensures.ended c.asked_of-asked.ensures.asked _ (λ script keeps recovered. keeps.causes)
+
 pub returns-clause-complete : goal.returns-clause-complete
 returns-clause-complete g c = of_kept c.args.words.now _ _ c.answer.ensures.ended c.asked_of-asked.ensures.asked _ (λ script keeps recovered. keeps.complete)
 
