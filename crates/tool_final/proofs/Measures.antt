@@ -16,6 +16,7 @@ use Rattle.mdf_head.specs.declared.entry.History.{History}
 use Rattle.mdf_group.specs.declared.row.GroupRow.{GroupRow}
 use Rattle.mdf_group.specs.declared.row.DataRow.{DataRow}
 use Rattle.mdf_group.specs.Standing.{AreDistinct}
+use Rattle.mdf_group.proofs.Nested.{without_limit}
 use Rattle.mdf_content.specs.declared.contents.Contents.{Contents}
 use Rattle.mdf_content.specs.Records.{known_of}
 use Rattle.mdf_model.specs.declared.part.Measure.{Measure}
@@ -150,7 +151,7 @@ module _ (f file : List ℕ) (recovered : Recovered) (now : ℕ) (records : List
     ident = ident;
     stands = tree.head;
     rows = after ∷ [];
-    tree = tree.groups;
+    tree = without_limit file _ (after ∷ []) tree.groups;
     contents = groups ∷ [];
     hold = (data_holds, tt);
     groups_are = sym (append-nil measures);

@@ -13,7 +13,7 @@ use Rattle.mdf_content.specs.declared.contents.Contents.{Contents}
 use Rattle.mdf_session.specs.Session.{SessionParts}
 use Rattle.mdf_model.proofs.Cases.{some_injective}
 use Rattle.mdf_carried.specs.Recovered.{Recovery, IsRecovery, IsSessionOf}
-use Rattle.mdf_carried.proofs.Founds.{session_found}
+use Rattle.mdf_carried.proofs.Founds.{session_rows, session_found}
 use Rattle.mdf_carried.proofs.Grouped.{groups_have_samples}
 use Rattle.mdf_carried.proofs.Onces.{recoveries_agree}
 use Rattle.mdf_carried.proofs.Samplings.{has_samples}
@@ -44,14 +44,15 @@ module _ (s : SessionParts) (recovered : Recovered) (now : ℕ) (bytes : List �
   }
 
   -- over the recovery of which the samples are
-  keeps_of : (file : List ℕ) → AreBytes file → (found : Recovery) → IsRecovery file found → IsSessionOf found s → KeepsRecovery found bytes now
-  keeps_of file whole found recovery of_file =
+  keeps_of : (file : List ℕ) → AreBytes file → (found : Recovery) → IsRecovery file found → AllByRecursion (IsDataGroup file) found.rows
+      → IsSessionOf found s → KeepsRecovery found bytes now
+  keeps_of file whole found recovery rows of_file =
       let made = made_from found recovery.first of_file in
       let head : IsHead file recovered.head.now recovered.history.now =
       subst (λ (h : Head). IsHead file h recovered.history.now) (sym made.head)
       (subst (λ (entries : List History). IsHead file found.head entries) (sym made.history) recovery.stands) in
       let row : IsDataGroup file recovered.row.now =
-      subst (IsDataGroup file) (sym made.row) (first_stands file found.rows found.row recovery.tree.each recovery.first) in
+      subst (IsDataGroup file) (sym made.row) (first_stands file found.rows found.row rows recovery.first) in
       let tree = stand file (record { bytes = whole; head = head; row = row }) in
       keeps_recovery file bytes found recovered now recovery made counted is tree
 
@@ -62,7 +63,8 @@ module _ (s : SessionParts) (recovered : Recovered) (now : ℕ) (bytes : List �
       let recovery = all.1.recovery in
       let of_file : IsSessionOf all.1.found s =
       subst (λ (one : Recovery). IsSessionOf one s) (sym (recoveries_agree file all.1.found found.0 recovery found.1)) found.2 in
-      let keeps = keeps_of file whole all.1.found recovery of_file in
+      let rows = subst (AllByRecursion (IsDataGroup file)) of_file.rows (session_rows file s read).each in
+      let keeps = keeps_of file whole all.1.found recovery rows of_file in
       record {
         samples = all.0;
         recovered = all.1;
