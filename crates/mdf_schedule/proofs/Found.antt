@@ -8,6 +8,7 @@ use Rattle.mdf_data.specs.Split.{IsRecordSplit}
 use Rattle.mdf_group.specs.declared.row.GroupRow.{GroupRow}
 use Rattle.mdf_group.specs.declared.row.DataRow.{DataRow}
 use Rattle.mdf_group.specs.Recordable.{AreRecordable}
+use Rattle.mdf_group.proofs.Nested.{without_limit}
 use Rattle.mdf_layout.specs.Layout.{Layout}
 use Rattle.mdf_layout.specs.Read.{Piece, IsPiece, AreRead}
 use Rattle.mdf_layout.specs.declared.sample.Sample.{Sample}
@@ -86,7 +87,7 @@ module _ (agree : RulesAgree) (start : ℕ) (rows : List GroupRow) (are : AreRec
         let split = records_split layouts row is pieces each in
         record {
           stands = tree.head;
-          tree = tree.groups;
+          tree = without_limit file _ (row ∷ []) tree.groups;
           first = refl;
           records = record {
             id_size = inl (inl refl);
