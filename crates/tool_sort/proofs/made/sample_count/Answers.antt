@@ -17,5 +17,5 @@ returns-in_default-clause-past c =
       arith,
       c.in_default.ensures,
       samples_more c.args.measurement.now.groups c.loop-i.i c.loop-i.count c.samples.result (c.loop-i.count + c.samples.result)
-      (omega (arith, c.loop-i-test.true, c.groups-groups.ensures)) c.samples.ensures refl c.loop-i.invariant,
+          (omega (arith, c.loop-i-test.true, c.groups-groups.ensures)) c.samples.ensures refl c.loop-i.invariant,
     )
