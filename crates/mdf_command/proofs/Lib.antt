@@ -1,4 +1,3 @@
 mod Numbers
 pub mod Pieces
-pub mod Told
 pub mod Bounds
