@@ -1,6 +1,6 @@
 -- What is left of the output of a tool.
 use Rattle.std.proofs.Common.{◌≡◌, ◌≤◌, ⊎_elim, inl, inr, ℕ, List, [], Option, Some, None, true, Result, Ok, Err, refl, sym, ◌∙◌, ap, subst, arith}
-use Rattle.std.specs.Prelude.{IfSome, ℤ}
+use Rattle.std.specs.Prelude.{ℤ}
 use Rattle.mdf_disk.specs.Crash.{Adds, HoldsSince}
 use Rattle.mdf_disk.specs.State.{DiskState}
 use Rattle.mdf_disk.specs.Story.{MayLeave, Story, Agrees, IsFresh, LeftSince}
@@ -17,7 +17,7 @@ use Rattle.mdf_run.specs.Finalize.{Finalizes, IsNoRecording}
 use Rattle.mdf_run.specs.Sort.{IsNotMeasured, Sorts}
 use Rattle.mdf_run.specs.Cut.{Cuts}
 use Rattle.mdf_run.specs.Tool.{IsImage, ToolEnds}
-use Rattle.tool_concat.specs.Concat.{ConcatEnds, Joining, IsConcatImage}
+use Rattle.tool_concat.specs.Concat.{ConcatEnds, Joining}
 use Rattle.tool_concat.specs.declared.fault.ConcatFault.{ConcatFault}
 use Rattle.tool_concat.specs.declared.fault.ConcatFault.TheVariants as concat
 use Rattle.mdf_run.specs.Concat.{AreNotJoined, Joins, fault_of_concat}
@@ -45,13 +45,13 @@ still : (P : List ℕ → Type 0) → P [] → (old new : Option Story) (content
 still P nothing old new content clock agrees fresh same =
     since_fresh P nothing old new content clock agrees fresh (subst (λ s. Adds old s P) (sym same) (adds_none old P))
 
--- it leaves nothing, and nothing is no MDF
+-- it leaves nothing, and nothing is under its seal
 pub still_nothing : (old new : Option Story) (content : Option (List ℕ)) (clock : ℕ) → Agrees old content clock → IsFresh old → new ≡ old
     → HoldsSince new clock (λ image. image ≡ [])
 still_nothing = still (λ image. image ≡ []) refl
 
 nothing_left : (Makes : List ℕ → Report → Type 0) → IsImage Makes []
-nothing_left Makes = inl (λ mdf. absurd (omega (arith, mdf.long)))
+nothing_left Makes = inl (record { no_mdf = λ mdf. absurd (omega (arith, mdf.long)); shut = inl (omega arith) })
 
 pub still_no_mdf : (Makes : List ℕ → Report → Type 0) (old new : Option Story) (content : Option (List ℕ)) (clock : ℕ) → Agrees old content clock → IsFresh old
     → new ≡ old → HoldsSince new clock (IsImage Makes)
@@ -62,12 +62,15 @@ module _ (Makes : List ℕ → Report → Type 0) (Refuses : Fault → Type 0) (
   nothing : out' ≡ mid → MakesNothing out out'
   nothing is = still_nothing out.story out'.story out.content out.moment agrees fresh (ap (λ (d : DiskState). d.story) is ∙ same)
 
+  still_attached : mid.attached ≡ true → out' ≡ mid → out'.attached ≡ true
+  still_attached attached is = ap (λ (d : DiskState). d.attached) is ∙ attached
+
   -- why no file was made on the disk that was attached
   make_fault : mid.attached ≡ true → (problem : Fault) → ToolEnds Makes Refuses mid out' (Err problem) → MakeComes Makes Refuses out out' (Err problem)
   make_fault attached fault.Device ends = omega (arith, later, ends)
-  make_fault attached fault.Memory ends = (nothing ends, inr (ap (λ (d : DiskState). d.attached) ends ∙ attached))
+  make_fault attached fault.Memory ends = (nothing ends, inr (still_attached attached ends))
   make_fault attached (fault.InputOver size limit) ends = absurd ends
-  make_fault attached problem ends = (ends.0, nothing ends.1)
+  make_fault attached problem ends = (ends.0, nothing ends.1, still_attached attached ends.1)
 
   pub make_ends : mid.attached ≡ true → (end : Result Report Fault) → ToolEnds Makes Refuses mid out' end → MakeComes Makes Refuses out out' end
   make_ends attached (Ok report) ends = record { bytes = ends.0; is_of = ends.1; kept = ends.2 }
@@ -96,44 +99,28 @@ module _ {Input : Type 0} (inputs : Inputs Input) (Makes : Input → List ℕ �
     made_of fault.Device comes = inr comes
     made_of fault.Memory comes = (comes.0, inr ((input, loaded), comes.1))
     made_of (fault.InputOver size limit) comes = absurd comes
-    made_of problem comes = ((input, loaded, comes.0), comes.1)
+    made_of problem comes = ((input, loaded, comes.0), comes.1, comes.2)
 
     pub making_ends : (end : Result Report Fault) → MakeComes (Makes input) (Refuses input) out out' end → MakingComes inputs Makes Refuses out out' end
     making_ends (Ok report) made = (input, loaded, made)
     making_ends (Err problem) comes = made_of problem comes
 
--- what holds of each file holds of the one that is told
-pub of_any : (told : Option (List ℕ)) (P : List ℕ → Type 0) → ((file : List ℕ) → P file) → IfSome told P
-of_any None P holds = tt
-of_any (Some file) P holds = holds file
-
--- and what holds of each two of both that are
-pub any_pair : (told other : Option (List ℕ)) (P : List ℕ → List ℕ → Type 0) → ((one two : List ℕ) → P one two) → IfSome told (λ one. IfSome other (λ two. P one two))
-any_pair told other P holds = of_any told (λ one. IfSome other (λ two. P one two)) (λ one. of_any other (λ two. P one two) (λ two. holds one two))
-
--- an output that is as it was holds no MDF file of two inputs
-pub still_no_join : (told other : Option (List ℕ)) (now : ℕ) (story : Option Story) (content : Option (List ℕ)) (clock : ℕ) → Agrees story content clock → IsFresh story
-    → IfSome told (λ one. IfSome other (λ two. HoldsSince story clock (IsConcatImage (record { first = one; second = two; now = now }))))
-still_no_join told other now story content clock agrees fresh =
-    any_pair told other (λ one two. HoldsSince story clock (IsConcatImage (record { first = one; second = two; now = now })))
-    (λ one two. still_no_mdf (Joins (record { first = one; second = two; now = now })) story story content clock agrees fresh refl)
-
 -- the fault of a tool, as the program tells it
 pub finalize_fault : (file : List ℕ) (now : ℕ) (old new : DiskState) (problem : ToolFault) → FinalizeEnds file now old new (Err problem)
     → ToolEnds (Finalizes now file) (IsNoRecording file) old new (Err (fault_of_tool problem))
-finalize_fault file now old new (tool.Read refused) ends = (ends.1, ends.2)
+finalize_fault file now old new (tool.Read refused) ends = ((ends.0, ends.1), ends.2)
 finalize_fault file now old new tool.Failed ends = ends
 finalize_fault file now old new tool.Memory ends = ends
 
 pub sort_fault : (file : List ℕ) (now : ℕ) (old new : DiskState) (problem : ToolFault) → SortEnds file now old new (Err problem)
     → ToolEnds (Sorts now file) (IsNotMeasured file) old new (Err (fault_of_tool problem))
-sort_fault file now old new (tool.Read refused) ends = (ends.1, ends.2)
+sort_fault file now old new (tool.Read refused) ends = ((ends.0, ends.1), ends.2)
 sort_fault file now old new tool.Failed ends = ends
 sort_fault file now old new tool.Memory ends = ends
 
 pub cut_fault : (file : List ℕ) (asked : Cutting) (old new : DiskState) (problem : ToolFault) → CutEnds file asked old new (Err problem)
     → ToolEnds (Cuts asked file) (IsNotMeasured file) old new (Err (fault_of_tool problem))
-cut_fault file asked old new (tool.Read refused) ends = (ends.1, ends.2)
+cut_fault file asked old new (tool.Read refused) ends = ((ends.0, ends.1), ends.2)
 cut_fault file asked old new tool.Failed ends = ends
 cut_fault file asked old new tool.Memory ends = ends
 

@@ -1,10 +1,6 @@
 -- The words ask for one request at most, and it ends as what is asked for it.
 use Rattle.std.proofs.Common.{◌≡◌, ◌⊎◌, ◌+◌, ◌∙◌, inl, inr, ℕ, List, ◌∷◌, length, Option, Some, None, refl, sym, ap, arith}
-use Rattle.std.specs.Prelude.{IfSome}
-use Rattle.mdf_disk.specs.Crash.{HoldsSince}
 use Rattle.mdf_disk.specs.declared.role.Role.{Role}
-use Rattle.tool_final.specs.Finalize.{IsFinalizeImage}
-use Rattle.tool_sort.specs.Sort.{IsSortImage}
 use Rattle.tool_cut.specs.Cut.{IsCutImage}
 use Rattle.tool_concat.specs.Concat.{IsConcatImage}
 use Rattle.mdf_inspect.specs.Opened.{EndsOpened}
@@ -12,17 +8,19 @@ use Rattle.mdf_inspect.specs.Check.{EndsCheck}
 use Rattle.mdf_inspect.specs.Info.{EndsInfo}
 use Rattle.mdf_inspect.specs.Export.{EndsExport}
 use Rattle.mdf_inspect.specs.declared.answer.Question.TheVariants.{Verdict, Contents}
+use Rattle.mdf_run.specs.Making.{LeavesOf}
 use Rattle.mdf_run.specs.Finalize.{EndsFinalize}
 use Rattle.mdf_run.specs.Sort.{EndsSort}
 use Rattle.mdf_run.specs.Cut.{EndsCut}
-use Rattle.mdf_run.specs.Concat.{EndsConcat}
+use Rattle.mdf_run.specs.Concat.{AreBothLoaded, EndsConcat}
 use Rattle.mdf_record.specs.Recorded.{EndsGenerated, EndsRecord}
+use Rattle.mdf_command.specs.Load.{IsLoaded}
 use Rattle.mdf_command.specs.Words.{Asks, Request, arguments_of, input_of, name_of, name_text, output_of, second_of}
 use Rattle.mdf_command.specs.Words as words
 use Rattle.mdf_run.proofs.Scripts.{one_number}
 use Rattle.mdf_run.proofs.Words.{same_group, same_range}
 use Rattle.mdf_run.specs.Asked.{AsksOnly, input_asked, output_asked, request_for, second_asked}
-use Rattle.mdf_run.specs.Ends.{Ends, Told}
+use Rattle.mdf_run.specs.Ends.{Ends, Leaves, Told}
 use Rattle.mdf_run.specs.declared.asked.Asked.{Asked}
 use Rattle.mdf_run.specs.declared.asked.Asked.TheVariants.{Show, Make, Record}
 use Rattle.mdf_run.specs.declared.asked.View.TheVariants.{Opened, Reading, Table}
@@ -61,20 +59,19 @@ EndsAs (words.opened input) t = EndsOpened t.first t.first' t.sink t.sink' t.sta
 EndsAs (words.recorded output) t = EndsRecord t.source t.source' output t.now t.out t.left t.sink t.sink' t.status
 EndsAs (words.finalized input output) t =
     EndsFinalize t.now t.first t.first' t.out t.left.disk t.sink t.sink' t.status
-    × IfSome t.first.content (λ file. HoldsSince t.left.disk.story t.out.moment (IsFinalizeImage file t.now))
+    × Leaves Finalize t.now t.first t.second t.out t.left.disk
 EndsAs (words.checked input) t = EndsCheck t.first t.first' t.sink t.sink' t.status
 EndsAs (words.described input) t = EndsInfo t.first t.first' t.sink t.sink' t.status
 EndsAs (words.sorted input output) t =
     EndsSort t.now t.first t.first' t.out t.left.disk t.sink t.sink' t.status
-    × IfSome t.first.content (λ file. HoldsSince t.left.disk.story t.out.moment (IsSortImage file t.now))
+    × Leaves Sort t.now t.first t.second t.out t.left.disk
 EndsAs (words.cut input output from to) t =
     EndsCut (record { from = from; to = to; now = t.now }) t.first t.first' t.out t.left.disk t.sink t.sink' t.status
-    × IfSome t.first.content (λ file. HoldsSince t.left.disk.story t.out.moment (IsCutImage file (record { from = from; to = to; now = t.now })))
+    × LeavesOf (IsLoaded t.first) (λ file. IsCutImage file (record { from = from; to = to; now = t.now })) t.out t.left.disk
 EndsAs (words.exported input group) t = EndsExport group t.first t.first' t.sink t.sink' t.status
 EndsAs (words.joined input second output) t =
     EndsConcat t.now t.first t.first' t.second t.second' t.out t.left.disk t.sink t.sink' t.status
-    × IfSome t.first.content (λ one. IfSome t.second.content (λ two.
-    HoldsSince t.left.disk.story t.out.moment (IsConcatImage (record { first = one; second = two; now = t.now }))))
+    × LeavesOf (AreBothLoaded t.now t.first t.second) IsConcatImage t.out t.left.disk
 EndsAs (words.generated samples output) t = EndsGenerated samples output t.now t.out t.left t.sink t.sink' t.status
 
 pub as_request : (asked : Asked) (t : Told) → Ends (Some asked) t → EndsAs (request_for asked) t

@@ -1,9 +1,8 @@
 -- How a run ends, by the kind of what the words ask for.
-use Rattle.std.specs.Prelude.{ℕ, ◌≡◌, ◌≢◌, List, [], Option, Some, None, Ok, IfSome}
+use Rattle.std.specs.Prelude.{ℕ, ◌≡◌, ◌≢◌, List, [], Option, Some, None, Ok}
 use Rattle.mdf_format.specs.Cause.{Rose}
 use Rattle.mdf_port.specs.State.{SinkState, SourceState}
 use Rattle.mdf_disk.specs.State.{DiskState}
-use Rattle.mdf_disk.specs.Crash.{HoldsSince}
 use Rattle.acq_script.specs.Script.{script_of}
 use Rattle.acq_script.specs.declared.script.Script.{Script}
 use Rattle.acq_script.specs.Generated.{generated_script}
@@ -11,15 +10,17 @@ use Rattle.tool_final.specs.Finalize.{IsFinalizeImage}
 use Rattle.tool_sort.specs.Sort.{IsSortImage}
 use Rattle.tool_cut.specs.Cut.{IsCutImage}
 use Rattle.tool_concat.specs.Concat.{IsConcatImage}
+use Rattle.mdf_command.specs.Load.{IsLoaded}
 use Rattle.mdf_command.specs.Texts.{Prints, usage_line}
 use Rattle.mdf_inspect.specs.Opened.{EndsOpened}
 use Rattle.mdf_inspect.specs.Reading.{EndsReading}
 use Rattle.mdf_inspect.specs.Question.{text_for}
 use Rattle.mdf_inspect.specs.Export.{EndsExport}
+use Rattle.mdf_run.specs.Making.{LeavesOf}
 use Rattle.mdf_run.specs.Finalize.{EndsFinalize}
 use Rattle.mdf_run.specs.Sort.{EndsSort}
 use Rattle.mdf_run.specs.Cut.{EndsCut}
-use Rattle.mdf_run.specs.Concat.{EndsConcat}
+use Rattle.mdf_run.specs.Concat.{AreBothLoaded, EndsConcat}
 use Rattle.mdf_record.specs.Record.{Outcome}
 use Rattle.mdf_record.specs.Recorded.{EndsGenerated, EndsRecord}
 use Rattle.mdf_record.specs.Recovers.{AreRecovered}
@@ -52,13 +53,11 @@ EndsMake (Concat other) now first first' second second' out out' sink sink' stat
 
 -- what may be left of the output at any moment
 abbrev pub Leaves : Tool → ℕ → DiskState → DiskState → DiskState → DiskState → Type 0
-Leaves Finalize now first second out out' = IfSome first.content (λ file. HoldsSince out'.story out.moment (IsFinalizeImage file now))
-Leaves Sort now first second out out' = IfSome first.content (λ file. HoldsSince out'.story out.moment (IsSortImage file now))
+Leaves Finalize now first second out out' = LeavesOf (IsLoaded first) (λ file. IsFinalizeImage file now) out out'
+Leaves Sort now first second out out' = LeavesOf (IsLoaded first) (λ file. IsSortImage file now) out out'
 Leaves (Cut from to) now first second out out' =
-    IfSome first.content (λ file. HoldsSince out'.story out.moment (IsCutImage file (record { from = from; to = to; now = now })))
-Leaves (Concat other) now first second out out' =
-    IfSome first.content (λ one. IfSome second.content (λ two.
-    HoldsSince out'.story out.moment (IsConcatImage (record { first = one; second = two; now = now }))))
+    LeavesOf (IsLoaded first) (λ file. IsCutImage file (record { from = from; to = to; now = now })) out out'
+Leaves (Concat other) now first second out out' = LeavesOf (AreBothLoaded now first second) IsConcatImage out out'
 
 -- A script is recorded, by what the source, the disk of the output and the sink tell before, and what is left.
 abbrev pub EndsOrigin : Origin → List ℕ → ℕ → SourceState → SourceState → DiskState → Outcome → SinkState → SinkState → ℕ → Type 0

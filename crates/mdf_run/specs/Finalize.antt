@@ -1,5 +1,5 @@
 -- The command `finalize IN OUT`.
-use Rattle.std.specs.Prelude.{ℕ, List}
+use Rattle.std.specs.Prelude.{ℕ, List, IsSome}
 use Rattle.mdf_block.specs.Refusal.{Fails}
 use Rattle.mdf_content.specs.Fault.{read_refusal}
 use Rattle.mdf_disk.specs.State.{DiskState}
@@ -17,7 +17,7 @@ Finalizes now file bytes report = IsFinalizedOf file now bytes report
 
 -- it refuses a file for the first fault of its session
 abbrev pub IsNoRecording : List ℕ → Fault → Type 0
-IsNoRecording file (fault.Read refused) = Fails (read_refusal refused) (session file)
+IsNoRecording file (fault.Read refused) = IsSome (read_refusal refused) × Fails (read_refusal refused) (session file)
 IsNoRecording file _ = ⊥
 
 -- How the command ends, by what the disks of the input and of the output and the sink tell before and after.

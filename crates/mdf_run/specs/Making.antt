@@ -21,6 +21,11 @@ report_line report = line (codes "groups " ∷ decimal report.groups ∷ codes "
 abbrev pub MakesNothing : DiskState → DiskState → Type 0
 MakesNothing out out' = HoldsSince out'.story out.moment (λ image. image ≡ [])
 
+-- of inputs that were loaded a crash leaves only such images; or nothing
+abbrev pub LeavesOf : {Input : Type 0} → (Input → Type 0) → (Input → List ℕ → Type 0) → DiskState → DiskState → Type 0
+LeavesOf {Input = Input} AreLoaded IsImage out out' =
+    MakesNothing out out' ⊎ ((input : Input) × AreLoaded input × HoldsSince out'.story out.moment (IsImage input))
+
 -- what a tool makes is kept whole on the disk of the output
 pub record IsMade (Makes : List ℕ → Report → Type 0) (out' : DiskState) (report : Report) : Type 0 where
   pub bytes : List ℕ
@@ -31,13 +36,14 @@ pub record IsMade (Makes : List ℕ → Report → Type 0) (out' : DiskState) (r
 abbrev pub MakesAtMostEmpty : DiskState → DiskState → Type 0
 MakesAtMostEmpty out out' = (out' ≡ out) ⊎ (out'.attached ≡ true)
 
--- it was made, or not, only where this holds of the disk of the output before and after
+-- It was made, or not, only where this holds of the disk of the output before and after. The output is made before the tool
+-- looks at its input; so a refusal of the input stands for no name that is taken.
 abbrev pub MakeComes : (List ℕ → Report → Type 0) → (Fault → Type 0) → DiskState → DiskState → Result Report Fault → Type 0
 MakeComes Makes Refuses out out' (Ok report) = IsMade Makes out' report
 MakeComes Makes Refuses out out' (Err fault.Device) = Rose out.faults out'.faults
 MakeComes Makes Refuses out out' (Err fault.Memory) = MakesNothing out out' × MakesAtMostEmpty out out'
 MakeComes Makes Refuses out out' (Err (fault.InputOver size limit)) = ⊥
-MakeComes Makes Refuses out out' (Err problem) = Refuses problem × MakesNothing out out'
+MakeComes Makes Refuses out out' (Err problem) = Refuses problem × MakesNothing out out' × (out'.attached ≡ true)
 
 -- What the disks of the inputs tell before and after: what was loaded of them, that one of them failed, that the file of one
 -- has more bytes than an input may have, and what is known where memory was wanted before all was loaded.
@@ -54,14 +60,15 @@ one_input old new = record { AreLoaded = IsLoaded old; Failed = Rose old.faults 
 -- The command ends so only where this holds of the disks of the inputs and of the output before and after: what the tool
 -- makes of the input is kept whole; or a disk failed; or a crash leaves nothing of the output, since an input is too long
 -- or refused, or memory was wanted. Where an input could not be read whole, the disk of the output was asked for nothing,
--- and want of memory does not stand for a fault of that disk.
+-- and want of memory does not stand for a fault of that disk. Where one is refused, the empty output was made before.
 abbrev pub MakingComes : {Input : Type 0} → Inputs Input → (Input → List ℕ → Report → Type 0) → (Input → Fault → Type 0) → DiskState → DiskState → Result Report Fault → Type 0
 MakingComes {Input = Input} inputs Makes Refuses out out' (Ok report) = (input : Input) × inputs.AreLoaded input × IsMade (Makes input) out' report
 MakingComes inputs Makes Refuses out out' (Err fault.Device) = (inputs.Failed × (out' ≡ out)) ⊎ Rose out.faults out'.faults
 MakingComes inputs Makes Refuses out out' (Err (fault.InputOver size limit)) = inputs.IsOver size limit × MakesNothing out out' × (out' ≡ out)
 MakingComes {Input = Input} inputs Makes Refuses out out' (Err fault.Memory) =
     MakesNothing out out' × ((inputs.Wanted × (out' ≡ out)) ⊎ (((input : Input) × inputs.AreLoaded input) × MakesAtMostEmpty out out'))
-MakingComes {Input = Input} inputs Makes Refuses out out' (Err problem) = ((input : Input) × inputs.AreLoaded input × Refuses input problem) × MakesNothing out out'
+MakingComes {Input = Input} inputs Makes Refuses out out' (Err problem) =
+    ((input : Input) × inputs.AreLoaded input × Refuses input problem) × MakesNothing out out' × (out'.attached ≡ true)
 
 abbrev pub making_text : Result Report Fault → List ℕ
 making_text (Ok report) = report_line report

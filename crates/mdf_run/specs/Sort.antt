@@ -1,5 +1,5 @@
 -- The command `sort IN OUT`.
-use Rattle.std.specs.Prelude.{ℕ, List}
+use Rattle.std.specs.Prelude.{ℕ, List, IsSome}
 use Rattle.mdf_block.specs.Refusal.{Fails}
 use Rattle.mdf_content.specs.Fault.{read_refusal}
 use Rattle.mdf_disk.specs.State.{DiskState}
@@ -17,7 +17,7 @@ Sorts now file bytes report = IsSorting file now bytes report
 
 -- it refuses a file for the first fault of its measurement
 abbrev pub IsNotMeasured : List ℕ → Fault → Type 0
-IsNotMeasured file (fault.Read refused) = Fails (read_refusal refused) (measurement file)
+IsNotMeasured file (fault.Read refused) = IsSome (read_refusal refused) × Fails (read_refusal refused) (measurement file)
 IsNotMeasured file _ = ⊥
 
 -- How the command ends, by what the disks of the input and of the output and the sink tell before and after.

@@ -2,16 +2,16 @@
 -- the faults for which it refuses one.
 use Rattle.std.specs.Prelude.{ℕ, ◌≡◌, ◌⊎◌, List, Result, Ok, Err}
 use Rattle.mdf_format.specs.Cause.{Rose}
-use Rattle.mdf_format.specs.Identification.{IsMdf}
 use Rattle.mdf_disk.specs.State.{DiskState}
 use Rattle.mdf_seal.specs.Seal.{IsKept}
+use Rattle.mdf_tool.specs.Tool.{IsSealed}
 use Rattle.mdf_tool.specs.declared.made.Report.{Report}
 use Rattle.mdf_command.specs.declared.fault.Fault.{Fault}
 use Rattle.mdf_command.specs.declared.fault.Fault.TheVariants as fault
 
--- what a crash may leave of the output: no MDF, or what the tool makes
+-- what a crash may leave of the output: a file under its seal, or what the tool makes
 abbrev pub IsImage : (List ℕ → Report → Type 0) → List ℕ → Type 0
-IsImage Makes image = (¬ IsMdf image) ⊎ ((report : Report) × Makes image report)
+IsImage Makes image = IsSealed image ⊎ ((report : Report) × Makes image report)
 
 -- How it ends, by what the disk of the output tells before and after: what it makes is kept whole; or the disk failed; or
 -- memory was wanted or the file is refused, and the disk is as before. It finds no file too long, since it loads none.

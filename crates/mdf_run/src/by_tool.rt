@@ -1,11 +1,12 @@
 // Making a file of another one with a tool.
-ghost use Rattle.std.specs.Prelude.{◌≡◌, ◌⊎◌, Some, None, IfSome};
+ghost use Rattle.std.specs.Prelude.{◌≡◌, ◌⊎◌, Some, None};
 ghost use Rattle.mdf_disk.specs.Crash.{HoldsSince};
 ghost use Rattle.mdf_disk.specs.State.{state_of};
 ghost use Rattle.mdf_disk.specs.declared.role.Role.TheVariants.{Create, Read};
 ghost use Rattle.mdf_port.specs.State.{sink_state};
+ghost use Rattle.mdf_command.specs.Load.{IsLoaded};
 ghost use Rattle.mdf_command.specs.Texts.{Gives, Prints};
-ghost use Rattle.mdf_run.specs.Making.{EndsMaking, MakeComes, MakingComes, one_input, making_status, making_text, report_line};
+ghost use Rattle.mdf_run.specs.Making.{EndsMaking, LeavesOf, MakeComes, MakingComes, one_input, making_status, making_text, report_line};
 ghost use Rattle.mdf_run.specs.Tool.{IsImage};
 
 use crate::tool::Tool;
@@ -47,7 +48,7 @@ fn make_of<T: Tool + Drop, A: Disk, C: Disk>(
     requires first { A.asked first.old ≡ None }
     requires out { C.asked out.old ≡ None }
     ensures comes { MakingComes (one_input (state_of A.Disk first.old) (state_of A.Disk first.new)) (T.makes tool) (T.refuses tool) (state_of C.Disk out.old) (state_of C.Disk out.new) result }
-    ensures any_moment { IfSome (A.content first.old) (λ file. HoldsSince (C.story out.new) (C.moment out.old) (IsImage (T.makes tool file))) }
+    ensures any_moment { LeavesOf (IsLoaded (state_of A.Disk first.old)) (λ file. IsImage (T.makes tool file)) (state_of C.Disk out.old) (state_of C.Disk out.new) }
     ensures input { (A.asked first.new ≡ None) ⊎ (A.asked first.new ≡ Some (input.now, Read)) }
     ensures input_content { A.content first.new ≡ A.content first.old }
     ensures input_untouched { A.asked first.new ≡ None → first.new ≡ first.old }
@@ -117,7 +118,7 @@ pub(crate) fn run_tool<T: Tool + Drop, K: Sink, A: Disk, C: Disk>(
     requires out { C.asked out.old ≡ None }
     ensures ends { EndsMaking (one_input (state_of A.Disk first.old) (state_of A.Disk first.new)) (T.makes tool) (T.refuses tool) (state_of C.Disk out.old) (state_of C.Disk out.new)
         (sink_state K.Sink sink.old) (sink_state K.Sink sink.new) result }
-    ensures any_moment { IfSome (A.content first.old) (λ file. HoldsSince (C.story out.new) (C.moment out.old) (IsImage (T.makes tool file))) }
+    ensures any_moment { LeavesOf (IsLoaded (state_of A.Disk first.old)) (λ file. IsImage (T.makes tool file)) (state_of C.Disk out.old) (state_of C.Disk out.new) }
     ensures input { (A.asked first.new ≡ None) ⊎ (A.asked first.new ≡ Some (input.now, Read)) }
     ensures input_content { A.content first.new ≡ A.content first.old }
     ensures input_untouched { A.asked first.new ≡ None → first.new ≡ first.old }

@@ -1,8 +1,9 @@
-ghost use Rattle.std.specs.Prelude.{◌≡◌, ◌⊎◌, Some, None, IfSome};
-ghost use Rattle.mdf_disk.specs.Crash.{HoldsSince};
+ghost use Rattle.std.specs.Prelude.{◌≡◌, ◌⊎◌, Some, None};
 ghost use Rattle.mdf_disk.specs.State.{state_of};
 ghost use Rattle.mdf_disk.specs.declared.role.Role.TheVariants.{Create, Read};
 ghost use Rattle.mdf_port.specs.State.{sink_state};
+ghost use Rattle.mdf_command.specs.Load.{IsLoaded};
+ghost use Rattle.mdf_run.specs.Making.{LeavesOf};
 ghost use Rattle.tool_final.specs.Finalize.{IsFinalizeImage};
 ghost use Rattle.mdf_run.specs.Finalize.{EndsFinalize, Finalizes, IsNoRecording};
 
@@ -48,7 +49,7 @@ pub fn run_finalize<K: Sink, A: Disk, C: Disk>(
     requires out { C.asked out.old ≡ None }
     ensures ends { EndsFinalize now_ns (state_of A.Disk first.old) (state_of A.Disk first.new) (state_of C.Disk out.old) (state_of C.Disk out.new)
         (sink_state K.Sink sink.old) (sink_state K.Sink sink.new) result }
-    ensures any_moment { IfSome (A.content first.old) (λ file. HoldsSince (C.story out.new) (C.moment out.old) (IsFinalizeImage file now_ns)) }
+    ensures any_moment { LeavesOf (IsLoaded (state_of A.Disk first.old)) (λ file. IsFinalizeImage file now_ns) (state_of C.Disk out.old) (state_of C.Disk out.new) }
     ensures input { (A.asked first.new ≡ None) ⊎ (A.asked first.new ≡ Some (input.now, Read)) }
     ensures input_content { A.content first.new ≡ A.content first.old }
     ensures input_untouched { A.asked first.new ≡ None → first.new ≡ first.old }

@@ -1,11 +1,10 @@
-ghost use Rattle.std.specs.Prelude.{◌≡◌, ◌⊎◌, Some, None, IfSome};
-ghost use Rattle.mdf_disk.specs.Crash.{HoldsSince};
+ghost use Rattle.std.specs.Prelude.{◌≡◌, ◌⊎◌, Some, None};
 ghost use Rattle.mdf_disk.specs.State.{state_of};
 ghost use Rattle.mdf_disk.specs.declared.role.Role.TheVariants.{Create, Read};
 ghost use Rattle.mdf_port.specs.State.{sink_state};
 ghost use Rattle.tool_concat.specs.Concat.{IsConcatImage};
-ghost use Rattle.mdf_run.specs.Concat.{AreNotJoined, EndsConcat, Joins, fault_of_concat, two_inputs};
-ghost use Rattle.mdf_run.specs.Making.{MakingComes};
+ghost use Rattle.mdf_run.specs.Concat.{AreBothLoaded, AreNotJoined, EndsConcat, Joins, fault_of_concat, two_inputs};
+ghost use Rattle.mdf_run.specs.Making.{LeavesOf, MakingComes};
 
 use crate::by_tool::{make, report};
 use crate::tool::Tool;
@@ -68,8 +67,7 @@ fn join<A: Disk, B: Disk, C: Disk>(
     requires out { C.asked out.old ≡ None }
     ensures comes { MakingComes (two_inputs now_ns (state_of A.Disk first.old) (state_of A.Disk first.new) (state_of B.Disk second.old) (state_of B.Disk second.new))
         Joins AreNotJoined (state_of C.Disk out.old) (state_of C.Disk out.new) result }
-    ensures any_moment { IfSome (A.content first.old) (λ one. IfSome (B.content second.old) (λ two.
-        HoldsSince (C.story out.new) (C.moment out.old) (IsConcatImage (record { first = one; second = two; now = now_ns })))) }
+    ensures any_moment { LeavesOf (AreBothLoaded now_ns (state_of A.Disk first.old) (state_of B.Disk second.old)) IsConcatImage (state_of C.Disk out.old) (state_of C.Disk out.new) }
     ensures input { (A.asked first.new ≡ None) ⊎ (A.asked first.new ≡ Some (input.now, Read)) }
     ensures input_content { A.content first.new ≡ A.content first.old }
     ensures input_untouched { A.asked first.new ≡ None → first.new ≡ first.old }
@@ -106,8 +104,7 @@ pub fn run_concat<K: Sink, A: Disk, B: Disk, C: Disk>(
     requires out { C.asked out.old ≡ None }
     ensures ends { EndsConcat now_ns (state_of A.Disk first.old) (state_of A.Disk first.new) (state_of B.Disk second.old) (state_of B.Disk second.new)
         (state_of C.Disk out.old) (state_of C.Disk out.new) (sink_state K.Sink sink.old) (sink_state K.Sink sink.new) result }
-    ensures any_moment { IfSome (A.content first.old) (λ one. IfSome (B.content second.old) (λ two.
-        HoldsSince (C.story out.new) (C.moment out.old) (IsConcatImage (record { first = one; second = two; now = now_ns })))) }
+    ensures any_moment { LeavesOf (AreBothLoaded now_ns (state_of A.Disk first.old) (state_of B.Disk second.old)) IsConcatImage (state_of C.Disk out.old) (state_of C.Disk out.new) }
     ensures input { (A.asked first.new ≡ None) ⊎ (A.asked first.new ≡ Some (input.now, Read)) }
     ensures input_content { A.content first.new ≡ A.content first.old }
     ensures input_untouched { A.asked first.new ≡ None → first.new ≡ first.old }

@@ -7,15 +7,17 @@ ghost use Rattle.book_owned.specs.Kept.{MarksHold, StartHolds};
 ghost use Rattle.book_owned.specs.Marks.{AreRising, durable, last_mark};
 ghost use Rattle.acq_script.specs.Tasks.{samples_of};
 ghost use Rattle.mdf_command.specs.Words.{AsksCheck, AsksConcat, AsksCut, AsksExport, AsksFinalize, AsksGenerated, AsksInfo, AsksOpened, AsksRecord, AsksSort, AsksInput, AsksOutput, AsksSecond, AsksToMake, IsUsage};
+ghost use Rattle.mdf_command.specs.Load.{IsLoaded};
 ghost use Rattle.mdf_command.specs.Texts.{Prints, usage_line};
 ghost use Rattle.mdf_inspect.specs.Opened.{EndsOpened};
 ghost use Rattle.mdf_disk.specs.Crash.{HoldsSince};
 ghost use Rattle.tool_final.specs.Finalize.{IsFinalizeImage};
+ghost use Rattle.mdf_run.specs.Making.{LeavesOf};
 ghost use Rattle.mdf_run.specs.Finalize.{EndsFinalize};
 ghost use Rattle.mdf_run.specs.Sort.{EndsSort};
 ghost use Rattle.tool_sort.specs.Sort.{IsSortImage};
 ghost use Rattle.mdf_run.specs.Cut.{EndsCut};
-ghost use Rattle.mdf_run.specs.Concat.{EndsConcat};
+ghost use Rattle.mdf_run.specs.Concat.{AreBothLoaded, EndsConcat};
 ghost use Rattle.tool_concat.specs.Concat.{IsConcatImage};
 ghost use Rattle.tool_cut.specs.Cut.{IsCutImage};
 ghost use Rattle.mdf_inspect.specs.Check.{EndsCheck};
@@ -161,22 +163,22 @@ where
         → IfSome (A.content first) (λ one. IfSome (B.content second.old) (λ two. AreJoinable one two
         → length one ≤ INPUT_LIMIT → length two ≤ INPUT_LIMIT → IsDoneOrLacked result.status)) }
 
-    // What may be left of the output of `finalize` at any moment: no MDF, or the finalized session of the input.
+    // What may be left of the output of `finalize` at any moment: nothing; or, where an input was loaded, at most one byte, a file
+    // with a first byte other than `M` that is no MDF, or the finalized session of the input.
     ensures finalize_leaves { (input output : List ℕ) → AsksFinalize words.now input output
-        → IfSome (A.content first) (λ file. HoldsSince (C.story result.out) (C.moment out) (IsFinalizeImage file now_ns)) }
+        → LeavesOf (IsLoaded (state_of A.Disk first)) (λ file. IsFinalizeImage file now_ns) (state_of C.Disk out) (state_of C.Disk result.out) }
 
-    // And of the output of `sort`: no MDF, or the sorted file of the measurement of the input.
+    // And of the output of `sort`: so, or the sorted file of the measurement of the input.
     ensures sort_leaves { (input output : List ℕ) → AsksSort words.now input output
-        → IfSome (A.content first) (λ file. HoldsSince (C.story result.out) (C.moment out) (IsSortImage file now_ns)) }
+        → LeavesOf (IsLoaded (state_of A.Disk first)) (λ file. IsSortImage file now_ns) (state_of C.Disk out) (state_of C.Disk result.out) }
 
-    // And of the output of `cut`: no MDF, or the sorted file of that measurement with the records that are kept.
+    // And of the output of `cut`: so, or the sorted file of that measurement with the records that are kept.
     ensures cut_leaves { (input output : List ℕ) (from to : ℤ) → AsksCut words.now input output from to
-        → IfSome (A.content first) (λ file. HoldsSince (C.story result.out) (C.moment out) (IsCutImage file (record { from = from; to = to; now = now_ns }))) }
+        → LeavesOf (IsLoaded (state_of A.Disk first)) (λ file. IsCutImage file (record { from = from; to = to; now = now_ns })) (state_of C.Disk out) (state_of C.Disk result.out) }
 
-    // And of the output of `concat`: no MDF, or the sorted file of the joined measurement of both inputs.
+    // And of the output of `concat`: so, or the sorted file of the joined measurement of both inputs.
     ensures concat_leaves { (input other output : List ℕ) → AsksConcat words.now input other output
-        → IfSome (A.content first) (λ one. IfSome (B.content second.old) (λ two. HoldsSince (C.story result.out) (C.moment out)
-        (IsConcatImage (record { first = one; second = two; now = now_ns })))) }
+        → LeavesOf (AreBothLoaded now_ns (state_of A.Disk first) (state_of B.Disk second.old)) IsConcatImage (state_of C.Disk out) (state_of C.Disk result.out) }
 
     // Another command has no history and no marks. Only `record` takes anything from the source.
     ensures no_history { RecordsNothing words.now → result.history.items ≡ [] }

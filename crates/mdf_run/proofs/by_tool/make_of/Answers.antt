@@ -1,11 +1,8 @@
-use Rattle.std.proofs.Common.{refl}
+use Rattle.std.proofs.Common.{inl, inr, refl}
 use Rattle.std.proofs.lemmas.Result.{err_from_is_err_and}
-use Rattle.mdf_disk.specs.Crash.{HoldsSince}
 use Rattle.mdf_disk.specs.State.{state_of}
 use Rattle.mdf_run.specs.Making.{one_input}
-use Rattle.mdf_run.specs.Tool.{IsImage}
-use Rattle.mdf_run.proofs.Leaving.{load_fault, making_ends, of_any, still_no_mdf}
-use Rattle.mdf_command.proofs.Told.{of_file}
+use Rattle.mdf_run.proofs.Leaving.{load_fault, making_ends, still_nothing}
 use Rattle.mdf_run.proofs.by_tool.make_of.Goals as goal
 
 pub returns-in_err-file-clause-comes : goal.returns-in_err-file-clause-comes
@@ -24,8 +21,7 @@ returns-in_err-file-clause-any_moment g c =
     let disk = g.C.Disk in
     let laws = g.met.C.Disk in
     let out = c.args.out.now in
-    of_any (g.A.Disk.content c.args.first.now) (λ file. HoldsSince (disk.story out) (disk.moment out) (IsImage (g.T.Tool.makes c.args.tool file)))
-    (λ file. still_no_mdf (g.T.Tool.makes c.args.tool file) (disk.story out) (disk.story out) (disk.content out) (disk.moment out) (laws.agrees out)
+    inl (still_nothing (disk.story out) (disk.story out) (disk.content out) (disk.moment out) (laws.agrees out)
     (laws.unattached out (laws.unasked out c.requires.out)) refl)
 
 pub returns-clause-comes : goal.returns-clause-comes
@@ -36,8 +32,4 @@ returns-clause-comes g c =
     c.in_ok-file.file c.in_ok-file.ensures.comes c.make.result c.make.ensures.comes
 
 pub returns-clause-any_moment : goal.returns-clause-any_moment
-returns-clause-any_moment g c =
-    let disk = g.C.Disk in
-    of_file (g.A.Disk.content c.args.first.now) c.in_ok-file.file
-    (λ file. HoldsSince (disk.story c.make.new.out) (disk.moment c.args.out.now) (IsImage (g.T.Tool.makes c.args.tool file)))
-    c.in_ok-file.ensures.comes.told c.make.ensures.any_moment
+returns-clause-any_moment g c = inr (c.in_ok-file.file, c.in_ok-file.ensures.comes, c.make.ensures.any_moment)

@@ -1,12 +1,9 @@
-use Rattle.std.proofs.Common.{inl, inr, refl, ℕ, List}
-use Rattle.std.specs.Prelude.{IfSome}
+use Rattle.std.proofs.Common.{inl, inr, refl}
 use Rattle.std.proofs.lemmas.Result.{err_from_is_err_and}
-use Rattle.mdf_disk.specs.Crash.{HoldsSince}
 use Rattle.mdf_disk.specs.State.{state_of}
-use Rattle.tool_concat.specs.Concat.{IsConcatImage, Joining}
-use Rattle.mdf_command.proofs.Told.{of_file}
+use Rattle.tool_concat.specs.Concat.{Joining}
 use Rattle.mdf_run.specs.Concat.{AreBothLoaded, AreNotJoined, Joins, two_inputs}
-use Rattle.mdf_run.proofs.Leaving.{load_fault, making_ends, still_no_join}
+use Rattle.mdf_run.proofs.Leaving.{load_fault, making_ends, still_nothing}
 use Rattle.mdf_run.proofs.joining.join.Goals as goal
 
 pub returns-in_err-one-clause-comes : goal.returns-in_err-one-clause-comes
@@ -42,16 +39,16 @@ returns-in_err-one-clause-any_moment g c =
     let disk = g.C.Disk in
     let laws = g.met.C.Disk in
     let out = c.args.out.now in
-    still_no_join (g.A.Disk.content c.args.first.now) (g.B.Disk.content c.args.second.now) c.args.now_ns (disk.story out) (disk.content out) (disk.moment out)
-    (laws.agrees out) (laws.unattached out (laws.unasked out c.requires.out))
+    inl (still_nothing (disk.story out) (disk.story out) (disk.content out) (disk.moment out) (laws.agrees out)
+    (laws.unattached out (laws.unasked out c.requires.out)) refl)
 
 pub returns-in_err-two-clause-any_moment : goal.returns-in_err-two-clause-any_moment
 returns-in_err-two-clause-any_moment g c =
     let disk = g.C.Disk in
     let laws = g.met.C.Disk in
     let out = c.args.out.now in
-    still_no_join (g.A.Disk.content c.args.first.now) (g.B.Disk.content c.args.second.now) c.args.now_ns (disk.story out) (disk.content out) (disk.moment out)
-    (laws.agrees out) (laws.unattached out (laws.unasked out c.requires.out))
+    inl (still_nothing (disk.story out) (disk.story out) (disk.content out) (disk.moment out) (laws.agrees out)
+    (laws.unattached out (laws.unasked out c.requires.out)) refl)
 
 pub returns-clause-comes : goal.returns-clause-comes
 returns-clause-comes g c =
@@ -65,8 +62,5 @@ returns-clause-comes g c =
 
 pub returns-clause-any_moment : goal.returns-clause-any_moment
 returns-clause-any_moment g c =
-    let disk = g.C.Disk in
-    let Leaves : List ℕ → List ℕ → Type 0 = λ one two.
-    HoldsSince (disk.story c.make.new.out) (disk.moment c.args.out.now) (IsConcatImage (record { first = one; second = two; now = c.args.now_ns })) in
-    of_file (g.A.Disk.content c.args.first.now) c.in_ok-one.one (λ one. IfSome (g.B.Disk.content c.args.second.now) (λ two. Leaves one two)) c.in_ok-one.ensures.comes.told
-    (of_file (g.B.Disk.content c.args.second.now) c.in_ok-two.two (λ two. Leaves c.in_ok-one.one two) c.in_ok-two.ensures.comes.told c.make.ensures.any_moment)
+    let asked : Joining = record { first = c.in_ok-one.one; second = c.in_ok-two.two; now = c.args.now_ns } in
+    inr (asked, record { first = c.in_ok-one.ensures.comes; second = c.in_ok-two.ensures.comes; now = refl }, c.make.ensures.any_moment)

@@ -1,6 +1,7 @@
-use Rattle.std.specs.Prelude.{IfSome}
-use Rattle.mdf_disk.specs.Crash.{HoldsSince}
+use Rattle.mdf_disk.specs.State.{state_of}
 use Rattle.tool_cut.specs.Cut.{IsCutImage}
+use Rattle.mdf_command.specs.Load.{IsLoaded}
+use Rattle.mdf_run.specs.Making.{LeavesOf}
 use Rattle.mdf_run.proofs.Words.{passed}
 use Rattle.mdf_run.proofs.making.make.Goals as goal
 
@@ -9,6 +10,6 @@ pub returns-in-Cut-clause-any_moment : goal.returns-in-Cut-clause-any_moment
 returns-in-Cut-clause-any_moment g c =
     let m = c.in-Cut in
     let bounds = rw m.is at c.requires.bounds in
-    rw m.is (passed (λ from to. IfSome (g.A.Disk.content c.args.first.now)
-    (λ file. HoldsSince (g.C.Disk.story c.run_cut.new.out) (g.C.Disk.moment c.args.out.now) (IsCutImage file (record { from = from; to = to; now = c.args.now_ns }))))
+    rw m.is (passed (λ from to. LeavesOf (IsLoaded (state_of g.A.Disk c.args.first.now))
+    (λ file. IsCutImage file (record { from = from; to = to; now = c.args.now_ns })) (state_of g.C.Disk c.args.out.now) (state_of g.C.Disk c.run_cut.new.out))
     m.from m.to bounds c.run_cut.ensures.any_moment)
