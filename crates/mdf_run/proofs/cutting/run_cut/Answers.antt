@@ -1,10 +1,18 @@
 use Rattle.std.proofs.Common.{to_z-of_z}
 use Rattle.mdf_disk.specs.State.{state_of}
+use Rattle.mdf_port.specs.State.{sink_state}
 use Rattle.tool_cut.specs.Cut.{Cutting, IsCutImage}
 use Rattle.mdf_command.specs.Load.{IsLoaded}
+use Rattle.mdf_run.specs.Cut.{EndsCut}
 use Rattle.mdf_run.specs.Making.{LeavesOf}
 use Rattle.mdf_run.proofs.Leaving.{same_range}
 use Rattle.mdf_run.proofs.cutting.run_cut.Goals as goal
+
+pub returns-clause-ends : goal.returns-clause-ends
+returns-clause-ends g c =
+    same_range (λ (asked : Cutting). EndsCut asked (state_of g.A.Disk c.args.first.now) (state_of g.A.Disk c.run_tool.new.first)
+    (state_of g.C.Disk c.args.out.now) (state_of g.C.Disk c.run_tool.new.out) (sink_state g.K.Sink c.args.sink.now) (sink_state g.K.Sink c.run_tool.new.sink) c.run_tool.result)
+    c.args.from c.args.to _ _ c.args.now_ns (to_z-of_z c.ranges.from) (to_z-of_z c.ranges.to) c.run_tool.ensures.ends
 
 pub returns-clause-any_moment : goal.returns-clause-any_moment
 returns-clause-any_moment g c =
