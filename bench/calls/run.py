@@ -1,7 +1,7 @@
 #!/usr/bin/env python3
 """Counts the calls of the system that the program makes on its files, and compares them with what is said of them.
 
-usage: bench/calls/run.py     (the program must be built: ./mdf4rec once; it needs strace, which is Debian's package of that name)
+usage: bench/calls/run.py     (the program must be built: MDF4REC_PROVE=1 ./mdf4rec once; it needs strace, which is Debian's package of that name)
 
 What is said: a recording is made under a new name, whose folder is synced once; its head is four writes and three syncs, and each block
 two writes and two syncs, wherever the samples of it came from. A finalized file is made in the same way, by three writes and three syncs, and its
