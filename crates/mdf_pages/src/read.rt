@@ -1,0 +1,46 @@
+ghost use Rattle.std.specs.Prelude.{◌≡◌, ◌*◌, ◌≤◌, ◌<◌, true, IfOk, IfErr, OnOk};
+ghost use Rattle.mdf_num.specs.Halt.{StopCause};
+ghost use Rattle.mdf_num.specs.Span.{IsTold};
+ghost use Rattle.mdf_pages.specs.Page.{IsPageOf};
+ghost use Rattle.mdf_pages.specs.Cause.{ReadCause};
+
+use mdf_disk::Disk;
+use mdf_num::{Bytes, Stop};
+use std::alloc::Global;
+
+/// How many bytes a page has.
+pub(crate) const PAGE_LEN: u64 = 65_536;
+
+/// Reads a page, by its number from 0, of a file of so many bytes. The room for it is found before it is read.
+///
+/// # Errors
+/// `Failed` where the disk failed. `Memory` for want of memory, where the disk did not fail.
+pub(crate) fn read_page<D: Disk>(
+    alloc: Global,
+    disk: &mut D,
+    size: u64,
+    page: u64,
+) -> Result<Bytes, Stop>
+    requires attached { D.attached disk.old ≡ true }
+    requires sized { IsTold (D.content disk.old) size }
+    requires within { 65536 * page < size }
+    ensures page { IfOk result (IsPageOf (D.content disk.old) size page) }
+    ensures cause { StopCause true (D.faults disk.old) (D.faults disk.new) result }
+    ensures reason { IfErr result (ReadCause (D.faults disk.old) (D.faults disk.new)) }
+    ensures calm { OnOk result (D.faults disk.new ≡ D.faults disk.old) }
+    ensures asked { D.asked disk.new ≡ D.asked disk.old }
+    ensures attached { D.attached disk.new ≡ D.attached disk.old }
+    ensures content { D.content disk.new ≡ D.content disk.old }
+    ensures story { D.story disk.new ≡ D.story disk.old }
+    ensures moment { D.moment disk.old ≤ D.moment disk.new }
+{
+    let at = page * PAGE_LEN;
+    let count = (size - at).min(PAGE_LEN);
+    let Ok(mut bytes) = vec![in alloc; 0u8; count as usize] else {
+        return Err(Stop::Memory);
+    };
+    let Ok(()) = disk.read_at(at, &mut bytes) else {
+        return Err(Stop::Failed);
+    };
+    Ok(Bytes::from_vec(bytes))
+}
