@@ -1,5 +1,5 @@
 -- Refusals that hold: of a step, of steps one after another, of chains and of loops over numbers.
-use Rattle.std.proofs.Common.{◌≡◌, ◌+◌, ◌<◌, ℕ, zero, suc, Bool, true, false, cond, List, [], ◌∷◌, Option, Some, None, Ok, Err, refl, sym, subst, inl, inr, arith}
+use Rattle.std.proofs.Common.{◌≡◌, ◌+◌, ◌≤◌, ◌<◌, ℕ, zero, suc, Bool, true, false, cond, List, [], ◌∷◌, Option, Some, None, Ok, Err, refl, sym, subst, inl, inr, arith}
 use Rattle.std.specs.Prelude.{nat_eq, IfSome}
 use Rattle.mdf_format.specs.Block.{IsBlock}
 use Rattle.mdf_format.specs.declared.kind.Kind.{Kind}
@@ -12,8 +12,9 @@ use Rattle.mdf_block.specs.Block.{is_block, is_compressed, the_block, block}
 use Rattle.mdf_block.specs.Text.{note, note_size, IsNote, LacksNote}
 use Rattle.mdf_block.specs.Chain.{Step, chain, full}
 use Rattle.mdf_block.specs.Each.{each}
-use Rattle.mdf_block.specs.Truth.{LacksBlock, IsCounted, IsTrueOf}
+use Rattle.mdf_block.specs.Truth.{LacksBlock, IsCounted, IsBehindMany, IsPast, IsTrueOf}
 use Rattle.mdf_block.proofs.Refusals.{bind_err}
+use Rattle.mdf_block.proofs.Chains.{Follows, chain_stops}
 use Rattle.mdf_block.proofs.Wholes.{is_compressed_true, not_block, block_found}
 use Rattle.mdf_block.proofs.Notes.{note_lacks}
 
@@ -74,6 +75,32 @@ module _ {A S : Type 0} (P : Refusal → Type 0) (step : Step A S) (full_at : �
       (refusing_chain steps past room found.1 found.2)
       (λ rest _. refusing_none P (found.0 ∷ rest.0, rest.1, rest.2))))
 
+-- items along links, and the one that is too many, which stands behind as many of them as are read
+pub refusing_past : {A S : Type 0} (P : Refusal → Type 0) (f : List ℕ) (kind : Kind) (place : A → ℕ) (step : Step A S) (full_at : ℕ → Read (List A × ℕ × S))
+    → Follows f kind place step → ((at : ℕ) (left : S) → Refusing P (step at left)) → (room first : ℕ)
+    → ((at : ℕ) → IsBehindMany f kind room at → Refusing P (full_at at)) → (left : S) → Refusing P (chain step full_at room first left)
+refusing_past {A} {S} P f kind place step full_at follows steps room first past left = record {
+  tells = λ refusal is.
+      let stops = chain_stops f kind place step full_at follows (λ (rest : S). Unit {0}) (λ at before x next rest found holds. tt) refusal room first left tt is in
+      elim stops.why [
+        | inl refused ↦ (steps stops.last stops.rest).tells refusal refused.1
+        | inr refused ↦
+            (past stops.last (record { first = first; places = stops.places; along = stops.along; many = refused.0 })).tells refusal refused.1
+      ];
+}
+
+-- items by their numbers, of which each lies in a range
+pub refusing_range : {A S : Type 0} (P : Refusal → Type 0) (item : ℕ → S → Read (A × S)) (k count : ℕ) (left : S)
+    → ((j : ℕ) (rest : S) → k ≤ j → j < k + count → Refusing P (item j rest)) → Refusing P (each item k count left)
+unfolding each
+refusing_range P item k zero left items = refusing_none P ([], left)
+refusing_range P item k (suc count) left items =
+    refusing_then P (item k left) (λ found. each item (k + 1) count found.1 >>= λ rest. Ok (found.0 ∷ rest.0, rest.1))
+    (items k left (omega arith) (omega arith))
+    (λ found _. refusing_then P (each item (k + 1) count found.1) (λ rest. Ok (found.0 ∷ rest.0, rest.1))
+    (refusing_range P item (k + 1) count found.1 (λ j rest above below. items j rest (omega (arith, above)) (omega (arith, below))))
+    (λ rest _. refusing_none P (found.0 ∷ rest.0, rest.1)))
+
 -- items by their numbers
 pub refusing_each : {A S : Type 0} (P : Refusal → Type 0) (item : ℕ → S → Read (A × S))
     → ((k : ℕ) (left : S) → Refusing P (item k left)) → (k count : ℕ) (left : S) → Refusing P (each item k count left)
@@ -100,11 +127,11 @@ block_true f at kind lacks =
 
 -- a block past the count
 pub full_true : {A : Type 0} (what : What) (f : List ℕ) (kind : Kind) (at : ℕ) → ((IsBlock f at kind → ⊥) → LacksBlock f at kind)
-    → (IsBlock f at kind → IsCounted f what at) → Refusing (IsTrueOf f) (full {A = A} what kind f at)
+    → (IsBlock f at kind → IsCounted f what at) → IsPast f what at → Refusing (IsTrueOf f) (full {A = A} what kind f at)
 unfolding full
-full_true what f kind at lacks counted =
+full_true what f kind at lacks counted past =
     refusing_then (IsTrueOf f) (block f at kind) (λ _. Err (TooMany what at)) (block_true f at kind lacks)
-    (λ b found. refusing_one (IsTrueOf f) (TooMany what at) (counted (block_found f at kind b found).0))
+    (λ b found. refusing_one (IsTrueOf f) (TooMany what at) (counted (block_found f at kind b found).0, past))
 
 -- a text that is too long is one
 is_text : (f : List ℕ) (at left : ℕ) (found : Note) → IsNote f at found → left < note_size found → IsCounted f whats.Text at
@@ -115,7 +142,7 @@ is_text f at left (notes.Xml bytes) is long = inr is.1
 -- a text that is missing, or too long
 lacks_true : (f : List ℕ) (at left : ℕ) (refusal : Refusal) → LacksNote f at left refusal → IsTrueOf f refusal
 lacks_true f at left refusal (inl none) = subst (IsTrueOf f) (sym none.0) (none.2, none.3)
-lacks_true f at left refusal (inr long) = subst (IsTrueOf f) (sym long.0) (is_text f at left long.1.0 long.1.1 long.1.2)
+lacks_true f at left refusal (inr long) = subst (IsTrueOf f) (sym long.0) (is_text f at left long.1.0 long.1.1 long.1.2, tt)
 
 pub note_true : (f : List ℕ) (at left : ℕ) → Refusing (IsTrueOf f) (note f at left)
 note_true f at left = record { tells = λ refusal refused. lacks_true f at left refusal (note_lacks f at left refusal refused) }

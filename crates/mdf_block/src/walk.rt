@@ -46,14 +46,14 @@ pub trait Walk {
         ensures size { P.size span.new ≡ P.size span.old }
         ensures cause { HaltCause true (P.faults span.old) (P.faults span.new) result };
 
-    /// Why the file is refused at `at`, where no more items may come.
+    /// Why the file is refused at `at`, where no more items may come. It takes no memory.
     fn full_in<P: Span>(&self, span: &mut P, at: u64) -> Halt<Self::Fault>
         ensures found { (f : List ℕ) → P.bytes span.old ≡ Some f → Halts refusal result (full self.now f at) }
         ensures plain { IsPlain refusal result }
         ensures same { P.bytes span.new ≡ P.bytes span.old }
         ensures size { P.size span.new ≡ P.size span.old }
         ensures later { P.faults span.old ≤ P.faults span.new }
-        ensures reason { HaltReason true (P.faults span.old) (P.faults span.new) result };
+        ensures reason { HaltReason P.may_want (P.faults span.old) (P.faults span.new) result };
 }
 
 /// The items along their links from `first` on up to the link 0, how many more might come, and what is left. At most so
