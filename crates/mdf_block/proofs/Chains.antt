@@ -100,6 +100,15 @@ pub record Follows {A S : Type 0} (f : List ℕ) (kind : Kind) (place : A → �
   pub there : (at : ℕ) (left : S) (x : A) (next : ℕ) (rest : S) → step at left ≡ Ok (x, next, rest)
       → (place x ≡ at) × IsBlock f at kind × (next ≡ link_at f at 0)
 
+-- the same, where what is read does not say its place
+pub record GoesAlong {A S : Type 0} (f : List ℕ) (kind : Kind) (step : Step A S) : Type 0 where
+  pub there : (at : ℕ) (left : S) (x : A) (next : ℕ) (rest : S) → step at left ≡ Ok (x, next, rest) → IsBlock f at kind × (next ≡ link_at f at 0)
+
+pub goes_along : {A S : Type 0} (f : List ℕ) (kind : Kind) (place : A → ℕ) (step : Step A S) → Follows f kind place step → GoesAlong f kind step
+goes_along f kind place step follows = record {
+  there = λ at left x next rest is. let all = follows.there at left x next rest is in (all.1, all.2);
+}
+
 -- the rest behind an item
 abbrev pub rest_of : {A S : Type 0} → Step A S → (ℕ → Read (List A × ℕ × S)) → ℕ → A × ℕ × S → Read (List A × ℕ × S)
 rest_of step full_at room found = chain step full_at room found.1 found.2 >>= λ rest. Ok (found.0 ∷ rest.0, rest.1, rest.2)
@@ -160,7 +169,73 @@ chain_each {A} {S} step full_at P item none (suc room) at left found is =
           subst (λ (y : List A × ℕ × S). AllByRecursion P y.0) same (here, behind)
     ]
 
--- where a chain is refused: behind blocks along their links, by the step there or by the block past the count
+-- where a chain is refused: behind blocks along their links, with what is known of what was left before them, of them and
+-- of what is left behind them, by the step there or by the block past the count
+pub record StopsBehind {A S : Type 0} (f : List ℕ) (kind : Kind) (step : Step A S) (full_at : ℕ → Read (List A × ℕ × S)) (Between : S → List ℕ → S → Type 0) (room at : ℕ) (left : S) (refusal : Refusal) : Type 0 where
+  pub places : List ℕ
+  pub last : ℕ
+  pub rest : S
+  pub along : AreAlong f kind at places last
+  pub named : last ≢ 0
+  pub between : Between left places rest
+  pub why : ((length places < room) × (step last rest ≡ Err refusal)) ⊎ ((length places ≡ room) × (full_at last ≡ Err refusal))
+
+pub chain_stops_behind : {A S : Type 0} (f : List ℕ) (kind : Kind) (step : Step A S) (full_at : ℕ → Read (List A × ℕ × S))
+    → GoesAlong f kind step → (Between : S → List ℕ → S → Type 0) → ((left : S) → Between left [] left)
+    → ((at : ℕ) (left : S) (x : A) (next : ℕ) (rest : S) (places : List ℕ) (last : S) → step at left ≡ Ok (x, next, rest)
+    → Between rest places last → Between left (at ∷ places) last)
+    → (refusal : Refusal) (room at : ℕ) (left : S) → chain step full_at room at left ≡ Err refusal
+    → StopsBehind f kind step full_at Between room at left refusal
+unfolding chain AreAlong
+chain_stops_behind {A} {S} f kind step full_at goes_on Between none more refusal zero at left is =
+    elim (chosen (nat_eq at 0) (Ok ([], zero, left)) (full_at at) (Err refusal) is) [
+      | inl last ↦ let wrong : ◌≡◌ {A = Read (List A × ℕ × S)} (Ok ([], zero, left)) (Err refusal) = last.1 in cc
+      | inr past ↦ record {
+        places = [];
+        last = at;
+        rest = left;
+        along = refl;
+        named = eqb-false at 0 past.0;
+        between = none left;
+        why = inr (refl, past.1);
+      }
+    ]
+chain_stops_behind {A} {S} f kind step full_at goes_on Between none more refusal (suc room) at left is =
+    elim (chosen (nat_eq at 0) (Ok ([], suc room, left)) (step at left >>= rest_of step full_at room) (Err refusal) is) [
+      | inl last ↦ let wrong : ◌≡◌ {A = Read (List A × ℕ × S)} (Ok ([], suc room, left)) (Err refusal) = last.1 in cc
+      | inr some ↦ elim (bind_err (step at left) (rest_of step full_at room) refusal some.1) [
+        | inl stops ↦ record {
+          places = [];
+          last = at;
+          rest = left;
+          along = refl;
+          named = eqb-false at 0 some.0;
+          between = none left;
+          why = inl (omega arith, stops);
+        }
+        | inr goes ↦
+            let x = goes.0 in
+            let there = goes_on.there at left x.0 x.1 x.2 goes.1 in
+            elim (bind_err (chain step full_at room x.1 x.2) (λ rest. Ok (x.0 ∷ rest.0, rest.1, rest.2)) refusal goes.2) [
+              | inl stops ↦
+                  let behind = chain_stops_behind f kind step full_at goes_on Between none more refusal room x.1 x.2 stops in record {
+                    places = at ∷ behind.places;
+                    last = behind.last;
+                    rest = behind.rest;
+                    along = (refl, there.0, subst (λ (next : ℕ). AreAlong f kind next behind.places behind.last) there.1 behind.along);
+                    named = behind.named;
+                    between = more at left x.0 x.1 x.2 behind.places behind.rest goes.1 behind.between;
+                    why = elim behind.why [
+                      | inl steps ↦ inl (omega (arith, steps.0), steps.1)
+                      | inr past ↦ inr (ap suc past.0, past.1)
+                    ];
+                  }
+              | inr ends ↦ let wrong : ◌≡◌ {A = Read (List A × ℕ × S)} (Ok (x.0 ∷ ends.0.0, ends.0.1, ends.0.2)) (Err refusal) = ends.2 in cc
+            ]
+      ]
+    ]
+
+-- the same with what holds of all that is left on the way
 pub record Stops {A S : Type 0} (f : List ℕ) (kind : Kind) (step : Step A S) (full_at : ℕ → Read (List A × ℕ × S)) (Holds : S → Type 0) (room at : ℕ) (refusal : Refusal) : Type 0 where
   pub places : List ℕ
   pub last : ℕ
@@ -175,55 +250,17 @@ pub chain_stops : {A S : Type 0} (f : List ℕ) (kind : Kind) (place : A → ℕ
     → ((at : ℕ) (left : S) (x : A) (next : ℕ) (rest : S) → step at left ≡ Ok (x, next, rest) → Holds left → Holds rest)
     → (refusal : Refusal) (room at : ℕ) (left : S) → Holds left → chain step full_at room at left ≡ Err refusal
     → Stops f kind step full_at Holds room at refusal
-unfolding chain AreAlong
-chain_stops {A} {S} f kind place step full_at follows Holds keeps refusal zero at left holds is =
-    elim (chosen (nat_eq at 0) (Ok ([], zero, left)) (full_at at) (Err refusal) is) [
-      | inl last ↦ let wrong : ◌≡◌ {A = Read (List A × ℕ × S)} (Ok ([], zero, left)) (Err refusal) = last.1 in cc
-      | inr more ↦ record {
-        places = [];
-        last = at;
-        rest = left;
-        along = refl;
-        named = eqb-false at 0 more.0;
-        holds = holds;
-        why = inr (refl, more.1);
-      }
-    ]
-chain_stops {A} {S} f kind place step full_at follows Holds keeps refusal (suc room) at left holds is =
-    elim (chosen (nat_eq at 0) (Ok ([], suc room, left)) (step at left >>= rest_of step full_at room) (Err refusal) is) [
-      | inl last ↦ let wrong : ◌≡◌ {A = Read (List A × ℕ × S)} (Ok ([], suc room, left)) (Err refusal) = last.1 in cc
-      | inr more ↦ elim (bind_err (step at left) (rest_of step full_at room) refusal more.1) [
-        | inl stops ↦ record {
-          places = [];
-          last = at;
-          rest = left;
-          along = refl;
-          named = eqb-false at 0 more.0;
-          holds = holds;
-          why = inl (omega arith, stops);
-        }
-        | inr goes ↦
-            let x = goes.0 in
-            let there = follows.there at left x.0 x.1 x.2 goes.1 in
-            elim (bind_err (chain step full_at room x.1 x.2) (λ rest. Ok (x.0 ∷ rest.0, rest.1, rest.2)) refusal goes.2) [
-              | inl stops ↦
-                  let behind = chain_stops f kind place step full_at follows Holds keeps refusal room x.1 x.2
-                  (keeps at left x.0 x.1 x.2 goes.1 holds) stops in record {
-                    places = at ∷ behind.places;
-                    last = behind.last;
-                    rest = behind.rest;
-                    along = (refl, there.1, subst (λ (next : ℕ). AreAlong f kind next behind.places behind.last) there.2 behind.along);
-                    named = behind.named;
-                    holds = behind.holds;
-                    why = elim behind.why [
-                      | inl steps ↦ inl (omega (arith, steps.0), steps.1)
-                      | inr past ↦ inr (ap suc past.0, past.1)
-                    ];
-                  }
-              | inr ends ↦ let wrong : ◌≡◌ {A = Read (List A × ℕ × S)} (Ok (x.0 ∷ ends.0.0, ends.0.1, ends.0.2)) (Err refusal) = ends.2 in cc
-            ]
-      ]
-    ]
+chain_stops {A} {S} f kind place step full_at follows Holds keeps refusal room at left holds is =
+    let stops = chain_stops_behind f kind step full_at (goes_along f kind place step follows) (λ before places after. Holds before → Holds after) (λ before here. here)
+    (λ at before x next rest places last found behind here. behind (keeps at before x next rest found here)) refusal room at left is in record {
+      places = stops.places;
+      last = stops.last;
+      rest = stops.rest;
+      along = stops.along;
+      named = stops.named;
+      holds = stops.between holds;
+      why = stops.why;
+    }
 
 -- the room falls by one for each item, and what is left by what each item spends
 pub chain_spends : {A S : Type 0} (step : Step A S) (full_at : ℕ → Read (List A × ℕ × S)) (size : A → ℕ) (amount : S → ℕ)

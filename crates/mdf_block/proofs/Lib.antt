@@ -14,4 +14,5 @@ pub mod Laid
 pub mod Prefixes
 pub mod Uniques
 pub mod Reached
+pub mod Limits
 pub mod Truths

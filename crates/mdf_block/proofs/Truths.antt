@@ -1,5 +1,5 @@
 -- Refusals that hold: of a step, of steps one after another, of chains and of loops over numbers.
-use Rattle.std.proofs.Common.{◌≡◌, ◌+◌, ◌≤◌, ◌<◌, ℕ, zero, suc, Bool, true, false, cond, List, [], ◌∷◌, Option, Some, None, Ok, Err, refl, sym, subst, inl, inr, arith}
+use Rattle.std.proofs.Common.{◌≡◌, ◌+◌, ◌≤◌, ◌<◌, ℕ, zero, suc, Bool, true, false, cond, List, [], ◌∷◌, length, Option, Some, None, Ok, Err, refl, sym, subst, inl, inr, arith}
 use Rattle.std.specs.Prelude.{nat_eq, IfSome}
 use Rattle.mdf_format.specs.Block.{IsBlock}
 use Rattle.mdf_format.specs.declared.kind.Kind.{Kind}
@@ -10,11 +10,12 @@ use Rattle.mdf_block.specs.declared.note.Note.TheVariants as notes
 use Rattle.mdf_block.specs.Refusal.{Refusal, Bad, Compressed, TooMany, Read, ◌>>=◌, Fails}
 use Rattle.mdf_block.specs.Block.{is_block, is_compressed, the_block, block}
 use Rattle.mdf_block.specs.Text.{note, note_size, IsNote, LacksNote}
-use Rattle.mdf_block.specs.Chain.{Step, chain, full}
+use Rattle.mdf_block.specs.Chain.{Step, chain, full, AreAlong}
 use Rattle.mdf_block.specs.Each.{each}
-use Rattle.mdf_block.specs.Truth.{LacksBlock, IsCounted, IsBehindMany, IsPast, IsTrueOf}
+use Rattle.mdf_block.specs.Limit.{AreBefore}
+use Rattle.mdf_block.specs.Truth.{LacksBlock, IsCounted, IsPast, IsTrueOf}
 use Rattle.mdf_block.proofs.Refusals.{bind_err}
-use Rattle.mdf_block.proofs.Chains.{Follows, chain_stops}
+use Rattle.mdf_block.proofs.Chains.{GoesAlong, chain_stops_behind}
 use Rattle.mdf_block.proofs.Wholes.{is_compressed_true, not_block, block_found}
 use Rattle.mdf_block.proofs.Notes.{note_lacks}
 
@@ -75,43 +76,54 @@ module _ {A S : Type 0} (P : Refusal → Type 0) (step : Step A S) (full_at : �
       (refusing_chain steps past room found.1 found.2)
       (λ rest _. refusing_none P (found.0 ∷ rest.0, rest.1, rest.2))))
 
--- items along links, and the one that is too many, which stands behind as many of them as are read
-pub refusing_past : {A S : Type 0} (P : Refusal → Type 0) (f : List ℕ) (kind : Kind) (place : A → ℕ) (step : Step A S) (full_at : ℕ → Read (List A × ℕ × S))
-    → Follows f kind place step → ((at : ℕ) (left : S) → Refusing P (step at left)) → (room first : ℕ)
-    → ((at : ℕ) → IsBehindMany f kind room at → Refusing P (full_at at)) → (left : S) → Refusing P (chain step full_at room first left)
-refusing_past {A} {S} P f kind place step full_at follows steps room first past left = record {
+-- items along links, each with what is known of those before it, and the one that is too many
+pub refusing_behind : {A S : Type 0} (P : Refusal → Type 0) (f : List ℕ) (kind : Kind) (step : Step A S) (full_at : ℕ → Read (List A × ℕ × S))
+    → GoesAlong f kind step → (Between : S → List ℕ → S → Type 0) → ((left : S) → Between left [] left)
+    → ((at : ℕ) (left : S) (x : A) (next : ℕ) (rest : S) (places : List ℕ) (last : S) → step at left ≡ Ok (x, next, rest)
+    → Between rest places last → Between left (at ∷ places) last)
+    → (room first : ℕ) (left : S)
+    → ((places : List ℕ) (at : ℕ) (rest : S) → AreAlong f kind first places at → Between left places rest → Refusing P (step at rest))
+    → ((places : List ℕ) (at : ℕ) (rest : S) → AreAlong f kind first places at → Between left places rest → length places ≡ room
+    → Refusing P (full_at at))
+    → Refusing P (chain step full_at room first left)
+refusing_behind P f kind step full_at goes_on Between none more room first left steps past = record {
   tells = λ refusal is.
-      let stops = chain_stops f kind place step full_at follows (λ (rest : S). Unit {0}) (λ at before x next rest found holds. tt) refusal room first left tt is in
+      let stops = chain_stops_behind f kind step full_at goes_on Between none more refusal room first left is in
       elim stops.why [
-        | inl refused ↦ (steps stops.last stops.rest).tells refusal refused.1
-        | inr refused ↦
-            (past stops.last (record { first = first; places = stops.places; along = stops.along; many = refused.0 })).tells refusal refused.1
+        | inl refused ↦ (steps stops.places stops.last stops.rest stops.along stops.between).tells refusal refused.1
+        | inr refused ↦ (past stops.places stops.last stops.rest stops.along stops.between refused.0).tells refusal refused.1
       ];
 }
 
--- items by their numbers, of which each lies in a range
-pub refusing_range : {A S : Type 0} (P : Refusal → Type 0) (item : ℕ → S → Read (A × S)) (k count : ℕ) (left : S)
-    → ((j : ℕ) (rest : S) → k ≤ j → j < k + count → Refusing P (item j rest)) → Refusing P (each item k count left)
+-- the same where nothing is known but how many they are
+pub refusing_past : {A S : Type 0} (P : Refusal → Type 0) (f : List ℕ) (kind : Kind) (step : Step A S) (full_at : ℕ → Read (List A × ℕ × S))
+    → GoesAlong f kind step → ((at : ℕ) (left : S) → Refusing P (step at left)) → (room first : ℕ)
+    → ((at : ℕ) → AreBefore f kind [] first room at → Refusing P (full_at at)) → (left : S) → Refusing P (chain step full_at room first left)
+unfolding AreBefore
+refusing_past {A} {S} P f kind step full_at goes_on steps room first past left =
+    refusing_behind P f kind step full_at goes_on (λ (before : S) places (after : S). Unit {0}) (λ before. tt)
+    (λ at before x next rest places last found behind. tt) room first left
+    (λ places at rest along known. steps at rest) (λ places at rest along known many. past at (places, along, many))
+
+-- items by their numbers, of which each lies in a range, with what is known of a number and of what is left there
+pub refusing_range : {A S : Type 0} (P : Refusal → Type 0) (item : ℕ → S → Read (A × S)) (Known : ℕ → S → Type 0)
+    → ((j : ℕ) (before : S) (x : A) (rest : S) → item j before ≡ Ok (x, rest) → Known j before → Known (j + 1) rest) → (k count : ℕ) (left : S)
+    → Known k left → ((j : ℕ) (rest : S) → k ≤ j → j < k + count → Known j rest → Refusing P (item j rest)) → Refusing P (each item k count left)
 unfolding each
-refusing_range P item k zero left items = refusing_none P ([], left)
-refusing_range P item k (suc count) left items =
+refusing_range P item Known keeps k zero left known items = refusing_none P ([], left)
+refusing_range P item Known keeps k (suc count) left known items =
     refusing_then P (item k left) (λ found. each item (k + 1) count found.1 >>= λ rest. Ok (found.0 ∷ rest.0, rest.1))
-    (items k left (omega arith) (omega arith))
-    (λ found _. refusing_then P (each item (k + 1) count found.1) (λ rest. Ok (found.0 ∷ rest.0, rest.1))
-    (refusing_range P item (k + 1) count found.1 (λ j rest above below. items j rest (omega (arith, above)) (omega (arith, below))))
+    (items k left (omega arith) (omega arith) known)
+    (λ found is. refusing_then P (each item (k + 1) count found.1) (λ rest. Ok (found.0 ∷ rest.0, rest.1))
+    (refusing_range P item Known keeps (k + 1) count found.1 (keeps k left found.0 found.1 is known)
+    (λ j rest above below there. items j rest (omega (arith, above)) (omega (arith, below)) there))
     (λ rest _. refusing_none P (found.0 ∷ rest.0, rest.1)))
 
 -- items by their numbers
 pub refusing_each : {A S : Type 0} (P : Refusal → Type 0) (item : ℕ → S → Read (A × S))
     → ((k : ℕ) (left : S) → Refusing P (item k left)) → (k count : ℕ) (left : S) → Refusing P (each item k count left)
-unfolding each
-refusing_each P item items k zero left = refusing_none P ([], left)
-refusing_each P item items k (suc count) left =
-    refusing_then P (item k left) (λ found. each item (k + 1) count found.1 >>= λ rest. Ok (found.0 ∷ rest.0, rest.1))
-    (items k left)
-    (λ found _. refusing_then P (each item (k + 1) count found.1) (λ rest. Ok (found.0 ∷ rest.0, rest.1))
-    (refusing_each P item items (k + 1) count found.1)
-    (λ rest _. refusing_none P (found.0 ∷ rest.0, rest.1)))
+refusing_each {A} {S} P item items k count left =
+    refusing_range P item (λ j (rest : S). Unit {0}) (λ j before x rest is known. tt) k count left tt (λ j rest above below known. items j rest)
 
 -- a block that does not stand
 pub block_true : (f : List ℕ) (at : ℕ) (kind : Kind) → ((IsBlock f at kind → ⊥) → LacksBlock f at kind)

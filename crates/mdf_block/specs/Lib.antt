@@ -2,6 +2,7 @@ pub mod Refusal
 pub mod Block
 pub mod Text
 pub mod Chain
+pub mod Limit
 pub mod Each
 pub mod Every
 pub mod Draft

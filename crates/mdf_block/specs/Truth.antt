@@ -1,5 +1,5 @@
 -- What a refusal says of the file at the address that it names.
-use Rattle.std.specs.Prelude.{ℕ, zero, suc, ◌≡◌, ◌≤◌, ◌<◌, ◌⊎◌, List, length, slice_index}
+use Rattle.std.specs.Prelude.{ℕ, zero, suc, ◌≡◌, ◌≤◌, ◌<◌, ◌⊎◌, List, [], ◌∷◌, slice_index}
 use Rattle.mdf_format.specs.Block.{link_at, links_at, IsBlock, body_at}
 use Rattle.mdf_format.specs.Identification.{IsMdf, IsFinalized, HasReadVersion, version_of, standard_flags, custom_flags}
 use Rattle.mdf_format.specs.declared.kind.Kind.{Kind}
@@ -8,7 +8,7 @@ use Rattle.mdf_block.specs.declared.what.What.{What}
 use Rattle.mdf_block.specs.declared.what.What.TheVariants as whats
 use Rattle.mdf_block.specs.Refusal.{Refusal, NotMdf, Unfinalized, NotRecording, Version, Bad, Compressed, TooMany, Deep, ChannelKind, ChannelType}
 use Rattle.mdf_block.specs.Block.{IsCompressed}
-use Rattle.mdf_block.specs.Chain.{AreAlong}
+use Rattle.mdf_block.specs.Limit.{AreBefore, IsListedBehind}
 
 -- no block of the kind stands whole at the address; a text may stand in either of its two kinds
 abbrev pub LacksBlock : List ℕ → ℕ → Kind → Type 0
@@ -26,17 +26,14 @@ IsCounted file whats.Text at = IsBlock file at kinds.Tx ⊎ IsBlock file at kind
 IsCounted file whats.Block at = IsBlock file at kinds.Dl ⊎ (IsBlock file at kinds.Dt ⊎ IsBlock file at kinds.Sd)
 IsCounted file whats.Sample at = IsBlock file at kinds.Cg
 
--- so many blocks of the kind stand before the address along their first links
-pub record IsBehindMany (file : List ℕ) (kind : Kind) (count at : ℕ) : Type 0 where
-  pub first : ℕ
-  pub places : List ℕ
-  pub along : AreAlong file kind first places at
-  pub many : length places ≡ count
-
--- as many entries of the history and as many data groups as are read stand before the one that is too many
+-- the limit is passed at the address: so many entries of the history, data groups, channel groups or channels stand before
+-- it, each of them in the whole of its lists, or so many blocks are named before it in a chain of DLBLOCKs
 abbrev pub IsPast : List ℕ → What → ℕ → Type 0
-IsPast file whats.Fh at = IsBehindMany file kinds.Fh 65535 at
-IsPast file whats.Dg at = IsBehindMany file kinds.Dg 65535 at
+IsPast file whats.Fh at = (first : ℕ) × AreBefore file kinds.Fh [] first 65535 at
+IsPast file whats.Dg at = (first : ℕ) × AreBefore file kinds.Dg [] first 65535 at
+IsPast file whats.Cg at = (first : ℕ) × AreBefore file kinds.Dg (kinds.Cg ∷ []) first 65535 at
+IsPast file whats.Cn at = (first : ℕ) × AreBefore file kinds.Dg (kinds.Cg ∷ kinds.Cn ∷ []) first 1048576 at
+IsPast file whats.Block at = IsListedBehind file 1048576 at
 IsPast file _ at = Unit {0}
 
 -- so many conversions lie in one another above the address, each named by a link after the fourth of the one before

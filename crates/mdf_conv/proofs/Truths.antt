@@ -1,5 +1,5 @@
 -- What the readers of texts, sources and conversions refuse is true of the file.
-use Rattle.std.proofs.Common.{◌≡◌, ◌-◌, ◌≤◌, ◌<◌, ◌⊎◌, ℕ, zero, suc, List, Option, Some, None, refl, sym, subst, inl, inr, arith}
+use Rattle.std.proofs.Common.{◌-◌, ◌≤◌, ◌<◌, ◌⊎◌, ℕ, zero, suc, List, Option, Some, None, refl, sym, subst, inl, inr, arith}
 use Rattle.std.specs.Prelude.{nat_eq, IfSome}
 use Rattle.mdf_format.specs.Block.{link_at, links_at, IsBlock}
 use Rattle.mdf_format.specs.declared.kind.Kind.TheVariants.{Cc, Si}
@@ -83,7 +83,7 @@ module _ (f : List ℕ) (levels : ℕ) (inner : ℕ → Budget → Read (Convers
       let count = links_at f at - 4 in
       refusing_then P (texts f at left) _ (below f (suc levels) at (texts f at left) (texts_true f at left)) (λ words _.
       refusing_then P (each (item_by inner f at) 4 count words.1) _
-      (refusing_range P (item_by inner f at) 4 count words.1 (λ k rest after within.
+      (refusing_range P (item_by inner f at) (λ k (rest : Budget). Unit {0}) (λ k before x rest read known. tt) 4 count words.1 tt (λ k rest after within known.
       refusing_as (IsTrueBelow f levels (link_at f at k)) P (item_by inner f at k rest)
       (one_above f levels at k is after (omega (arith, within, is.linked))) (ref_true (link_at f at k) rest)))
       (λ found _. refusing_none P _))

@@ -6,6 +6,7 @@ pub mod Onces
 pub mod Stands
 pub mod Recordables
 mod Costs
+mod Held
 -- a refusal is true of the file
 pub mod Truths
 pub mod Uniques

@@ -15,7 +15,7 @@ use Rattle.mdf_block.specs.Text.{IsNote}
 use Rattle.mdf_block.specs.Chain.{Step, chain, full}
 use Rattle.mdf_block.proofs.Refusals.{bind_ok}
 use Rattle.mdf_block.proofs.Wholes.{chosen, block_found}
-use Rattle.mdf_block.proofs.Chains.{Follows, chain_found, chain_each, full_none}
+use Rattle.mdf_block.proofs.Chains.{Follows, GoesAlong, goes_along, chain_found, chain_each, full_none}
 use Rattle.mdf_conv.specs.declared.limits.Budget.{Budget}
 use Rattle.mdf_conv.specs.declared.row.SourceInfo.{SourceInfo}
 use Rattle.mdf_conv.specs.declared.row.Conversion.{Conversion}
@@ -48,18 +48,27 @@ record AlongChain {A : Type 0} (f : List ℕ) (kind : Kind) (place : A → ℕ) 
   each : AllByRecursion P rows
 
 -- what a step finds at an address
-record FindsAt {A S : Type 0} (f : List ℕ) (kind : Kind) (place : A → ℕ) (P : A → Type 0) (step : Step A S) : Type 0 where
-  there : (at : ℕ) (left : S) (found : A × ℕ × S) → step at left ≡ Ok found
+pub record FindsAt {A S : Type 0} (f : List ℕ) (kind : Kind) (place : A → ℕ) (P : A → Type 0) (step : Step A S) : Type 0 where
+  pub there : (at : ℕ) (left : S) (found : A × ℕ × S) → step at left ≡ Ok found
       → (place found.0 ≡ at) × (IsBlock f at kind × ((found.1 ≡ link_at f at 0) × P found.0))
+
+-- it goes on along the first link
+finds_follow : {A S : Type 0} (f : List ℕ) (kind : Kind) (place : A → ℕ) (P : A → Type 0) (step : Step A S) → FindsAt f kind place P step
+    → Follows f kind place step
+finds_follow f kind place P step finds = record {
+  there = λ at left x next rest is. let all = finds.there at left (x, next, rest) is in (all.0, all.1.0, all.1.1.0);
+}
+
+pub finds_go_along : {A S : Type 0} (f : List ℕ) (kind : Kind) (place : A → ℕ) (P : A → Type 0) (step : Step A S) → FindsAt f kind place P step
+    → GoesAlong f kind step
+finds_go_along f kind place P step finds = goes_along f kind place step (finds_follow f kind place P step finds)
 
 along : {A S : Type 0} (f : List ℕ) (kind : Kind) (what : What) (place : A → ℕ) (P : A → Type 0) (step : Step A S) → FindsAt f kind place P step
     → (most at : ℕ) (left : S) (found : List A × ℕ × S) → chain step (full what kind f) most at left ≡ Ok found
     → AlongChain f kind place P at found.0
 along {A} {S} f kind what place P step finds most at left found is =
     let none : (a : ℕ) (y : List A × ℕ × S) → full what kind f a ≡ Ok y → ⊥ = λ a y. full_none (List A × ℕ × S) what kind f a y in
-    let follows : Follows f kind place step = record {
-      there = λ a rest x next after found_is. let all = finds.there a rest (x, next, after) found_is in (all.0, all.1.0, all.1.1.0);
-    } in
+    let follows = finds_follow f kind place P step finds in
     let stands = chain_found f kind place step (full what kind f) follows none most at left found is in
     record {
       chain = stands;
@@ -217,7 +226,7 @@ accepted_found at kind data_type found is =
     ]
 
 -- a channel
-channel_finds : (f : List ℕ) → FindsAt f Cn (λ (row : ChannelRow). row.at) (IsChannel f) (channel f)
+pub channel_finds : (f : List ℕ) → FindsAt f Cn (λ (row : ChannelRow). row.at) (IsChannel f) (channel f)
 unfolding channel channel_of_block
 channel_finds f = record {
   there = λ at left found is.
@@ -272,7 +281,7 @@ contents_found f b left found is =
     subst (λ (y : GroupContents × Room). AreContents f b.at y.0) (ok_injective _ _ rows.2) whole
 
 -- a channel group
-group_finds : (f : List ℕ) → FindsAt f Cg (λ (row : GroupRow). row.at) (IsGroup f) (group f)
+pub group_finds : (f : List ℕ) → FindsAt f Cg (λ (row : GroupRow). row.at) (IsGroup f) (group f)
 unfolding group
 group_finds f = record {
   there = λ at left found is.
@@ -323,7 +332,7 @@ data_contents_found f b left found is =
     subst (λ (y : DataContents × DataRoom). AreDataContents f b.at y.0) (ok_injective _ _ rows.2) whole
 
 -- a data group
-data_group_finds : (f : List ℕ) → FindsAt f Dg (λ (row : DataRow). row.at) (IsDataGroup f) (data_group f)
+pub data_group_finds : (f : List ℕ) → FindsAt f Dg (λ (row : DataRow). row.at) (IsDataGroup f) (data_group f)
 unfolding data_group
 data_group_finds f = record {
   there = λ at left found is.

@@ -1,3 +1,4 @@
+mod Counts
 pub mod Joins
 pub mod Links
 pub mod Moves

@@ -69,13 +69,13 @@ each_found f want list k (suc count) left found is =
     )
 
 -- a DLBLOCK
-record IsList (f : List ℕ) (want : Kind) (at : ℕ) (found : List Part × ℕ × ℕ) : Type 0 where
-  there : IsBlock f at Dl
-  next : found.1 ≡ link_at f at 0
+pub record IsList (f : List ℕ) (want : Kind) (at : ℕ) (found : List Part × ℕ × ℕ) : Type 0 where
+  pub there : IsBlock f at Dl
+  pub next : found.1 ≡ link_at f at 0
   blocks : AreBlocks f want (data_links f at)
   stream : stream_of f found.0 ≡ bodies f (data_links f at)
 
-list_found : (f : List ℕ) (want : Kind) (at left : ℕ) (found : List Part × ℕ × ℕ) → data_list f want at left ≡ Ok found → IsList f want at found
+pub list_found : (f : List ℕ) (want : Kind) (at left : ℕ) (found : List Part × ℕ × ℕ) → data_list f want at left ≡ Ok found → IsList f want at found
 unfolding data_list
 list_found f want at left found is =
     let first = bind_ok (block f at Dl)

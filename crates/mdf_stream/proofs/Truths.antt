@@ -1,7 +1,9 @@
 -- What the reader of a data link refuses is true of the file.
-use Rattle.std.proofs.Common.{◌≡◌, ◌-◌, ℕ, cond, List, Option, Some, None, Result, Ok, Err, refl, sym, ◌∙◌, subst, ◌⊎◌, inl, inr}
-use Rattle.std.specs.Prelude.{nat_eq, IfSome, IfErr}
-use Rattle.mdf_format.specs.Block.{link_at, IsBlock}
+use Rattle.std.proofs.Common.{◌≡◌, ◌+◌, ◌-◌, ◌≤◌, ℕ, cond, List, ◌∷◌, length, Option, Some, None, Result, Ok, Err, refl, sym, ◌∙◌, subst, ◌⊎◌, inl, inr, arith}
+use Rattle.std.specs.Prelude.{nat_eq, sum_by, IfSome, IfErr}
+use Rattle.std.proofs.lemmas.Bool.{eqb-true}
+use Rattle.std.proofs.lemmas.List.Sums.{sum_by-cons}
+use Rattle.mdf_format.specs.Block.{link_at, links_at, IsBlock}
 use Rattle.mdf_format.specs.declared.kind.Kind.{Kind}
 use Rattle.mdf_format.specs.declared.kind.Kind.TheVariants.{Dt, Sd, Dl}
 use Rattle.mdf_num.specs.declared.halt.Halt.{Halt}
@@ -10,13 +12,20 @@ use Rattle.mdf_block.specs.declared.what.What.TheVariants as whats
 use Rattle.mdf_block.specs.Refusal.{Refusal, Bad, Compressed, TooMany, Read, Refuses, Gives}
 use Rattle.mdf_block.specs.Block.{is_block, is_compressed, the_block, block, is_named}
 use Rattle.mdf_block.specs.Each.{each}
-use Rattle.mdf_block.specs.Chain.{full}
+use Rattle.mdf_block.specs.declared.place.BlockAt.{BlockAt}
+use Rattle.mdf_block.specs.Chain.{full, AreAlong}
+use Rattle.mdf_block.specs.Limit.{IsListedBehind}
 use Rattle.mdf_block.specs.Truth.{LacksBlock, IsCounted, IsTrueOf}
 use Rattle.mdf_block.proofs.Wholes.{block_found, not_block, is_compressed_true}
-use Rattle.mdf_block.proofs.Truths.{Refusing, refusing_none, refusing_one, refusing_then, refusing_if, refusing_as, refusing_chain, refusing_each}
+use Rattle.mdf_block.proofs.Truths.{Refusing, refusing_none, refusing_one, refusing_then, refusing_if, refusing_as, refusing_behind, refusing_range}
+use Rattle.mdf_block.proofs.Chains.{GoesAlong}
+use Rattle.mdf_block.proofs.Limits.{lists_below_links}
+use Rattle.mdf_stream.specs.declared.part.Part.{Part}
 use Rattle.mdf_stream.specs.declared.fault.DataFault.{DataFault}
 use Rattle.mdf_stream.specs.Link.{data_refusal, most_blocks, one_less, data_block, named_block, data_list, data_lists, listed_parts, one_part, data_parts}
 use Rattle.mdf_stream.specs.Truth.{IsLinkedKind, IsTrueOfLink, IfFault}
+use Rattle.mdf_stream.proofs.Streams.{list_found}
+use Rattle.mdf_stream.proofs.Counts.{one_less_counts, block_counts, list_counts}
 
 module _ (f : List ℕ) (want : Kind) where
   -- all that is refused is true of the file
@@ -34,41 +43,103 @@ module _ (f : List ℕ) (want : Kind) where
       (λ _. refusing_none (IsTrueOfLink f want) (the_block f at kind))
       (λ none. refusing_one (IsTrueOfLink f want) (Bad at kind) (linked, not_block f at kind none)))
 
-  -- a block that was reached
-  one_less_true : (at left : ℕ) (kind : Kind) → IsLinkedKind want kind → IsBlock f at kind → Honest (one_less at left)
+  -- a block that was reached, where the limit is passed there if no more may come
+  one_less_true : (at left : ℕ) (kind : Kind) → IsLinkedKind want kind → IsBlock f at kind → (left ≡ 0 → IsListedBehind f most_blocks at)
+      → Honest (one_less at left)
   unfolding one_less
-  one_less_true at left kind linked there =
+  one_less_true at left kind linked there past =
       refusing_if (IsTrueOfLink f want) (nat_eq left 0) _ _
-      (λ _. refusing_one (IsTrueOfLink f want) (TooMany whats.Block at) (kind, linked, there))
+      (λ none. refusing_one (IsTrueOfLink f want) (TooMany whats.Block at) (kind, linked, there, past (eqb-true left 0 none)))
       (λ _. refusing_none (IsTrueOfLink f want) _)
 
   -- a list past the count
-  full_true : {A : Type 0} (at : ℕ) → Honest (full {A = A} whats.Block Dl f at)
+  full_true : {A : Type 0} (at : ℕ) → (IsBlock f at Dl → IsListedBehind f most_blocks at) → Honest (full {A = A} whats.Block Dl f at)
   unfolding full
-  full_true at =
+  full_true at past =
       refusing_then (IsTrueOfLink f want) (block f at Dl) (λ _. Err (TooMany whats.Block at)) (linked_true at Dl (inr refl))
-      (λ b found. refusing_one (IsTrueOfLink f want) (TooMany whats.Block at) (Dl, inr refl, (block_found f at Dl b found).0))
+      (λ b found.
+      let here = block_found f at Dl b found in
+      refusing_one (IsTrueOfLink f want) (TooMany whats.Block at) (Dl, inr refl, here.0, past here.0))
 
-  block_of_data_true : (at left : ℕ) → Honest (data_block f want at left)
+  block_of_data_true : (at left : ℕ) → (left ≡ 0 → IsListedBehind f most_blocks at) → Honest (data_block f want at left)
   unfolding data_block
-  block_of_data_true at left =
+  block_of_data_true at left past =
       refusing_then (IsTrueOfLink f want) (block f at want) _ (linked_true at want (inl refl)) (λ b found.
-      refusing_then (IsTrueOfLink f want) (one_less at left) _ (one_less_true at left want (inl refl) (block_found f at want b found).0)
+      refusing_then (IsTrueOfLink f want) (one_less at left) _ (one_less_true at left want (inl refl) (block_found f at want b found).0 past)
       (λ less _. refusing_none (IsTrueOfLink f want) _))
 
-  list_true : (at left : ℕ) → Honest (data_list f want at left)
+  -- so many blocks were counted before a list, and so many more may come
+  abbrev Counted : ℕ → List ℕ → ℕ → Type 0
+  Counted before lists after = after + sum_by (links_at f) lists ≡ before
+
+  -- a list that is counted where no more may come
+  itself : (first : ℕ) (lists : List ℕ) (at left : ℕ) → AreAlong f Dl first lists at → Counted most_blocks lists left → IsBlock f at Dl → left ≡ 0
+      → IsListedBehind f most_blocks at
+  itself first lists at left along counted there none = record {
+    first = first;
+    lists = lists;
+    list = at;
+    k = 0;
+    along = along;
+    block = there;
+    is = inl (refl, refl);
+    many = omega (arith, none, counted);
+  }
+
+  -- as many lists as blocks may come leave none
+  none_left : (most count links left : ℕ) → count ≡ most → count ≤ links → left + links ≡ most → left ≡ 0
+  none_left most count links left many below counted = omega (arith, many, below, counted)
+
+  lists_go_along : GoesAlong f Dl (data_list f want)
+  lists_go_along = record {
+    there = λ at left x next rest is. let found = list_found f want at left (x, next, rest) is in (found.there, found.next);
+  }
+
+  lists_count : (at left : ℕ) (x : List Part) (next rest : ℕ) (lists : List ℕ) (last : ℕ) → data_list f want at left ≡ Ok (x, next, rest)
+      → Counted rest lists last → Counted left (at ∷ lists) last
+  lists_count at left x next rest lists last is behind =
+      omega (arith, list_counts f want at left (x, next, rest) is, behind, sum_by-cons (links_at f) at lists)
+
+  -- the blocks that a list names
+  named_true : (first : ℕ) (lists : List ℕ) (at left less : ℕ) → AreAlong f Dl first lists at → Counted most_blocks lists left → IsBlock f at Dl
+      → less + 1 ≡ left → Honest (each (named_block f want at) 1 (links_at f at - 1) less)
+  named_true first lists at left less along counted there one =
+      refusing_range (IsTrueOfLink f want) (named_block f want at) (λ k rest. rest + k ≡ left)
+      (λ k before x rest found known. omega (arith, known, block_counts f want (link_at f at k) before (x, rest) found))
+      1 (links_at f at - 1) less one
+      (λ k rest after within known. block_of_data_true (link_at f at k) rest (λ none. record {
+        first = first;
+        lists = lists;
+        list = at;
+        k = k;
+        along = along;
+        block = there;
+        is = inr (after, omega (arith, after, within), refl);
+        many = omega (arith, none, known, counted);
+      }))
+
+  list_true : (first : ℕ) (lists : List ℕ) (at left : ℕ) → AreAlong f Dl first lists at → Counted most_blocks lists left
+      → Honest (data_list f want at left)
   unfolding data_list
-  list_true at left =
+  list_true first lists at left along counted =
       refusing_then (IsTrueOfLink f want) (block f at Dl) _ (linked_true at Dl (inr refl)) (λ b found.
-      refusing_then (IsTrueOfLink f want) (one_less at left) _ (one_less_true at left Dl (inr refl) (block_found f at Dl b found).0) (λ less _.
+      let here = block_found f at Dl b found in
+      refusing_then (IsTrueOfLink f want) (one_less at left) _
+      (one_less_true at left Dl (inr refl) here.0 (λ none. itself first lists at left along counted here.0 none)) (λ less is_less.
       refusing_then (IsTrueOfLink f want) (each (named_block f want b.at) 1 (b.links - 1) less) _
-      (refusing_each (IsTrueOfLink f want) (named_block f want b.at) (λ k rest. block_of_data_true (link_at f b.at k) rest) 1 (b.links - 1) less)
+      (subst (λ (c : BlockAt). Honest (each (named_block f want c.at) 1 (c.links - 1) less)) (sym here.1)
+      (named_true first lists at left less along counted here.0 (one_less_counts at left less is_less)))
       (λ parts _. refusing_none (IsTrueOfLink f want) _)))
 
   pub listed_true : (at : ℕ) → Honest (listed_parts f want at)
   listed_true at =
       refusing_then (IsTrueOfLink f want) (data_lists f want at) _
-      (refusing_chain (IsTrueOfLink f want) (data_list f want) (full whats.Block Dl f) list_true (λ place. full_true place) most_blocks at most_blocks)
+      (refusing_behind (IsTrueOfLink f want) f Dl (data_list f want) (full whats.Block Dl f) lists_go_along Counted
+      (λ left. omega arith) lists_count most_blocks at most_blocks
+      (λ lists list left along counted. list_true at lists list left along counted)
+      (λ lists list left along counted many. full_true list (λ there.
+      itself at lists list left along counted there
+      (none_left most_blocks (length lists) (sum_by (links_at f) lists) left many (lists_below_links f at lists list along) counted))))
       (λ lists _. refusing_none (IsTrueOfLink f want) _)
 
   pub one_true : (at : ℕ) → Honest (one_part f want at)
@@ -102,7 +173,7 @@ module _ (f : List ℕ) (want : Kind) (data_kind : (want ≡ Dt) ⊎ (want ≡ S
   turned : (refusal : Refusal) → IsTrueOfLink f want refusal → IsTrueOf f refusal
   turned (Bad at kind) is = linked_lacks f at want kind data_kind is.0 is.1
   turned (Compressed at) is = (is.0, is.2)
-  turned (TooMany whats.Block at) is = linked_counted f at want is.0 data_kind is.1 is.2
+  turned (TooMany whats.Block at) is = (linked_counted f at want is.0 data_kind is.1 is.2, is.3)
   turned _ is = absurd is
 
   pub data_true : (at : ℕ) → Refusing (IsTrueOf f) (data_parts f want at)

@@ -8,19 +8,21 @@ use Rattle.mdf_num.specs.declared.halt.Halt.TheVariants as halts
 use Rattle.mdf_block.specs.declared.what.What.TheVariants as whats
 use Rattle.mdf_block.specs.Refusal.{Refusal, Bad, Compressed, TooMany}
 use Rattle.mdf_block.specs.Block.{IsCompressed}
+use Rattle.mdf_block.specs.Limit.{IsListedBehind}
 use Rattle.mdf_stream.specs.declared.fault.DataFault.{DataFault}
-use Rattle.mdf_stream.specs.Link.{data_refusal}
+use Rattle.mdf_stream.specs.Link.{data_refusal, most_blocks}
 
 -- a block that a data link leads to is of the kind that is wanted, or a DLBLOCK
 abbrev pub IsLinkedKind : Kind → Kind → Type 0
 IsLinkedKind want kind = (kind ≡ want) ⊎ (kind ≡ Dl)
 
 -- the refusal is true of the file: no block of such a kind stands whole at the address, or compressed data is named there,
--- or one block more stands there
+-- or one block more stands there, behind as many as a data link may lead to
 abbrev pub IsTrueOfLink : List ℕ → Kind → Refusal → Type 0
 IsTrueOfLink file want (Bad at kind) = IsLinkedKind want kind × (¬ IsBlock file at kind)
 IsTrueOfLink file want (Compressed at) = (kind : Kind) × IsLinkedKind want kind × IsCompressed file at kind
-IsTrueOfLink file want (TooMany whats.Block at) = (kind : Kind) × IsLinkedKind want kind × IsBlock file at kind
+IsTrueOfLink file want (TooMany whats.Block at) =
+    (kind : Kind) × IsLinkedKind want kind × IsBlock file at kind × IsListedBehind file most_blocks at
 IsTrueOfLink file want _ = ⊥
 
 -- what a reader over a span refuses has the property
