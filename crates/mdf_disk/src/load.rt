@@ -1,4 +1,4 @@
-ghost use Rattle.std.specs.Prelude.{◌≡◌, ◌≤◌, ◌<◌, true, IfSome, IfOk, IfErr, length};
+ghost use Rattle.std.specs.Prelude.{◌≡◌, ◌≤◌, ◌<◌, true, IfSome, IfOk, IfErr, OnOk, length};
 ghost use Rattle.mdf_disk.specs.declared.load.LoadFault.TheVariants.{Failed as DeviceFailed, Memory as NoMemory};
 ghost use Rattle.mdf_disk.specs.Load.{LoadCause};
 
@@ -47,6 +47,7 @@ pub fn read_whole<D: Disk>(alloc: Global, disk: &mut D, limit: u64) -> Result<By
     ensures bytes { IfOk result (λ bytes. IfSome (D.content disk.old) (λ file. bytes ≡ file)) }
     ensures short { IfOk result (λ bytes. length bytes ≤ limit) }
     ensures cause { IfErr result (LoadCause (D.content disk.old) (D.faults disk.old) (D.faults disk.new) limit) }
+    ensures calm { OnOk result (D.faults disk.new ≡ D.faults disk.old) }
     ensures later { D.faults disk.old ≤ D.faults disk.new }
     ensures asked { D.asked disk.new ≡ D.asked disk.old }
     ensures attached { D.attached disk.new ≡ D.attached disk.old }
