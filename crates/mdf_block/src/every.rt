@@ -41,6 +41,9 @@ pub trait Visit {
     /// What is known of what is read of a file that is told.
     ghost gives: { Self → Self.Found → Type 0 } = { λ _ _. Unit {0} };
 
+    /// What is known of what is read of any file of so many bytes.
+    ghost keeps: { Self → ℕ → Self.Found → Type 0 } = { λ _ _ _. Unit {0} };
+
     /// What is read for item `k`, where something is, and what is carried on.
     fn item_in<P: Span>(
         &self,
@@ -55,6 +58,7 @@ pub trait Visit {
         requires admitted { admits self.now k item.now }
         ensures found { (f : List ℕ) → P.bytes span.old ≡ Some f → Gives refusal result (read self.now f k item.now state) }
         ensures given { (f : List ℕ) → P.bytes span.old ≡ Some f → IfOk result (λ found. IfSome found.0 (gives self.now)) }
+        ensures kept { IfOk result (λ found. IfSome found.0 (keeps self.now (P.size span.old))) }
         ensures plain { IfErr result (IsPlain refusal) }
         ensures same { P.bytes span.new ≡ P.bytes span.old }
         ensures size { P.size span.new ≡ P.size span.old }
@@ -87,6 +91,7 @@ pub fn every_in<V: Visit, P: Span>(
     requires admitted { AllByNumber (V.admits visit.now) items.now }
     ensures found { (f : List ℕ) → P.bytes span.old ≡ Some f → Gives V.refusal result (every (V.read visit.now f) 0 items.now start) }
     ensures given { (f : List ℕ) → P.bytes span.old ≡ Some f → IfOk result (λ found. AllByRecursion (V.gives visit.now) found.0) }
+    ensures kept { IfOk result (λ found. AllByRecursion (V.keeps visit.now (P.size span.old)) found.0) }
     ensures plain { IfErr result (IsPlain V.refusal) }
     ensures same { P.bytes span.new ≡ P.bytes span.old }
     ensures size { P.size span.new ≡ P.size span.old }

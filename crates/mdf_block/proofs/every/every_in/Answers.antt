@@ -1,4 +1,5 @@
-use Rattle.std.proofs.Common.{sym, ◌∙◌, arith}
+use Rattle.std.proofs.Common.{ℕ, subst, sym, ◌∙◌, arith}
+use Rattle.std.specs.Prelude.{IfSome}
 use Rattle.std.proofs.lemmas.Result.{err_from_is_err_and}
 use Rattle.mdf_block.proofs.Everys.{is_done, goes_on, ends, all_and}
 use Rattle.mdf_block.proofs.every.every_in.Goals as goal
@@ -29,6 +30,10 @@ loop-k-preserved g c = record {
   given = λ f told. rw c.in_ok-push_some.ensures (
       all_and (g.V.Visit.gives c.args.visit.now) c.loop-k.all c.in_ok-found.found (c.loop-k.invariant.given f told)
       (c.in_ok-found.ensures.given f (c.loop-k.invariant.same ∙ told))
+      );
+  kept = rw c.in_ok-push_some.ensures (
+      all_and (g.V.Visit.keeps c.args.visit.now (g.P.Span.size c.args.span.now)) c.loop-k.all c.in_ok-found.found c.loop-k.invariant.kept
+      (subst (λ (n : ℕ). IfSome c.in_ok-found.found (g.V.Visit.keeps c.args.visit.now n)) c.loop-k.invariant.size c.in_ok-found.ensures.kept)
       );
   same = c.in_ok-found.ensures.same ∙ c.loop-k.invariant.same;
   size = c.in_ok-found.ensures.size ∙ c.loop-k.invariant.size;
