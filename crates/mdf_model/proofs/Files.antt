@@ -17,7 +17,8 @@ use Rattle.mdf_block.specs.Text.{note}
 use Rattle.mdf_block.specs.Chain.{full}
 use Rattle.mdf_block.specs.Truth.{IsTrueOf}
 use Rattle.mdf_block.proofs.Refusals.{bind_ok}
-use Rattle.mdf_block.proofs.Truths.{Refusing, refusing_none, refusing_one, refusing_then, refusing_if, refusing_as, refusing_chain, block_true, full_true, note_true}
+use Rattle.mdf_block.proofs.Chains.{goes_along}
+use Rattle.mdf_block.proofs.Truths.{Refusing, refusing_none, refusing_one, refusing_then, refusing_if, refusing_as, refusing_past, block_true, full_true, note_true}
 use Rattle.mdf_stream.specs.declared.part.Part.{Part}
 use Rattle.mdf_stream.specs.Parts.{stream_of, stream_size}
 use Rattle.mdf_stream.specs.Link.{data_parts}
@@ -26,6 +27,8 @@ use Rattle.mdf_stream.proofs.Streams.{stream_found}
 use Rattle.mdf_head.specs.declared.identity.Ident.{Ident}
 use Rattle.mdf_head.specs.Ident.{is_finalized, is_mdf, has_read_version, the_ident, identify}
 use Rattle.mdf_head.specs.Head.{history, histories, header, head}
+use Rattle.mdf_head.specs.declared.entry.History.{History}
+use Rattle.mdf_head.proofs.Heads.{follows}
 use Rattle.mdf_group.specs.declared.row.DataRow.{DataRow}
 use Rattle.mdf_group.specs.Group.{groups}
 use Rattle.mdf_group.proofs.Truths.{rows_true}
@@ -48,7 +51,7 @@ use Rattle.mdf_model.proofs.Picks.{all_there}
 use Rattle.mdf_model.proofs.Walks.{refusing_every}
 use Rattle.mdf_model.proofs.Truths.{link_true, layouts_true, places_true}
 use Rattle.mdf_model.proofs.Counted.{next_is, counts_true, all_true}
-use Rattle.mdf_model.proofs.Wholes.{identified, IsTree, tree_found}
+use Rattle.mdf_model.proofs.Wholes.{identified, mdf_is, IsTree, tree_found}
 use Rattle.mdf_model.proofs.Cases.{ok_injective}
 
 -- a data group
@@ -110,20 +113,23 @@ identify_true f =
     refusing_if (IsTrueOf f) (is_mdf f) _ (Err NotMdf)
     (λ mdf. refusing_if (IsTrueOf f) (has_read_version f) (Ok (the_ident f)) (Err (Version (version_of f)))
     (λ _. refusing_none (IsTrueOf f) (the_ident f))
-    (λ other. refusing_one (IsTrueOf f) (Version (version_of f)) (refl, λ is. both_ways (has_read_version f) other (version_is_true f is))))
+    (λ other. refusing_one (IsTrueOf f) (Version (version_of f))
+    (refl, (λ is. both_ways (has_read_version f) other (version_is_true f is)), mdf_is f mdf)))
     (λ none. refusing_one (IsTrueOf f) NotMdf (λ is. both_ways (is_mdf f) none (mdf_is_true f is)))
 
 finalized_true : (f : List ℕ) → Refusing (IsTrueOf f) (finalized f)
 unfolding finalized
 finalized_true f =
     refusing_then (IsTrueOf f) (identify f) finalized_by (identify_true f) (λ id is.
-    let same = (identified f id is).says in
+    let known = identified f id is in
+    let same = known.says in
     refusing_if (IsTrueOf f) id.finalized (Ok id) (Err (Unfinalized id.std_flags id.custom_flags)) (λ _. refusing_none (IsTrueOf f) id)
     (λ left_open. refusing_one (IsTrueOf f) (Unfinalized id.std_flags id.custom_flags) (
       ap (λ (i : Ident). i.std_flags) (sym same),
       ap (λ (i : Ident). i.custom_flags) (sym same),
       λ closed. both_ways (is_finalized f) (ap (λ (i : Ident). i.finalized) same ∙ left_open)
           ((bytes_eq-Decides (bytes_at 8 f 0) (codes "MDF     ")).1 closed),
+      (known.mdf, known.version),
     )))
 
 -- the tree
@@ -144,7 +150,9 @@ unfolding head
 head_true f left =
     refusing_then (IsTrueOf f) (header f left) _ (header_true f left) (λ first _.
     refusing_then (IsTrueOf f) (histories f first.1 first.2) _
-    (refusing_chain (IsTrueOf f) (history f) (full whats.Fh Fh f) (entry_true f) (λ at. full_true whats.Fh f Fh at (λ none. none) (λ is. is)) 65535 first.1 first.2)
+    (refusing_past (IsTrueOf f) f Fh (history f) (full whats.Fh Fh f)
+    (goes_along f Fh (λ (entry : History). entry.at) (history f) (follows f)) (entry_true f) 65535 first.1
+    (λ at before. full_true whats.Fh f Fh at (λ none. none) (λ is. is) (first.1, before)) first.2)
     (λ entries _. refusing_none (IsTrueOf f) _))
 
 tree_true : (f : List ℕ) → Refusing (IsTrueOf f) (tree f)

@@ -46,7 +46,7 @@ pub record IsIdentified (f : List ℕ) (id : Ident) : Type 0 where
   pub version : HasReadVersion f
   pub says : the_ident f ≡ id
 
-mdf_is : (f : List ℕ) → is_mdf f ≡ true → IsMdf f
+pub mdf_is : (f : List ℕ) → is_mdf f ≡ true → IsMdf f
 mdf_is f is =
     let parts = and_parts _ _ is in record {
       long = leb-true _ _ parts.0;
