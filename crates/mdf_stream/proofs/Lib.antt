@@ -1,4 +1,5 @@
 mod Counts
+mod Firsts
 pub mod Joins
 pub mod Links
 pub mod Moves

@@ -71,3 +71,7 @@ one_part file want at = block file at want >>= λ b. Ok (part_of b ∷ [])
 unfoldable pub data_parts : List ℕ → Kind → ℕ → Read (List Part)
 data_parts file want at =
     if nat_eq at 0 then Ok [] else (if is_named file at Dl then listed_parts file want at else one_part file want at)
+
+-- the kind of the block that a data link names: a DLBLOCK where `##DL` stands, else a block of the kind that is wanted
+abbrev pub first_kind : List ℕ → Kind → ℕ → Kind
+first_kind file want at = if is_named file at Dl then Dl else want

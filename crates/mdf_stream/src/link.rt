@@ -1,10 +1,11 @@
-ghost use Rattle.std.specs.Prelude.{◌≡◌, ◌+◌, ◌-◌, ◌^◌, ◌<◌, ◌↔◌, ◌++◌, ◌∷◌, [], ℕ, List, Some, length, true, IsTrue, IfOk, IfErr, IfSome, OnOk};
+ghost use Rattle.std.specs.Prelude.{◌≡◌, ◌≢◌, ◌+◌, ◌-◌, ◌^◌, ◌<◌, ◌↔◌, ◌++◌, ◌∷◌, [], ℕ, List, Some, Ok, length, true, IsTrue, IfOk, IfErr, IfSome, IfNone, OnOk};
+ghost use Rattle.mdf_format.specs.declared.kind.Kind.TheVariants.{Dl};
 ghost use Rattle.mdf_num.specs.Halt.{HaltCause};
-ghost use Rattle.mdf_block.specs.Refusal.{Gives, GivesOf, IsPlain};
+ghost use Rattle.mdf_block.specs.Refusal.{Gives, GivesOf, HidesNone, IsPlain};
 ghost use Rattle.mdf_block.specs.Block.{block, IsInside, IsFilled};
 ghost use Rattle.mdf_block.specs.Each.{each};
 ghost use Rattle.mdf_stream.specs.Parts.{IsPartInside, ArePartsInside, stream_of, stream_size};
-ghost use Rattle.mdf_stream.specs.Link.{data_refusal, data_block, named_block, listed_parts, one_part, data_parts, part_of, joined};
+ghost use Rattle.mdf_stream.specs.Link.{data_refusal, data_block, named_block, listed_parts, one_part, data_parts, part_of, joined, first_kind};
 ghost use Rattle.mdf_stream.specs.Truth.{IsTrueOfLink, IfFault};
 ghost use Rattle.mdf_stream.specs.Stream.{IsStream};
 
@@ -206,20 +207,24 @@ fn view_of(alloc: Global, lists: &[Rows<Part>]) -> Result<DataView, Memory>
     Ok(view)
 }
 
-/// The blocks of data that the DLBLOCKs from `at` on list, as one view.
+/// The blocks of data that the DLBLOCKs from `at` on list, as one view. The first of them is looked at before any memory is
+/// taken.
 fn listed_in<P: Span>(
     alloc: Global,
     span: &mut P,
     at: u64,
     want: Kind,
 ) -> Result<DataView, Halt<DataFault>>
+    requires some { at ≢ 0 }
     ensures found { (f : List ℕ) → P.bytes span.old ≡ Some f → Gives data_refusal result (listed_parts f want at) }
+    ensures first { (f : List ℕ) → P.bytes span.old ≡ Some f → HidesNone P.may_want result (block f at Dl) }
     ensures plain { IfErr result (IsPlain data_refusal) }
     ensures inside { IfOk result (ArePartsInside (P.size span.old)) }
     ensures same { P.bytes span.new ≡ P.bytes span.old }
     ensures size { P.size span.new ≡ P.size span.old }
     ensures cause { HaltCause true (P.faults span.old) (P.faults span.new) result }
 {
+    block_of(span, at, Kind::Dl)?;
     let (lists, _, _) = chain_in(alloc, &Lists { want }, span, at, MOST_BLOCKS, MOST_BLOCKS)?;
     let view = view_of(alloc, lists.as_slice())?;
     Ok(view)
@@ -233,6 +238,7 @@ fn one_in<P: Span>(
     want: Kind,
 ) -> Result<DataView, Halt<DataFault>>
     ensures found { (f : List ℕ) → P.bytes span.old ≡ Some f → Gives data_refusal result (one_part f want at) }
+    ensures first { (f : List ℕ) → P.bytes span.old ≡ Some f → HidesNone P.may_want result (block f at want) }
     ensures plain { IfErr result (IsPlain data_refusal) }
     ensures inside { IfOk result (ArePartsInside (P.size span.old)) }
     ensures same { P.bytes span.new ≡ P.bytes span.old }
@@ -250,7 +256,8 @@ fn one_in<P: Span>(
 /// over.
 ///
 /// # Errors
-/// As `view_data`, and the span's own. The span is as before in what it tells.
+/// As `view_data`, and the span's own. The span is as before in what it tells. Want of memory is told only where the block
+/// that the link names stands.
 #[tactic(auto, unfolding(crate::specs::Link::data_parts))]
 pub fn view_data_in<P: Span>(
     alloc: Global,
@@ -259,6 +266,7 @@ pub fn view_data_in<P: Span>(
     want: Kind,
 ) -> Result<DataView, Halt<DataFault>>
     ensures found { (f : List ℕ) → P.bytes span.old ≡ Some f → Gives data_refusal result (data_parts f want at) }
+    ensures first { (f : List ℕ) → P.bytes span.old ≡ Some f → HidesNone P.may_want result (block f at (first_kind f want at)) }
     ensures refused { (f : List ℕ) → P.bytes span.old ≡ Some f → IfErr result (IfFault (IsTrueOfLink f want)) }
     ensures plain { IfErr result (IsPlain data_refusal) }
     ensures inside { IfOk result (ArePartsInside (P.size span.old)) }
@@ -285,6 +293,7 @@ pub fn view_data_in<P: Span>(
 /// `TooMany` at the block past 1,048,576; and `Memory`.
 pub fn view_data(alloc: Global, bytes: &[u8], at: u64, want: Kind) -> Result<DataView, DataFault>
     ensures exact { GivesOf data_refusal result (data_parts bytes.now want at) }
+    ensures first { IfErr result (λ fault. IfNone (data_refusal fault) ((b : BlockAt) × (block bytes.now at (first_kind bytes.now want at) ≡ Ok b))) }
     ensures stream { IfOk result (λ view. IsStream bytes.now at want (stream_of bytes.now view)) }
     ensures refused { IfErr result (λ fault. IfSome (data_refusal fault) (IsTrueOfLink bytes.now want)) }
     ensures inside { IfOk result (ArePartsInside (length bytes.now)) }
