@@ -21,11 +21,15 @@ pub record IsOver (disk : DiskState) (size limit : ℕ) : Type 0 where
   pub over : limit < size
   pub told : IfSome disk.content (λ file. size ≡ length file)
 
+-- the disk did not fail
+abbrev pub IsCalm : DiskState → DiskState → Type 0
+IsCalm old new = new.faults ≡ old.faults
+
 -- Memory was wanted for the name of the file, or for its bytes. So it stands for no disk that failed, and for no file that is too
 -- long.
 abbrev pub LoadWants : DiskState → DiskState → Type 0
 LoadWants old new =
-    (new ≡ old) ⊎ ((new.attached ≡ true) × IfSome old.content (λ file. length file ≤ INPUT_LIMIT) × (new.faults ≡ old.faults))
+    (new ≡ old) ⊎ ((new.attached ≡ true) × IfSome old.content (λ file. length file ≤ INPUT_LIMIT) × IsCalm old new)
 
 -- The input could not be loaded only where this holds of its disk before and after.
 abbrev pub LoadFaultComes : DiskState → DiskState → Fault → Type 0

@@ -1,7 +1,7 @@
-ghost use Rattle.std.specs.Prelude.{◌≡◌, ◌⊎◌, Some, None, true, IsOk};
+ghost use Rattle.std.specs.Prelude.{◌≡◌, ◌⊎◌, Some, None, true, IsOk, OnOk};
 ghost use Rattle.mdf_disk.specs.State.{state_of};
 ghost use Rattle.mdf_disk.specs.declared.role.Role.TheVariants.{Read};
-ghost use Rattle.mdf_command.specs.Load.{LoadComes};
+ghost use Rattle.mdf_command.specs.Load.{IsCalm, LoadComes};
 
 use crate::fault::Fault;
 use mdf_disk::{Disk, Role, read_whole};
@@ -20,6 +20,7 @@ pub fn load<A: Disk>(alloc: Global, input: &Bytes, first: &mut A) -> Result<Byte
     requires { A.asked first.old ≡ None }
     ensures comes { LoadComes (state_of A.Disk first.old) (state_of A.Disk first.new) result }
     ensures attached { IsOk result → A.attached first.new ≡ true }
+    ensures calm { OnOk result (IsCalm (state_of A.Disk first.old) (state_of A.Disk first.new)) }
     ensures asked { (A.asked first.new ≡ None) ⊎ (A.asked first.new ≡ Some (input.now, Read)) }
     ensures content { A.content first.new ≡ A.content first.old }
     ensures untouched { A.asked first.new ≡ None → first.new ≡ first.old }
