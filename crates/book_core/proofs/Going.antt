@@ -1,14 +1,15 @@
 -- What a book keeps, event by event, and over many.
 use Rattle.std.proofs.Common.{ℕ, ◌≡◌, ◌∙◌, sym, ap, subst, ◌≤◌, true, List, [], ◌∷◌, ◌++◌, length, refl, arith, append_assoc, append-nil, length-append}
-use Rattle.std.specs.Prelude.{◌&&◌, nat_le}
+use Rattle.std.specs.Prelude.{Bool, false, ◌&&◌, not, nat_le}
 use mathlib.Core.List.{IsPrefix, prefix-append}
-use Rattle.std.proofs.lemmas.Bool.{cond_both, false≢true, leb-true, and_parts}
+use Rattle.std.proofs.lemmas.Bool.{cond_both, cond-true, false≢true, leb-true, and_parts}
+use Rattle.std.proofs.lemmas.Bool.Decides.{nat_tests}
 use Rattle.std.proofs.lemmas.List.Sums.{fold-append}
 use Rattle.mdf_layout.specs.declared.sample.Sample.{Sample}
-use Rattle.book_core.specs.Machine.{BookState, IsOrdered, begun, accepted, flushed, published, after, after_all}
+use Rattle.book_core.specs.Machine.{BookState, IsOrdered, begun, accepted, flushed, flushed_to, published, after, after_all}
 use Rattle.book_core.specs.Law.{GoesOn, IsHeld}
 use Rattle.book_core.specs.declared.event.Event.{Event}
-use Rattle.book_core.specs.declared.event.Event.TheVariants.{Accept, Refuse, FlushDone, FlushFailed, Publish}
+use Rattle.book_core.specs.declared.event.Event.TheVariants.{Accept, Refuse, FlushTo, FlushDone, FlushFailed, Publish}
 
 -- a book in order that goes on to another in order
 pub record Goes (book later : BookState) : Type 0 where
@@ -31,11 +32,20 @@ goes_accepted book sample ordered = record {
   on = record { history = prefix-append book.history (sample ∷ []); durable = omega arith; shown = omega arith; stopped = λ is. is };
 }
 
-goes_flushed : (book : BookState) → IsOrdered book → Goes book (flushed book (length book.history))
-goes_flushed book ordered = record {
-  ordered = record { shown = omega (arith, ordered.shown, ordered.durable); durable = omega arith };
-  on = record { history = whole book.history; durable = ordered.durable; shown = omega arith; stopped = λ is. is };
+goes_flushed : (book : BookState) (count : ℕ) → IsOrdered book → book.durable ≤ count → count ≤ length book.history → Goes book (flushed book count)
+goes_flushed book count ordered more few = record {
+  ordered = record { shown = omega (arith, ordered.shown, more); durable = few };
+  on = record { history = whole book.history; durable = more; shown = omega arith; stopped = λ is. is };
 }
+
+goes_flushed_to : (book : BookState) (count : ℕ) → IsOrdered book → Goes book (flushed_to book count)
+goes_flushed_to book count ordered =
+    let may = not book.stopped && nat_le book.durable count in
+    cond_both (may && nat_le count (length book.history)) (flushed book count) book (Goes book)
+    (λ all. let parts = and_parts may (nat_le count (length book.history)) all in
+    goes_flushed book count ordered (leb-true book.durable count (and_parts (not book.stopped) (nat_le book.durable count) parts.0).1)
+    (leb-true count (length book.history) parts.1))
+    (λ _. goes_same book ordered)
 
 goes_published : (book : BookState) (count : ℕ) → IsOrdered book → book.shown ≤ count → count ≤ book.durable → Goes book (published book count)
 goes_published book count ordered more few = record {
@@ -46,7 +56,9 @@ goes_published book count ordered more few = record {
 pub goes_one : (book : BookState) (event : Event) → IsOrdered book → Goes book (after book event)
 goes_one book (Accept sample) ordered = cond_both book.stopped book (accepted book sample) (Goes book) (λ _. goes_same book ordered) (λ _. goes_accepted book sample ordered)
 goes_one book Refuse ordered = goes_same book ordered
-goes_one book FlushDone ordered = cond_both book.stopped book (flushed book (length book.history)) (Goes book) (λ _. goes_same book ordered) (λ _. goes_flushed book ordered)
+goes_one book (FlushTo count) ordered = goes_flushed_to book count ordered
+goes_one book FlushDone ordered = cond_both book.stopped book (flushed book (length book.history)) (Goes book) (λ _. goes_same book ordered)
+    (λ _. goes_flushed book (length book.history) ordered ordered.durable (omega arith))
 goes_one book FlushFailed ordered = record {
   ordered = record { shown = ordered.shown; durable = ordered.durable };
   on = record { history = whole book.history; durable = omega arith; shown = omega arith; stopped = λ _. refl };
@@ -80,6 +92,11 @@ held_same book is = record { history = refl; durable = refl; stopped = is }
 held_one : (book : BookState) (event : Event) → book.stopped ≡ true → IsHeld book (after book event)
 held_one book (Accept sample) is = cond_both book.stopped book (accepted book sample) (IsHeld book) (λ _. held_same book is) (λ no. absurd (false≢true (sym no ∙ is)))
 held_one book Refuse is = held_same book is
+held_one book (FlushTo count) is =
+    let may = not book.stopped && nat_le book.durable count in
+    cond_both (may && nat_le count (length book.history)) (flushed book count) book (IsHeld book)
+    (λ all. let going = (and_parts (not book.stopped) (nat_le book.durable count) (and_parts may (nat_le count (length book.history)) all).0).0 in
+    absurd (false≢true (ap not (sym is) ∙ going))) (λ _. held_same book is)
 held_one book FlushDone is = cond_both book.stopped book (flushed book (length book.history)) (IsHeld book) (λ _. held_same book is) (λ no. absurd (false≢true (sym no ∙ is)))
 held_one book FlushFailed is = record { history = refl; durable = refl; stopped = refl }
 held_one book (Publish count) is = cond_both (nat_le book.shown count && nat_le count book.durable) (published book count) book (IsHeld book)
@@ -107,3 +124,19 @@ pub held_begun : (events more : List Event) → IsHeld (after_all begun events) 
 held_begun events more = subst (IsHeld (after_all begun events)) (sym (fold-append after begun events (FlushFailed ∷ more)))
     (let rest = held_all (after (after_all begun events) FlushFailed) more refl in
     record { history = rest.history; durable = rest.durable; stopped = rest.stopped })
+
+-- all samples become durable where so many do as there are
+whole_flushed : (history : List Sample) (through shown : ℕ) (stopped : Bool) → through ≤ length history
+    → after (record { history = history; durable = through; shown = shown; stopped = stopped }) FlushDone
+    ≡ after (record { history = history; durable = through; shown = shown; stopped = stopped }) (FlushTo (length history))
+whole_flushed history through shown true within = refl
+whole_flushed history through shown false within =
+    let count = length history in
+    let may : (nat_le through count && nat_le count count) ≡ true = grind (arith, nat_tests) in
+    let book : BookState = record { history = history; durable = through; shown = shown; stopped = false } in
+    sym (cond-true (nat_le through count && nat_le count count) (flushed book count) book may)
+
+pub whole_begun : (events : List Event) → after (after_all begun events) FlushDone ≡ after (after_all begun events) (FlushTo (length (after_all begun events).history))
+whole_begun events =
+    let book = after_all begun events in
+    whole_flushed book.history book.durable book.shown book.stopped (ordered_all events).durable

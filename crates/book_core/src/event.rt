@@ -7,6 +7,8 @@ pub enum Event {
     Accept(Sample),
     /// A call is refused. Nothing changes.
     Refuse,
+    /// So many samples become durable, where the book is not stopped, no more are accepted and no more were durable before.
+    FlushTo(u64),
     /// All accepted samples become durable, where the book is not stopped.
     FlushDone,
     /// The disk failed: the book is stopped from now on.

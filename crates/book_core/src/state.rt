@@ -84,6 +84,10 @@ pub fn step(state: &mut State, event: Event)
 {
     match event {
         Event::Accept(sample) if !state.stopped => state.history.put(sample),
+        Event::FlushTo(count)
+            if !state.stopped && state.durable <= count && count <= state.history.len() => {
+            state.durable = count
+        }
         Event::FlushDone if !state.stopped => state.durable = state.history.len(),
         Event::FlushFailed => state.stopped = true,
         Event::Publish(count) if state.shown <= count && count <= state.durable => {
