@@ -1,5 +1,5 @@
 -- What an append and a flush did before they answered.
-use Rattle.std.proofs.Common.{◌≡◌, ◌+◌, ◌<◌, ◌≤◌, ℕ, false, List, [], ◌∷◌, ◌++◌, length, take, drop, sym, ◌∙◌, ap, subst, inl, inr, ⊎_elim, arith}
+use Rattle.std.proofs.Common.{◌≡◌, ◌+◌, ◌<◌, ◌≤◌, ℕ, false, [], ◌∷◌, ◌++◌, length, take, drop, sym, ◌∙◌, ap, subst, inl, inr, ⊎_elim, arith}
 use Rattle.mdf_layout.specs.Record.{encoded_size}
 use Rattle.mdf_layout.specs.Behind.{AreEncodingsBehind}
 use Rattle.mdf_layout.specs.declared.sample.Sample.{Sample}
@@ -7,10 +7,10 @@ use Rattle.mdf_gate.specs.Gated.{Gated}
 use Rattle.book_owned.specs.Members.{DiskOf, ViewOf}
 use Rattle.book_owned.specs.Marks.{durable}
 use Rattle.book_owned.specs.Answers.{AddsMark, FlushAnswers, MarksAll, PassesBlock, ShowsAll, Turns}
-use Rattle.book_owned.specs.Kept.{IsShowing}
+use Rattle.book_owned.specs.declared.answer.Flush.{Flush}
 use Rattle.book_owned.specs.declared.answer.Flush.TheVariants as flush
 use Rattle.book_owned.specs.Halves.{IsPending, account_of}
-use Rattle.book_owned.specs.Hand.{Hands, HasMarked, HasWritten, MakesRoom}
+use Rattle.book_owned.specs.Hand.{Hands, HasMarked, HasWritten, MakesRoom, ShowTells}
 use Rattle.book_owned.specs.declared.in_memory.InMemory.{InMemory}
 use Rattle.book_owned.proofs.Lasts.{last_mark-append}
 use Rattle.book_owned.proofs.Putting.{pending_size}
@@ -55,33 +55,26 @@ module _ {D V N : Type 0} (disk : DiskOf D) (view : ViewOf V N) (front : InMemor
             subst (ShowsAll view front.view after.view) all (subst (λ v. ShowsAll view v after.view (durable front'.marks.items)) same_view shows)
 
   -- a flush was done
-  module _ (front' published : InMemory V) (file' : Gated D) (now : V) (through shown : ℕ) (note : N) where
-    pub flush_done : file.failed ≡ false → Hands disk view front file front' file' → HasWritten disk front file front' file'
-        → IsPending (durable front'.marks.items) file'.failed front' → front'.view ≡ front.view → published ≡ record front' { view = published.view }
-        → view.which published.view ≡ view.which front'.view → IsShowing view published.view published.history.items published.marks.items
-        → ShowsAll view front'.view published.view (durable front'.marks.items) → through ≡ length published.history.items
-        → shown ≡ view.count published.view → view.count now ≡ view.count published.view
-        → ((samples : List Sample) → view.shows published.view samples → view.tells note (view.which published.view) samples)
-        → FlushAnswers disk view (account_of disk view front file) (account_of disk view (record published { view = now }) file') (flush.Done through shown note)
-    flush_done going hands written pending same_view rest which showing shows through_is shown_is counted tells =
-        let all = all_durable (durable front'.marks.items) file'.failed front' pending written.going written.emptied in
-        let same_marks = ap (λ f. f.marks.items) rest in
-        let same_history : published.history.items ≡ front.history.items = ap (λ f. f.history.items) rest ∙ ap (λ f. f.history.items) hands.rest in
-        let durable_is : durable front'.marks.items ≡ through = all ∙ ap (λ f. length f.history.items) (sym rest) ∙ sym through_is in (
-          going,
-          written.going,
-          through_is ∙ ap length same_history,
-          shown_is ∙ sym counted,
-          omega (arith, shown_is, showing.most, ap durable same_marks, durable_is),
-          marks_all front' (record published { view = now }) file' hands written pending same_marks,
-          ⊎_elim
-              (λ whole. inl (counted ∙ whole ∙ durable_is))
-              (λ wanted. inr (wanted.0, counted ∙ wanted.1 ∙ ap view.count same_view))
-              shows,
-          subst (λ w. view.tells note w (take shown front.history.items)) (which ∙ ap view.which same_view)
-              (subst (λ h. view.tells note (view.which published.view) (take shown h)) same_history
-              (subst (λ n. view.tells note (view.which published.view) (take n published.history.items)) (sym shown_is) (tells _ showing.shown))),
-        )
+  pub flush_shown : (front' after : InMemory V) (file' : Gated D) (answer : Flush N) → file.failed ≡ false
+      → Hands disk view front file front' file' → HasWritten disk front file front' file'
+      → IsPending (durable front'.marks.items) file'.failed front' → front'.view ≡ front.view → after ≡ record front' { view = after.view }
+      → ShowTells view front' after answer
+      → FlushAnswers disk view (account_of disk view front file) (account_of disk view after file') answer
+  flush_shown front' after file' (flush.Done through shown note) going hands written pending same_view rest (through_is, shown_is, few, shows, tells) =
+      let all = all_durable (durable front'.marks.items) file'.failed front' pending written.going written.emptied in
+      let same_history : front'.history.items ≡ front.history.items = ap (λ f. f.history.items) hands.rest in (
+        going,
+        written.going,
+        through_is ∙ all ∙ ap length same_history,
+        shown_is,
+        few,
+        marks_all front' after file' hands written pending (ap (λ f. f.marks.items) rest),
+        subst (λ v. ShowsAll view v after.view through) same_view shows,
+        subst (λ v. view.tells note (view.which v) (take shown front.history.items)) same_view
+            (subst (λ h. view.tells note (view.which front'.view) (take shown h)) same_history tells),
+      )
+  flush_shown front' after file' (flush.DiskFault before later) going hands written pending same_view rest none = absurd none
+  flush_shown front' after file' (flush.Stopped mark) going hands written pending same_view rest none = absurd none
 
   module _ (reserved : InMemory V) (sample : Sample) (size : ℕ) (rest : reserved ≡ record front { history = reserved.history; marks = reserved.marks })
       (records : AreEncodingsBehind front.shapes (take (durable front.marks.items) front.history.items) front.block.bytes (drop (durable front.marks.items) front.history.items)) (size_is : size ≡ encoded_size reserved.shapes sample) where

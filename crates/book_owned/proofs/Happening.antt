@@ -12,6 +12,7 @@ use Rattle.book_owned.specs.Account.{Account}
 use Rattle.book_owned.specs.Answers.{AddsMark, AppendAnswers, FlushAnswers}
 use Rattle.book_owned.specs.Events.{book_state_of, Happens, AppendEvents, FlushEvents}
 use Rattle.book_owned.specs.declared.answer.Append.TheVariants as append
+use Rattle.book_owned.specs.declared.answer.Flush.{Flush}
 use Rattle.book_owned.specs.declared.answer.Flush.TheVariants as flush
 use Rattle.book_owned.proofs.Lasts.{last_mark-append}
 
@@ -74,17 +75,19 @@ module _ {D V N : Type 0} (disk : DiskOf D) (view : ViewOf V N) (old new : Accou
         ))
         turns
 
-  -- a flush that was done
-  pub flush_happens : (through shown : ℕ) (note : N) → new.history ≡ old.history → durable old.marks ≤ length old.history → view.count old.view ≤ durable old.marks
-      → FlushAnswers disk view old new (flush.Done through shown note) → FlushEvents view.count old new (flush.Done through shown note)
-  flush_happens through shown note history within showing (is, still, through_is, shown_is, few, marks, shows, tells) =
+  -- the disk failed
+  pub fault_happens : new.history ≡ old.history → new.marks ≡ old.marks → new.view ≡ old.view → new.stopped ≡ true → Happens view.count old new (FlushFailed ∷ [])
+  fault_happens history marks same stopped =
+      same_state (book_state_of view.count new) old.history (durable old.marks) (view.count old.view) true history (ap durable marks) (ap view.count same) stopped
+
+  -- a flush
+  pub flush_happens : (answer : Flush N) → new.history ≡ old.history → durable old.marks ≤ length old.history → view.count old.view ≤ durable old.marks
+      → FlushAnswers disk view old new answer → FlushEvents view.count old new answer
+  flush_happens (flush.Done through shown note) history within showing (is, still, through_is, shown_is, few, marks, shows, tells) =
       let all : durable new.marks ≡ length old.history = ⊎_elim (λ same. ap durable same.0 ∙ same.2) marked marks in
       let more : view.count old.view ≤ shown = ⊎_elim (λ whole. omega (arith, whole, shown_is, through_is, within, showing)) (λ wanted. omega (arith, wanted.1, shown_is)) shows in
       same_state (book_state_of view.count new) old.history (length old.history) shown false history all (sym shown_is) still
       ∙ sym (flushes old.history (durable old.marks) (view.count old.view) shown more (omega (arith, few, through_is)))
       ∙ ap (λ state. after_all state (FlushDone ∷ Publish shown ∷ [])) (sym (goes is))
-
-  -- the disk failed
-  pub fault_happens : new.history ≡ old.history → new.marks ≡ old.marks → new.view ≡ old.view → new.stopped ≡ true → Happens view.count old new (FlushFailed ∷ [])
-  fault_happens history marks same stopped =
-      same_state (book_state_of view.count new) old.history (durable old.marks) (view.count old.view) true history (ap durable marks) (ap view.count same) stopped
+  flush_happens (flush.DiskFault before after) history within showing (fault, marks, same, pending) = fault_happens history marks same fault.stopped
+  flush_happens (flush.Stopped mark) history within showing stopped = ap (book_state_of view.count) stopped.same

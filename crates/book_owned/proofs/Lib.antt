@@ -1,7 +1,10 @@
+mod Backs
 mod Costs
 mod Flushing
+mod Fronts
 mod Keeping
 mod Lasts
+mod Parting
 mod Putting
 mod Resting
 mod Showing

@@ -1,5 +1,5 @@
 -- The halves of a book when it begins, and when a sample was put into them.
-use Rattle.std.proofs.Common.{◌≡◌, ◌+◌, ◌<◌, ◌≤◌, ◌^◌, ℕ, Bool, false, zero, suc, List, [], ◌∷◌, ◌++◌, length, take, drop, get_or, refl, sym, ◌∙◌, ap, subst, arith, rules, length-append}
+use Rattle.std.proofs.Common.{◌≡◌, ◌+◌, ◌<◌, ◌≤◌, ℕ, Bool, false, zero, suc, List, [], ◌∷◌, ◌++◌, length, take, drop, get_or, refl, sym, ◌∙◌, ap, subst, arith, rules, length-append}
 use Rattle.std.proofs.lemmas.List.{drop-append-le, take-append-le}
 use Rattle.std.proofs.lemmas.List.Sums.{sum_by-append, sum_by-cons}
 use Rattle.std.specs.Prelude.{is_some, IfSome}
@@ -21,13 +21,14 @@ use Rattle.mdf_gate.specs.Carried.{Carries}
 use Rattle.mdf_gate.proofs.Carrying.{carries_opened, carries_begun}
 use Rattle.book_owned.specs.Members.{DiskOf, ViewOf}
 use Rattle.book_owned.specs.Marks.{durable, AreRising}
-use Rattle.book_owned.specs.Kept.{MarkHolds, MarksHold, IsKept, IsShowing}
+use Rattle.book_owned.specs.Kept.{MarkHolds, MarksHold, IsShowing}
 use Rattle.book_owned.specs.Begun.{IsNewFile, IsAdmissible}
-use Rattle.book_owned.specs.Halves.{IsBook, IsCounted, IsPending, IsPut, IsWritten, terms_of}
+use Rattle.book_owned.specs.Halves.{IsBook, IsCounted, IsPending, IsPut, terms_of}
+use Rattle.book_owned.specs.BackHalf.{FileHolds}
 use Rattle.book_owned.specs.declared.in_memory.InMemory.{InMemory}
 use Rattle.book_owned.specs.declared.mark.Mark.{Mark}
 use Rattle.book_owned.proofs.Costs.{history_cost-append}
-use Rattle.book_owned.proofs.Keeping.{kept_longer}
+use Rattle.book_owned.proofs.Keeping.{kept_of, keeps_of, keeps_longer, throughs_of}
 use Rattle.book_owned.proofs.Turning.{holds_told, told_on}
 
 -- no samples begin any
@@ -42,7 +43,7 @@ cost_one_more layouts history sample =
     omega (arith, history_cost-append layouts history (sample ∷ []), one)
 
 -- the pending records with that of one sample more
-size_one_more : (layouts : List Layout) (history : List Sample) (through : ℕ) (sample : Sample) → through ≤ length history
+pub size_one_more : (layouts : List Layout) (history : List Sample) (through : ℕ) (sample : Sample) → through ≤ length history
     → history_size layouts (drop through (history ++ sample ∷ [])) ≡ history_size layouts (drop through history) + encoded_size layouts sample
 size_one_more layouts history through sample within =
     let one : history_size layouts (sample ∷ []) ≡ encoded_size layouts sample + 0 = sum_by-cons (encoded_size layouts) sample [] in
@@ -111,30 +112,26 @@ module _ {D V N : Type 0} (disk : DiskOf D) (view : ViewOf V N) where
       let through = durable old.marks.items in
       let same : take through new.history.items ≡ take through history =
       ap (take through) put.history ∙ take-append-le through history (sample ∷ []) book.pending.through in
-      let kept = subst (λ h. IsKept (terms_of disk view old file) (state_of disk file.disk) h old.marks.items) (sym put.history)
-      (kept_longer (terms_of disk view old file) (state_of disk file.disk) history old.marks.items sample book.back.kept
-      (omega (
+      let terms = terms_of disk view old file in
+      let state = state_of disk file.disk in
+      let keeps = keeps_longer terms.layouts terms.head terms.start state.story state.moment history new.history.items old.marks.items
+      (sample ∷ [], sym put.history) (keeps_of terms state history old.marks.items book.back.kept) in
+      let few : history_size old.shapes (drop through new.history.items) ≤ old.block.limit = omega (
         arith,
         fits,
+        ap (λ h. history_size old.shapes (drop through h)) put.history,
         size_one_more old.shapes history through sample book.pending.through,
         encodings-length old.shapes (take through history) old.block.bytes (drop through history) (book.pending.records going),
-      ))) in
+      ) in
       subst (λ f. IsBook disk view f file) (sym put.rest) (record {
         counted = counted_put old at sample put_at book.counted session;
         pending = pending_put old at sample put_at through file.failed book.pending spare;
         shown = showing_longer view old.view history new.history.items sample old.marks.items put.history book.pending.through book.shown;
         back = record {
-          kept = record {
-            marks_hold = kept.marks_hold;
-            start_holds = kept.start_holds;
-            marks_rise = kept.marks_rise;
-            pending = omega (arith, kept.pending, put.limit);
-          };
-          written = λ still. subst (λ most. IsWritten (disk.content file.disk) (disk.story file.disk) file.first file.place most old.shapes (take through new.history.items)) (sym put.limit)
-              (subst (IsWritten (disk.content file.disk) (disk.story file.disk) file.first file.place old.block.limit old.shapes) (sym same) (book.back.written still));
-          reach = λ going. subst (λ h. file.place ≤ 2 ^ 61 + history_cost old.shapes h) (sym same) (book.back.reach going);
-          near = λ going. subst (λ h. IfSome (disk.story file.disk) (λ _. file.place ≤ length (head_of (disk.story file.disk) file.first) + history_cost old.shapes h))
-              (sym same) (book.back.near going);
+          kept = kept_of (terms_of disk view at file) state new.history.items old.marks.items keeps (throughs_of terms state history old.marks.items book.back.kept)
+              (omega (arith, few, put.limit));
+          holds = λ still. subst (λ most. FileHolds disk old.shapes most file (take through new.history.items)) (sym put.limit)
+              (subst (FileHolds disk old.shapes old.block.limit file) (sym same) (book.back.holds still));
         };
       })
 
@@ -197,14 +194,17 @@ module _ {D V N : Type 0} (disk : DiskOf D) (view : ViewOf V N) where
             marks_rise = subst (AreRising (is_some (disk.story file.disk))) (sym marks_are) (record { first = refl; rise = λ i j d less below. absurd (omega (arith, less, below)) });
             pending = subst (λ samples. history_size front.shapes samples ≤ front.block.limit) (sym (dropped (durable front.marks.items) front.history.items history_is)) (omega arith);
           };
-          written = λ going. record {
-            blocks = [];
-            rests = created.rests;
-            within = λ k d below. absurd (omega (arith, below));
-            records = subst (AreEncodingsBehind front.shapes [] (concat [])) (sym (taken (durable front.marks.items))) (no_encodings front.shapes []);
+          holds = λ going. record {
+            going = going;
+            written = record {
+              blocks = [];
+              rests = created.rests;
+              within = λ k d below. absurd (omega (arith, below));
+              records = subst (AreEncodingsBehind front.shapes [] (concat [])) (sym (taken (durable front.marks.items))) (no_encodings front.shapes []);
+            };
+            reach = omega (arith, created.short);
+            near = told_on (disk.story file.disk) (disk.story file.disk) _ _ refl (λ close. omega (arith, close)) bare;
           };
-          reach = λ going. omega (arith, created.short);
-          near = λ going. told_on (disk.story file.disk) (disk.story file.disk) _ _ refl (λ close. omega (arith, close)) bare;
         };
       } where
         take_nil : (n : ℕ) → take {A = Sample} n [] ≡ []
@@ -227,3 +227,16 @@ pub pending_size : {V : Type 0} (from : ℕ) (front reserved : InMemory V) → r
     → length reserved.block.bytes ≡ history_size front.shapes (drop from front.history.items)
 pending_size from front reserved rest records =
     ap (λ f. length f.block.bytes) rest ∙ encodings-length front.shapes (take from front.history.items) front.block.bytes (drop from front.history.items) records
+
+-- there is room for the sample's records in the block
+pub room_for : {V : Type 0} (from : ℕ) (failed : Bool) (front reserved : InMemory V) (sample : Sample)
+    → reserved ≡ record front { history = reserved.history; marks = reserved.marks } → IsPending from failed front → failed ≡ false
+    → history_size front.shapes (drop from front.history.items) + encoded_size front.shapes sample ≤ front.block.limit
+    → length reserved.block.bytes + encoded_size reserved.shapes sample ≤ reserved.block.limit
+room_for from failed front reserved sample rest pending going fits = omega (
+  arith,
+  fits,
+  pending_size from front reserved rest (pending.records going),
+  ap (λ f. encoded_size f.shapes sample) rest,
+  ap (λ f. f.block.limit) rest,
+)

@@ -9,7 +9,7 @@ use Rattle.mdf_gate.specs.Carried.{IsCarried, IsEncoded}
 use Rattle.mdf_gate.proofs.Carrying.{rests_carry}
 use Rattle.mdf_gate.proofs.Rested.{rested_once}
 use Rattle.book_owned.specs.Kept.{HasBlocksOf}
-use Rattle.book_owned.specs.Halves.{IsWritten}
+use Rattle.book_owned.specs.BackHalf.{IsWritten}
 
 -- the samples of its blocks, as they are written, and no longer block than one of these
 pub rests_hold : (layouts : List Layout) (content : Option (List ℕ)) (story : Option Story) (first place most : ℕ) (samples : List Sample)

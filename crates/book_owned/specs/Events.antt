@@ -18,8 +18,11 @@ abbrev pub book_state_of : {D V : Type 0} → (V → ℕ) → Account D V → Bo
 book_state_of count book = record { history = book.history; durable = durable book.marks; shown = count book.view; stopped = book.stopped }
 
 -- these events lead from one to the other
+abbrev pub Leads : BookState → BookState → List Event → Type 0
+Leads old new events = new ≡ after_all old events
+
 abbrev pub Happens : {D V : Type 0} → (V → ℕ) → Account D V → Account D V → List Event → Type 0
-Happens count old new events = book_state_of count new ≡ after_all (book_state_of count old) events
+Happens count old new = Leads (book_state_of count old) (book_state_of count new)
 
 -- Those of an append: the sample is accepted, where its records would pass the block limit after a flush and a
 -- publishing; or it is refused; or the disk fails in that flush.
@@ -33,12 +36,15 @@ AppendEvents count old new sample (DiskFault before after) = PassesBlock old sam
 AppendEvents count old new sample Memory = Happens count old new (Refuse ∷ [])
 
 -- of a put, which is never answered by a fault of the disk
+abbrev pub PutLeads : BookState → BookState → Sample → Append → Type 0
+PutLeads old new sample (Accepted place) = Leads old new (Accept sample ∷ [])
+PutLeads old new sample (SessionFull held size limit) = Leads old new (Refuse ∷ [])
+PutLeads old new sample (Stopped mark) = Leads old new (Refuse ∷ [])
+PutLeads old new sample (DiskFault before after) = ⊥
+PutLeads old new sample Memory = Leads old new (Refuse ∷ [])
+
 abbrev pub PutEvents : {D V : Type 0} → (V → ℕ) → Account D V → Account D V → Sample → Append → Type 0
-PutEvents count old new sample (Accepted place) = Happens count old new (Accept sample ∷ [])
-PutEvents count old new sample (SessionFull held size limit) = Happens count old new (Refuse ∷ [])
-PutEvents count old new sample (Stopped mark) = Happens count old new (Refuse ∷ [])
-PutEvents count old new sample (DiskFault before after) = ⊥
-PutEvents count old new sample Memory = Happens count old new (Refuse ∷ [])
+PutEvents count old new = PutLeads (book_state_of count old) (book_state_of count new)
 
 -- and of a flush
 abbrev pub FlushEvents : {D V N : Type 0} → (V → ℕ) → Account D V → Account D V → Flush N → Type 0

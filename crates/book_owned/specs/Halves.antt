@@ -1,21 +1,19 @@
 -- The halves of a book: what it holds in memory, and its file.
-use Rattle.std.specs.Prelude.{ℕ, ◌≡◌, ◌≢◌, ◌+◌, ◌^◌, ◌≤◌, Bool, false, List, [], ◌∷◌, ◌++◌, length, take, drop, All, sum_by, Option, is_some, IfSome}
-use Rattle.std.specs.List.{concat}
-use Rattle.mdf_disk.specs.Story.{Story}
+use Rattle.std.specs.Prelude.{ℕ, ◌≡◌, ◌≢◌, ◌+◌, ◌≤◌, Bool, false, List, [], ◌∷◌, ◌++◌, length, take, drop, All, sum_by, is_some}
 use Rattle.mdf_disk.specs.State.{state_of}
-use Rattle.mdf_layout.specs.Layout.{Layout}
 use Rattle.mdf_layout.specs.Written.{AreApart}
 use Rattle.mdf_layout.specs.Record.{SampleFits, cost_of, history_cost}
 use Rattle.mdf_layout.specs.Behind.{variables, IsEncodingBehind, AreEncodingsBehind}
 use Rattle.mdf_layout.specs.Stored.{IsStored}
 use Rattle.mdf_layout.specs.Next.{AreNext}
 use Rattle.mdf_layout.specs.declared.sample.Sample.{Sample}
-use Rattle.mdf_gate.specs.Gated.{Gated, RestsOn}
+use Rattle.mdf_gate.specs.Gated.{Gated}
 use Rattle.mdf_gate.specs.Images.{head_of}
 use Rattle.book_owned.specs.Members.{DiskOf, ViewOf}
 use Rattle.book_owned.specs.Marks.{durable}
 use Rattle.book_owned.specs.Account.{Account, Terms}
 use Rattle.book_owned.specs.Kept.{IsKept, IsShowing}
+use Rattle.book_owned.specs.BackHalf.{FileHolds}
 use Rattle.book_owned.specs.declared.in_memory.InMemory.{InMemory}
 
 -- what no call changes
@@ -66,21 +64,10 @@ pub record IsPending {V : Type 0} (from : ℕ) (failed : Bool) (front : InMemory
   pub records : failed ≡ false → AreEncodingsBehind front.shapes (take from front.history.items) front.block.bytes (drop from front.history.items)
   pub room : front.block.bytes ≢ [] → 1 ≤ front.marks.spare
 
--- the file at rest holds the records of the durable samples, in blocks with at most so many bytes of data
-pub record IsWritten (content : Option (List ℕ)) (story : Option Story) (first place most : ℕ) (layouts : List Layout) (samples : List Sample) : Type 0 where
-  pub blocks : List (List ℕ)
-  pub rests : RestsOn content story first blocks place
-  pub within : All (λ body. length body ≤ most) blocks
-  pub records : AreEncodingsBehind layouts [] (concat blocks) samples
-
--- What the file keeps whatever happens, and where it stands while no call failed: where the disk tells its story, no
--- further behind its head than what the durable samples cost.
+-- What the file keeps whatever happens, and that it holds the durable samples while no call failed.
 pub record IsBack {D V : Type 0} (disk : DiskOf D) (front : InMemory V) (file : Gated D) (terms : Terms) : Type 0 where
   pub kept : IsKept terms (state_of disk file.disk) front.history.items front.marks.items
-  pub written : file.failed ≡ false → IsWritten (disk.content file.disk) (disk.story file.disk) file.first file.place front.block.limit front.shapes (take (durable front.marks.items) front.history.items)
-  pub reach : file.failed ≡ false → file.place ≤ 2 ^ 61 + history_cost front.shapes (take (durable front.marks.items) front.history.items)
-  pub near : file.failed ≡ false
-      → IfSome (disk.story file.disk) (λ _. file.place ≤ length terms.head + history_cost front.shapes (take (durable front.marks.items) front.history.items))
+  pub holds : file.failed ≡ false → FileHolds disk front.shapes front.block.limit file (take (durable front.marks.items) front.history.items)
 
 -- the halves of a book between two calls
 pub record IsBook {D V N : Type 0} (disk : DiskOf D) (view : ViewOf V N) (front : InMemory V) (file : Gated D) : Type 0 where

@@ -1,5 +1,5 @@
 -- What handing the pending records over to the file does.
-use Rattle.std.specs.Prelude.{ℕ, ◌≡◌, ◌+◌, ◌≤◌, ◌<◌, ◌⊎◌, Bool, true, false, [], ◌∷◌, ◌++◌, length}
+use Rattle.std.specs.Prelude.{ℕ, ◌≡◌, ◌+◌, ◌≤◌, ◌<◌, ◌⊎◌, Bool, true, false, [], ◌∷◌, ◌++◌, length, take}
 use mathlib.Core.List.{IsPrefix}
 use Rattle.mdf_format.specs.Cause.{Rose}
 use Rattle.mdf_layout.specs.declared.sample.Sample.{Sample}
@@ -11,6 +11,8 @@ use Rattle.book_owned.specs.Answers.{ShowsAll}
 use Rattle.book_owned.specs.Halves.{terms_of}
 use Rattle.book_owned.specs.declared.answer.Append.{Append}
 use Rattle.book_owned.specs.declared.answer.Append.TheVariants.{Accepted, SessionFull, Stopped, DiskFault, Memory}
+use Rattle.book_owned.specs.declared.answer.Flush.{Flush}
+use Rattle.book_owned.specs.declared.answer.Flush.TheVariants as flush
 use Rattle.book_owned.specs.declared.fault.Fault.{Fault}
 use Rattle.book_owned.specs.declared.in_memory.InMemory.{InMemory}
 use Rattle.book_owned.specs.declared.mark.Mark.{Mark}
@@ -44,12 +46,16 @@ MakesRoom disk view front file size front' file' =
     ⊎ ((front.block.limit < length front.block.bytes + size) × HasMarked disk front front' file'
     × ShowsAll view front.view front'.view (length front.history.items))
 
--- there were records to be written, and the disk failed
-pub record IsHandFault {D V : Type 0} (disk : DiskOf D) (front : InMemory V) (file : Gated D) (front' : InMemory V) (file' : Gated D) (fault : Fault) : Type 0 where
+-- the disk failed, and these are its counts of faults
+pub record IsWriteFault {D : Type 0} (disk : DiskOf D) (file file' : Gated D) (fault : Fault) : Type 0 where
   pub failed : file'.failed ≡ true
   pub before_is : fault.before ≡ disk.faults file.disk
   pub after_is : fault.after ≡ disk.faults file'.disk
   pub rose : Rose fault.before fault.after
+
+-- there were records to be written, and the disk failed
+pub record IsHandFault {D V : Type 0} (disk : DiskOf D) (front : InMemory V) (file : Gated D) (front' : InMemory V) (file' : Gated D) (fault : Fault) : Type 0 where
+  pub fault_is : IsWriteFault disk file file' fault
   pub pending : durable front.marks.items < length front.history.items
   pub marks : front'.marks ≡ front.marks
   pub view : front'.view ≡ front.view
@@ -68,3 +74,11 @@ Refuses front failed sample (SessionFull held size limit) =
 Refuses front failed sample (Stopped mark) = (failed ≡ true) × (mark ≡ last_mark front.marks.items)
 Refuses front failed sample (DiskFault before after) = ⊥
 Refuses front failed sample Memory = ⊥
+
+-- the durable samples were published, and the note tells of those that are shown
+abbrev pub ShowTells : {V N : Type 0} → ViewOf V N → InMemory V → InMemory V → Flush N → Type 0
+ShowTells view front front' (flush.Done through shown note) =
+    (through ≡ durable front.marks.items) × (shown ≡ view.count front'.view) × (shown ≤ through)
+    × ShowsAll view front.view front'.view through × view.tells note (view.which front.view) (take shown front.history.items)
+ShowTells view front front' (flush.DiskFault before after) = ⊥
+ShowTells view front front' (flush.Stopped mark) = ⊥

@@ -3,7 +3,10 @@ pub mod Marks
 pub mod Account
 pub mod Kept
 pub mod Answers
+pub mod BackHalf
 pub mod Halves
 pub mod Begun
 pub mod Hand
 pub mod Events
+pub mod FrontHalf
+pub mod Split

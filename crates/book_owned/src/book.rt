@@ -6,7 +6,7 @@ ghost use Rattle.mdf_layout.specs.Behind.{first_id};
 ghost use Rattle.mdf_layout.specs.Next.{AreNext};
 
 use crate::back::{make_room, refusal, write_pending};
-use crate::front::{accept, last_mark, publish, reserve, size_behind};
+use crate::front::{accept, last_mark, reserve, show, size_behind};
 use crate::in_memory::InMemory;
 use crate::{Append, Flush, Mark, Marks, Shown};
 use mdf_disk::Disk;
@@ -20,8 +20,8 @@ use std::thread::Threads;
 
 /// A recording in progress: the accepted samples, and the file that holds them.
 pub struct Book<D: Disk, V: Shown> {
-    front: InMemory<V>,
-    file: GatedFile<D>,
+    pub(crate) front: InMemory<V>,
+    pub(crate) file: GatedFile<D>,
 }
 
 impl<D: Disk, V: Shown> Model for Book<D, V> {
@@ -203,12 +203,7 @@ impl<D: Disk, V: Shown> Book<D, V> {
                 after: fault.after,
             };
         }
-        publish(&mut self.front, rt);
-        Flush::Done {
-            through: self.front.history.len(),
-            shown: self.front.view.shown(),
-            note: self.front.view.told(),
-        }
+        show(&mut self.front, rt)
     }
 
     /// Hands everything back, without a call of the disk: the disk, the history, the marks and the view.

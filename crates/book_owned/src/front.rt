@@ -5,9 +5,10 @@ ghost use Rattle.book_owned.specs.Marks.{last_mark, durable};
 ghost use Rattle.book_owned.specs.Kept.{IsShowing};
 ghost use Rattle.book_owned.specs.Answers.{ShowsAll};
 ghost use Rattle.book_owned.specs.Halves.{IsCounted, IsPut};
+ghost use Rattle.book_owned.specs.Hand.{ShowTells};
 
 use crate::in_memory::InMemory;
-use crate::{Mark, Marks, Shown};
+use crate::{Flush, Mark, Marks, Shown};
 use mdf_layout::Sample;
 use mdf_num::Memory;
 use std::sync::Wait;
@@ -59,6 +60,27 @@ pub(crate) fn publish<V: Shown, R: Threads + Wait + Sync>(front: &mut InMemory<V
     {
         Ok(()) => {}
         Err(_) => {}
+    }
+}
+
+/// Publishes the durable samples, and answers how many are durable and how many are shown.
+pub(crate) fn show<V: Shown, R: Threads + Wait + Sync>(
+    front: &mut InMemory<V>,
+    rt: &R,
+) -> Flush<V::Note>
+    requires counted { IsCounted front.old }
+    requires shown { IsShowing V.Shown front.old.view front.old.history.items front.old.marks.items }
+    requires within { durable front.old.marks.items ≤ length front.old.history.items }
+    ensures shown { IsShowing V.Shown front.new.view front.new.history.items front.new.marks.items }
+    ensures rest { front.new ≡ record front.old { view = front.new.view } }
+    ensures which { V.which front.new.view ≡ V.which front.old.view }
+    ensures tells { ShowTells V.Shown front.old front.new result }
+{
+    publish(front, rt);
+    Flush::Done {
+        through: last_mark(&front.marks).through,
+        shown: front.view.shown(),
+        note: front.view.told(),
     }
 }
 

@@ -9,7 +9,7 @@ pub returns-clause-content : goal.returns-clause-content
 returns-clause-content g c = λ going.
     let front = c.self.inside.front in
     let file = c.self.inside.file in
-    let written = c.self.invariant.back.written (ap (λ a. a.stopped) c.self.view_is ∙ going) in
+    let written = (c.self.invariant.back.holds (ap (λ a. a.stopped) c.self.view_is ∙ going)).written in
     subst (λ a. IfSome (g.D.Disk.content a.disk) (HoldsDurable a.terms a.history a.marks)) c.self.view_is
     (rests_hold front.shapes (g.D.Disk.content file.disk) (g.D.Disk.story file.disk) file.first file.place front.block.limit
     (take (durable front.marks.items) front.history.items) written)

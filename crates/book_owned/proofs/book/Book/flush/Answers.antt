@@ -3,8 +3,7 @@ use Rattle.book_owned.specs.Marks.{durable}
 use Rattle.book_owned.specs.Account.{Steps}
 use Rattle.book_owned.specs.Answers.{FlushAnswers}
 use Rattle.book_owned.specs.Halves.{account_of}
-use Rattle.book_owned.specs.declared.answer.Flush.TheVariants as flush
-use Rattle.book_owned.proofs.Flushing.{flush_done}
+use Rattle.book_owned.proofs.Flushing.{flush_shown}
 use Rattle.book_owned.proofs.Happening.{flush_happens}
 use Rattle.book_owned.proofs.book.Book.flush.Goals as goal
 
@@ -16,25 +15,23 @@ returns-in-Err-clause-steps g c =
     (record {
       history = ap (λ f. f.history.items) hands.rest ∙ sym (append-nil c.self.inside.front.history.items);
       marks = hands.marks;
-      stopped = λ stopped. c.in-Err.ensures.fault.failed;
+      stopped = λ stopped. c.in-Err.ensures.fault.fault_is.failed;
       terms = hands.terms;
     })
 
 pub returns-clause-answer : goal.returns-clause-answer
 returns-clause-answer g c =
-    let new = account_of g.D.Disk g.V.Shown (record c.publish.new.front { view = c.told.new.self }) c.write_pending.new.file in
-    subst (λ a. FlushAnswers g.D.Disk g.V.Shown a new (flush.Done c.len.result c.shown.result c.told.result)) c.self.view_is
-    (flush_done g.D.Disk g.V.Shown c.self.inside.front c.self.inside.file c.write_pending.new.front c.publish.new.front c.write_pending.new.file
-    c.told.new.self c.len.result c.shown.result c.told.result
+    let new = account_of g.D.Disk g.V.Shown c.show.new.front c.write_pending.new.file in
+    subst (λ a. FlushAnswers g.D.Disk g.V.Shown a new c.show.result) c.self.view_is
+    (flush_shown g.D.Disk g.V.Shown c.self.inside.front c.self.inside.file c.write_pending.new.front c.show.new.front c.write_pending.new.file c.show.result
     (sym c.failed.ensures.failed ∙ c.if-failed.false) c.write_pending.ensures.hands c.in_default.ensures.written c.write_pending.ensures.book.pending
-    c.write_pending.ensures.view c.publish.ensures.rest c.publish.ensures.which c.publish.ensures.shown c.publish.ensures.count
-    c.len.ensures c.shown.ensures c.told.ensures.counted c.told.ensures.note)
+    c.write_pending.ensures.view c.show.ensures.rest c.show.ensures.tells)
 
 pub returns-clause-events : goal.returns-clause-events
 returns-clause-events g c =
-    let new = account_of g.D.Disk g.V.Shown (record c.publish.new.front { view = c.told.new.self }) c.write_pending.new.file in
-    flush_happens g.D.Disk g.V.Shown c.args.self.now new c.len.result c.shown.result c.told.result
-    (ap (λ f. f.history.items) c.publish.ensures.rest ∙ ap (λ f. f.history.items) c.write_pending.ensures.hands.rest ∙ ap (λ a. a.history) c.self.view_is)
+    let new = account_of g.D.Disk g.V.Shown c.show.new.front c.write_pending.new.file in
+    flush_happens g.D.Disk g.V.Shown c.args.self.now new c.show.result
+    (ap (λ f. f.history.items) c.show.ensures.rest ∙ ap (λ f. f.history.items) c.write_pending.ensures.hands.rest ∙ ap (λ a. a.history) c.self.view_is)
     (subst (λ a. durable a.marks ≤ length a.history) c.self.view_is c.self.invariant.pending.through)
     (subst (λ a. g.V.Shown.count a.view ≤ durable a.marks) c.self.view_is c.self.invariant.shown.most)
     (returns-clause-answer g c)

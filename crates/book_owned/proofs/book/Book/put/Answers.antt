@@ -3,7 +3,7 @@ use Rattle.mdf_layout.specs.Record.{cost_of, encoded_size}
 use Rattle.book_owned.specs.Marks.{durable}
 use Rattle.book_owned.specs.Answers.{FitsBlock}
 use Rattle.book_owned.specs.Halves.{IsBook}
-use Rattle.book_owned.proofs.Putting.{book_put, book_reserved, pending_size}
+use Rattle.book_owned.proofs.Putting.{book_put, book_reserved, room_for}
 use Rattle.book_owned.proofs.book.Book.put.Given as given
 use Rattle.book_owned.proofs.book.Book.put.Goals as goal
 use Rattle.book_owned.proofs.book.Book.put.Goals.{After-reserve}
@@ -21,15 +21,8 @@ not_failed g c = ap (λ a. a.stopped) c.self.view_is ∙ c.in_default.ensures.no
 has_room : (g : given.Over) (c : After-reserve g)
     → length c.reserve.new.front.block.bytes + encoded_size c.reserve.new.front.shapes c.args.sample ≤ c.reserve.new.front.block.limit
 has_room g c =
-    let front = c.self.inside.front in
-    let sample = c.args.sample in
-    omega (
-      arith,
-      subst (λ a. FitsBlock a sample) (sym c.self.view_is) c.requires.room,
-      pending_size (durable front.marks.items) front c.reserve.new.front c.reserve.ensures.rest (c.self.invariant.pending.records (not_failed g c)),
-      ap (λ f. encoded_size f.shapes sample) c.reserve.ensures.rest,
-      ap (λ f. f.block.limit) c.reserve.ensures.rest,
-    )
+    room_for (durable c.self.inside.front.marks.items) c.self.inside.file.failed c.self.inside.front c.reserve.new.front c.args.sample
+    c.reserve.ensures.rest c.self.invariant.pending (not_failed g c) (subst (λ a. FitsBlock a c.args.sample) (sym c.self.view_is) c.requires.room)
 
 pub accept-requires-clause-block : goal.accept-requires-clause-block
 accept-requires-clause-block g c = has_room g (goal.at.accept-requires-clause-block g c).After-reserve

@@ -1,0 +1,198 @@
+-- The front of a book: over a put, a hand-over and what became of it.
+use Rattle.std.proofs.Common.{◌≡◌, ◌≢◌, ◌+◌, ◌-◌, ◌<◌, ◌≤◌, ℕ, Bool, true, false, List, [], ◌∷◌, ◌++◌, length, take, drop, Option, Some, None, refl, sym, ◌∙◌, ap, subst, arith, rules, length-take}
+use Rattle.std.proofs.lemmas.Bool.{false≢true}
+use Rattle.std.proofs.lemmas.List.{take_all, drop_all, take-take, take-append-le}
+use Rattle.std.specs.Prelude.{is_some}
+use mathlib.Core.List.{IsPrefix}
+use Rattle.mdf_layout.specs.Record.{cost_of, encoded_size, history_size}
+use Rattle.mdf_layout.specs.Stock.{Stock}
+use Rattle.mdf_layout.specs.declared.sample.Sample.{Sample}
+use Rattle.mdf_layout.proofs.Behind.{no_encodings}
+use Rattle.mdf_layout.proofs.Sizes.{encodings-length}
+use Rattle.mdf_gate.specs.Gated.{Buffered}
+use Rattle.mdf_gate.proofs.Carrying.{prefix_take, prefix_trans}
+use Rattle.book_owned.specs.Members.{ViewOf}
+use Rattle.book_owned.specs.Marks.{durable}
+use Rattle.book_owned.specs.Kept.{IsShowing}
+use Rattle.book_owned.specs.Halves.{IsPut}
+use Rattle.book_owned.specs.FrontHalf.{AreThroughs, HandTells, HasSpare, IsFront, front_account}
+use Rattle.book_owned.specs.declared.handed.Handed.TheVariants as handed
+use Rattle.book_owned.specs.declared.in_memory.InMemory.{InMemory}
+use Rattle.book_owned.specs.declared.mark.Mark.{Mark}
+use Rattle.book_owned.proofs.Keeping.{throughs_most, throughs-push}
+use Rattle.book_owned.proofs.Lasts.{last_mark-append}
+use Rattle.book_owned.proofs.Putting.{counted_put, pending_put, showing_longer, size_one_more}
+use Rattle.book_owned.proofs.Turning.{block_small, cost_parts, counted_as, some_pending}
+
+-- nothing lies between a number of samples and itself
+pub none_between : {A : Type 0} (n : ℕ) (xs : List A) → drop n (take n xs) ≡ []
+none_between n xs = drop_all n (take n xs) (omega (arith, length-take n xs))
+
+-- what shows a beginning of the durable samples shows one of more
+pub showing_marked : {V N : Type 0} (view : ViewOf V N) (now : V) (history : List Sample) (marks more : List Mark) (mark : Mark)
+    → more ≡ marks ++ mark ∷ [] → durable marks ≤ mark.through → IsShowing view now history marks → IsShowing view now history more
+showing_marked view now history marks more mark is less showing =
+    let through : durable more ≡ mark.through = ap durable is ∙ ap (λ m. m.through) (last_mark-append marks mark) in
+    let begins : IsPrefix (take (durable marks) history) (take (durable more) history) =
+    subst (λ xs. IsPrefix xs (take (durable more) history)) (take-take (durable marks) (durable more) history (omega (arith, less, through)))
+    (prefix_take (durable marks) (take (durable more) history)) in
+    record {
+      most = omega (arith, showing.most, less, through);
+      shown = showing.shown;
+      handed = λ handed before. prefix_trans handed (take (durable marks) history) (take (durable more) history) (showing.handed handed before) begins;
+    }
+
+module _ {V : Type 0} (memory : InMemory V) (from : ℕ) (stopped : Bool) where
+  -- with its spare block all that was handed over is durable, or it is stopped
+  pub spare_durable : (spare : Option Buffered) → is_some spare ≡ true → HasSpare memory from stopped spare → stopped ≡ false → from ≡ durable memory.marks.items
+  spare_durable None none has going = absurd (false≢true none)
+  spare_durable (Some block) is has going = has.2 going
+
+  -- without it a mark is missing, and there is room for it
+  pub spare_lent : (spare : Option Buffered) → is_some spare ≡ false → HasSpare memory from stopped spare → HasSpare memory from stopped None
+  spare_lent None none has = has
+  spare_lent (Some block) is has = absurd (false≢true (sym is))
+
+  spare_kept : (reserved : InMemory V) → reserved ≡ record memory { history = reserved.history; marks = reserved.marks }
+      → reserved.marks.items ≡ memory.marks.items → memory.marks.spare ≤ reserved.marks.spare
+      → (spare : Option Buffered) → HasSpare memory from stopped spare → HasSpare reserved from stopped spare
+  spare_kept reserved rest same more None has = search (rules, rest, same, more, has)
+  spare_kept reserved rest same more (Some block) has = search (rules, rest, same, has)
+
+module _ {V N : Type 0} (view : ViewOf V N) (memory : InMemory V) (spare : Option Buffered) (from : ℕ) (stopped : Bool) (front : IsFront view memory spare from stopped) where
+  abbrev history : List Sample
+  history = memory.history.items
+
+  abbrev marks : List Mark
+  marks = memory.marks.items
+
+  -- room was found
+  pub front_reserved : (reserved : InMemory V) → reserved ≡ record memory { history = reserved.history; marks = reserved.marks }
+      → reserved.history.items ≡ history → reserved.marks.items ≡ marks → memory.marks.spare ≤ reserved.marks.spare
+      → IsFront view reserved spare from stopped
+  front_reserved reserved rest same_history same_marks more =
+      let has = spare_kept memory from stopped reserved rest same_marks more spare front.has_spare in
+      search (rules, rest, same_history, same_marks, front, has)
+
+  -- a sample was put
+  pub front_put : (new : InMemory V) (sample : Sample) → IsPut memory new sample → 2 ≤ memory.marks.spare
+      → memory.held + cost_of memory.shapes sample ≤ memory.session_limit
+      → history_size memory.shapes (drop from history) + encoded_size memory.shapes sample ≤ memory.block.limit
+      → IsFront view new spare from stopped
+  front_put new sample put room session fits =
+      let at : InMemory V = record memory { history = new.history; held = new.held; block = new.block; next = new.next } in
+      let put_at : IsPut memory at sample = subst (λ f. IsPut memory f sample) put.rest put in
+      let handed : take from new.history.items ≡ take from history =
+      ap (take from) put.history ∙ take-append-le from history (sample ∷ []) front.pending.through in
+      subst (λ f. IsFront view f spare from stopped) (sym put.rest) (record {
+        counted = counted_put memory at sample put_at front.counted session;
+        pending = pending_put memory at sample put_at from stopped front.pending (omega (arith, room));
+        low = front.low;
+        shown = showing_longer view memory.view history new.history.items sample marks put.history (omega (arith, front.low, front.pending.through)) front.shown;
+        throughs = front.throughs;
+        has_spare = still spare front.has_spare;
+        few = omega (
+          arith,
+          fits,
+          put.limit,
+          ap (λ h. history_size memory.shapes (drop from h)) put.history,
+          size_one_more memory.shapes history from sample front.pending.through,
+        );
+        few_handed = omega (arith, front.few_handed, put.limit, ap (λ h. history_size memory.shapes (drop (durable marks) h)) handed);
+      }) where
+        still : (spare : Option Buffered) → HasSpare memory from stopped spare
+            → HasSpare (record memory { history = new.history; held = new.held; block = new.block; next = new.next }) from stopped spare
+        still None has = (has.0, has.1, has.2, λ some. room)
+        still (Some block) has = (has.0, has.1 ∙ sym put.limit, has.2)
+
+  -- The pending records are given out.
+  module _ (block dest : Buffered) (through : ℕ) (has : spare ≡ Some block) (dest_is : dest ≡ block) (going : stopped ≡ false) (some : memory.block.bytes ≢ [])
+      (all : through ≡ length history) where
+    given : (dest.bytes ≡ []) × (dest.limit ≡ memory.block.limit) × (stopped ≡ false → from ≡ durable marks)
+    given = subst (λ b. (b.bytes ≡ []) × (b.limit ≡ memory.block.limit) × (stopped ≡ false → from ≡ durable marks)) (sym dest_is)
+        (subst (HasSpare memory from stopped) has front.has_spare)
+
+    more : from < length history
+    more = some_pending memory.shapes history from memory.block.bytes (front.pending.records going) some
+
+    whole : take through history ≡ history
+    whole = take_all through history (omega (arith, all))
+
+    pub front_handed : IsFront view (record memory { block = dest }) None through stopped
+    front_handed = record {
+      counted = counted_as memory (record memory { block = dest }) refl given.1 front.counted;
+      pending = record {
+        through = omega (arith, all);
+        records = λ g. rw (given.0, drop_all through history (omega (arith, all))) (no_encodings memory.shapes (take through history));
+        room = λ bytes. absurd (bytes given.0);
+      };
+      low = omega (arith, front.low, more, all);
+      shown = record { most = front.shown.most; shown = front.shown.shown; handed = front.shown.handed };
+      throughs = front.throughs;
+      has_spare = (going, omega (arith, given.2 going, more, all), front.pending.room some, λ bytes. absurd (bytes given.0));
+      few = subst (λ samples. history_size memory.shapes samples ≤ dest.limit) (sym (drop_all through history (omega (arith, all)))) (omega arith);
+      few_handed = omega (
+        arith,
+        front.few,
+        given.1,
+        ap (λ h. history_size memory.shapes (drop (durable marks) h)) whole,
+        ap (λ n. history_size memory.shapes (drop n history)) (given.2 going),
+      );
+    }
+
+    pub handed_tells : HandTells (front_account view memory spare from stopped) (front_account view (record memory { block = dest }) None through stopped)
+        (handed.Given through memory.block)
+    handed_tells =
+        let records = front.pending.records going in
+        let counted = front.counted in (
+          going,
+          all,
+          given.2 going,
+          omega (arith, more, all),
+          refl,
+          long memory.block.bytes some,
+          records,
+          record {
+            fewer = throughs_most marks front.throughs;
+            short = omega (arith, front.few, encodings-length memory.shapes (take from history) memory.block.bytes (drop from history) records);
+            size = omega (
+              arith,
+              block_small memory.shapes (take from history) (drop from history) memory.block.bytes records some,
+              cost_parts memory.shapes history from,
+              counted.held,
+              counted.within,
+              counted.session,
+            );
+          },
+          ap (λ (n : ℕ). record (front_account view memory None through stopped) {
+            terms = record { layouts = memory.shapes; block_limit = n; session_limit = memory.session_limit; which = view.which memory.view };
+          }) given.1,
+        ) where
+          long : (bytes : List ℕ) → bytes ≢ [] → 1 ≤ length bytes
+          long [] is = absurd (is refl)
+          long (b ∷ bytes) is = omega arith
+
+  -- The block came back, and its records are written.
+  pub front_marked : (new : InMemory V) (more : Stock Mark) (mark : Mark) (block : Buffered) → new ≡ record memory { marks = more; view = new.view }
+      → is_some spare ≡ false → mark.through ≡ from → more.items ≡ marks ++ mark ∷ [] → more.spare ≡ memory.marks.spare - 1
+      → IsShowing view new.view new.history.items new.marks.items → block.bytes ≡ [] → block.limit ≡ memory.block.limit
+      → IsFront view new (Some block) from stopped
+  front_marked new more mark block rest lent through_is marks_are room shown emptied limit =
+      let has = spare_lent memory from stopped spare lent front.has_spare in
+      let is : durable more.items ≡ from = ap durable marks_are ∙ ap (λ m. m.through) (last_mark-append marks mark) ∙ through_is in
+      let showing = subst (λ f. IsShowing view new.view f.history.items f.marks.items) rest shown in
+      subst (λ f. IsFront view f (Some block) from stopped) (sym rest) (record {
+        counted = counted_as memory (record memory { marks = more; view = new.view }) refl refl front.counted;
+        pending = record {
+          through = front.pending.through;
+          records = front.pending.records;
+          room = λ some. let two = has.3 some in omega (arith, room, two);
+        };
+        low = omega (arith, is);
+        shown = showing;
+        throughs = subst AreThroughs (sym marks_are) (throughs-push marks mark front.throughs (omega (arith, has.1, through_is)));
+        has_spare = (emptied, limit, λ going. sym is);
+        few = front.few;
+        few_handed = subst (λ n. history_size memory.shapes (drop n (take from history)) ≤ memory.block.limit) (sym is)
+            (subst (λ samples. history_size memory.shapes samples ≤ memory.block.limit) (sym (none_between from history)) (omega arith));
+      })

@@ -1,0 +1,171 @@
+-- The front of a book: its history, its marks, the records that are not handed over, and the view.
+use Rattle.std.specs.Prelude.{ℕ, ◌≡◌, ◌≢◌, ◌+◌, ◌^◌, ◌≤◌, ◌<◌, Bool, true, false, List, [], ◌∷◌, ◌++◌, length, take, drop, All, AllPairs, Option, Some, None, is_some, slice_get, IsSomeAnd}
+use Rattle.mdf_layout.specs.Layout.{Layout}
+use Rattle.mdf_layout.specs.Record.{cost_of, encoded_size, history_cost, history_size}
+use Rattle.mdf_layout.specs.Behind.{AreEncodingsBehind}
+use Rattle.mdf_layout.specs.declared.sample.Sample.{Sample}
+use Rattle.mdf_gate.specs.Gated.{Buffered}
+use Rattle.book_core.specs.Machine.{BookState}
+use Rattle.book_core.specs.declared.event.Event.{Event}
+use Rattle.book_core.specs.declared.event.Event.TheVariants.{FlushFailed, FlushTo, Publish}
+use Rattle.book_owned.specs.Members.{ViewOf}
+use Rattle.book_owned.specs.Marks.{last_mark, durable}
+use Rattle.book_owned.specs.Kept.{IsShowing}
+use Rattle.book_owned.specs.Answers.{ShowsAll}
+use Rattle.book_owned.specs.Events.{Leads, PutLeads}
+use Rattle.book_owned.specs.Halves.{IsCounted, IsPending}
+use Rattle.book_owned.specs.declared.answer.Append.{Append}
+use Rattle.book_owned.specs.declared.answer.Append.TheVariants.{Accepted, SessionFull, Stopped, DiskFault, Memory}
+use Rattle.book_owned.specs.declared.answer.Flush.{Flush}
+use Rattle.book_owned.specs.declared.answer.Flush.TheVariants as flush
+use Rattle.book_owned.specs.declared.handed.Handed.{Handed}
+use Rattle.book_owned.specs.declared.handed.Handed.TheVariants as handed
+use Rattle.book_owned.specs.declared.in_memory.InMemory.{InMemory}
+use Rattle.book_owned.specs.declared.mark.Mark.{Mark}
+use Rattle.book_owned.specs.declared.written.Written.{Written}
+use Rattle.book_owned.specs.declared.written.Written.TheVariants as written
+
+-- what no call changes of a front: the layouts of its groups, its limits in bytes, and which view it has
+pub record FrontTerms : Type 0 where
+  pub layouts : List Layout
+  pub block_limit : ℕ
+  pub session_limit : ℕ
+  pub which : ℕ
+
+-- What contracts see of a front: the accepted samples, the marks, whether a fault of the disk stopped it, whether it has its
+-- spare block, how many samples were handed over, its terms and its view.
+pub record FrontAccount (V : Type 0) : Type 0 where
+  pub history : List Sample
+  pub marks : List Mark
+  pub stopped : Bool
+  pub spare : Bool
+  pub from : ℕ
+  pub terms : FrontTerms
+  pub view : V
+
+abbrev pub front_account : {V N : Type 0} → ViewOf V N → InMemory V → Option Buffered → ℕ → Bool → FrontAccount V
+front_account view memory spare from stopped = record {
+  history = memory.history.items;
+  marks = memory.marks.items;
+  stopped = stopped;
+  spare = is_some spare;
+  from = from;
+  terms = record { layouts = memory.shapes; block_limit = memory.block.limit; session_limit = memory.session_limit; which = view.which memory.view };
+  view = memory.view;
+}
+
+-- the first mark has no samples, and each later one has more
+pub record AreThroughs (marks : List Mark) : Type 0 where
+  pub first : IsSomeAnd (slice_get marks 0) (λ mark. mark.through ≡ 0)
+  pub rise : AllPairs (λ mark later. mark.through < later.through) marks
+
+-- The spare block is there, and empty, while nothing is handed over but what is durable, or the front is stopped. While it
+-- is away there is room for its mark, and for that of the records which came since.
+abbrev pub HasSpare : {V : Type 0} → InMemory V → ℕ → Bool → Option Buffered → Type 0
+HasSpare memory from stopped (Some block) =
+    (block.bytes ≡ []) × (block.limit ≡ memory.block.limit) × (stopped ≡ false → from ≡ durable memory.marks.items)
+HasSpare memory from stopped None =
+    (stopped ≡ false) × (durable memory.marks.items < from) × (1 ≤ memory.marks.spare) × (memory.block.bytes ≢ [] → 2 ≤ memory.marks.spare)
+
+-- What is true of a front between two calls: the records of the samples that were handed over and are not durable fit into
+-- one block, and those of the samples behind them into another.
+pub record IsFront {V N : Type 0} (view : ViewOf V N) (memory : InMemory V) (spare : Option Buffered) (from : ℕ) (stopped : Bool) : Type 0 where
+  pub counted : IsCounted memory
+  pub pending : IsPending from stopped memory
+  pub low : durable memory.marks.items ≤ from
+  pub shown : IsShowing view memory.view memory.history.items memory.marks.items
+  pub throughs : AreThroughs memory.marks.items
+  pub has_spare : HasSpare memory from stopped spare
+  pub few : history_size memory.shapes (drop from memory.history.items) ≤ memory.block.limit
+  pub few_handed : history_size memory.shapes (drop (durable memory.marks.items) (take from memory.history.items)) ≤ memory.block.limit
+
+-- the samples behind the last hand-over
+abbrev pub behind : {V : Type 0} → FrontAccount V → List Sample
+behind front = drop front.from front.history
+
+-- the cost of the history with the sample is within the session limit
+abbrev pub FrontRoom : {V : Type 0} → FrontAccount V → Sample → Type 0
+FrontRoom front sample =
+    history_cost front.terms.layouts front.history + cost_of front.terms.layouts sample ≤ front.terms.session_limit
+
+-- the pending records and that of the sample pass the block limit, or do not
+abbrev pub FrontPasses : {V : Type 0} → FrontAccount V → Sample → Type 0
+FrontPasses front sample =
+    front.terms.block_limit < history_size front.terms.layouts (behind front) + encoded_size front.terms.layouts sample
+
+abbrev pub FrontFits : {V : Type 0} → FrontAccount V → Sample → Type 0
+FrontFits front sample =
+    history_size front.terms.layouts (behind front) + encoded_size front.terms.layouts sample ≤ front.terms.block_limit
+
+-- a put
+abbrev pub PutTells : {V : Type 0} → FrontAccount V → FrontAccount V → Sample → Append → Type 0
+PutTells old new sample (Accepted place) =
+    (old.stopped ≡ false) × FrontRoom old sample × (place ≡ length old.history)
+    × (new ≡ record old { history = old.history ++ sample ∷ [] })
+PutTells old new sample (SessionFull held size limit) =
+    (old.stopped ≡ false) × (new ≡ old) × (held ≡ history_cost old.terms.layouts old.history)
+    × (size ≡ cost_of old.terms.layouts sample) × (limit ≡ old.terms.session_limit) × (limit < held + size)
+PutTells old new sample (Stopped mark) = (old.stopped ≡ true) × (new ≡ old) × (mark ≡ last_mark old.marks)
+PutTells old new sample (DiskFault before after) = ⊥
+PutTells old new sample Memory = (old.stopped ≡ false) × (new ≡ old) × FrontRoom old sample
+
+-- a block of a front that is handed over fits into a file that holds what was handed over before, and no mark has more
+-- samples than the last one
+pub record IsSmall {V : Type 0} (front : FrontAccount V) (block : Buffered) : Type 0 where
+  pub fewer : All (λ mark. mark.through ≤ durable front.marks) front.marks
+  pub short : length block.bytes ≤ front.terms.block_limit
+  pub size : history_cost front.terms.layouts (take front.from front.history) + length block.bytes ≤ 2 ^ 28
+
+-- A hand-over: the front is stopped; or nothing is pending; or the block has the records of the samples behind the last
+-- hand-over, and the front goes on with the spare one.
+abbrev pub HandTells : {V : Type 0} → FrontAccount V → FrontAccount V → Handed → Type 0
+HandTells old new (handed.Stopped mark) = (old.stopped ≡ true) × (new ≡ old) × (mark ≡ last_mark old.marks)
+HandTells old new handed.Nothing = (old.stopped ≡ false) × (new ≡ old) × (old.from ≡ length old.history) × (old.from ≡ durable old.marks)
+HandTells old new (handed.Given through block) =
+    (old.stopped ≡ false) × (through ≡ length old.history) × (old.from ≡ durable old.marks) × (old.from < through)
+    × (block.limit ≡ old.terms.block_limit) × (1 ≤ length block.bytes)
+    × AreEncodingsBehind old.terms.layouts (take old.from old.history) block.bytes (drop old.from old.history)
+    × IsSmall old block × (new ≡ record old { from = through; spare = false })
+
+-- the answer that a front waits for: of the block that it handed over, or of no block
+abbrev pub IsAwaited : {V : Type 0} → FrontAccount V → Written → Type 0
+IsAwaited front (written.Done mark block) = (front.spare ≡ false) × (mark.through ≡ front.from) × (block.limit ≡ front.terms.block_limit)
+IsAwaited front (written.DiskFault before after block) = (front.spare ≡ false) × (block.limit ≡ front.terms.block_limit)
+IsAwaited front written.Nothing = (front.spare ≡ true) × (front.stopped ≡ false)
+
+-- it has these marks and its spare block, and shows the durable samples, of which the note tells
+abbrev pub DoneTells : {V N : Type 0} → ViewOf V N → FrontAccount V → FrontAccount V → List Mark → ℕ → ℕ → N → Type 0
+DoneTells view old new marks through shown note =
+    (old.stopped ≡ false) × (new ≡ record old { marks = marks; spare = true; view = new.view }) × (through ≡ durable marks)
+    × (shown ≡ view.count new.view) × (shown ≤ through) × ShowsAll view old.view new.view through
+    × view.tells note old.terms.which (take shown old.history)
+
+-- What an answer of the file leads to: the mark is added, nothing is, or the front is stopped.
+abbrev pub FinishTells : {V N : Type 0} → ViewOf V N → FrontAccount V → FrontAccount V → Written → Flush N → Type 0
+FinishTells view old new (written.Done mark block) (flush.Done through shown note) = DoneTells view old new (old.marks ++ mark ∷ []) through shown note
+FinishTells view old new (written.Done mark block) (flush.DiskFault before after) = ⊥
+FinishTells view old new (written.Done mark block) (flush.Stopped last) = ⊥
+FinishTells view old new (written.DiskFault before after block) (flush.Done through shown note) = ⊥
+FinishTells view old new (written.DiskFault before after block) (flush.DiskFault before' after') =
+    (old.stopped ≡ false) × (new ≡ record old { stopped = true; spare = true }) × (before' ≡ before) × (after' ≡ after)
+FinishTells view old new (written.DiskFault before after block) (flush.Stopped last) = ⊥
+FinishTells view old new written.Nothing (flush.Done through shown note) = DoneTells view old new old.marks through shown note
+FinishTells view old new written.Nothing (flush.DiskFault before after) = ⊥
+FinishTells view old new written.Nothing (flush.Stopped last) = ⊥
+
+-- what the machine holds of a front, where its view counts so, and the events that lead from one to the other
+abbrev pub front_state_of : {V : Type 0} → (V → ℕ) → FrontAccount V → BookState
+front_state_of count front = record { history = front.history; durable = durable front.marks; shown = count front.view; stopped = front.stopped }
+
+abbrev pub FrontHappens : {V : Type 0} → (V → ℕ) → FrontAccount V → FrontAccount V → List Event → Type 0
+FrontHappens count old new = Leads (front_state_of count old) (front_state_of count new)
+
+-- of a put, and of a finish: the samples through the mark become durable and those are shown, or some more are shown, or
+-- the disk failed
+abbrev pub FrontPutEvents : {V : Type 0} → (V → ℕ) → FrontAccount V → FrontAccount V → Sample → Append → Type 0
+FrontPutEvents count old new = PutLeads (front_state_of count old) (front_state_of count new)
+
+abbrev pub FinishEvents : {V : Type 0} → (V → ℕ) → FrontAccount V → FrontAccount V → Written → Type 0
+FinishEvents count old new (written.Done mark block) = FrontHappens count old new (FlushTo mark.through ∷ Publish (count new.view) ∷ [])
+FinishEvents count old new (written.DiskFault before after block) = FrontHappens count old new (FlushFailed ∷ [])
+FinishEvents count old new written.Nothing = FrontHappens count old new (Publish (count new.view) ∷ [])

@@ -1,0 +1,215 @@
+ghost use Rattle.std.specs.Prelude.{◌≡◌, ◌+◌, ◌≤◌, ◌<◌, ◌^◌, [], true, false, length, IfSome, IfNone, MatchBool};
+ghost use Rattle.mdf_layout.specs.Record.{SampleFits, encoded_size, cost_of, history_cost, history_size};
+
+use crate::back::refusal;
+use crate::front::{accept, last_mark, reserve, show, size_behind};
+use crate::in_memory::InMemory;
+use crate::{Append, Flush, Handed, Mark, Shown, Written};
+use mdf_gate::Block;
+use mdf_layout::Sample;
+use std::marker::Model;
+use std::mem::replace;
+use std::sync::Wait;
+use std::thread::Threads;
+
+/// The history, the marks and the view of a book whose file is elsewhere. It has two blocks: one that takes records, and a
+/// spare one, which is away while its records are written.
+pub struct Front<V: Shown> {
+    pub(crate) memory: InMemory<V>,
+    pub(crate) spare: Option<Block>,
+    /// How many samples were handed over.
+    pub(crate) from: u64,
+    pub(crate) stopped: bool,
+}
+
+impl<V: Shown> Model for Front<V> {
+    ghost use Rattle.book_owned.specs.FrontHalf.{FrontAccount, IsFront, front_account};
+
+    ghost Value = { FrontAccount V };
+
+    ghost view = { λ f. front_account V.Shown f.memory f.spare f.from f.stopped };
+
+    ghost invariant = { λ f. IsFront V.Shown f.memory f.spare f.from f.stopped };
+}
+
+impl<V: Shown> Front<V> {
+    ghost use Rattle.book_owned.specs.Marks.{last_mark};
+    ghost use Rattle.book_owned.specs.Kept.{IsShowing};
+    ghost use Rattle.book_owned.specs.Answers.{IsRefusal, accepted_by};
+    ghost use Rattle.book_owned.specs.FrontHalf.{AreThroughs, FrontRoom, FrontFits, FrontPasses, PutTells, HandTells, IsAwaited, FinishTells, FrontPutEvents, FinishEvents, behind};
+
+    /// Accepts a sample whose records have room in the block. It never answers `DiskFault`.
+    pub fn put(&mut self, sample: Sample) -> Append
+        requires fits { SampleFits self.old.terms.layouts sample }
+        requires size { encoded_size self.old.terms.layouts sample ≤ self.old.terms.block_limit }
+        requires room { FrontFits self.old sample }
+        ensures tells { PutTells self.old self.new sample result }
+        ensures events { FrontPutEvents V.count self.old self.new sample result }
+        ensures shown { IsShowing V.Shown self.new.view self.new.history self.new.marks }
+    {
+        if let Some(refused) = self.refusal(&sample) {
+            return refused;
+        }
+        let place = self.history_len();
+        let Ok(()) = reserve(&mut self.memory) else {
+            return Append::Memory;
+        };
+        accept(&mut self.memory, sample);
+        Append::Accepted { place }
+    }
+
+    /// Gives the block of the pending records out, and goes on with the spare one. It takes no memory.
+    pub fn hand_over(&mut self) -> Handed
+        requires spare { self.old.spare ≡ true }
+        ensures tells { HandTells self.old self.new result }
+        ensures shown { IsShowing V.Shown self.new.view self.new.history self.new.marks }
+    {
+        if self.stopped {
+            return Handed::Stopped {
+                mark: last_mark(&self.memory.marks),
+            };
+        }
+        if self.memory.block.is_empty() {
+            return Handed::Nothing;
+        }
+        let Some(spare) = self.spare.take() else {
+            unreachable!()
+        };
+        let block = replace(&mut self.memory.block, spare);
+        self.from = self.memory.history.len();
+        Handed::Given {
+            through: self.from,
+            block,
+        }
+    }
+
+    /// Takes in what became of the block that was handed over, or `Nothing` where none was. The block is cleared and is the
+    /// spare one. A mark is added and the durable samples are shown, or the front is stopped. It takes no memory for itself.
+    pub fn finish<R: Threads + Wait + Sync>(&mut self, rt: &R, written: Written) -> Flush<V::Note>
+        requires awaited { IsAwaited self.old written }
+        ensures tells { FinishTells V.Shown self.old self.new written result }
+        ensures events { FinishEvents V.count self.old self.new written }
+        ensures throughs { AreThroughs self.new.marks }
+        ensures shown { IsShowing V.Shown self.new.view self.new.history self.new.marks }
+    {
+        match written {
+            Written::Done { mark, mut block } => {
+                self.memory.marks.put(mark);
+                let answer = show(&mut self.memory, rt);
+                block.clear();
+                self.spare = Some(block);
+                answer
+            }
+            Written::DiskFault {
+                before,
+                after,
+                mut block,
+            } => {
+                self.stopped = true;
+                block.clear();
+                self.spare = Some(block);
+                Flush::DiskFault { before, after }
+            }
+            Written::Nothing => show(&mut self.memory, rt),
+        }
+    }
+
+    /// Why a sample would not be accepted, before room for it is looked for: the front is stopped, or the sample's cost has
+    /// no room in the session.
+    pub fn refusal(&self, sample: &Sample) -> Option<Append>
+        requires fits { SampleFits self.now.terms.layouts sample.now }
+        requires size { encoded_size self.now.terms.layouts sample.now ≤ self.now.terms.block_limit }
+        ensures none { IfNone result ((self.now.stopped ≡ false) × FrontRoom self.now sample.now) }
+        ensures refused { IfSome result (λ answer. PutTells self.now self.now sample.now answer × (accepted_by answer sample.now ≡ [])) }
+        ensures before_memory { IfSome result IsRefusal }
+    {
+        let size = self.memory.shapes.encoded_size(sample);
+        refusal(&self.memory, self.stopped, sample, size)
+    }
+
+    /// Whether the pending records and those of the sample pass the block limit.
+    pub fn passes_block(&self, sample: &Sample) -> bool
+        requires fits { SampleFits self.now.terms.layouts sample.now }
+        requires size { encoded_size self.now.terms.layouts sample.now ≤ self.now.terms.block_limit }
+        ensures { MatchBool result (FrontPasses self.now sample.now) (FrontFits self.now sample.now) }
+    {
+        let size = self.memory.shapes.encoded_size(sample);
+        self.pending() + size > self.memory.block.limit() as u64
+    }
+
+    /// Whether it has its spare block: false just between a block that was handed over and what became of it.
+    pub fn spare(&self) -> bool
+        ensures { result ≡ self.now.spare }
+    {
+        self.spare.is_some()
+    }
+
+    /// How many bytes the record of a sample has.
+    pub fn size_of(&self, sample: &Sample) -> u64
+        requires { SampleFits self.now.terms.layouts sample.now }
+        ensures { result ≡ encoded_size self.now.terms.layouts sample.now }
+    {
+        self.memory.shapes.encoded_size(sample)
+    }
+
+    /// What a sample costs, in bytes.
+    pub fn cost_of(&self, sample: &Sample) -> u64
+        requires fits { SampleFits self.now.terms.layouts sample.now }
+        requires room { cost_of self.now.terms.layouts sample.now < 2 ^ 64 }
+        ensures { result ≡ cost_of self.now.terms.layouts sample.now }
+    {
+        self.memory.shapes.cost_of(sample)
+    }
+
+    /// How many bytes the records of the samples behind the last hand-over have.
+    pub fn pending(&self) -> u64
+        ensures { result ≡ history_size self.now.terms.layouts (behind self.now) }
+    {
+        if self.stopped {
+            return size_behind(&self.memory, self.from);
+        }
+        self.memory.block.len() as u64
+    }
+
+    /// What the history costs, in bytes.
+    pub fn held(&self) -> u64
+        ensures { result ≡ history_cost self.now.terms.layouts self.now.history }
+    {
+        self.memory.held
+    }
+
+    /// How many bytes of data a block has at most.
+    pub fn block_limit(&self) -> u64
+        ensures { result ≡ self.now.terms.block_limit }
+    {
+        self.memory.block.limit() as u64
+    }
+
+    /// What the history may cost at most, in bytes.
+    pub fn session_limit(&self) -> u64
+        ensures { result ≡ self.now.terms.session_limit }
+    {
+        self.memory.session_limit
+    }
+
+    /// The last mark.
+    pub fn last_mark(&self) -> Mark
+        ensures { result ≡ last_mark self.now.marks }
+    {
+        last_mark(&self.memory.marks)
+    }
+
+    /// How many samples were accepted.
+    pub fn history_len(&self) -> u64
+        ensures { result ≡ length self.now.history }
+    {
+        self.memory.history.len()
+    }
+
+    /// Whether the book that was split was stopped, or the disk failed since.
+    pub fn stopped(&self) -> bool
+        ensures { result ≡ self.now.stopped }
+    {
+        self.stopped
+    }
+}
