@@ -1,6 +1,6 @@
 -- Refusals that hold: of a step, of steps one after another, of chains and of loops over numbers.
 use Rattle.std.proofs.Common.{◌≡◌, ◌+◌, ◌≤◌, ◌<◌, ℕ, zero, suc, Bool, true, false, cond, List, [], ◌∷◌, length, Option, Some, None, Ok, Err, refl, sym, subst, inl, inr, arith}
-use Rattle.std.specs.Prelude.{nat_eq, IfSome}
+use Rattle.std.specs.Prelude.{IfSome}
 use Rattle.mdf_format.specs.Block.{IsBlock}
 use Rattle.mdf_format.specs.declared.kind.Kind.{Kind}
 use Rattle.mdf_block.specs.declared.what.What.{What}
@@ -59,23 +59,6 @@ pub refusing_as : {A : Type 0} (P Q : Refusal → Type 0) (read : Read A) → ((
     → Refusing P read → Refusing Q read
 refusing_as P Q read turn is = record { tells = λ refusal refused. turn refusal (is.tells refusal refused) }
 
--- items along links
-module _ {A S : Type 0} (P : Refusal → Type 0) (step : Step A S) (full_at : ℕ → Read (List A × ℕ × S)) where
-  pub refusing_chain : ((at : ℕ) (left : S) → Refusing P (step at left)) → ((at : ℕ) → Refusing P (full_at at))
-      → (room at : ℕ) (left : S) → Refusing P (chain step full_at room at left)
-  unfolding chain
-  refusing_chain steps past zero at left =
-      refusing_if P (nat_eq at 0) (Ok ([], zero, left)) (full_at at) (λ _. refusing_none P ([], zero, left)) (λ _. past at)
-  refusing_chain steps past (suc room) at left =
-      refusing_if P (nat_eq at 0) (Ok ([], suc room, left))
-      (step at left >>= λ found. chain step full_at room found.1 found.2 >>= λ rest. Ok (found.0 ∷ rest.0, rest.1, rest.2))
-      (λ _. refusing_none P ([], suc room, left))
-      (λ _. refusing_then P (step at left) (λ found. chain step full_at room found.1 found.2 >>= λ rest. Ok (found.0 ∷ rest.0, rest.1, rest.2))
-      (steps at left)
-      (λ found _. refusing_then P (chain step full_at room found.1 found.2) (λ rest. Ok (found.0 ∷ rest.0, rest.1, rest.2))
-      (refusing_chain steps past room found.1 found.2)
-      (λ rest _. refusing_none P (found.0 ∷ rest.0, rest.1, rest.2))))
-
 -- items along links, each with what is known of those before it, and the one that is too many
 pub refusing_behind : {A S : Type 0} (P : Refusal → Type 0) (f : List ℕ) (kind : Kind) (step : Step A S) (full_at : ℕ → Read (List A × ℕ × S))
     → GoesAlong f kind step → (Between : S → List ℕ → S → Type 0) → ((left : S) → Between left [] left)
@@ -118,12 +101,6 @@ refusing_range P item Known keeps k (suc count) left known items =
     (refusing_range P item Known keeps (k + 1) count found.1 (keeps k left found.0 found.1 is known)
     (λ j rest above below there. items j rest (omega (arith, above)) (omega (arith, below)) there))
     (λ rest _. refusing_none P (found.0 ∷ rest.0, rest.1)))
-
--- items by their numbers
-pub refusing_each : {A S : Type 0} (P : Refusal → Type 0) (item : ℕ → S → Read (A × S))
-    → ((k : ℕ) (left : S) → Refusing P (item k left)) → (k count : ℕ) (left : S) → Refusing P (each item k count left)
-refusing_each {A} {S} P item items k count left =
-    refusing_range P item (λ j (rest : S). Unit {0}) (λ j before x rest is known. tt) k count left tt (λ j rest above below known. items j rest)
 
 -- a block that does not stand
 pub block_true : (f : List ℕ) (at : ℕ) (kind : Kind) → ((IsBlock f at kind → ⊥) → LacksBlock f at kind)

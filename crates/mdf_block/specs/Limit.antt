@@ -38,10 +38,9 @@ AreBefore file kind [] first count at = (places : List ℕ) × AreAlong file kin
 AreBefore file kind (next ∷ kinds) first count at =
     AreBeforeIn file kind first (HoldsMany file (next ∷ kinds)) (λ begin inside. AreBefore file next kinds begin inside at) count
 
--- so many blocks are named before one of a chain of DLBLOCKs or one of the blocks that they list: each DLBLOCK counts with
--- those that its links after the first name
-pub record IsListedBehind (file : List ℕ) (count at : ℕ) : Type 0 where
-  pub first : ℕ
+-- so many blocks are named before one of the chain of DLBLOCKs from an address on or one of the blocks that they list: each
+-- DLBLOCK counts with those that its links after the first name
+pub record IsListedBehind (file : List ℕ) (first count at : ℕ) : Type 0 where
   pub lists : List ℕ
   pub list : ℕ
   pub k : ℕ

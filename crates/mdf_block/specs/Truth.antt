@@ -33,7 +33,7 @@ IsPast file whats.Fh at = (first : ℕ) × AreBefore file kinds.Fh [] first 6553
 IsPast file whats.Dg at = (first : ℕ) × AreBefore file kinds.Dg [] first 65535 at
 IsPast file whats.Cg at = (first : ℕ) × AreBefore file kinds.Dg (kinds.Cg ∷ []) first 65535 at
 IsPast file whats.Cn at = (first : ℕ) × AreBefore file kinds.Dg (kinds.Cg ∷ kinds.Cn ∷ []) first 1048576 at
-IsPast file whats.Block at = IsListedBehind file 1048576 at
+IsPast file whats.Block at = (first : ℕ) × IsListedBehind file first 1048576 at
 IsPast file _ at = Unit {0}
 
 -- so many conversions lie in one another above the address, each named by a link after the fourth of the one before

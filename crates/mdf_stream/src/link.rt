@@ -267,7 +267,7 @@ pub fn view_data_in<P: Span>(
 ) -> Result<DataView, Halt<DataFault>>
     ensures found { (f : List ℕ) → P.bytes span.old ≡ Some f → Gives data_refusal result (data_parts f want at) }
     ensures first { (f : List ℕ) → P.bytes span.old ≡ Some f → HidesNone P.may_want result (block f at (first_kind f want at)) }
-    ensures refused { (f : List ℕ) → P.bytes span.old ≡ Some f → IfErr result (IfFault (IsTrueOfLink f want)) }
+    ensures refused { (f : List ℕ) → P.bytes span.old ≡ Some f → IfErr result (IfFault (IsTrueOfLink f want at)) }
     ensures plain { IfErr result (IsPlain data_refusal) }
     ensures inside { IfOk result (ArePartsInside (P.size span.old)) }
     ensures same { P.bytes span.new ≡ P.bytes span.old }
@@ -295,7 +295,7 @@ pub fn view_data(alloc: Global, bytes: &[u8], at: u64, want: Kind) -> Result<Dat
     ensures exact { GivesOf data_refusal result (data_parts bytes.now want at) }
     ensures first { IfErr result (λ fault. IfNone (data_refusal fault) ((b : BlockAt) × (block bytes.now at (first_kind bytes.now want at) ≡ Ok b))) }
     ensures stream { IfOk result (λ view. IsStream bytes.now at want (stream_of bytes.now view)) }
-    ensures refused { IfErr result (λ fault. IfSome (data_refusal fault) (IsTrueOfLink bytes.now want)) }
+    ensures refused { IfErr result (λ fault. IfSome (data_refusal fault) (IsTrueOfLink bytes.now want at)) }
     ensures inside { IfOk result (ArePartsInside (length bytes.now)) }
 {
     match view_data_in(alloc, &mut SliceSpan::new(bytes), at, want) {

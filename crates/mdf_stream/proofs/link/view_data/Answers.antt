@@ -9,3 +9,7 @@ returns-in-Ok-clause-stream c =
 pub returns-in-Err-Memory-clause-first : goal.returns-in-Err-Memory-clause-first
 returns-in-Err-Memory-clause-first c =
     rw c.in-Err-Memory.field-0-is at (c.in-Err-Memory.ensures.first c.args.bytes.now (search rules))
+
+pub returns-in-Err-Fault-clause-refused : goal.returns-in-Err-Fault-clause-refused
+returns-in-Err-Fault-clause-refused c =
+    rw c.in-Err-Fault.field-0-is at (c.in-Err-Fault.ensures.refused c.args.bytes.now (search rules))
