@@ -33,6 +33,7 @@ pub(crate) fn write_block<D: Disk>(
     ensures terms { back_terms D.Disk file.new ≡ back_terms D.Disk file.old }
     ensures later { D.faults file.old.disk ≤ D.faults file.new.disk }
     ensures clock { D.moment file.old.disk ≤ D.moment file.new.disk }
+    ensures few { IfSome (D.story file.old.disk) (λ _. D.moment file.new.disk ≤ D.moment file.old.disk + 4) }
     ensures keeps { (layouts : List Layout) (most : ℕ) (samples : List Sample) (marks : List Mark) (from : ℕ)
         → BackKeeps D.Disk layouts file.old (take through samples) marks
         → FileHolds D.Disk layouts most file.old (take from samples)

@@ -1,4 +1,4 @@
-ghost use Rattle.std.specs.Prelude.{◌≡◌, ◌+◌, ◌^◌, ◌≤◌, ◌<◌, ℕ, List, false, length, take, All};
+ghost use Rattle.std.specs.Prelude.{◌≡◌, ◌+◌, ◌^◌, ◌≤◌, ◌<◌, ℕ, List, false, length, take, All, IfSome};
 ghost use Rattle.mdf_layout.specs.Layout.{Layout};
 ghost use Rattle.mdf_layout.specs.declared.sample.Sample.{Sample};
 ghost use Rattle.book_owned.specs.declared.mark.Mark.{Mark};
@@ -24,7 +24,7 @@ impl<D: Disk> Model for Back<D> {
 }
 
 impl<D: Disk> Back<D> {
-    /// Writes a block that its front handed over, in four calls of the disk. It takes no memory. Of each list of samples
+    /// Writes a block that its front handed over, in four calls of the disk or fewer. It takes no memory. Of each list of samples
     /// and of marks that the file kept, and of which it held the samples before those of the block, it keeps them and the
     /// new mark, and holds the samples through that mark.
     pub fn write(&mut self, through: u64, mut block: Block) -> Written
@@ -35,6 +35,7 @@ impl<D: Disk> Back<D> {
         ensures terms { back_terms D.Disk self.new ≡ back_terms D.Disk self.old }
         ensures later { D.faults self.old.disk ≤ D.faults self.new.disk }
         ensures clock { D.moment self.old.disk ≤ D.moment self.new.disk }
+        ensures few { IfSome (D.story self.old.disk) (λ _. D.moment self.new.disk ≤ D.moment self.old.disk + 4) }
         ensures keeps { (layouts : List Layout) (most : ℕ) (samples : List Sample) (marks : List Mark) (from : ℕ)
             → BackKeeps D.Disk layouts self.old (take through samples) marks
             → FileHolds D.Disk layouts most self.old (take from samples)

@@ -76,11 +76,9 @@ impl<V: Shown> Front<V> {
             unreachable!()
         };
         let block = replace(&mut self.memory.block, spare);
-        self.from = self.memory.history.len();
-        Handed::Given {
-            through: self.from,
-            block,
-        }
+        let through = self.memory.history.len();
+        self.from = through;
+        Handed::Given { through, block }
     }
 
     /// Takes in what became of the block that was handed over, or `Nothing` where none was. The block is cleared and is the

@@ -22,18 +22,18 @@ returns-then-is_empty-clause-tells g c =
 pub invariant_of-self : goal.invariant_of-self
 invariant_of-self g c =
     let inside = c.self.inside in
-    subst (λ spare. IsFront g.V.Shown (record inside.memory { block = c.replace-block.new.dest }) spare c.len-self-inside.result inside.stopped) (sym c.take.ensures.after)
-    (front_handed g.V.Shown inside.memory inside.spare inside.from inside.stopped c.self.invariant c.in-Some.spare c.replace-block.new.dest c.len-self-inside.result
-    (sym c.take.ensures.value ∙ c.in-Some.is) c.replace-block.ensures.after c.if-self.false (λ none. absurd (false≢true (c.if-is_empty.ensures.1 none))) c.len-self-inside.ensures)
+    subst (λ spare. IsFront g.V.Shown (record inside.memory { block = c.replace-block.new.dest }) spare c.len-through.result inside.stopped) (sym c.take.ensures.after)
+    (front_handed g.V.Shown inside.memory inside.spare inside.from inside.stopped c.self.invariant c.in-Some.spare c.replace-block.new.dest c.len-through.result
+    (sym c.take.ensures.value ∙ c.in-Some.is) c.replace-block.ensures.after c.if-self.false (λ none. absurd (false≢true (c.if-is_empty.ensures.1 none))) c.len-through.ensures)
 
 pub returns-clause-tells : goal.returns-clause-tells
 returns-clause-tells g c =
     let inside = c.self.inside in
     let memory = record inside.memory { block = c.replace-block.new.dest } in
-    subst (λ a. HandTells a (front_account g.V.Shown memory c.take.new.self c.len-self-inside.result inside.stopped) (handed.Given c.len-self-inside.result c.replace-block.result)) c.self.view_is
+    subst (λ a. HandTells a (front_account g.V.Shown memory c.take.new.self c.len-through.result inside.stopped) (handed.Given c.len-through.result c.replace-block.result)) c.self.view_is
     (subst (λ b. HandTells (front_account g.V.Shown inside.memory inside.spare inside.from inside.stopped)
-    (front_account g.V.Shown memory c.take.new.self c.len-self-inside.result inside.stopped) (handed.Given c.len-self-inside.result b)) (sym c.replace-block.ensures.value)
+    (front_account g.V.Shown memory c.take.new.self c.len-through.result inside.stopped) (handed.Given c.len-through.result b)) (sym c.replace-block.ensures.value)
     (subst (λ spare. HandTells (front_account g.V.Shown inside.memory inside.spare inside.from inside.stopped)
-    (front_account g.V.Shown memory spare c.len-self-inside.result inside.stopped) (handed.Given c.len-self-inside.result inside.memory.block)) (sym c.take.ensures.after)
-    (handed_tells g.V.Shown inside.memory inside.spare inside.from inside.stopped c.self.invariant c.in-Some.spare c.replace-block.new.dest c.len-self-inside.result
-    (sym c.take.ensures.value ∙ c.in-Some.is) c.replace-block.ensures.after c.if-self.false (λ none. absurd (false≢true (c.if-is_empty.ensures.1 none))) c.len-self-inside.ensures)))
+    (front_account g.V.Shown memory spare c.len-through.result inside.stopped) (handed.Given c.len-through.result inside.memory.block)) (sym c.take.ensures.after)
+    (handed_tells g.V.Shown inside.memory inside.spare inside.from inside.stopped c.self.invariant c.in-Some.spare c.replace-block.new.dest c.len-through.result
+    (sym c.take.ensures.value ∙ c.in-Some.is) c.replace-block.ensures.after c.if-self.false (λ none. absurd (false≢true (c.if-is_empty.ensures.1 none))) c.len-through.ensures)))
