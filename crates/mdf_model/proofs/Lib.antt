@@ -25,3 +25,4 @@ mod Truths
 mod Undefined
 mod Walks
 pub mod Wholes
+pub mod Identified

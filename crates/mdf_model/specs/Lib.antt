@@ -8,3 +8,4 @@ pub mod InWords
 pub mod Truth
 pub mod Limits
 pub mod Same
+pub mod Identified
