@@ -1,6 +1,7 @@
-ghost use Rattle.std.specs.Prelude.{IfOk};
+ghost use Rattle.std.specs.Prelude.{IfOk, IfErr, IfNone};
 ghost use Rattle.mdf_block.specs.Refusal.{GivesOf};
 ghost use Rattle.mdf_content.specs.Fault.{read_refusal};
+ghost use Rattle.mdf_model.specs.Identified.{IsIdentified};
 ghost use Rattle.mdf_model.specs.Measurement.{measurement};
 ghost use Rattle.mdf_spell.specs.Standing.{AreBytes};
 ghost use Rattle.tool_sort.specs.Kept.{StandsIn};
@@ -23,6 +24,7 @@ fn are_bytes(bytes: &[u8])
 /// As `read_measurement` of `mdf_model`.
 pub fn take_standing(alloc: Global, file: Bytes) -> Result<Measurement, ReadFault>
     ensures exact { GivesOf read_refusal result (measurement file) }
+    ensures first { IfErr result (λ fault. IfNone (read_refusal fault) (IsIdentified file)) }
     ensures stands { IfOk result (StandsIn file) }
 {
     are_bytes(file.as_slice());
