@@ -1,12 +1,15 @@
 -- How an export ends, by what was found and what was given.
 use Rattle.std.proofs.Common.{◌≡◌, ◌<◌, ℕ, Ok, Err, List, length, get_or, Option, Some, None, IsSome, refl, sym, subst, ap, inl, inr}
+use Rattle.std.specs.Prelude.{IfNone}
 use Rattle.std.specs.Option.{option_and_then, option_map_or}
 use Rattle.std.proofs.lemmas.Option.{slice_get-get_or}
 use Rattle.mdf_block.specs.Refusal.{Fails, Refusal}
 use Rattle.mdf_content.specs.Fault.{read_refusal}
 use Rattle.mdf_content.specs.declared.fault.ReadFault.{ReadFault}
 use Rattle.mdf_model.specs.declared.part.Measure.{Measure}
+use Rattle.mdf_model.specs.Identified.{IsIdentified}
 use Rattle.mdf_model.specs.Measurement.{Measured, measurement, sample_of}
+use Rattle.mdf_model.proofs.Identified.{measured_is_identified}
 use Rattle.mdf_num.specs.declared.halt.Stop.{Stop}
 use Rattle.mdf_num.specs.declared.halt.Stop.TheVariants as stop
 use Rattle.mdf_port.specs.State.{SinkState}
@@ -28,9 +31,9 @@ same_table found group d below =
 
 -- the file is refused, or memory was wanted to read it
 pub read_ends : (file : List ℕ) (group : ℕ) (state : SinkState) (fault : ReadFault) (refusal : Option Refusal) → read_refusal fault ≡ refusal
-    → Fails refusal (measurement file) → ExportEnds file group state state (Err (fault_or_memory fault refusal))
-read_ends file group state fault None is fails = inl refl
-read_ends file group state fault (Some refusal) is fails =
+    → Fails refusal (measurement file) → IfNone refusal (IsIdentified file) → ExportEnds file group state state (Err (fault_or_memory fault refusal))
+read_ends file group state fault None is fails known = (known, inl refl)
+read_ends file group state fault (Some refusal) is fails known =
     (subst IsSome (sym is) refl, subst (λ (one : Option Refusal). Fails one (measurement file)) (sym is) fails, refl)
 
 module _ (file : List ℕ) (found : Measured) (read : measurement file ≡ Ok found) where
@@ -60,4 +63,5 @@ module _ (file : List ℕ) (found : Measured) (read : measurement file ≡ Ok fo
         → GivesText (table_of (get_or found.groups group (item_of found.groups group below))) old new (Err e) → ExportEnds file group old new (Err (fault_of_stop e))
     unfolding measure
     stopped_ends old new stop.Failed gives = (record { measure = measure; is = is_group; front = gives.err }, gives.cause.reason)
-    stopped_ends old new stop.Memory gives = inr (record { measure = measure; is = is_group; front = gives.err }, gives.stays)
+    stopped_ends old new stop.Memory gives =
+        (measured_is_identified file found read, inr (record { measure = measure; is = is_group; front = gives.err }, gives.stays))

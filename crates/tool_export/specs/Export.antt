@@ -10,6 +10,7 @@ use Rattle.mdf_content.specs.Fault.{read_refusal}
 use Rattle.mdf_content.specs.declared.fault.ReadFault.{ReadFault}
 use Rattle.mdf_block.specs.Refusal.{Refusal}
 use Rattle.mdf_model.specs.declared.part.Measure.{Measure}
+use Rattle.mdf_model.specs.Identified.{IsIdentified}
 use Rattle.mdf_model.specs.Measurement.{Measured, measurement}
 use Rattle.mdf_port.specs.Sink.{AppendsFront}
 use Rattle.mdf_port.specs.State.{SinkState}
@@ -71,7 +72,7 @@ NamesNone said found _ = ⊥
 
 -- How it ends, by what the sink tells before and after: the table of the group was given, and there are so many samples;
 -- or the file is refused, for its first fault, or has no such group, and nothing was given; or the sink failed; or memory
--- was wanted, and the sink did not fail.
+-- was wanted for a file that is identified, and the sink did not fail.
 abbrev pub ExportEnds : List ℕ → ℕ → SinkState → SinkState → Result ℕ ExportFault → Type 0
 ExportEnds file group old new (Ok rows) =
     (measure : Measure) × IsGroupOf file group measure × (rows ≡ measure.count) × Appends old.held new.held (table_of measure)
@@ -79,4 +80,4 @@ ExportEnds file group old new (Err (export.Read fault)) =
     IsSome (read_refusal fault) × Fails (read_refusal fault) (measurement file) × (new ≡ old)
 ExportEnds file group old new (Err (export.NoGroup said groups)) = (said ≡ group) × HasNoGroup file group groups × (new ≡ old)
 ExportEnds file group old new (Err export.Failed) = GaveFront file group old new × Rose old.faults new.faults
-ExportEnds file group old new (Err export.Memory) = (new ≡ old) ⊎ (GaveFront file group old new × (new.faults ≡ old.faults))
+ExportEnds file group old new (Err export.Memory) = IsIdentified file × ((new ≡ old) ⊎ (GaveFront file group old new × (new.faults ≡ old.faults)))
