@@ -12,7 +12,7 @@ use Rattle.tool_export.specs.Export.{GaveFront, HasNoGroup, IsGroupOf}
 use Rattle.tool_export.specs.Table.{table_of}
 use Rattle.mdf_command.specs.Texts.{Prints}
 use Rattle.mdf_command.specs.Faults.{fault_line, fault_status}
-use Rattle.mdf_command.specs.Load.{IsLoaded, IsOver}
+use Rattle.mdf_command.specs.Load.{IsCalm, IsLoaded, IsOver}
 use Rattle.mdf_command.specs.declared.fault.Fault.{Fault}
 use Rattle.mdf_command.specs.declared.fault.Fault.TheVariants as fault
 use Rattle.mdf_inspect.specs.Reading.{InputWants}
@@ -42,13 +42,13 @@ LacksGroup disk group groups = (file : List ℕ) × IsLoaded disk file × HasNoG
 
 -- Not all of the table was given for this fault only where this holds of the disk of the input and of the sink, before and
 -- then: the disk failed, or the input is too long or is refused or has no such group, and nothing was given; or memory was
--- wanted, for the input or to read it, and nothing was given; or behind that, and a front of the table was, by a sink that did
--- not fail.
+-- wanted, for the input or to read it, and nothing was given; or behind that, and a front of the table was, where neither the disk
+-- nor the sink failed.
 abbrev pub TableFaultComes : ℕ → DiskState → DiskState → SinkState → SinkState → Fault → Type 0
 TableFaultComes group old new sink sink' fault.Device = Rose old.faults new.faults × (sink' ≡ sink)
 TableFaultComes group old new sink sink' (fault.InputOver size limit) = IsOver old size limit × (sink' ≡ sink)
 TableFaultComes group old new sink sink' fault.Memory =
-    (InputWants old new × (sink' ≡ sink)) ⊎ (GaveFrontOf old group sink sink' × (sink'.faults ≡ sink.faults))
+    (InputWants old new × (sink' ≡ sink)) ⊎ (GaveFrontOf old group sink sink' × IsCalm old new × (sink'.faults ≡ sink.faults))
 TableFaultComes group old new sink sink' (fault.Read refused) = IsUnmeasured old (read_refusal refused) × (sink' ≡ sink)
 TableFaultComes group old new sink sink' (fault.NoGroup said groups) = (said ≡ group) × LacksGroup old group groups × (sink' ≡ sink)
 TableFaultComes group old new sink sink' _ = ⊥

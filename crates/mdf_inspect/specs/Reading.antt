@@ -4,6 +4,7 @@ use Rattle.mdf_block.specs.Refusal.{Read, ◌>>=◌, Fails}
 use Rattle.mdf_head.specs.Ident.{identify}
 use Rattle.mdf_content.specs.declared.fault.ReadFault.{ReadFault}
 use Rattle.mdf_content.specs.Fault.{read_refusal}
+use Rattle.mdf_model.specs.Identified.{IsIdentified}
 use Rattle.mdf_model.specs.Measurement.{measurement}
 use Rattle.mdf_model.specs.InWords.{IsMeasurement, IsValidFile}
 use Rattle.mdf_model.specs.Truth.{IsTrueOfFile}
@@ -11,7 +12,7 @@ use Rattle.mdf_disk.specs.State.{DiskState}
 use Rattle.mdf_port.specs.State.{SinkState}
 use Rattle.mdf_command.specs.Texts.{Prints}
 use Rattle.mdf_command.specs.Faults.{fault_line, fault_status}
-use Rattle.mdf_command.specs.Load.{IsLoaded, LoadFaultComes, LoadWants}
+use Rattle.mdf_command.specs.Load.{IsCalm, IsLoaded, LoadFaultComes, LoadWants}
 use Rattle.mdf_command.specs.declared.fault.Fault.{Fault}
 use Rattle.mdf_command.specs.declared.fault.Fault.TheVariants as fault
 use Rattle.mdf_inspect.specs.declared.reading.Reading.{Reading}
@@ -30,11 +31,13 @@ pub record IsRefused (refused : ReadFault) (file : List ℕ) : Type 0 where
   pub is_refused : Fails (read_refusal refused) (reading file)
   pub holds : IfSome (read_refusal refused) (IsTrueOfFile file)
 
--- memory was wanted to read a file that was loaded
+-- memory was wanted to read a file that was loaded and is identified; so it stands for no disk that failed
 pub record WantsToRead (old new : DiskState) : Type 0 where
   pub file : List ℕ
   pub loaded : IsLoaded old file
   pub attached : new.attached ≡ true
+  pub calm : IsCalm old new
+  pub identified : IsIdentified file
 
 -- memory was wanted for the file, or to read it
 abbrev pub InputWants : DiskState → DiskState → Type 0

@@ -1,6 +1,7 @@
-ghost use Rattle.std.specs.Prelude.{◌≡◌, ◌⊎◌, ◌↔◌, IsTrue, IfOk, Some, None};
+ghost use Rattle.std.specs.Prelude.{◌≡◌, ◌⊎◌, ◌↔◌, IsTrue, IsSome, IfOk, IfErr, IfNone, Some, None};
 ghost use Rattle.mdf_block.specs.Refusal.{GivesOf};
 ghost use Rattle.mdf_head.specs.Ident.{identify};
+ghost use Rattle.mdf_model.specs.Identified.{IsIdentified};
 ghost use Rattle.mdf_model.specs.InWords.{IsMeasurement, IsValidFile};
 ghost use Rattle.mdf_content.specs.Fault.{read_refusal};
 ghost use Rattle.mdf_disk.specs.State.{state_of};
@@ -25,7 +26,8 @@ pub struct Reading {
 
 /// What the first 64 bytes say, with the faults of reading.
 fn ident_of(bytes: &[u8]) -> Result<Ident, ReadFault>
-    ensures { GivesOf read_refusal result (identify bytes.now) }
+    ensures exact { GivesOf read_refusal result (identify bytes.now) }
+    ensures refused { IfErr result (λ fault. IsSome (read_refusal fault)) }
 {
     match ident(bytes) {
         Ok(id) => Ok(id),
@@ -38,6 +40,7 @@ fn ident_of(bytes: &[u8]) -> Result<Ident, ReadFault>
 #[tactic(auto, unfolding(crate::specs::Reading::reading))]
 fn reading_of(alloc: Global, file: Bytes) -> Result<Reading, ReadFault>
     ensures exact { GivesOf read_refusal result (reading file) }
+    ensures first { IfErr result (λ fault. IfNone (read_refusal fault) (IsIdentified file)) }
     ensures measured { IfOk result (λ found. IsMeasurement file found.measurement.head found.measurement.history found.measurement.groups) }
     ensures valid { IfOk result (λ found. IsTrue found.measurement.strict ↔ IsValidFile file) }
 {

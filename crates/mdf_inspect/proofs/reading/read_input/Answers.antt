@@ -21,4 +21,4 @@ returns-in_err-reading_of-clause-comes g c =
     let p = err_from_is_err_and c.from_residual-in_err-reading_of.result c.from_residual-in_err-reading_of.ensures.1 in
     let fault = c.in_err-reading_of.field-0.0 in
     rw (p.1, p.2) (unread_comes (state_of g.A.Disk c.args.first.now) (state_of g.A.Disk c.load.new.first) c.in_ok-bytes.bytes
-    c.in_ok-bytes.ensures.comes (c.in_ok-bytes.ensures.attached refl) fault (read_refusal fault) refl c.in_err-reading_of.ensures.exact)
+    c.in_ok-bytes.ensures.comes (c.in_ok-bytes.ensures.attached refl) c.in_ok-bytes.ensures.calm fault (read_refusal fault) refl c.in_err-reading_of.ensures.exact c.in_err-reading_of.ensures.first)

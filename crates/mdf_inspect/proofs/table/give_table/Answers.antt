@@ -12,5 +12,5 @@ returns-in-Err-clause-comes g c =
 pub returns-in-Err-Memory-clause-comes : goal.returns-in-Err-Memory-clause-comes
 returns-in-Err-Memory-clause-comes g c =
     wanting_table c.args.group (state_of g.A.Disk c.args.first.now) (state_of g.A.Disk c.load.new.first) c.in-Ok.file c.in-Ok.ensures.comes
-    (c.in-Ok.ensures.attached refl) (sink_state g.K.Sink c.args.sink.now) (sink_state g.K.Sink c.export.new.sink)
+    (c.in-Ok.ensures.attached refl) c.in-Ok.ensures.calm (sink_state g.K.Sink c.args.sink.now) (sink_state g.K.Sink c.export.new.sink)
     (rw c.in-Err-Memory.field-0-is at c.in-Err-Memory.ensures.ends)
