@@ -59,7 +59,7 @@ use Rattle.mdf_model.specs.Measurement.{Measured, measured, measurement}
 use Rattle.mdf_model.specs.Contents.{IsValuesOf, IsChannelStream, own_records, IsContents, IsDataContents}
 use Rattle.mdf_model.specs.InWords.{IsFinalizedMdf, IsMeasurement}
 use Rattle.mdf_model.specs.Truth.{IsSampleGroup, IsTrueOfData}
-use Rattle.mdf_model.specs.Limits.{HasFewValues, IsWithinData, IsWithinLimits}
+use Rattle.mdf_model.specs.Limits.{HasFewValues, IsWithinData, IsWithinTree, IsWithinLimits}
 use Rattle.mdf_model.proofs.Channels.{held_by}
 use Rattle.mdf_model.proofs.Counted.{offsets_true}
 use Rattle.mdf_model.proofs.Files.{data_true, mdf_is_true, version_is_true}
@@ -96,7 +96,7 @@ found_or_not (Ok x) = inl (x, refl)
 found_or_not (Err refusal) = inr (refusal, refl)
 
 -- an item that passes a test
-passed_get : {A : Type 0} (test : A → Bool) (P : A → Type 0) (xs : List A) (i : ℕ) (x : A) → slice_get xs i ≡ Some x → test x ≡ true
+pub passed_get : {A : Type 0} (test : A → Bool) (P : A → Type 0) (xs : List A) (i : ℕ) (x : A) → slice_get xs i ≡ Some x → test x ≡ true
     → AllByRecursion P (filter test xs) → P x
 passed_get {A} test P [] i x is passes all = let wrong : ◌≡◌ {A = Option A} None (Some x) = is in cc
 passed_get {A} test P (y ∷ xs) zero x is passes all =
@@ -175,14 +175,14 @@ counts_of_data lists groups number =
     (λ k group before found there nothing is. tt) 0 groups number (all_there groups) tt)
     (λ found _. refusing_none IsOfData found.1)
 
-module _ (f : List ℕ) (row : DataRow) (found : List Contents) (is : IsDataContents f row found) (within : IsWithinData f row) where
-  -- values
-  values_there : (parts : List Part) (lists : List (List ℕ)) (link : ℕ) (group : Option ℕ) (stream : List ℕ)
-      → IsValuesOf f row is.records link group stream → LeadsToFew f link
-      → (values : List Part) × (values_in f (held_by parts row lists) link group ≡ Ok values)
-  values_there parts lists link (Some k) stream of_channel few = (_, refl)
-  values_there parts lists link None stream of_channel few = parts_reached f Sd (inr refl) link stream of_channel few
+-- the values of a channel
+pub values_there : (f : List ℕ) (row : DataRow) (records : List Record) (parts : List Part) (lists : List (List ℕ)) (link : ℕ) (group : Option ℕ) (stream : List ℕ)
+    → IsValuesOf f row records link group stream → LeadsToFew f link
+    → (values : List Part) × (values_in f (held_by parts row lists) link group ≡ Ok values)
+values_there f row records parts lists link (Some k) stream of_channel few = (_, refl)
+values_there f row records parts lists link None stream of_channel few = parts_reached f Sd (inr refl) link stream of_channel few
 
+module _ (f : List ℕ) (row : DataRow) (found : List Contents) (is : IsDataContents f row found) (within : IsWithinData f row) where
   module _ (parts : List Part) (lists : List (List ℕ)) where
     module _ (k : ℕ) (group : GroupRow) (stands : IsSampleGroup row k group) (own : GroupRecords) where
       channel_of_data : (c : ℕ) (channel : ChannelRow) → slice_get group.channels c ≡ Some channel → is_of_values channel ≡ true
@@ -195,7 +195,7 @@ module _ (f : List ℕ) (row : DataRow) (found : List Contents) (is : IsDataCont
           let one = picked_get {C = ChannelRow} (λ n row_of. row_of) is_of_values R 0 group.channels held.0.streams c channel is_channel kind all in
           let few = passed_get is_of_values (λ (one_of : ChannelRow). LeadsToFew f one_of.values) group.channels c channel is_channel kind
           (all_get (HasFewValues f) row.groups k group stands.there within.values) in
-          let there = values_there parts lists channel.values (values_group row.groups channel.values 0) one.0 one.1.values few in
+          let there = values_there f row is.records parts lists channel.values (values_group row.groups channel.values 0) one.0 one.1.values few in
           refusing_then IsOfData (values_in f (held_by parts row lists) channel.values (values_group row.groups channel.values 0)) _
           (refusing_found IsOfData _ there.0 there.1) (λ values _.
           refusing_then IsOfData (offsets_met (has_value (stream_of f values)) (offset_in (stream_of f parts) own channel) c 0 own.count) _
@@ -293,7 +293,7 @@ finalized_there f is =
 
 -- the header, the history and the data groups
 pub tree_there : (f : List ℕ) (given : Head) (entries : List History) (rows : List DataRow) → ((kind : Kind) → IsBlock f 0 kind → ⊥)
-    → IsHead f given entries → IsWithinLimits f given entries rows
+    → IsHead f given entries → IsWithinTree f given entries rows
     → (dropped : ℕ) × (tree f ≡ Ok (record { head = given; history = entries; rows = rows; dropped = dropped }))
 unfolding tree
 tree_there f given entries rows none stands limits =
@@ -331,7 +331,7 @@ pub measurement_there : (f : List ℕ) (given : Head) (entries : List History) (
 unfolding measurement whole all_data
 measurement_there f given entries measures is limits =
     let first = finalized_there f is.ident in
-    let second = tree_there f given entries is.rows (none_first f is.ident.finalized) is.stands limits in
+    let second = tree_there f given entries is.rows (none_first f is.ident.finalized) is.stands limits.tree in
     let third = every_there f 0 is.rows is.contents 0 is.hold limits.each in
     let all : Whole = record {
       ident = the_ident f;

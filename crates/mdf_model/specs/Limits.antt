@@ -24,12 +24,15 @@ pub record IsWithinData (file : List ℕ) (row : DataRow) : Type 0 where
   pub empties : (at : ℕ) → ¬ HasManyEmpties row at
 
 -- At most 65,535 entries of the history, as many data groups and channel groups, 1,048,576 channels, as many conversions,
--- each once for each link that leads to it, and 67,108,864 bytes of texts; no conversion is the fifth that is open at once; and
--- each data group is within its own limits.
-pub record IsWithinLimits (file : List ℕ) (head : Head) (history : List History) (rows : List DataRow) : Type 0 where
+-- each once for each link that leads to it, and 67,108,864 bytes of texts; and no conversion is the fifth that is open at once.
+pub record IsWithinTree (file : List ℕ) (head : Head) (history : List History) (rows : List DataRow) : Type 0 where
   pub entries : length history ≤ 65535
   pub few : AreFew rows
   pub shallow : AreDataGroups file head.first_dg rows
   pub text : text_size head history + (rows_cost file rows).text ≤ 67108864
   pub conversions : (rows_cost file rows).conversions ≤ 1048576
+
+-- and each data group is within its own limits
+pub record IsWithinLimits (file : List ℕ) (head : Head) (history : List History) (rows : List DataRow) : Type 0 where
+  pub tree : IsWithinTree file head history rows
   pub each : AllByRecursion (IsWithinData file) rows
