@@ -166,7 +166,7 @@ module _ (f : List ℕ) (row : DataRow) (parts : List Part) (lists : List (List 
       }
 
 -- records without bytes are none where nothing is said
-empties_none : (groups : List GroupRow) → empties_by false groups ≡ 0
+pub empties_none : (groups : List GroupRow) → empties_by false groups ≡ 0
 empties_none [] = refl
 empties_none (group ∷ groups) = elim (two_ways (has_empty_records group)) [
   | inl empty ↦ cond-true (has_empty_records group) 0 0 empty

@@ -24,15 +24,16 @@ use Rattle.mdf_layout.specs.Layout.{Layout}
 use Rattle.mdf_content.specs.Layouts.{field_of, layout_of, layout}
 use Rattle.mdf_content.specs.Records.{record_size, size_of}
 use Rattle.mdf_content.specs.Contents.{records_at}
-use Rattle.mdf_content.specs.Values.{has_value, offsets_met, DataStream, values_group, values_at, values_in, GroupRecords, offset_in, channel_values, channel_stream, channel_item, streams}
+use Rattle.mdf_content.specs.Values.{has_value, offsets_met, DataStream, values_group, values_in, GroupRecords, offset_in, channel_values, channel_stream, channel_item, streams}
 use Rattle.mdf_content.proofs.Rooms.{all_at}
 use Rattle.mdf_session.specs.Counted.{group_streams, all_streams}
 use Rattle.mdf_session.specs.Counted as counted
-use Rattle.mdf_model.specs.Bodies.{bodies, joined}
-use Rattle.mdf_model.specs.Contents.{MeetsValue, IsChannelStream, IsValuesOf}
+use Rattle.mdf_model.specs.Bodies.{bodies}
+use Rattle.mdf_model.specs.Contents.{MeetsValue, IsChannelStream}
 use Rattle.mdf_model.proofs.Bodies.{bodies_at}
 use Rattle.mdf_model.proofs.Channels.{HoldBodies, held_by, values_of, take_less}
 use Rattle.mdf_model.proofs.Cases.{two_ways}
+use Rattle.mdf_model.proofs.Onces.{values_unique}
 use Rattle.mdf_carried.proofs.Laid.{every_found}
 
 -- an offset that meets a value passes the test
@@ -100,27 +101,29 @@ module _ (file : List ℕ) (row : DataRow) (parts : List Part) (lists : List (Li
   abbrev of_group : ℕ → GroupRow → GroupRecords
   of_group k group = records_at false group (places_in k)
 
-  -- a channel that names a group of values, and whose offsets meet its values
-  channel_read : (k : ℕ) (group : GroupRow) (c : ℕ) (channel : ChannelRow) (stream : List ℕ) (named : ℕ) → slice_get row.groups k ≡ Some group
-      → is_variable group ≡ false → values_group row.groups channel.values 0 ≡ Some named
+  -- where the values of a channel are
+  abbrev pub ValuesOf : ChannelRow → Read (List Part)
+  ValuesOf channel = values_in file held channel.values (values_group row.groups channel.values 0)
+
+  -- a channel whose values are found, and whose offsets meet them
+  channel_read : (k : ℕ) (group : GroupRow) (c : ℕ) (channel : ChannelRow) (stream : List ℕ) (values : List Part) → slice_get row.groups k ≡ Some group
+      → is_variable group ≡ false → ValuesOf channel ≡ Ok values
       → IsChannelStream file row records group.data_bytes (bodies row.id_size records k) channel stream
       → (s : List ℕ) × (channel_stream file held (of_group k group) channel c ≡ Ok s)
   unfolding channel_stream channel_values
-  channel_read k group c channel stream named there samples found is =
+  channel_read k group c channel stream values there samples found is =
       let whole = stream_of file parts in
       let places = places_in k in
       let records_are = of_group k group in
-      let values = values_at file parts (places_in named) in
       let own = bodies row.id_size records k in
       let size = record_size group in
       let sized : size_of group ≡ sizes.Fixed size = cond-false (is_variable group) sizes.Variable (sizes.Fixed size) samples in
       let there_own : map (λ (place : ℕ). bytes_at size whole place) places ≡ own =
       ap (λ (s : Size). bodies_at whole s places) (sym sized) ∙ hold k group there in
-      let bytes : stream_of file values ≡ joined (bodies row.id_size records named) =
-      (values_of file row parts lists records inside hold channel.values (Some named) values found refl).0 in
-      let said : stream ≡ joined (bodies row.id_size records named) =
-      subst (λ (g : Option ℕ). IsValuesOf file row records channel.values g stream) found is.values in
-      let same : stream ≡ stream_of file values = said ∙ sym bytes in
+      let link = channel.values in
+      let named = values_group row.groups link 0 in
+      let same : stream ≡ stream_of file values = values_unique file row records link named stream (stream_of file values) is.values
+      (values_of file row parts lists records inside hold link named values refl found).0 in
       let met : AllByRecursion (MeetsValue (stream_of file values) group.data_bytes channel) own =
       subst (λ (s : List ℕ). AllByRecursion (MeetsValue s group.data_bytes channel) own) same is.met in
       let tests = offsets_met (has_value (stream_of file values)) (offset_in whole records_are channel) c 0 (length places) in
@@ -138,17 +141,16 @@ module _ (file : List ℕ) (row : DataRow) (parts : List Part) (lists : List (Li
       ∙ ap (λ (n : ℕ). offset_in whole records_are channel n) (zero_on j) in
       value_has (stream_of file values) (offset_in whole records_are channel (0 + j)) one.0
       (subst (λ (n : ℕ). IsValueAt (stream_of file values) n one.0) offset_is one.1)) in
-      let first : values_in file held channel.values (values_group row.groups channel.values 0) ≡ Ok values = ap (values_in file held channel.values) found in
       let behind : List Part → Read (List ℕ) = λ ps.
       offsets_met (has_value (stream_of file ps)) (offset_in whole records_are channel) c 0 (length places) >>= λ _. Ok (stream_of file ps) in (
         stream_of file values,
-        ap (λ (read : Read (List Part)). read >>= behind) first
+        ap (λ (read : Read (List Part)). read >>= behind) found
             ∙ ap (λ (read : Read (Unit {0})). read >>= λ _. Ok (stream_of file values)) passes,
       )
 
   -- all channels of a group, where those of variable length are such
   abbrev pub IsSuch : ℕ → GroupRow → ChannelRow → Type 0
-  IsSuch k group channel = (named : ℕ) × (values_group row.groups channel.values 0 ≡ Some named)
+  IsSuch k group channel = (values : List Part) × (ValuesOf channel ≡ Ok values)
       × ((stream : List ℕ) × IsChannelStream file row records group.data_bytes (bodies row.id_size records k) channel stream)
 
   channels_read : (k : ℕ) (group : GroupRow) → slice_get row.groups k ≡ Some group → is_variable group ≡ false

@@ -66,7 +66,7 @@ module _ (tells : TestTells) where
   unfolding layout
   laid group keeps = ap (layout_unless group) (none_unplaced (layout_of group) 0 (placed_channels group) keeps)
 
-  laid_back : (group : GroupRow) → is_variable group ≡ true → layout group ≡ Ok (layout_of group)
+  pub laid_back : (group : GroupRow) → is_variable group ≡ true → layout group ≡ Ok (layout_of group)
   laid_back group is =
       let none : placed_channels group ≡ [] = cond-true (is_variable group) [] group.channels is in
       laid group (subst (λ (channels : List ChannelRow).
@@ -99,9 +99,11 @@ module _ (tells : TestTells) where
       ap (λ (read : Read Layout). seen read >>= λ found. every laid_group (k + 1) groups found.1 >>= λ more. Ok (option_to_list found.0 ++ more.0, more.1)) each.0
       ∙ ap (λ (read : Read (List (Unit {0}) × Unit {0})). read >>= λ more. Ok (more.0, more.1)) (laid_all (k + 1) groups each.1)
 
-  pub layouts_found : (ls : List Layout) (row : DataRow) → IsRecorded ls row → layouts row ≡ Ok tt
+  pub layouts_laid : (row : DataRow) → has_id_size row ≡ true → AllByRecursion IsLaid row.groups → layouts row ≡ Ok tt
   unfolding layouts
-  layouts_found ls row is =
-      let size : has_id_size row ≡ true = one_byte row is.id_size in
+  layouts_laid row size each =
       cond-true (has_id_size row) (every laid_group 0 row.groups tt >>= λ _. Ok tt) (Err (refusals.Layout row.at)) size
-      ∙ ap (λ (read : Read (List (Unit {0}) × Unit {0})). read >>= λ _. Ok tt) (laid_all 0 row.groups (groups_laid ls row is))
+      ∙ ap (λ (read : Read (List (Unit {0}) × Unit {0})). read >>= λ _. Ok tt) (laid_all 0 row.groups each)
+
+  pub layouts_found : (ls : List Layout) (row : DataRow) → IsRecorded ls row → layouts row ≡ Ok tt
+  layouts_found ls row is = layouts_laid row (one_byte row is.id_size) (groups_laid ls row is)

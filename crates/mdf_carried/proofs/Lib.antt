@@ -1,5 +1,6 @@
 pub mod Apart
 pub mod Carried
+mod Complete
 mod Counts
 pub mod Entries
 pub mod Founds

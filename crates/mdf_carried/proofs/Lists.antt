@@ -16,10 +16,10 @@ pub both_false : (b : Bool) → (b && false) ≡ false
 both_false true = refl
 both_false false = refl
 
-from_here : (k : ℕ) → k + 0 ≡ k
+pub from_here : (k : ℕ) → k + 0 ≡ k
 from_here k = omega arith
 
-one_on : (k j : ℕ) → k + suc j ≡ k + 1 + j
+pub one_on : (k j : ℕ) → k + suc j ≡ k + 1 + j
 one_on k j = omega arith
 
 -- two lists whose elements fit, place by place

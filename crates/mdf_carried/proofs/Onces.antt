@@ -25,7 +25,7 @@ use Rattle.mdf_carried.specs.Recovered.{AreRecords, told, IsGroupContents, Recov
 use Rattle.mdf_carried.specs.Samples.{index_of, body_of, IsSampleOf, sample_records, IsRecovered}
 
 -- no block stands at the beginning of a recording
-none_at_first : (f : List ℕ) → IsUnfinalized f → (kind : Kind) → IsBlock f 0 kind → ⊥
+pub none_at_first : (f : List ℕ) → IsUnfinalized f → (kind : Kind) → IsBlock f 0 kind → ⊥
 none_at_first f is = none_behind f (codes "UnFinMF ") 85 is refl (lit< tt)
 
 -- the records

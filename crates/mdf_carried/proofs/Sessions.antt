@@ -5,7 +5,6 @@ use Rattle.std.proofs.lemmas.List.{take_all}
 use Rattle.std.proofs.lemmas.Option.{slice_get_within, slice_get-get_or, get_or_from_slice_get}
 use Rattle.std.specs.Prelude.{nat_eq, slice_get, Some}
 use Rattle.std.specs.List.{concat, flat_map, AllByRecursion}
-use Rattle.mdf_block.specs.Refusal.{Read, ◌>>=◌}
 use Rattle.mdf_stream.specs.declared.part.Part.{Part}
 use Rattle.mdf_stream.specs.Parts.{stream_of, stream_size, ArePartsInside}
 use Rattle.mdf_stream.proofs.Joins.{length-stream}
@@ -23,19 +22,21 @@ use Rattle.mdf_group.specs.Recordable.{is_of_values, AreRecordable}
 use Rattle.mdf_layout.specs.Layout.{Layout}
 use Rattle.mdf_layout.specs.Read.{Piece, piece_bytes, IsPiece, samples_from}
 use Rattle.mdf_layout.specs.declared.sample.Sample.{Sample}
-use Rattle.mdf_content.specs.Layouts.{layout_of, layout}
+use Rattle.mdf_content.specs.Layouts.{layout_of, layout, layouts}
 use Rattle.mdf_content.specs.Records.{known_of, places_without_ids, places_of}
+use Rattle.mdf_content.specs.Values.{values_at, values_in}
 use Rattle.mdf_content.proofs.Rooms.{all_at}
 use Rattle.mdf_model.specs.declared.tree.Tree.{Tree}
 use Rattle.mdf_model.specs.Tree.{tree}
 use Rattle.mdf_spell.specs.Recording.{recorded_row, recorded_head, recorded_history, IsRecordingTree, FindsHead, FindsGroups}
 use Rattle.mdf_session.specs.declared.session.Kept.{Kept}
+use Rattle.mdf_session.specs.Counted.{all_streams}
 use Rattle.mdf_session.specs.Opened.{opened_parts}
-use Rattle.mdf_session.specs.Session.{SessionParts, kept_by, kept_of, kept, first_kept, session}
+use Rattle.mdf_session.specs.Session.{SessionParts, recording, kept_by, kept_of, kept, first_kept, session}
 use Rattle.mdf_model.specs.Bodies.{bodies}
 use Rattle.mdf_model.specs.Contents.{IsChannelStream}
 use Rattle.mdf_model.proofs.Bodies.{AreSplitAt, places_found}
-use Rattle.mdf_model.proofs.Channels.{HoldBodies}
+use Rattle.mdf_model.proofs.Channels.{HoldBodies, held_by}
 use Rattle.mdf_model.proofs.Founds.{hold_by}
 use Rattle.mdf_gate.specs.Recording.{first_place}
 use Rattle.mdf_gate.specs.Carried.{IsCarried}
@@ -49,6 +50,19 @@ use Rattle.mdf_carried.proofs.Splits.{places_are}
 use Rattle.mdf_carried.proofs.Laid.{TestTells, groups_laid, layouts_found}
 use Rattle.mdf_carried.proofs.Kept.{IsSuch, fitting, streams_read}
 use Rattle.mdf_carried.proofs.Trees.{ident_found, tree_found}
+
+-- what the data group holds is read, where its parts are
+pub kept_by_parts : (file : List ℕ) (row : DataRow) (parts : List Part) (lists found : List (List ℕ)) → layouts row ≡ Ok tt
+    → opened_parts file row.content ≡ Ok parts → places_of (stream_of file parts) (stream_size parts) false row ≡ Ok lists
+    → all_streams file (held_by parts row lists) ≡ Ok found → kept file row ≡ Ok (kept_by file row parts lists found)
+unfolding kept kept_of
+kept_by_parts file row parts lists found laid opened placed streams = rw (laid, opened, placed, streams) refl
+
+-- and the session
+pub session_by_parts : (file : List ℕ) (id : Ident) (all : Tree) (found : Kept) → recording file ≡ Ok id → tree file ≡ Ok all
+    → first_kept file all.rows ≡ Ok found → session file ≡ Ok (record { tree = all; kept = found })
+unfolding session
+session_by_parts file id all found identified stands held = rw (identified, stands, held) refl
 
 -- what stands in the first part of a list
 front_slice : {A : Type 0} (xs ys : List A) (k : ℕ) → k < length xs → slice_get (xs ++ ys) k ≡ slice_get xs k
@@ -93,8 +107,8 @@ module _ (tells : TestTells) (file : List ℕ) (ls : List Layout) (row : DataRow
       let named = named_in file ls row is pieces each samples read k group layout front laid j channel known variable in
       let one = fitting is_of_values (IsChannelStream file row records group.data_bytes (take (length own) own)) group.channels
       (contents_at ls pieces k layout).streams holds.streams j channel known variable in (
-        named.0,
-        named.1,
+        values_at file parts (get_or lists named.0 []),
+        ap (values_in file (held_by parts row lists) channel.values) named.1,
         (one.0, subst (λ (xs : List (List ℕ)). IsChannelStream file row records group.data_bytes xs channel one.0) all one.1),
       )
 
@@ -108,7 +122,7 @@ module _ (tells : TestTells) (file : List ℕ) (ls : List Layout) (row : DataRow
   -- what the data group holds is read
   pub kept_found : (blocks : List (List ℕ)) → AreFound file (opened_parts file row.content) blocks
       → concat blocks ≡ flat_map (piece_bytes (length ls)) pieces → (found : Kept) × (kept file row ≡ Ok found)
-  unfolding kept places_of kept_of
+  unfolding places_of
   kept_found blocks opened bytes_are =
       let parts = opened.parts in
       let stream = stream_of file parts in
@@ -134,23 +148,15 @@ module _ (tells : TestTells) (file : List ℕ) (ls : List Layout) (row : DataRow
       (record_splits_agree stream row.id_size known 0 at_places.records records at_places.rest [] at_places.split mine).0 in
       let hold : HoldBodies stream row lists records =
       subst (HoldBodies stream row lists) same (hold_by row stream 0 lists at_places) in
-      let streams = streams_read file row parts lists records opened.inside hold laid_at (such parts lists opened.inside hold) in
-      let last : kept_of file row parts lists ≡ Ok (kept_by file row parts lists streams.0) =
-      ap (λ (read_streams : Read (List (List ℕ))). read_streams >>= λ all. Ok (kept_by file row parts lists all)) streams.1 in
-      let behind_parts : List Part → Read Kept = λ ps.
-      places_of (stream_of file ps) (stream_size ps) false row >>= λ xs. kept_of file row ps xs in (
+      let streams = streams_read file row parts lists records opened.inside hold laid_at (such parts lists opened.inside hold) in (
         kept_by file row parts lists streams.0,
-        ap (λ (read_layouts : Read (Unit {0})). read_layouts >>= λ _. opened_parts file row.content >>= behind_parts) (layouts_found tells ls row is)
-            ∙ ap (λ (read_parts : Read (List Part)). read_parts >>= behind_parts) opened.found
-            ∙ ap (λ (read_lists : Read (List (List ℕ))). read_lists >>= λ xs. kept_of file row parts xs) read_places
-            ∙ last,
+        kept_by_parts file row parts lists streams.0 (layouts_found tells ls row is) opened.found read_places streams.1,
       )
 
 -- the whole session
 pub session_read : RulesAgree → TestTells → (start : ℕ) (rows : List GroupRow) (file : List ℕ) (samples : List Sample) → AreRecordable rows
     → IsRecordingTree file start rows → FindsHead file start rows → FindsGroups file start rows → IsCarried (map layout_of rows) file samples
     → (found : SessionParts) × (session file ≡ Ok found)
-unfolding session
 session_read agree tells start rows file samples are tree_is finds_head finds_groups carried =
     let ls = map layout_of rows in
     let row = recorded_row start rows in
@@ -165,16 +171,10 @@ session_read agree tells start rows file samples are tree_is finds_head finds_gr
     let opened : AreFound file (opened_parts file row.content) carried.blocks =
     subst (λ (n : ℕ). AreFound file (opened_parts file n) carried.blocks) (sym begins) (blocks_found file carried.blocks carried.opened) in
     let found = kept_found tells file ls row is pieces each samples carried.records.samples_are carried.blocks opened carried.records.bytes_are in
-    let made : Tree → Kept → SessionParts = λ t k. record { tree = t; kept = k } in
-    let behind : Tree → Read SessionParts = λ t. first_kept file t.rows >>= λ k. Ok (made t k) in
     let whole : Tree = record {
       head = recorded_head start rows;
       history = recorded_history start rows;
       rows = row ∷ [];
       dropped = all.0;
-    } in (
-      made whole found.0,
-      ap (λ (read_ident : Read Ident). read_ident >>= λ _. tree file >>= behind) ident.1
-          ∙ ap (λ (read_tree : Read Tree). read_tree >>= behind) all.1
-          ∙ ap (λ (read_kept : Read Kept). read_kept >>= λ k. Ok (made whole k)) found.1,
-    )
+    } in
+    (record { tree = whole; kept = found.0 }, session_by_parts file ident.0 whole found.0 ident.1 all.1 found.1)

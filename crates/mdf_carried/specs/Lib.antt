@@ -1,3 +1,4 @@
 pub mod Recovers
 pub mod Recovered
+pub mod Limits
 pub mod Samples

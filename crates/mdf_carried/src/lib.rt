@@ -11,5 +11,6 @@ pub use law::{
     what_is_carried_is_recovered,
 };
 pub use recovered::{
-    groups_have_their_samples, recordings_have_samples, recoveries_agree, what_is_read_is_recovered,
+    groups_have_their_samples, recordings_have_samples, recoveries_agree,
+    what_is_read_is_recovered, what_is_recovered_is_read,
 };

@@ -2,12 +2,19 @@ ghost use Rattle.std.specs.Prelude.{◌≡◌, ℕ, List, Ok};
 ghost use Rattle.mdf_layout.specs.declared.sample.Sample.{Sample};
 ghost use Rattle.mdf_session.specs.Session.{SessionParts, session};
 ghost use Rattle.mdf_carried.specs.Recovered.{Recovery, IsRecovery, IsSessionOf};
+ghost use Rattle.mdf_carried.specs.Limits.{IsWithinRecording};
 ghost use Rattle.mdf_carried.specs.Samples.{HaveSamples, IsRecovered};
 
 /// What is read of a recording is what it holds.
 pub fn what_is_read_is_recovered()
     ensures { (file : List ℕ) (read : SessionParts) → session file ≡ Ok read
         → (found : Recovery) × IsRecovery file found × IsSessionOf found read }
+{}
+
+/// A file that holds a recording is read as that, where it is within the limits of the reader.
+pub fn what_is_recovered_is_read()
+    ensures { (file : List ℕ) (found : Recovery) → IsRecovery file found → IsWithinRecording file found
+        → (read : SessionParts) × (session file ≡ Ok read) × IsSessionOf found read }
 {}
 
 /// Samples are recovered of each recording.
