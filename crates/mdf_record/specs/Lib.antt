@@ -5,6 +5,7 @@ pub mod Finish
 pub mod Causes
 pub mod Record
 pub mod Recovers
+pub mod Recoverable
 pub mod Created
 pub mod Recorded
 pub mod Work

@@ -3,9 +3,11 @@
 
 mod gate;
 mod head;
+mod law;
 mod record;
 mod sources;
 
 pub use gate::{Gate, Open};
+pub use law::what_is_recoverable_is_finalizable;
 pub use record::{RecordEnd, Recorded, run_generated, run_record};
 pub use sources::{Accepted, End};
