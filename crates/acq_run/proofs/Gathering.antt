@@ -17,7 +17,7 @@ use Rattle.book_shared.proofs.Beginning.{new_seats-length}
 use Rattle.acq_run.specs.Tasks.{MayFeed}
 use Rattle.acq_run.specs.Works.{AreMarked, HasDriven, HasRoomNext, IsFlushed, IsOver}
 use Rattle.acq_run.specs.Workers.{IsReady, driven_of}
-use Rattle.acq_run.specs.Ran.{AllMayFeed, AllRan, AskedFor, EndsIn, Ran}
+use Rattle.acq_run.specs.Ran.{AllMayFeed, AllRan, AskedFor, EndsIn, Ran, RefusedBehind, seen_by}
 use Rattle.acq_run.specs.declared.tasks.Fed.{Fed}
 use Rattle.acq_run.specs.declared.work.Driven.{Driven}
 use Rattle.acq_run.specs.declared.work.Ended.{Ended}
@@ -36,8 +36,9 @@ module _ {D V : Type 0} (basis : Basis) (book : Account D V) (terms : book.terms
   same_basis = driven.drives.does.later.basis_is
 
   ran_with : (before : List Sample) → IsPrefix before book.history → source_samples basis.owners before number ≡ source_samples basis.owners book.history number
-      → EndsIn book before driven.drives.rest how → Ran basis.owners book number feds (record { accepted = accepted; ended = how })
-  ran_with before begins all_own ends = record {
+      → EndsIn book before driven.drives.rest how → RefusedBehind seat.know.seen before how
+      → Ran basis.owners book number seat.know.seen feds (record { accepted = accepted; ended = how })
+  ran_with before begins all_own ends behind = record {
     done = driven.drives.done;
     rest = driven.drives.rest;
     parts = driven.drives.parts;
@@ -49,19 +50,21 @@ module _ {D V : Type 0} (basis : Basis) (book : Account D V) (terms : book.terms
     begins = begins;
     all_own = all_own;
     ends = ends;
+    behind = behind;
   }
 
-  ran_all : EndsIn book book.history driven.drives.rest how → Ran basis.owners book number feds (record { accepted = accepted; ended = how })
-  ran_all ends = ran_with book.history (prefix_self book.history) refl ends
+  ran_all : EndsIn book book.history driven.drives.rest how → RefusedBehind seat.know.seen book.history how
+      → Ran basis.owners book number seat.know.seen feds (record { accepted = accepted; ended = how })
+  ran_all ends behind = ran_with book.history (prefix_self book.history) refl ends behind
 
   same_terms : seat.know.basis.terms ≡ book.terms
   same_terms = ap (λ (b : Basis). b.terms) same_basis ∙ sym terms
 
   -- it ended where all of its own had been seen
   ran_seen : source_samples seat.know.basis.owners seat.know.seen number ≡ own_part seat.know.mine → EndsIn book seat.know.seen driven.drives.rest how
-      → Ran basis.owners book number feds (record { accepted = accepted; ended = how })
-  ran_seen all_own ends =
-      ran_with seat.know.seen closed.seen (ap (λ (b : Basis). source_samples b.owners seat.know.seen number) (sym same_basis) ∙ all_own ∙ of_book) ends
+      → RefusedBehind seat.know.seen seat.know.seen how → Ran basis.owners book number seat.know.seen feds (record { accepted = accepted; ended = how })
+  ran_seen all_own ends behind =
+      ran_with seat.know.seen closed.seen (ap (λ (b : Basis). source_samples b.owners seat.know.seen number) (sym same_basis) ∙ all_own ∙ of_book) ends behind
 
 -- some of two counts
 some_of : (a b : ℕ) → 0 < a + b → (0 < a) ⊎ (0 < b)
@@ -80,22 +83,22 @@ asked_of basis book table number seat closed feds accepted how driven n there = 
 
 pub ran_of : {D V : Type 0} (basis : Basis) (book : Account D V) → book.terms ≡ basis.terms → (table : TableId) (number : ℕ) (seat : Place) → Closed basis book seat
     → (feds : List Fed) (accepted : ℕ) (how : Ended) → HasDriven (new_seat table basis number) seat feds accepted how
-    → Ran basis.owners book number feds (record { accepted = accepted; ended = how })
+    → Ran basis.owners book number seat.know.seen feds (record { accepted = accepted; ended = how })
 ran_of basis book terms table number seat closed feds accepted Running driven = absurd driven.drives.ends
-ran_of basis book terms table number seat closed feds accepted Done driven = ran_all basis book terms table number seat closed feds accepted Done driven driven.drives.ends
+ran_of basis book terms table number seat closed feds accepted Done driven = ran_all basis book terms table number seat closed feds accepted Done driven driven.drives.ends tt
 ran_of basis book terms table number seat closed feds accepted (SessionFull held size limit) driven =
     ran_seen basis book terms table number seat closed feds accepted (SessionFull held size limit) driven driven.drives.ends.1
     (subst (λ (t : Terms). IsOver t seat.know.seen driven.drives.rest held size limit)
-    (same_terms basis book terms table number seat closed feds accepted (SessionFull held size limit) driven) driven.drives.ends.0)
+    (same_terms basis book terms table number seat closed feds accepted (SessionFull held size limit) driven) driven.drives.ends.0) refl
 ran_of basis book terms table number seat closed feds accepted (Stopped mark) driven =
     ran_all basis book terms table number seat closed feds accepted (Stopped mark) driven
-    (closed.knows driven.drives.ends.1, (seat.know.kept, closed.kept, driven.drives.ends.0))
+    (closed.knows driven.drives.ends.1, (seat.know.kept, closed.kept, driven.drives.ends.0)) tt
 ran_of basis book terms table number seat closed feds accepted (DiskFault before after) driven =
-    ran_all basis book terms table number seat closed feds accepted (DiskFault before after) driven (closed.knows driven.drives.ends.1, driven.drives.ends.0)
+    ran_all basis book terms table number seat closed feds accepted (DiskFault before after) driven (closed.knows driven.drives.ends.1, driven.drives.ends.0) tt
 ran_of basis book terms table number seat closed feds accepted Memory driven =
     ran_seen basis book terms table number seat closed feds accepted Memory driven driven.drives.ends.2
     (subst (λ (t : Terms). HasRoomNext t seat.know.seen driven.drives.rest)
-    (same_terms basis book terms table number seat closed feds accepted Memory driven) driven.drives.ends.1)
+    (same_terms basis book terms table number seat closed feds accepted Memory driven) driven.drives.ends.1) refl
 
 -- what is said to be done of a source is what its work did
 pub done_of : {D V : Type 0} (basis : Basis) (book : Account D V) (terms : book.terms ≡ basis.terms) (table : TableId) (number : ℕ) (seat : Place) (closed : Closed basis book seat)
@@ -162,6 +165,26 @@ module _ {F L : Type 0} (left : F → List Fed) (table : TableId) (basis : Basis
     all_driven (suc first) olds news (later_seats first old olds seats) (omega (arith, same)) (λ k d within. each (suc k) d (omega (arith, within))),
   )
 
+  -- this is what each has seen
+  abbrev pub AllSaw : List (List Sample) → ℕ → List (Worker F L) → Type 0
+  AllSaw seen first [] = Unit {0}
+  AllSaw seen first (new ∷ news) = (get_or seen first [] ≡ new.seat.know.seen) × AllSaw seen (suc first) news
+
+  saw_from : (seen : List (List Sample)) (first : ℕ) (news : List (Worker F L))
+      → ((k : ℕ) → k < length news → get_or seen (first + k) [] ≡ get_or (seen_by (seats_of news)) k []) → AllSaw seen first news
+  saw_from seen first [] each = tt
+  saw_from seen first (new ∷ news) each =
+      let here : first + 0 ≡ first = omega arith in (
+        subst (λ n. get_or seen n [] ≡ new.seat.know.seen) here (each 0 (omega arith)),
+        saw_from seen (suc first) news (λ k less.
+            let same : first + suc k ≡ suc first + k = omega arith in
+            subst (λ n. get_or seen n [] ≡ get_or (seen_by (seats_of news)) k []) same (each (suc k) (omega (arith, less)))),
+      )
+
+  pub all_saw : (news : List (Worker F L)) → AllSaw (seen_by (seats_of news)) 0 news
+  all_saw news = saw_from (seen_by (seats_of news)) 0 news (λ k less.
+      let same : k ≡ 0 + k = omega arith in subst (λ n. get_or (seen_by (seats_of news)) n [] ≡ get_or (seen_by (seats_of news)) k []) same refl)
+
   all_long : (first : ℕ) (olds news : List (Worker F L)) → AllDriven first olds news → length news ≡ length olds
   all_long first [] [] all = refl
   all_long first [] (new ∷ news) all = absurd all
@@ -185,15 +208,16 @@ module _ {F L : Type 0} (left : F → List Fed) (table : TableId) (basis : Basis
         above a b low differs = ⊎_elim (λ less. omega (arith, less)) (λ more. absurd (differs (omega (arith, low, more)))) (cases_lt a b)
 
   module _ {D V : Type 0} (owners : List ℕ) (alike : (group : ℕ) → slice_index basis.owners group ≡ slice_index owners group) (book : Account D V) (terms : book.terms ≡ basis.terms) where
-    pub all_ran : (first : ℕ) (olds news : List (Worker F L)) → AllDriven first olds news → Closes basis book (seats_of news)
-        → AllRan owners book first (map left (feeds_of olds)) (map driven_of news)
-    all_ran first [] [] all closes = tt
-    all_ran first [] (new ∷ news) all closes = absurd all
-    all_ran first (old ∷ olds) [] all closes = absurd all
-    all_ran first (old ∷ olds) (new ∷ news) all closes = (
-      ran_same basis.owners owners alike first book (left old.feed) (driven_of new)
-          (ran_of basis book terms table first new.seat closes.0 (left old.feed) new.accepted new.ended all.0),
-      all_ran (suc first) olds news all.1 closes.1,
+    pub all_ran : (seen : List (List Sample)) (first : ℕ) (olds news : List (Worker F L)) → AllSaw seen first news → AllDriven first olds news → Closes basis book (seats_of news)
+        → AllRan owners book seen first (map left (feeds_of olds)) (map driven_of news)
+    all_ran seen first [] [] saw all closes = tt
+    all_ran seen first [] (new ∷ news) saw all closes = absurd all
+    all_ran seen first (old ∷ olds) [] saw all closes = absurd all
+    all_ran seen first (old ∷ olds) (new ∷ news) saw all closes = (
+      subst (λ s. Ran owners book first s (left old.feed) (driven_of new)) (sym saw.0)
+          (ran_same basis.owners owners alike first book new.seat.know.seen (left old.feed) (driven_of new)
+          (ran_of basis book terms table first new.seat closes.0 (left old.feed) new.accepted new.ended all.0)),
+      all_ran seen (suc first) olds news saw.1 all.1 closes.1,
     )
 
     -- what the seats asked for was asked for by the flushes of the feeds
@@ -295,11 +319,13 @@ module _ {F L : Type 0} (left : F → List Fed) (table : TableId) (basis : Basis
 
     module _ {D V : Type 0} (owners : List ℕ) (alike : (group : ℕ) → slice_index basis.owners group ≡ slice_index owners group) (book : Account D V) (terms : book.terms ≡ basis.terms) where
       pub worked_ran : (seats : List Place) (all : List Driven) → seats ≡ seats_of after → all ≡ map driven_of after → Closes basis book seats
-          → AllRan owners book 0 (map left feeds) all
+          → AllRan owners book (seen_by seats) 0 (map left feeds) all
       worked_ran seats all are is closes =
-          subst (λ ds. AllRan owners book 0 (map left feeds) ds) (sym (is ∙ ap (λ (ws : List (Worker F L)). map driven_of ws) worked.after_is))
-          (subst (λ fs. AllRan owners book 0 (map left fs) (map driven_of news)) worked.feeds_are
-          (all_ran owners alike book terms 0 lent news worked.all (subst (Closes basis book) (are ∙ ap seats_of worked.after_is) closes)))
+          let seats_are = are ∙ ap seats_of worked.after_is in
+          subst (λ ss. AllRan owners book (seen_by ss) 0 (map left feeds) all) (sym seats_are)
+          (subst (λ ds. AllRan owners book (seen_by (seats_of news)) 0 (map left feeds) ds) (sym (is ∙ ap (λ (ws : List (Worker F L)). map driven_of ws) worked.after_is))
+          (subst (λ fs. AllRan owners book (seen_by (seats_of news)) 0 (map left fs) (map driven_of news)) worked.feeds_are
+          (all_ran owners alike book terms (seen_by (seats_of news)) 0 lent news (all_saw news) worked.all (subst (Closes basis book) seats_are closes))))
 
       pub worked_asked : (seats : List Place) → seats ≡ seats_of after → Closes basis book seats → (n : ℕ) → AskedBy seats n → AskedFor owners 0 (map left feeds) book.history n
       worked_asked seats are closes n there =

@@ -1,5 +1,5 @@
 -- Sources that have worked, in a book that was flushed since.
-use Rattle.std.proofs.Common.{◌≡◌, ℕ, suc, List, [], ◌∷◌, sym, ◌∙◌, ap, subst, append-nil}
+use Rattle.std.proofs.Common.{◌≡◌, ℕ, suc, List, [], ◌∷◌, sym, ◌∙◌, ap, subst, get_or, append-nil}
 use mathlib.Core.List.{IsPrefix}
 use Rattle.mdf_gate.proofs.Carrying.{prefix_trans}
 use Rattle.mdf_layout.specs.History.{source_samples}
@@ -26,8 +26,9 @@ module _ {D V : Type 0} (old new : Account D V) (steps : Steps old new []) where
   ends_later before rest (DiskFault less more) ends = (steps.stopped ends.0, ends.1)
   ends_later before rest Memory ends = subst (λ (t : Terms). HasRoomNext t before rest) (sym steps.terms) ends
 
-  ran_later : (owners : List ℕ) (source : ℕ) (feds : List Fed) (driven : Driven) → Ran owners old source feds driven → Ran owners new source feds driven
-  ran_later owners source feds driven ran = record {
+  ran_later : (owners : List ℕ) (source : ℕ) (seen : List Sample) (feds : List Fed) (driven : Driven) → Ran owners old source seen feds driven
+      → Ran owners new source seen feds driven
+  ran_later owners source seen feds driven ran = record {
     done = ran.done;
     rest = ran.rest;
     parts = ran.parts;
@@ -38,10 +39,13 @@ module _ {D V : Type 0} (old new : Account D V) (steps : Steps old new []) where
     begins = subst (IsPrefix ran.before) (sym same) ran.begins;
     all_own = ran.all_own ∙ ap (λ h. source_samples owners h source) (sym same);
     ends = ends_later ran.before ran.rest driven.ended ran.ends;
+    behind = ran.behind;
   }
 
-  pub all_later : (owners : List ℕ) (source : ℕ) (feeds : List (List Fed)) (all : List Driven) → AllRan owners old source feeds all → AllRan owners new source feeds all
-  all_later owners source [] [] ran = tt
-  all_later owners source [] (driven ∷ all) ran = absurd ran
-  all_later owners source (feds ∷ feeds) [] ran = absurd ran
-  all_later owners source (feds ∷ feeds) (driven ∷ all) ran = (ran_later owners source feds driven ran.0, all_later owners (suc source) feeds all ran.1)
+  pub all_later : (owners : List ℕ) (seen : List (List Sample)) (source : ℕ) (feeds : List (List Fed)) (all : List Driven) → AllRan owners old seen source feeds all
+      → AllRan owners new seen source feeds all
+  all_later owners seen source [] [] ran = tt
+  all_later owners seen source [] (driven ∷ all) ran = absurd ran
+  all_later owners seen source (feds ∷ feeds) [] ran = absurd ran
+  all_later owners seen source (feds ∷ feeds) (driven ∷ all) ran =
+      (ran_later owners source (get_or seen source []) feds driven ran.0, all_later owners seen (suc source) feeds all ran.1)

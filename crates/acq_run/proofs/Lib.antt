@@ -1,5 +1,6 @@
 mod Doing
 pub mod Gathering
+mod Groups
 pub mod Later
 pub mod Looks
 pub mod Owning

@@ -48,8 +48,9 @@ module _ (table owners : List ℕ) (alike : (group : ℕ) → slice_index table 
   may_same terms fed.Flush may = tt
   may_same terms fed.End may = tt
 
-  pub ran_same : {D V : Type 0} (book : Account D V) (feds : List Fed) (driven : Driven) → Ran table book source feds driven → Ran owners book source feds driven
-  ran_same book feds driven ran = record {
+  pub ran_same : {D V : Type 0} (book : Account D V) (seen : List Sample) (feds : List Fed) (driven : Driven) → Ran table book source seen feds driven
+      → Ran owners book source seen feds driven
+  ran_same book seen feds driven ran = record {
     done = ran.done;
     rest = ran.rest;
     parts = ran.parts;
@@ -60,12 +61,13 @@ module _ (table owners : List ℕ) (alike : (group : ℕ) → slice_index table 
     begins = ran.begins;
     all_own = sym (source_same ran.before) ∙ ran.all_own ∙ source_same book.history;
     ends = ran.ends;
+    behind = ran.behind;
   }
 
-  pub done_same : {D V : Type 0} (book : Account D V) (feds : List Fed) (driven : Driven) (ran : Ran table book source feds driven)
-      → (ran_same book feds driven ran).done ≡ ran.done
+  pub done_same : {D V : Type 0} (book : Account D V) (seen : List Sample) (feds : List Fed) (driven : Driven) (ran : Ran table book source seen feds driven)
+      → (ran_same book seen feds driven ran).done ≡ ran.done
   unfolding ran_same
-  done_same book feds driven ran = refl
+  done_same book seen feds driven ran = refl
 
   pub owned_same : (sources count : ℕ) → sources ≡ count → (history : List Sample) → All (λ (s : Sample). slice_index table s.group < sources) history
       → All (λ (s : Sample). slice_index owners s.group < count) history

@@ -1,5 +1,6 @@
 -- What the sources of a recording have done, when all have worked and the book is one again.
-use Rattle.std.specs.Prelude.{ℕ, suc, ◌≡◌, ◌<◌, ◌⊎◌, ◌^◌, true, List, [], ◌∷◌, ◌++◌, length, slice_index, All}
+use Rattle.std.specs.Prelude.{ℕ, suc, ◌≡◌, ◌<◌, ◌⊎◌, ◌^◌, true, List, [], ◌∷◌, ◌++◌, length, map, slice_index, All}
+use Rattle.std.specs.List.{slice_index_or}
 use mathlib.Core.List.{IsPrefix}
 use Rattle.mdf_format.specs.Cause.{Rose}
 use Rattle.mdf_layout.specs.History.{source_samples}
@@ -7,6 +8,7 @@ use Rattle.mdf_layout.specs.declared.sample.Sample.{Sample}
 use Rattle.book_owned.specs.Account.{Account, Terms}
 use Rattle.book_owned.specs.Marks.{last_mark}
 use Rattle.book_owned.specs.declared.mark.Mark.{Mark}
+use Rattle.book_shared.specs.Place.{Place}
 use Rattle.acq_run.specs.Tasks.{flushes_of, samples_of, MayFeed}
 use Rattle.acq_run.specs.Works.{AreMarked, HasRoomNext, IsFlushed, IsOver}
 use Rattle.acq_run.specs.declared.tasks.Fed.{Fed}
@@ -27,9 +29,19 @@ EndsIn book before rest (Stopped mark) = (book.stopped ≡ true) × WasLast book
 EndsIn book before rest (DiskFault less more) = (book.stopped ≡ true) × Rose less more
 EndsIn book before rest Memory = HasRoomNext book.terms before rest
 
+-- what each of these seats has seen of the history
+abbrev pub seen_by : List Place → List (List Sample)
+seen_by seats = map (λ seat. seat.know.seen) seats
+
+-- a source that was refused its next sample was refused it behind just what it had then seen
+abbrev pub RefusedBehind : List Sample → List Sample → Ended → Type 0
+RefusedBehind seen before (SessionFull held size limit) = before ≡ seen
+RefusedBehind seen before Memory = before ≡ seen
+RefusedBehind seen before _ = Unit {0}
+
 -- A source has worked: some of what its feed had was done, and just those samples are its own in the history. It ended behind
--- a beginning of the history that has all of them.
-pub record Ran {D V : Type 0} (owners : List ℕ) (book : Account D V) (source : ℕ) (feds : List Fed) (driven : Driven) : Type 0 where
+-- a beginning of the history that has all of them: where it was refused a sample, behind what it had seen at its last turn.
+pub record Ran {D V : Type 0} (owners : List ℕ) (book : Account D V) (source : ℕ) (seen : List Sample) (feds : List Fed) (driven : Driven) : Type 0 where
   pub done : List Fed
   pub rest : List Fed
   pub parts : done ++ rest ≡ feds
@@ -40,21 +52,23 @@ pub record Ran {D V : Type 0} (owners : List ℕ) (book : Account D V) (source :
   pub begins : IsPrefix before book.history
   pub all_own : source_samples owners before source ≡ source_samples owners book.history source
   pub ends : EndsIn book before rest driven.ended
+  pub behind : RefusedBehind seen before driven.ended
 
--- so have all from this source on, with these feeds
-abbrev pub AllRan : {D V : Type 0} → List ℕ → Account D V → ℕ → List (List Fed) → List Driven → Type 0
-AllRan owners book source [] [] = Unit {0}
-AllRan owners book source (feds ∷ feeds) (driven ∷ all) = Ran owners book source feds driven × AllRan owners book (suc source) feeds all
-AllRan owners book source _ _ = ⊥
+-- So have all from this source on, with these feeds. What each source has seen of the history is listed by its number.
+abbrev pub AllRan : {D V : Type 0} → List ℕ → Account D V → List (List Sample) → ℕ → List (List Fed) → List Driven → Type 0
+AllRan owners book seen source [] [] = Unit {0}
+AllRan owners book seen source (feds ∷ feeds) (driven ∷ all) =
+    Ran owners book source (slice_index_or seen source []) feds driven × AllRan owners book seen (suc source) feeds all
+AllRan owners book seen source _ _ = ⊥
 
 -- So have they, and from each follower to what came of it it was told of each flush that was done of its source, and how many
 -- samples were shown at it.
-abbrev pub AllHeard : {D V L : Type 0} → (L → List ℕ → L → Type 0) → List ℕ → Account D V → ℕ → List (List Fed) → List Driven → List L → List L → Type 0
-AllHeard hears owners book source [] [] [] [] = Unit {0}
-AllHeard hears owners book source (feds ∷ feeds) (driven ∷ all) (first ∷ followers) (last ∷ followers') =
-    ((ran : Ran owners book source feds driven) × (shown : List ℕ) × (length shown ≡ flushes_of ran.done) × hears first shown last)
-    × AllHeard hears owners book (suc source) feeds all followers followers'
-AllHeard hears owners book source _ _ _ _ = ⊥
+abbrev pub AllHeard : {D V L : Type 0} → (L → List ℕ → L → Type 0) → List ℕ → Account D V → List (List Sample) → ℕ → List (List Fed) → List Driven → List L → List L → Type 0
+AllHeard hears owners book seen source [] [] [] [] = Unit {0}
+AllHeard hears owners book seen source (feds ∷ feeds) (driven ∷ all) (first ∷ followers) (last ∷ followers') =
+    ((ran : Ran owners book source (slice_index_or seen source []) feds driven) × (shown : List ℕ) × (length shown ≡ flushes_of ran.done) × hears first shown last)
+    × AllHeard hears owners book seen (suc source) feeds all followers followers'
+AllHeard hears owners book seen source _ _ _ _ = ⊥
 
 -- a flush of one of the sources from this one on, with these feeds, goes through so many samples
 abbrev pub AskedFor : List ℕ → ℕ → List (List Fed) → List Sample → ℕ → Type 0
@@ -68,6 +82,11 @@ AllMayFeed owners terms source [] = Unit {0}
 AllMayFeed owners terms source (feds ∷ feeds) =
     (All (MayFeed owners terms source) feds × (length feds < 2 ^ 64)) × AllMayFeed owners terms (suc source) feeds
 
--- one of so many sources owns the group of each sample
-abbrev pub AreOwned : List ℕ → ℕ → List Sample → Type 0
-AreOwned owners sources history = All (λ sample. slice_index owners sample.group < sources) history
+-- a sample is of one of so many groups, and one of so many sources owns that group
+pub record IsOwned (owners : List ℕ) (groups sources : ℕ) (sample : Sample) : Type 0 where
+  pub group : sample.group < groups
+  pub owner : slice_index owners sample.group < sources
+
+-- each is
+abbrev pub AreOwned : List ℕ → ℕ → ℕ → List Sample → Type 0
+AreOwned owners groups sources history = All (IsOwned owners groups sources) history

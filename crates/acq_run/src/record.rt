@@ -7,7 +7,7 @@ ghost use Rattle.acq_run.specs.Works.{HasDriven, HasHeard};
 ghost use Rattle.acq_run.specs.Workers.{IsReady};
 ghost use Rattle.acq_run.specs.Watching.{Hears, Watches};
 
-use crate::{Audience, Driven, Feed, Watcher, Worker, drive, part_all, seat_all};
+use crate::{Audience, Driven, Feed, Seen, Watcher, Worker, drive, part_all, seat_all};
 use book_owned::Book;
 use book_shared::{SharedBook, SourceSeat};
 use mdf_disk::Disk;
@@ -79,10 +79,12 @@ fn room_for<F: Drop>(alloc: Global, count: usize) -> Result<Room<F>, Memory>
     })
 }
 
-/// What a recording of several sources leaves: the book, and what each source did and who looked for it, in order.
+/// What a recording of several sources leaves: the book, and what each source did, what it had seen of the history at its last
+/// turn, and who looked for it, in order.
 pub struct Gathered<D: Disk> {
     pub book: Book<D, Audience>,
     pub all: Vec<Driven>,
+    pub seen: Seen,
     pub watchers: Vec<Watcher>,
 }
 
@@ -107,13 +109,13 @@ pub fn record_live<R: Threads + Wait + Sync, D: Disk + Send, F: Feed + Send + Dr
     requires may { AllMayFeed owners.now book.terms 0 (map F.left feeds.items) }
     requires followers { length watchers.items ≡ length feeds.items }
     requires follow { All (λ watcher. Watches watcher book.terms.which []) watchers.items }
-    ensures ran { IfOk result (λ done. AllRan owners.now done.book 0 (map F.left feeds.items) done.all.items) }
-    ensures owned { IfOk result (λ done. AreOwned owners.now (vec_len feeds) done.book.history) }
+    ensures ran { IfOk result (λ done. AllRan owners.now done.book done.seen 0 (map F.left feeds.items) done.all.items) }
+    ensures owned { IfOk result (λ done. AreOwned owners.now (length book.terms.layouts) (vec_len feeds) done.book.history) }
     ensures terms { IfOk result (λ done. done.book.terms ≡ book.terms) }
     ensures marks { IfOk result (λ done. MarksCaused (AskedFor owners.now 0 (map F.left feeds.items) done.book.history)
         book.terms.layouts book.terms.block_limit done.book.history book.marks done.book.marks) }
     ensures followers { IfOk result (λ done. length done.watchers.items ≡ length feeds.items) }
-    ensures heard { IfOk result (λ done. AllHeard Hears owners.now done.book 0 (map F.left feeds.items) done.all.items watchers.items done.watchers.items) }
+    ensures heard { IfOk result (λ done. AllHeard Hears owners.now done.book done.seen 0 (map F.left feeds.items) done.all.items watchers.items done.watchers.items) }
     ensures follow { IfOk result (λ done. All (λ watcher. Watches watcher book.terms.which done.book.history) done.watchers.items) }
     ensures back { IfErr result (λ refused. refused.1 ≡ book) }
 {
@@ -131,9 +133,11 @@ pub fn record_live<R: Threads + Wait + Sync, D: Disk + Send, F: Feed + Send + Dr
     seat_all(&mut workers, seats, feeds, watchers);
     drive_all(rt, &shared, workers.as_mut_slice());
     part_all(workers, &mut back, &mut all, &mut followed);
+    let seen = Seen::by(&back);
     Ok(Gathered {
         book: shared.close(back),
         all,
+        seen,
         watchers: followed,
     })
 }

@@ -216,6 +216,7 @@ where
             Gathered {
                 book,
                 all,
+                seen: _seen,
                 watchers: _watchers,
             },
         ) => {

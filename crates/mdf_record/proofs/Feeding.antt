@@ -134,11 +134,11 @@ tasks_may {G} script terms owners feeds layouts block owners_are is are =
     (subst (All (λ (feds : List Fed). length feds < 2 ^ 64)) are (few_fed feeds))))
 
 -- what the sources did with their feeds, by the lists of these
-pub ran_lists : {D V G : Type 0} (owners given : List ℕ) (book : Account D V) (feeds : List (TaskFeed G)) (lists : List (List Task)) (all : List Driven) → given ≡ owners
-    → map (λ (f : TaskFeed G). feds_of f.tasks.rest.items) feeds ≡ map feds_of lists → AllRan given book 0 (map (λ (f : TaskFeed G). feds_of f.tasks.rest.items) feeds) all
-    → AllRan owners book 0 (map feds_of lists) all
-ran_lists owners given book feeds lists all owners_are are ran =
-    subst (λ own. AllRan own book 0 (map feds_of lists) all) owners_are (subst (λ feds. AllRan given book 0 feds all) are ran)
+pub ran_lists : {D V G : Type 0} (owners given : List ℕ) (book : Account D V) (seen : List (List Sample)) (feeds : List (TaskFeed G)) (lists : List (List Task)) (all : List Driven)
+    → given ≡ owners → map (λ (f : TaskFeed G). feds_of f.tasks.rest.items) feeds ≡ map feds_of lists
+    → AllRan given book seen 0 (map (λ (f : TaskFeed G). feds_of f.tasks.rest.items) feeds) all → AllRan owners book seen 0 (map feds_of lists) all
+ran_lists owners given book seen feeds lists all owners_are are ran =
+    subst (λ own. AllRan own book seen 0 (map feds_of lists) all) owners_are (subst (λ feds. AllRan given book seen 0 feds all) are ran)
 
 -- as many feeds as sources
 pub feeds_count : {G : Type 0} (script : Script) (feeds : List (TaskFeed G)) → IsScript script → map (λ (f : TaskFeed G). feds_of f.tasks.rest.items) feeds ≡ map feds_of script.lists

@@ -36,7 +36,7 @@ use Rattle.mdf_carried.specs.Recovers.{IsReadHead}
 use Rattle.acq_script.specs.declared.script.Task.{Task}
 use Rattle.acq_run.specs.Works as Fed
 use Rattle.book_shared.specs.Causes.{MarksCaused}
-use Rattle.acq_run.specs.Ran.{AllRan, AskedFor}
+use Rattle.acq_run.specs.Ran.{AllRan, AreOwned, AskedFor}
 use Rattle.acq_run.specs.declared.work.Driven.{Driven}
 use Rattle.acq_run.specs.declared.work.Ended.{Ended}
 use Rattle.acq_run.specs.declared.work.Ended.TheVariants as work
@@ -125,8 +125,8 @@ told_part (Some file) P Q part holds = part file holds
 
 -- such a book, when it was closed
 module _ {D N : Type 0} (tells : DiskOf D) (shows : ViewOf Audience N) (script : Script) (file : Gated D) (view : Audience) (book : Account D Audience)
-    (accepted : Stock ℕ) (live : Option ℕ) (problem : Option Fault) (recorded : Recorded D) (terms_are : book.terms ≡ begun_terms tells shows script file view)
-    (closes : Closes tells book accepted live problem recorded) where
+    (accepted : Stock ℕ) (live : Option ℕ) (problem : Option Fault) (seen : List (List Sample)) (recorded : Recorded D) (terms_are : book.terms ≡ begun_terms tells shows script file view)
+    (closes : Closes tells book accepted live problem seen recorded) where
   abbrev head : List ℕ
   head = head_of (tells.story file.disk) file.first
 
@@ -139,14 +139,16 @@ module _ {D N : Type 0} (tells : DiskOf D) (shows : ViewOf Audience N) (script :
   kept : IsKept terms (state_of tells book.disk) book.history book.marks
   kept = subst (λ t. IsKept t (state_of tells book.disk) book.history book.marks) terms_are closes.kept
 
-  pub closed_recorded : OfSources script (λ source tasks. IsPrefix (source_samples script.plan.owners book.history source) (samples_of tasks))
+  pub closed_recorded : AreOwned script.plan.owners (length script.plan.shapes) script.plan.sources book.history
+      → OfSources script (λ source tasks. IsPrefix (source_samples script.plan.owners book.history source) (samples_of tasks))
       → OfSources script (λ source tasks. AreOwnMarked script.plan.owners source book.history book.marks
       (λ n. n < length (source_samples script.plan.owners book.history source)) [] tasks)
       → HaveCauses script book.history book.marks → IsRecorded script head file.start closed
-  closed_recorded own flushes causes = record {
+  closed_recorded owned own flushes causes = record {
     marks_hold = kept.marks_hold;
     start_holds = kept.start_holds;
     marks_rise = kept.marks_rise;
+    owned = owned;
     own_prefix = own;
     flush_lines = flushes;
     causes = causes;
@@ -170,7 +172,7 @@ module _ {D N : Type 0} (tells : DiskOf D) (shows : ViewOf Audience N) (script :
       }
 
   pub closed_run : IsRecorded script head file.start closed → AreAccepted script closed accepted.items → live ≡ live_of script.plan.live problem (length book.history)
-      → CloseComes script file.faults closed problem
+      → CloseComes script file.faults closed seen problem
       → HasRun tells script file (outcome tells recorded.out recorded.history.items recorded.marks.items) recorded.end
   closed_run is accepted_are live_is comes = record {
     comes = rw (closes.end_is) (record {
@@ -187,13 +189,14 @@ module _ {D N : Type 0} (tells : DiskOf D) (shows : ViewOf Audience N) (script :
 
 module _ {D N : Type 0} (tells : DiskOf D) (shows : ViewOf Audience N)
     (script : Script) (file : Gated D) (view : Audience)
-    (begun driven flushed : Account D Audience) (accepted : Stock ℕ) (result : Result Unit End) (problem : Option Fault) (note : Option Note) (live : Option ℕ) (recorded : Recorded D)
+    (begun driven flushed : Account D Audience) (accepted : Stock ℕ) (result : Result Unit End) (problem : Option Fault) (note : Option Note) (live : Option ℕ) (seen : List (List Sample)) (recorded : Recorded D)
     (which_is : MatchBool script.plan.live (0 < shows.which view) (shows.which view ≡ 0))
     (begins : HasBegun tells shows file script.plan.shapes script.plan.block script.plan.session view begun)
     (same : driven.terms ≡ begun.terms)
+    (owned : AreOwned script.plan.owners (length script.plan.shapes) script.plan.sources driven.history)
     (caused : MarksCaused (AskedFor script.plan.owners 0 (map feds_of script.lists) driven.history) begun.terms.layouts begun.terms.block_limit driven.history begun.marks driven.marks)
-    (last : MarksLast driven flushed) (ran : RanAll script.plan.owners driven script.lists accepted.items result)
-    (finishes : Finishes driven flushed script.plan.live result problem note) (live_is : live ≡ counted note) (closes : Closes tells flushed accepted live problem recorded) where
+    (last : MarksLast driven flushed) (ran : RanAll script.plan.owners driven seen script.lists accepted.items result)
+    (finishes : Finishes driven flushed script.plan.live result problem note) (live_is : live ≡ counted note) (closes : Closes tells flushed accepted live problem seen recorded) where
   abbrev owners : List ℕ
   owners = script.plan.owners
 
@@ -204,40 +207,41 @@ module _ {D N : Type 0} (tells : DiskOf D) (shows : ViewOf Audience N)
   left = outcome tells flushed.disk flushed.history flushed.marks
 
   -- each source, in the book as it is at the end
-  all : AllRan owners flushed 0 (map feds_of script.lists) ran.all
-  all = all_later driven flushed finishes.steps owners 0 (map feds_of script.lists) ran.all ran.each
+  all : AllRan owners flushed seen 0 (map feds_of script.lists) ran.all
+  all = all_later driven flushed finishes.steps owners seen 0 (map feds_of script.lists) ran.all ran.each
 
-  at_source : (s : ℕ) (tasks : List Task) → slice_get script.lists s ≡ Some tasks → RanAt owners flushed s tasks ran.all s
-  at_source s tasks there = ran_of owners flushed script.lists ran.all all s tasks there
+  at_source : (s : ℕ) (tasks : List Task) → slice_get script.lists s ≡ Some tasks → RanAt owners flushed seen s tasks ran.all s
+  at_source s tasks there = ran_of owners flushed seen script.lists ran.all all s tasks there
 
   recorded_is : IsRecorded script (head_of (tells.story file.disk) file.first) file.start left
-  recorded_is = closed_recorded tells shows script file view flushed accepted live problem recorded terms_are closes
-      (λ s tasks there. let at = at_source s tasks there in own_begins owners flushed s tasks at.driven at.ran)
-      (λ s tasks there. let at = at_source s tasks there in own_flushes owners flushed s tasks at.driven at.ran)
+  recorded_is = closed_recorded tells shows script file view flushed accepted live problem seen recorded terms_are closes
+      (subst (AreOwned owners (length script.plan.shapes) script.plan.sources) (sym (finishes.steps.history ∙ append-nil driven.history)) owned)
+      (λ s tasks there. let at = at_source s tasks there in own_begins owners flushed s (get_or seen s []) tasks at.driven at.ran)
+      (λ s tasks there. let at = at_source s tasks there in own_flushes owners flushed s (get_or seen s []) tasks at.driven at.ran)
       (have_causes script (record { moment = tells.moment file.disk; through = 0 }) begun.marks driven.marks flushed.marks driven.history flushed.history begins.marks refl
       (subst (λ (t : Terms). MarksCaused (AskedFor owners 0 (map feds_of script.lists) driven.history) t.layouts t.block_limit driven.history begun.marks driven.marks) begins.terms caused)
       (finishes.steps.history ∙ append-nil driven.history) last)
 
   accepted_are : AreAccepted script left accepted.items
   accepted_are = record {
-    count = ap length ran.accepted_is ∙ accepted-length owners flushed script.lists ran.all all;
+    count = ap length ran.accepted_is ∙ accepted-length owners flushed seen script.lists ran.all all;
     each = λ s tasks there. let at = at_source s tasks there in
         ap (λ counts. slice_get counts s) ran.accepted_is ∙ at.accepted_is ∙ ap Some (at.ran.counted ∙ ap length (sym at.ran.own));
   }
 
   saved : IsAllDurable flushed → IsSaved script.plan left
-  saved = closed_saved tells shows script file view flushed accepted live problem recorded terms_are closes
+  saved = closed_saved tells shows script file view flushed accepted live problem seen recorded terms_are closes
 
   -- all tasks were done
   completes : (r : Result Unit End) → result ≡ r → IsOk r → IsAllDurable flushed → IsComplete script left
   completes (Ok u) is ok durable_all = record {
     whole = λ s tasks there.
         let at = at_source s tasks there in
-        let ran_all = whole_ran owners flushed s tasks at.driven (each_done (ends_of ran.all) u (sym is ∙ ran.told) s (told_of at.driven.ended) at.how_is) at.ran in
+        let ran_all = whole_ran owners flushed s (get_or seen s []) tasks at.driven (each_done (ends_of ran.all) u (sym is ∙ ran.told) s (told_of at.driven.ended) at.how_is) at.ran in
         record { history_is = ran_all.0; flush_lines = ran_all.1 };
     groups = λ s tasks there group owner.
         let at = at_source s tasks there in
-        let ran_all = whole_ran owners flushed s tasks at.driven (each_done (ends_of ran.all) u (sym is ∙ ran.told) s (told_of at.driven.ended) at.how_is) at.ran in
+        let ran_all = whole_ran owners flushed s (get_or seen s []) tasks at.driven (each_done (ends_of ran.all) u (sym is ∙ ran.told) s (told_of at.driven.ended) at.how_is) at.ran in
         sym (group_of_source owners flushed.history group) ∙ ap (λ n. group_samples (source_samples owners flushed.history n) group) owner
         ∙ ap (λ h. group_samples h group) ran_all.0;
     cost = recorded_is.cost;
@@ -246,9 +250,9 @@ module _ {D N : Type 0} (tells : DiskOf D) (shows : ViewOf Audience N)
   completes (Err e) is ok durable_all = absurd (true≢false (sym ok))
 
   -- how a source ended, where the disk did not fail
-  next_there : (s : ℕ) (tasks : List Task) (driven : Driven) (r : RanTasks owners flushed s tasks driven) (sample : Sample) → Fed.IsNext (feds_of r.rest) sample
+  next_there : (s : ℕ) (saw : List Sample) (tasks : List Task) (driven : Driven) (r : RanTasks owners flushed s saw tasks driven) (sample : Sample) → Fed.IsNext (feds_of r.rest) sample
       → IsNext script left s tasks sample
-  next_there s tasks driven r sample next =
+  next_there s saw tasks driven r sample next =
       let next_is = next_task r.rest sample next in
       ap (λ own. slice_get (samples_of tasks) (length own)) r.own
       ∙ ap (λ ss. slice_get ss (length (samples_of r.done)))
@@ -256,63 +260,64 @@ module _ {D N : Type 0} (tells : DiskOf D) (shows : ViewOf Audience N)
       ∙ at_seam (samples_of r.done) sample (samples_of next_is.0)
 
   -- its work ended there
-  ended_at : (s : ℕ) (tasks : List Task) (driven : Driven) (r : RanTasks owners flushed s tasks driven) (sample : Sample) → Fed.IsNext (feds_of r.rest) sample
-      → EndedAt script left s tasks
-  ended_at s tasks driven r sample next = record {
+  ended_at : (s : ℕ) (saw : List Sample) (tasks : List Task) (driven : Driven) (r : RanTasks owners flushed s saw tasks driven) (sample : Sample)
+      → Fed.IsNext (feds_of r.rest) sample → r.before ≡ saw → EndedAt script left s tasks saw
+  ended_at s saw tasks driven r sample next behind = record {
     sample = sample;
-    next = next_there s tasks driven r sample next;
-    before = r.before;
-    begins = r.begins;
-    all_own = r.all_own;
+    next = next_there s saw tasks driven r sample next;
+    begins = subst (λ (h : List Sample). IsPrefix h flushed.history) behind r.begins;
+    all_own = subst (λ (h : List Sample). source_samples owners h s ≡ source_samples owners flushed.history s) behind r.all_own;
   }
 
-  source_comes : IsAllDurable flushed → (s : ℕ) (tasks : List Task) (n : ℕ) (how : Ended) → RanTasks owners flushed s tasks (record { accepted = n; ended = how })
-      → SourceComes script left s tasks (told_of how)
+  source_comes : IsAllDurable flushed → (s : ℕ) (saw : List Sample) (tasks : List Task) (n : ℕ) (how : Ended)
+      → RanTasks owners flushed s saw tasks (record { accepted = n; ended = how }) → SourceComes script left s tasks saw (told_of how)
   unfolding ended_at
-  source_comes durable_all s tasks n work.Running r = absurd r.ends
-  source_comes durable_all s tasks n work.Done r =
-      let whole = whole_ran owners flushed s tasks (record { accepted = n; ended = work.Done }) tt r in record { history_is = whole.0; flush_lines = whole.1 }
-  source_comes durable_all s tasks n (work.SessionFull held size limit) r = record {
-    at = ended_at s tasks (record { accepted = n; ended = work.SessionFull held size limit }) r r.ends.sample r.ends.next;
-    held_is = r.ends.held_is ∙ ap (λ (t : Terms). history_cost t.layouts r.before) terms_are;
+  source_comes durable_all s saw tasks n work.Running r = absurd r.ends
+  source_comes durable_all s saw tasks n work.Done r =
+      let whole = whole_ran owners flushed s saw tasks (record { accepted = n; ended = work.Done }) tt r in record { history_is = whole.0; flush_lines = whole.1 }
+  source_comes durable_all s saw tasks n (work.SessionFull held size limit) r = record {
+    at = ended_at s saw tasks (record { accepted = n; ended = work.SessionFull held size limit }) r r.ends.sample r.ends.next r.behind;
+    held_is = r.ends.held_is ∙ ap (λ (t : Terms). history_cost t.layouts r.before) terms_are ∙ ap (λ (h : List Sample). history_cost script.plan.shapes h) r.behind;
     size_is = r.ends.size_is ∙ ap (λ (t : Terms). cost_of t.layouts r.ends.sample) terms_are;
     limit_is = r.ends.limit_is ∙ ap (λ (t : Terms). t.session_limit) terms_are;
     over = r.ends.over;
   }
-  source_comes durable_all s tasks n (work.Stopped mark) r = absurd (true≢false (sym r.ends.0 ∙ durable_all.0))
-  source_comes durable_all s tasks n (work.DiskFault before after) r = absurd (true≢false (sym r.ends.0 ∙ durable_all.0))
-  source_comes durable_all s tasks n work.Memory r = record {
-    at = ended_at s tasks (record { accepted = n; ended = work.Memory }) r r.ends.sample r.ends.next;
-    room = subst (λ (t : Terms). history_cost t.layouts r.before + cost_of t.layouts r.ends.sample ≤ t.session_limit) terms_are r.ends.room;
+  source_comes durable_all s saw tasks n (work.Stopped mark) r = absurd (true≢false (sym r.ends.0 ∙ durable_all.0))
+  source_comes durable_all s saw tasks n (work.DiskFault before after) r = absurd (true≢false (sym r.ends.0 ∙ durable_all.0))
+  source_comes durable_all s saw tasks n work.Memory r = record {
+    at = ended_at s saw tasks (record { accepted = n; ended = work.Memory }) r r.ends.sample r.ends.next r.behind;
+    room = subst (λ (h : List Sample). history_cost script.plan.shapes h + cost_of script.plan.shapes r.ends.sample ≤ script.plan.session) r.behind
+        (subst (λ (t : Terms). history_cost t.layouts r.before + cost_of t.layouts r.ends.sample ≤ t.session_limit) terms_are r.ends.room);
   }
 
-  ends_are : IsAllDurable flushed → AreEnds script left (ends_of ran.all)
+  ends_are : IsAllDurable flushed → AreEnds script left seen (ends_of ran.all)
   ends_are durable_all = record {
-    count = hows-length owners flushed script.lists ran.all all;
+    count = hows-length owners flushed seen script.lists ran.all all;
     each = λ s tasks there. let at = at_source s tasks there in
-        subst (λ found. IfSome found (SourceComes script left s tasks)) (sym at.how_is) (source_comes durable_all s tasks at.driven.accepted at.driven.ended at.ran);
+        subst (λ found. IfSome found (SourceComes script left s tasks (get_or seen s []))) (sym at.how_is)
+        (source_comes durable_all s (get_or seen s []) tasks at.driven.accepted at.driven.ended at.ran);
     saved = saved durable_all;
   }
 
   -- the first source that had no room
-  fills : (held size limit : ℕ) → result ≡ Err (end_.SessionFull held size limit) → IsAllDurable flushed → IsFull script left held size limit
+  fills : (held size limit : ℕ) → result ≡ Err (end_.SessionFull held size limit) → IsAllDurable flushed → IsFull script left seen held size limit
   fills held size limit is durable_all =
       let found = first_full (ends_of ran.all) held size limit (sym ran.told ∙ is) in
       record { ends = (ends_of ran.all); are = ends_are durable_all; source = found.source; told = found.told; first = found.first }
 
   -- a source for whose sample memory was wanted
-  wants : result ≡ Err end_.Memory → IsAllDurable flushed → IsShort script left
+  wants : result ≡ Err end_.Memory → IsAllDurable flushed → IsShort script left seen
   wants is durable_all =
       let found = worst_err (ends_of ran.all) end_.Memory (sym ran.told ∙ is) in
       record { ends = (ends_of ran.all); are = ends_are durable_all; source = found.0; wanted = found.1; room = all_room (ends_of ran.all) (sym ran.told ∙ is) }
 
   -- memory was wanted for a sample, or for the view
   short : IsAllDurable flushed → (result ≡ Err end_.Memory) ⊎ WantsToShow flushed script.plan.live result
-      → IsShort script left ⊎ (IsUnshown script left ⊎ IsIdle script left)
+      → IsShort script left seen ⊎ (IsUnshown script left ⊎ IsIdle script left)
   short durable_all (inl is) = inl (wants is durable_all)
   short durable_all (inr unshown) = inr (inl (unshown.1, completes result refl unshown.0 durable_all, omega (arith, unshown.2)))
 
-  ended : (problem' : Option Fault) → FinishEnds flushed script.plan.live result problem' → CloseComes script file.faults left problem'
+  ended : (problem' : Option Fault) → FinishEnds flushed script.plan.live result problem' → CloseComes script file.faults left seen problem'
   ended None ends = completes result refl ends.0 ends.1
   ended (Some fault.Device) ends = subst (λ (t : Terms). Rose t.faults (tells.faults flushed.disk)) terms_are (closes.cause ends)
   ended (Some (fault.SessionFull held size limit)) ends = fills held size limit ends.0 ends.1
@@ -320,7 +325,7 @@ module _ {D N : Type 0} (tells : DiskOf D) (shows : ViewOf Audience N)
   ended (Some _) ends = absurd ends
 
   pub has_run : HasRun tells script file (outcome tells recorded.out recorded.history.items recorded.marks.items) recorded.end
-  has_run = closed_run tells shows script file view flushed accepted live problem recorded terms_are closes recorded_is accepted_are
+  has_run = closed_run tells shows script file view flushed accepted live problem seen recorded terms_are closes recorded_is accepted_are
       (live_is ∙ live_comes script.plan.live problem (shows.which view) flushed.history note which_is
       (subst (λ (t : Terms). NoteComes problem script.plan.live t.which flushed.history note) terms_are finishes.noted))
       (ended problem finishes.ends)
@@ -338,6 +343,7 @@ recorded_told script front front' None middle first start start' outcome' is tol
       record { past = hold.past; within = hold.within; carries = λ file may. absurd (none_left outcome'.disk.story (get_or outcome'.marks k mark).moment file is may) };
   start_holds = λ file may. absurd (none_left outcome'.disk.story start' file is may);
   marks_rise = recorded.marks_rise;
+  owned = recorded.owned;
   own_prefix = recorded.own_prefix;
   flush_lines = recorded.flush_lines;
   causes = recorded.causes;
@@ -350,11 +356,11 @@ recorded_told script front front' (Some s) None first start start' outcome' is t
 recorded_told script front front' (Some s) (Some middle) None start start' outcome' is told told' front_is start_is recorded = absurd (true≢false told')
 
 -- a fault of the disk since an earlier count
-close_earlier : (script : Script) (earlier faults : ℕ) (left : Outcome) (problem : Option Fault) → earlier ≤ faults
-    → CloseComes script faults left problem → CloseComes script earlier left problem
-close_earlier script earlier faults left None later comes = comes
-close_earlier script earlier faults left (Some fault.Device) later comes = omega (arith, later, comes)
-close_earlier script earlier faults left (Some problem) later comes = comes
+close_earlier : (script : Script) (earlier faults : ℕ) (left : Outcome) (seen : List (List Sample)) (problem : Option Fault) → earlier ≤ faults
+    → CloseComes script faults left seen problem → CloseComes script earlier left seen problem
+close_earlier script earlier faults left seen None later comes = comes
+close_earlier script earlier faults left seen (Some fault.Device) later comes = omega (arith, later, comes)
+close_earlier script earlier faults left seen (Some problem) later comes = comes
 
 -- what was recorded into a file that was made on a disk
 pub record_comes : {C : Type 0} (tells : DiskOf C) (Says : Script → Type 0) (Refuses : Fault → Type 0) (name : List ℕ) (now : ℕ) (out : C) (script : Script) (file : Gated C) (left : Outcome) (end : RecordEnd)
@@ -377,7 +383,7 @@ record_comes tells Says Refuses name now out script file left end says is_script
       asked_is = inr (run.asked_is ∙ asked_is);
     });
   }
-  of_end (Closed accepted samples last live problem) comes = record {
+  of_end (Closed accepted samples last live problem seen) comes = record {
     script = script;
     says = says;
     is_script = is_script;
@@ -388,7 +394,7 @@ record_comes tells Says Refuses name now out script file left end says is_script
     samples_is = comes.samples_is;
     durable_is = comes.durable_is;
     live_is = comes.live_is;
-    comes = close_earlier script (tells.faults out) file.faults left problem later comes.comes;
+    comes = close_earlier script (tells.faults out) file.faults left seen problem later comes.comes;
     asked_is = run.asked_is ∙ asked_is;
   }
 
@@ -410,7 +416,7 @@ comes_as Says Says' Refuses Refuses' says refuses name now disk left (Refused pr
       }))
       comes.comes;
 }
-comes_as Says Says' Refuses Refuses' says refuses name now disk left (Closed accepted samples last live problem) comes = record {
+comes_as Says Says' Refuses Refuses' says refuses name now disk left (Closed accepted samples last live problem seen) comes = record {
   script = comes.script;
   says = says comes.script comes.says;
   is_script = comes.is_script;

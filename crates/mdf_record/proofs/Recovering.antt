@@ -167,7 +167,7 @@ module _ (law : CarriedIsRecovered) (now : ℕ) (script : Script) (plan : IsPlan
           (subst (λ (d : DiskState). StartRecovers d.story (tells.moment out) []) (sym comes.1)
           (begun_recovered law (tells.story file.disk) (tells.moment out) now script.plan.rows plan.planned read begun));
     }
-    of_end (Closed accepted samples last live problem) comes =
+    of_end (Closed accepted samples last live problem seen) comes =
         recorded_recovers (tells.moment out) left
         (recorded_told script (head_of (tells.story file.disk) file.first) (script_head now script) left.disk.story (tells.story file.disk) (tells.story out)
         file.start (tells.moment out) left refl run.told told head_is start_is comes.recorded)

@@ -1,5 +1,5 @@
 -- What each source did, when all have worked.
-use Rattle.std.proofs.Common.{◌≡◌, ◌⊎◌, ◌+◌, ◌≤◌, ◌<◌, ℕ, zero, suc, true, List, [], ◌∷◌, ◌++◌, length, map, take, fold, Result, Ok, Err, Some, refl, sym, ◌∙◌, ap, subst, inl, inr, arith, append_assoc, append-nil, length-append}
+use Rattle.std.proofs.Common.{◌≡◌, ◌⊎◌, ◌+◌, ◌≤◌, ◌<◌, ℕ, zero, suc, true, List, [], ◌∷◌, ◌++◌, length, map, take, get_or, fold, Result, Ok, Err, Some, refl, sym, ◌∙◌, ap, subst, inl, inr, arith, append_assoc, append-nil, length-append}
 use Rattle.std.specs.Prelude.{All, IfErr, slice_get}
 use Rattle.std.proofs.lemmas.List.{length-map}
 use Rattle.std.proofs.lemmas.Option.{same_Some}
@@ -10,7 +10,7 @@ use Rattle.book_owned.specs.Account.{Account}
 use Rattle.book_owned.specs.declared.mark.Mark.{Mark}
 use Rattle.acq_run.specs.Tasks.{samples_of as samples_fed}
 use Rattle.acq_run.specs.Works.{AreMarked}
-use Rattle.acq_run.specs.Ran.{AllRan, EndsIn, Ran}
+use Rattle.acq_run.specs.Ran.{AllRan, EndsIn, Ran, RefusedBehind}
 use Rattle.acq_run.specs.declared.work.Driven.{Driven}
 use Rattle.acq_run.specs.declared.work.Ended.{Ended}
 use Rattle.acq_run.specs.declared.work.Ended.TheVariants as ended
@@ -23,7 +23,7 @@ use Rattle.mdf_record.specs.declared.sources.End.TheVariants.{SessionFull, Stopp
 use Rattle.mdf_record.proofs.Feeding.{cut, none_fed, own_marked, same_samples, samples_of-append}
 
 -- what a source did, by its tasks
-pub record RanTasks {D V : Type 0} (owners : List ℕ) (book : Account D V) (source : ℕ) (tasks : List Task) (driven : Driven) : Type 0 where
+pub record RanTasks {D V : Type 0} (owners : List ℕ) (book : Account D V) (source : ℕ) (seen : List Sample) (tasks : List Task) (driven : Driven) : Type 0 where
   pub done : List Task
   pub rest : List Task
   pub parts : done ++ rest ≡ tasks
@@ -34,10 +34,11 @@ pub record RanTasks {D V : Type 0} (owners : List ℕ) (book : Account D V) (sou
   pub begins : IsPrefix before book.history
   pub all_own : source_samples owners before source ≡ source_samples owners book.history source
   pub ends : EndsIn book before (feds_of rest) driven.ended
+  pub behind : RefusedBehind seen before driven.ended
 
-ran_tasks : {D V : Type 0} (owners : List ℕ) (book : Account D V) (source : ℕ) (tasks : List Task) (driven : Driven) → Ran owners book source (feds_of tasks) driven
-    → RanTasks owners book source tasks driven
-ran_tasks owners book source tasks driven ran =
+ran_tasks : {D V : Type 0} (owners : List ℕ) (book : Account D V) (source : ℕ) (seen : List Sample) (tasks : List Task) (driven : Driven)
+    → Ran owners book source seen (feds_of tasks) driven → RanTasks owners book source seen tasks driven
+ran_tasks owners book source seen tasks driven ran =
     let parts = cut ran.done ran.rest tasks ran.parts in
     let samples : samples_fed ran.done ≡ samples_of parts.front = ap samples_fed parts.done_is ∙ same_samples parts.front in
     record {
@@ -51,67 +52,73 @@ ran_tasks owners book source tasks driven ran =
       begins = ran.begins;
       all_own = ran.all_own;
       ends = subst (λ rest. EndsIn book ran.before rest driven.ended) parts.rest_is ran.ends;
+      behind = ran.behind;
     }
 
 -- what is known of one of the sources
-pub record RanAt {D V : Type 0} (owners : List ℕ) (book : Account D V) (source : ℕ) (tasks : List Task) (all : List Driven) (s : ℕ) : Type 0 where
+pub record RanAt {D V : Type 0} (owners : List ℕ) (book : Account D V) (seen : List (List Sample)) (source : ℕ) (tasks : List Task) (all : List Driven) (s : ℕ) : Type 0 where
   pub driven : Driven
-  pub ran : RanTasks owners book source tasks driven
+  pub ran : RanTasks owners book source (get_or seen source []) tasks driven
   pub accepted_is : slice_get (counts_of all) s ≡ Some driven.accepted
   pub how_is : slice_get (ends_of all) s ≡ Some (told_of driven.ended)
 
-pub ran_at : {D V : Type 0} (owners : List ℕ) (book : Account D V) (source : ℕ) (lists : List (List Task)) (all : List Driven)
-    → AllRan owners book source (map feds_of lists) all → (s : ℕ) (tasks : List Task) → slice_get lists s ≡ Some tasks → RanAt owners book (source + s) tasks all s
-ran_at owners book source [] all ran s tasks there = absurd (nothing_there s tasks there) where
-  nothing_there : (s : ℕ) (tasks : List Task) → slice_get {X = List Task} [] s ≡ Some tasks → ⊥
-  nothing_there zero tasks is = cc
-  nothing_there (suc s) tasks is = cc
-ran_at owners book source (first ∷ lists) [] ran s tasks there = absurd ran
-ran_at owners book source (first ∷ lists) (driven ∷ all) ran zero tasks there =
-    let same : first ≡ tasks = cc in
-    let none : source ≡ source + 0 = omega arith in
-    record {
-      driven = driven;
-      ran = subst (λ k. RanTasks owners book k tasks driven) none (subst (λ ts. RanTasks owners book source ts driven) same (ran_tasks owners book source first driven ran.0));
-      accepted_is = refl;
-      how_is = refl;
-    }
-ran_at owners book source (first ∷ lists) (driven ∷ all) ran (suc s) tasks there =
-    let at = ran_at owners book (suc source) lists all ran.1 s tasks there in
-    let same : suc source + s ≡ source + suc s = omega arith in
-    record { driven = at.driven; ran = subst (λ k. RanTasks owners book k tasks at.driven) same at.ran; accepted_is = at.accepted_is; how_is = at.how_is }
+module _ {D V : Type 0} (owners : List ℕ) (book : Account D V) (seen : List (List Sample)) where
+  pub ran_at : (source : ℕ) (lists : List (List Task)) (all : List Driven) → AllRan owners book seen source (map feds_of lists) all
+      → (s : ℕ) (tasks : List Task) → slice_get lists s ≡ Some tasks → RanAt owners book seen (source + s) tasks all s
+  ran_at source [] all ran s tasks there = absurd (nothing_there s tasks there) where
+    nothing_there : (s : ℕ) (tasks : List Task) → slice_get {X = List Task} [] s ≡ Some tasks → ⊥
+    nothing_there zero tasks is = cc
+    nothing_there (suc s) tasks is = cc
+  ran_at source (first ∷ lists) [] ran s tasks there = absurd ran
+  ran_at source (first ∷ lists) (driven ∷ all) ran zero tasks there =
+      let same : first ≡ tasks = cc in
+      let none : source ≡ source + 0 = omega arith in
+      let saw = get_or seen source [] in
+      record {
+        driven = driven;
+        ran = subst (λ k. RanTasks owners book k (get_or seen k []) tasks driven) none
+            (subst (λ ts. RanTasks owners book source saw ts driven) same (ran_tasks owners book source saw first driven ran.0));
+        accepted_is = refl;
+        how_is = refl;
+      }
+  ran_at source (first ∷ lists) (driven ∷ all) ran (suc s) tasks there =
+      let at = ran_at (suc source) lists all ran.1 s tasks there in
+      let same : suc source + s ≡ source + suc s = omega arith in
+      record {
+        driven = at.driven;
+        ran = subst (λ k. RanTasks owners book k (get_or seen k []) tasks at.driven) same at.ran;
+        accepted_is = at.accepted_is;
+        how_is = at.how_is;
+      }
 
-pub ran_of : {D V : Type 0} (owners : List ℕ) (book : Account D V) (lists : List (List Task)) (all : List Driven)
-    → AllRan owners book 0 (map feds_of lists) all → (s : ℕ) (tasks : List Task) → slice_get lists s ≡ Some tasks → RanAt owners book s tasks all s
-ran_of owners book lists all ran s tasks there =
-    let same : 0 + s ≡ s = omega arith in
-    subst (λ k. RanAt owners book k tasks all s) same (ran_at owners book 0 lists all ran s tasks there)
+  pub ran_of : (lists : List (List Task)) (all : List Driven) → AllRan owners book seen 0 (map feds_of lists) all → (s : ℕ) (tasks : List Task)
+      → slice_get lists s ≡ Some tasks → RanAt owners book seen s tasks all s
+  ran_of lists all ran s tasks there =
+      let same : 0 + s ≡ s = omega arith in
+      subst (λ k. RanAt owners book seen k tasks all s) same (ran_at 0 lists all ran s tasks there)
 
--- of each end there is a source that ended so
-pub has_list : {D V : Type 0} (owners : List ℕ) (book : Account D V) (source : ℕ) (lists : List (List Task)) (all : List Driven)
-    → AllRan owners book source (map feds_of lists) all → (s : ℕ) (how : Result Unit End) → slice_get (ends_of all) s ≡ Some how → (tasks : List Task) × (slice_get lists s ≡ Some tasks)
-has_list owners book source lists [] ran s how there = absurd (nothing_there s how there) where
-  nothing_there : (s : ℕ) (how : Result Unit End) → slice_get {X = Result Unit End} [] s ≡ Some how → ⊥
-  nothing_there zero how is = cc
-  nothing_there (suc s) how is = cc
-has_list owners book source (tasks ∷ lists) (driven ∷ all) ran zero how there = (tasks, refl)
-has_list owners book source (tasks ∷ lists) (driven ∷ all) ran (suc s) how there = has_list owners book (suc source) lists all ran.1 s how there
-has_list owners book source [] (driven ∷ all) ran s how there = absurd ran
+  -- of each end there is a source that ended so
+  pub has_list : (source : ℕ) (lists : List (List Task)) (all : List Driven) → AllRan owners book seen source (map feds_of lists) all
+      → (s : ℕ) (how : Result Unit End) → slice_get (ends_of all) s ≡ Some how → (tasks : List Task) × (slice_get lists s ≡ Some tasks)
+  has_list source lists [] ran s how there = absurd (nothing_there s how there) where
+    nothing_there : (s : ℕ) (how : Result Unit End) → slice_get {X = Result Unit End} [] s ≡ Some how → ⊥
+    nothing_there zero how is = cc
+    nothing_there (suc s) how is = cc
+  has_list source (tasks ∷ lists) (driven ∷ all) ran zero how there = (tasks, refl)
+  has_list source (tasks ∷ lists) (driven ∷ all) ran (suc s) how there = has_list (suc source) lists all ran.1 s how there
+  has_list source [] (driven ∷ all) ran s how there = absurd ran
 
-pub all-length : {D V : Type 0} (owners : List ℕ) (book : Account D V) (source : ℕ) (lists : List (List Task)) (all : List Driven)
-    → AllRan owners book source (map feds_of lists) all → length all ≡ length lists
-all-length owners book source [] [] ran = refl
-all-length owners book source (tasks ∷ lists) (driven ∷ all) ran = omega (arith, all-length owners book (suc source) lists all ran.1)
-all-length owners book source [] (driven ∷ all) ran = absurd ran
-all-length owners book source (tasks ∷ lists) [] ran = absurd ran
+  pub all-length : (source : ℕ) (lists : List (List Task)) (all : List Driven) → AllRan owners book seen source (map feds_of lists) all → length all ≡ length lists
+  all-length source [] [] ran = refl
+  all-length source (tasks ∷ lists) (driven ∷ all) ran = omega (arith, all-length (suc source) lists all ran.1)
+  all-length source [] (driven ∷ all) ran = absurd ran
+  all-length source (tasks ∷ lists) [] ran = absurd ran
 
-pub accepted-length : {D V : Type 0} (owners : List ℕ) (book : Account D V) (lists : List (List Task)) (all : List Driven)
-    → AllRan owners book 0 (map feds_of lists) all → length (counts_of all) ≡ length lists
-accepted-length owners book lists all ran = length-map all (λ (driven : Driven). driven.accepted) ∙ all-length owners book 0 lists all ran
+  pub accepted-length : (lists : List (List Task)) (all : List Driven) → AllRan owners book seen 0 (map feds_of lists) all → length (counts_of all) ≡ length lists
+  accepted-length lists all ran = length-map all (λ (driven : Driven). driven.accepted) ∙ all-length 0 lists all ran
 
-pub hows-length : {D V : Type 0} (owners : List ℕ) (book : Account D V) (lists : List (List Task)) (all : List Driven)
-    → AllRan owners book 0 (map feds_of lists) all → length (ends_of all) ≡ length lists
-hows-length owners book lists all ran = length-map all (λ (driven : Driven). told_of driven.ended) ∙ all-length owners book 0 lists all ran
+  pub hows-length : (lists : List (List Task)) (all : List Driven) → AllRan owners book seen 0 (map feds_of lists) all → length (ends_of all) ≡ length lists
+  hows-length lists all ran = length-map all (λ (driven : Driven). told_of driven.ended) ∙ all-length 0 lists all ran
 
 -- the end that is told is one of them, or all have done all
 worse_err : (first next : Result Unit End) (e : End) → worse first next ≡ Err e → (first ≡ Err e) ⊎ (next ≡ Err e)
@@ -173,10 +180,10 @@ all_done book before rest (ended.Stopped mark) done ends = absurd done
 all_done book before rest (ended.DiskFault less more) done ends = absurd done
 all_done book before rest ended.Memory done ends = absurd done
 
-pub whole_ran : {D V : Type 0} (owners : List ℕ) (book : Account D V) (source : ℕ) (tasks : List Task) (driven : Driven) → IsDone (told_of driven.ended)
-    → RanTasks owners book source tasks driven
+pub whole_ran : {D V : Type 0} (owners : List ℕ) (book : Account D V) (source : ℕ) (seen : List Sample) (tasks : List Task) (driven : Driven) → IsDone (told_of driven.ended)
+    → RanTasks owners book source seen tasks driven
     → (source_samples owners book.history source ≡ samples_of tasks) × AreOwnMarked owners source book.history book.marks (λ k. Unit {0}) [] tasks
-whole_ran owners book source tasks driven done ran =
+whole_ran owners book source seen tasks driven done ran =
     let whole : ran.done ≡ tasks = sym (append-nil ran.done) ∙ ap (λ rest. ran.done ++ rest) (sym (all_done book ran.before ran.rest driven.ended done ran.ends)) ∙ ran.parts in (
       ran.own ∙ ap samples_of whole,
       subst (AreOwnMarked owners source book.history book.marks (λ k. Unit {0}) []) whole (own_marked owners source book.history book.marks (λ k. Unit {0}) [] ran.done ran.marked),
@@ -291,14 +298,14 @@ own_more owners source history marks counts before after (task.Sample sample ∷
 own_more owners source history marks counts before after (task.Flush ∷ xs) ys is first second =
     (first.0, own_more owners source history marks counts before after xs ys is first.1 second)
 
-pub own_begins : {D V : Type 0} (owners : List ℕ) (book : Account D V) (source : ℕ) (tasks : List Task) (driven : Driven) → RanTasks owners book source tasks driven
+pub own_begins : {D V : Type 0} (owners : List ℕ) (book : Account D V) (source : ℕ) (seen : List Sample) (tasks : List Task) (driven : Driven) → RanTasks owners book source seen tasks driven
     → IsPrefix (source_samples owners book.history source) (samples_of tasks)
-own_begins owners book source tasks driven ran =
+own_begins owners book source seen tasks driven ran =
     (samples_of ran.rest, ap (λ ss. ss ++ samples_of ran.rest) ran.own ∙ sym (samples_of-append ran.done ran.rest) ∙ ap samples_of ran.parts)
 
-pub own_flushes : {D V : Type 0} (owners : List ℕ) (book : Account D V) (source : ℕ) (tasks : List Task) (driven : Driven) → RanTasks owners book source tasks driven
+pub own_flushes : {D V : Type 0} (owners : List ℕ) (book : Account D V) (source : ℕ) (seen : List Sample) (tasks : List Task) (driven : Driven) → RanTasks owners book source seen tasks driven
     → AreOwnMarked owners source book.history book.marks (λ k. k < length (source_samples owners book.history source)) [] tasks
-own_flushes owners book source tasks driven ran =
+own_flushes owners book source seen tasks driven ran =
     let most = length (source_samples owners book.history source) in
     let counts : ℕ → Type 0 = λ k. k < most in
     subst (AreOwnMarked owners source book.history book.marks counts []) ran.parts
@@ -320,17 +327,18 @@ was_stopped book before rest (ended.Stopped mark) stop ends = ends.0
 was_stopped book before rest (ended.DiskFault less more) stop ends = ends.0
 was_stopped book before rest ended.Memory stop ends = absurd stop
 
-pub stopped_told : {D V : Type 0} (owners : List ℕ) (book : Account D V) (lists : List (List Task)) (accepted : List ℕ) (result : Result Unit End) → RanAll owners book lists accepted result
+pub stopped_told : {D V : Type 0} (owners : List ℕ) (book : Account D V) (seen : List (List Sample)) (lists : List (List Task)) (accepted : List ℕ) (result : Result Unit End)
+    → RanAll owners book seen lists accepted result
     → IfErr result (λ e. e ≡ Stopped → book.stopped ≡ true)
-stopped_told owners book lists accepted (Ok u) ran = tt
-stopped_told owners book lists accepted (Err e) ran = λ is.
+stopped_told owners book seen lists accepted (Ok u) ran = tt
+stopped_told owners book seen lists accepted (Err e) ran = λ is.
     let found = worst_err (ends_of ran.all) e (sym ran.told) in
-    let there = has_list owners book 0 lists ran.all ran.each found.0 (Err e) found.1 in
-    let at = ran_of owners book lists ran.all ran.each found.0 there.0 there.1 in
+    let there = has_list owners book seen 0 lists ran.all ran.each found.0 (Err e) found.1 in
+    let at = ran_of owners book seen lists ran.all ran.each found.0 there.0 there.1 in
     let how_is : told_of at.driven.ended ≡ Err Stopped = same_Some (told_of at.driven.ended) (Err e) (sym at.how_is ∙ found.1) ∙ ap Err is in
     was_stopped book at.ran.before at.ran.rest at.driven.ended (subst IsStop (sym how_is) tt) at.ran.ends
 
 -- what all did, as it is told of them
-pub ran_all : {D V : Type 0} (owners : List ℕ) (book : Account D V) (lists : List (List Task)) (accepted : List ℕ) (result : Result Unit End) (all : List Driven)
-    → AllRan owners book 0 (map feds_of lists) all → accepted ≡ counts_of all → result ≡ worst (ends_of all) → RanAll owners book lists accepted result
-ran_all owners book lists accepted result all ran counts told = record { all = all; each = ran; accepted_is = counts; told = told }
+pub ran_all : {D V : Type 0} (owners : List ℕ) (book : Account D V) (seen : List (List Sample)) (lists : List (List Task)) (accepted : List ℕ) (result : Result Unit End) (all : List Driven)
+    → AllRan owners book seen 0 (map feds_of lists) all → accepted ≡ counts_of all → result ≡ worst (ends_of all) → RanAll owners book seen lists accepted result
+ran_all owners book seen lists accepted result all ran counts told = record { all = all; each = ran; accepted_is = counts; told = told }

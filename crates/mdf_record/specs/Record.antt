@@ -1,6 +1,7 @@
 -- The command `record OUT`.
 use Rattle.std.specs.Prelude.{ℕ, ◌≡◌, ◌⊎◌, Bool, true, false, ◌+◌, ◌≤◌, ◌<◌, List, [], ◌∷◌, ◌++◌, length, codes, slice_get, slice_index, take, drop, All, Option, Some, None, IfSome, is_some, Result, Ok, Err}
 use Rattle.std.specs.Fmt.{decimal}
+use Rattle.std.specs.List.{slice_index_or}
 use mathlib.Core.List.{IsPrefix}
 use Rattle.mdf_format.specs.Cause.{Rose}
 use Rattle.mdf_disk.specs.State.{DiskState, state_of}
@@ -12,6 +13,7 @@ use Rattle.mdf_gate.specs.Carried.{IsCarried, IsEncoded}
 use Rattle.book_owned.specs.Marks.{durable, AreRising}
 use Rattle.book_owned.specs.Kept.{HasBlocksOf, MarksHold, StartHolds}
 use Rattle.book_owned.specs.declared.mark.Mark.{Mark}
+use Rattle.acq_run.specs.Ran.{AreOwned}
 use Rattle.acq_script.specs.Tasks.{samples_of}
 use Rattle.acq_script.specs.declared.script.Plan.{Plan}
 use Rattle.acq_script.specs.declared.script.Script.{Script}
@@ -57,11 +59,11 @@ fault_code (Some fault) = fault_status fault
 
 abbrev pub record_text : RecordEnd → List ℕ
 record_text (Refused fault) = fault_line fault
-record_text (Closed accepted samples durable live fault) = summary_text accepted.items samples durable ++ (live_text live ++ fault_text fault)
+record_text (Closed accepted samples durable live fault seen) = summary_text accepted.items samples durable ++ (live_text live ++ fault_text fault)
 
 abbrev pub record_status : RecordEnd → ℕ
 record_status (Refused fault) = fault_status fault
-record_status (Closed accepted samples durable live fault) = fault_code fault
+record_status (Closed accepted samples durable live fault seen) = fault_code fault
 
 -- what a recording leaves: its disk, as that tells it, the samples that were accepted, in order, and the marks
 pub record Outcome : Type 0 where
@@ -108,52 +110,54 @@ abbrev pub IsNext : Script → Outcome → ℕ → List Task → Sample → Type
 IsNext script left source tasks sample =
     slice_get (samples_of tasks) (length (source_samples script.plan.owners left.history source)) ≡ Some sample
 
--- The work of a source ended at its next sample, behind a beginning of the history that has all of the source's own samples.
-pub record EndedAt (script : Script) (left : Outcome) (source : ℕ) (tasks : List Task) : Type 0 where
+-- The work of a source ended at its next sample, behind what the source had then seen: a beginning of the history that has all
+-- of the source's own samples.
+pub record EndedAt (script : Script) (left : Outcome) (source : ℕ) (tasks : List Task) (seen : List Sample) : Type 0 where
   pub sample : Sample
   pub next : IsNext script left source tasks sample
-  pub before : List Sample
-  pub begins : IsPrefix before left.history
-  pub all_own : source_samples script.plan.owners before source ≡ source_samples script.plan.owners left.history source
+  pub begins : IsPrefix seen left.history
+  pub all_own : source_samples script.plan.owners seen source ≡ source_samples script.plan.owners left.history source
 
 -- that sample would have passed the session limit
-pub record LackedRoom (script : Script) (left : Outcome) (source : ℕ) (tasks : List Task) (held size limit : ℕ) : Type 0 where
-  pub at : EndedAt script left source tasks
-  pub held_is : held ≡ history_cost script.plan.shapes at.before
+pub record LackedRoom (script : Script) (left : Outcome) (source : ℕ) (tasks : List Task) (seen : List Sample) (held size limit : ℕ) : Type 0 where
+  pub at : EndedAt script left source tasks seen
+  pub held_is : held ≡ history_cost script.plan.shapes seen
   pub size_is : size ≡ cost_of script.plan.shapes at.sample
   pub limit_is : limit ≡ script.plan.session
   pub over : limit < held + size
 
 -- the session had room for that sample, but memory was wanted for it
-pub record LackedMemory (script : Script) (left : Outcome) (source : ℕ) (tasks : List Task) : Type 0 where
-  pub at : EndedAt script left source tasks
-  pub room : history_cost script.plan.shapes at.before + cost_of script.plan.shapes at.sample ≤ script.plan.session
+pub record LackedMemory (script : Script) (left : Outcome) (source : ℕ) (tasks : List Task) (seen : List Sample) : Type 0 where
+  pub at : EndedAt script left source tasks seen
+  pub room : history_cost script.plan.shapes seen + cost_of script.plan.shapes at.sample ≤ script.plan.session
 
--- How a source ends where the disk did not fail: all was done, its next sample had no room, or memory was wanted for it.
-abbrev pub SourceComes : Script → Outcome → ℕ → List Task → Result Unit End → Type 0
-SourceComes script left source tasks (Ok done) = IsWhole script left source tasks
-SourceComes script left source tasks (Err (end_.SessionFull held size limit)) = LackedRoom script left source tasks held size limit
-SourceComes script left source tasks (Err end_.Stopped) = ⊥
-SourceComes script left source tasks (Err end_.Memory) = LackedMemory script left source tasks
+-- How a source ends that has seen this of the history, where the disk did not fail: all was done, its next sample had no room,
+-- or memory was wanted for it.
+abbrev pub SourceComes : Script → Outcome → ℕ → List Task → List Sample → Result Unit End → Type 0
+SourceComes script left source tasks seen (Ok done) = IsWhole script left source tasks
+SourceComes script left source tasks seen (Err (end_.SessionFull held size limit)) = LackedRoom script left source tasks seen held size limit
+SourceComes script left source tasks seen (Err end_.Stopped) = ⊥
+SourceComes script left source tasks seen (Err end_.Memory) = LackedMemory script left source tasks seen
 
--- these are the ends of the sources, in the order of their numbers, and all that was accepted is saved
-pub record AreEnds (script : Script) (left : Outcome) (ends : List (Result Unit End)) : Type 0 where
+-- These are the ends of the sources, in the order of their numbers, where each has seen this of the history, and all that was
+-- accepted is saved.
+pub record AreEnds (script : Script) (left : Outcome) (seen : List (List Sample)) (ends : List (Result Unit End)) : Type 0 where
   pub count : length ends ≡ length script.lists
-  pub each : OfSources script (λ source tasks. IfSome (slice_get ends source) (SourceComes script left source tasks))
+  pub each : OfSources script (λ source tasks. IfSome (slice_get ends source) (SourceComes script left source tasks (slice_index_or seen source [])))
   pub saved : IsSaved script.plan left
 
 -- The numbers are those of the first source that had no room.
-pub record IsFull (script : Script) (left : Outcome) (held size limit : ℕ) : Type 0 where
+pub record IsFull (script : Script) (left : Outcome) (seen : List (List Sample)) (held size limit : ℕ) : Type 0 where
   pub ends : List (Result Unit End)
-  pub are : AreEnds script left ends
+  pub are : AreEnds script left seen ends
   pub source : ℕ
   pub told : slice_get ends source ≡ Some (Err (end_.SessionFull held size limit))
   pub first : All HadRoom (take source ends)
 
 -- All sources had room, but memory was wanted for the next sample of one.
-pub record IsShort (script : Script) (left : Outcome) : Type 0 where
+pub record IsShort (script : Script) (left : Outcome) (seen : List (List Sample)) : Type 0 where
   pub ends : List (Result Unit End)
-  pub are : AreEnds script left ends
+  pub are : AreEnds script left seen ends
   pub source : ℕ
   pub wanted : slice_get ends source ≡ Some (Err end_.Memory)
   pub room : All HadRoom ends
@@ -168,23 +172,24 @@ pub record IsIdle (script : Script) (left : Outcome) : Type 0 where
   pub one : length left.marks ≡ 1
   pub saved : IsSaved script.plan left
 
--- How a recording that was begun ends, where the disk's count of faults was `faults` before: all was done, the disk failed,
--- the session is full, or memory was wanted for a sample, for a view or for the sources to work at all. All that was accepted
--- is saved but where the disk failed.
-abbrev pub CloseComes : Script → ℕ → Outcome → Option Fault → Type 0
-CloseComes script faults left None = IsComplete script left
-CloseComes script faults left (Some fault.Device) = Rose faults left.disk.faults
-CloseComes script faults left (Some (fault.SessionFull held size limit)) = IsFull script left held size limit
-CloseComes script faults left (Some fault.Memory) = IsShort script left ⊎ (IsUnshown script left ⊎ IsIdle script left)
-CloseComes script faults left (Some _) = ⊥
+-- How a recording that was begun ends, where the disk's count of faults was `faults` before and each source has seen this of the
+-- history: all was done, the disk failed, the session is full, or memory was wanted for a sample, for a view or for the sources
+-- to work at all. All that was accepted is saved but where the disk failed.
+abbrev pub CloseComes : Script → ℕ → Outcome → List (List Sample) → Option Fault → Type 0
+CloseComes script faults left seen None = IsComplete script left
+CloseComes script faults left seen (Some fault.Device) = Rose faults left.disk.faults
+CloseComes script faults left seen (Some (fault.SessionFull held size limit)) = IsFull script left seen held size limit
+CloseComes script faults left seen (Some fault.Memory) = IsShort script left seen ⊎ (IsUnshown script left ⊎ IsIdle script left)
+CloseComes script faults left seen (Some _) = ⊥
 
 -- What a recording of this script keeps, whatever happened: of its marks, of what a crash since its start may leave, of the
--- samples and the flushes of each source, that all samples cost no more than the session limit, and that the records of
--- those that are not durable fit into one block.
+-- samples and the flushes of each source, that each sample is of a group of the script which one of its sources owns, that all
+-- samples cost no more than the session limit, and that the records of those that are not durable fit into one block.
 pub record IsRecorded (script : Script) (head : List ℕ) (start : ℕ) (left : Outcome) : Type 0 where
   pub marks_hold : MarksHold script.plan.shapes head left.disk.story left.disk.moment left.history left.marks
   pub start_holds : StartHolds script.plan.shapes head left.disk.story start left.history
   pub marks_rise : AreRising (is_some left.disk.story) left.marks
+  pub owned : AreOwned script.plan.owners (length script.plan.shapes) script.plan.sources left.history
   pub own_prefix : OfSources script (λ source tasks. IsPrefix (source_samples script.plan.owners left.history source) (samples_of tasks))
   pub flush_lines : OfSources script (λ source tasks. AreOwnMarked script.plan.owners source left.history left.marks
       (λ n. n < length (source_samples script.plan.owners left.history source)) [] tasks)

@@ -8,6 +8,7 @@ use Rattle.mdf_disk.specs.declared.role.Role.TheVariants.{Create}
 use Rattle.mdf_format.specs.Cause.{Rose}
 use Rattle.mdf_layout.specs.Record.{history_cost}
 use Rattle.mdf_layout.specs.Stock.{Stock}
+use Rattle.mdf_layout.specs.declared.sample.Sample.{Sample}
 use Rattle.mdf_gate.specs.Gated.{Gated}
 use Rattle.mdf_gate.specs.Images.{IsBegun, head_of}
 use Rattle.book_owned.specs.Account.{Account}
@@ -50,8 +51,8 @@ pub record IsRefused (Says : Script → Type 0) (Refuses : Fault → Type 0) (na
   pub marks : left.marks ≡ []
   pub comes : IsUnread Refuses disk left.disk fault ⊎ IsNotBegun Says name now disk left.disk fault
 
--- A book was begun over the script.
-pub record IsClosed (Says : Script → Type 0) (name : List ℕ) (now : ℕ) (disk : DiskState) (left : Outcome) (accepted : List ℕ) (samples last : ℕ) (live : Option ℕ) (fault : Option Fault) : Type 0 where
+-- A book was begun over the script, and this is what each source has seen of the history.
+pub record IsClosed (Says : Script → Type 0) (name : List ℕ) (now : ℕ) (disk : DiskState) (left : Outcome) (accepted : List ℕ) (samples last : ℕ) (live : Option ℕ) (fault : Option Fault) (seen : List (List Sample)) : Type 0 where
   pub script : Script
   pub says : Says script
   pub is_script : IsScript script
@@ -61,13 +62,13 @@ pub record IsClosed (Says : Script → Type 0) (name : List ℕ) (now : ℕ) (di
   pub samples_is : samples ≡ length left.history
   pub durable_is : last ≡ durable left.marks
   pub live_is : live ≡ live_of script.plan.live fault (length left.history)
-  pub comes : CloseComes script disk.faults left fault
+  pub comes : CloseComes script disk.faults left seen fault
   pub asked_is : left.disk.asked ≡ Some (name, Create)
 
 -- What a recording leaves of a script, which says what it is, where a fault may stand in its place.
 abbrev pub RecordComes : (Script → Type 0) → (Fault → Type 0) → List ℕ → ℕ → DiskState → Outcome → RecordEnd → Type 0
 RecordComes Says Refuses name now disk left (Refused fault) = IsRefused Says Refuses name now disk left fault
-RecordComes Says Refuses name now disk left (Closed accepted samples last live fault) = IsClosed Says name now disk left accepted.items samples last live fault
+RecordComes Says Refuses name now disk left (Closed accepted samples last live fault seen) = IsClosed Says name now disk left accepted.items samples last live fault seen
 
 -- How a recording ends, by what the disk and the sink tell before, and what it left.
 abbrev pub EndsRecording : (Script → Type 0) → (Fault → Type 0) → List ℕ → ℕ → DiskState → Outcome → SinkState → SinkState → ℕ → Type 0
@@ -84,8 +85,8 @@ abbrev pub EndsGenerated : ℕ → List ℕ → ℕ → DiskState → Outcome �
 EndsGenerated samples = EndsRecording (λ script. script ≡ generated_script samples) (λ fault. fault ≡ Memory)
 
 -- the book was closed with this fault
-pub record Closes {C : Type 0} (tells : DiskOf C) (book : Account C Audience) (accepted : Stock ℕ) (live : Option ℕ) (fault : Option Fault) (result : Recorded C) : Type 0 where
-  pub end_is : result.end ≡ Closed accepted (length book.history) (durable book.marks) live fault
+pub record Closes {C : Type 0} (tells : DiskOf C) (book : Account C Audience) (accepted : Stock ℕ) (live : Option ℕ) (fault : Option Fault) (seen : List (List Sample)) (result : Recorded C) : Type 0 where
+  pub end_is : result.end ≡ Closed accepted (length book.history) (durable book.marks) live fault seen
   pub disk : result.out ≡ book.disk
   pub history : result.history.items ≡ book.history
   pub marks : result.marks.items ≡ book.marks
@@ -97,18 +98,18 @@ pub record Closes {C : Type 0} (tells : DiskOf C) (book : Account C Audience) (a
   pub holds : book.stopped ≡ false → IfSome (tells.content book.disk) (HoldsDurable book.terms book.history book.marks)
 
 -- The tasks of a script were recorded into a file with this head, begun at this moment of its disk, with this count of faults.
-pub record HasTasks (script : Script) (head : List ℕ) (start faults : ℕ) (left : Outcome) (accepted : List ℕ) (samples last : ℕ) (live : Option ℕ) (fault : Option Fault) : Type 0 where
+pub record HasTasks (script : Script) (head : List ℕ) (start faults : ℕ) (left : Outcome) (accepted : List ℕ) (samples last : ℕ) (live : Option ℕ) (fault : Option Fault) (seen : List (List Sample)) : Type 0 where
   pub recorded : IsRecorded script head start left
   pub accepted_is : AreAccepted script left accepted
   pub samples_is : samples ≡ length left.history
   pub durable_is : last ≡ durable left.marks
   pub live_is : live ≡ live_of script.plan.live fault (length left.history)
-  pub comes : CloseComes script faults left fault
+  pub comes : CloseComes script faults left seen fault
 
 -- or no book could be begun over it
 abbrev pub RunComes : Script → DiskState → List ℕ → ℕ → ℕ → Outcome → RecordEnd → Type 0
 RunComes script disk head start faults left (Refused fault) = (fault ≡ Memory) × (left.disk ≡ disk) × (left.history ≡ []) × (left.marks ≡ [])
-RunComes script disk head start faults left (Closed accepted samples last live fault) = HasTasks script head start faults left accepted.items samples last live fault
+RunComes script disk head start faults left (Closed accepted samples last live fault seen) = HasTasks script head start faults left accepted.items samples last live fault seen
 
 pub record HasRun {C : Type 0} (tells : DiskOf C) (script : Script) (file : Gated C) (left : Outcome) (end : RecordEnd) : Type 0 where
   pub comes : RunComes script (state_of tells file.disk) (head_of (tells.story file.disk) file.first) file.start file.faults left end

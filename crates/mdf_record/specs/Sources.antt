@@ -66,9 +66,10 @@ counts_of all = map (λ driven. driven.accepted) all
 abbrev pub ends_of : List Driven → List (Result Unit End)
 ends_of all = map (λ driven. told_of driven.ended) all
 
--- all sources have worked: so many samples of each were accepted, and this is the end that is told
-pub record RanAll {D V : Type 0} (owners : List ℕ) (book : Account D V) (lists : List (List Task)) (accepted : List ℕ) (result : Result Unit End) : Type 0 where
+-- all sources have worked, and each has seen this of the history: so many samples of each were accepted, and this is the end
+-- that is told
+pub record RanAll {D V : Type 0} (owners : List ℕ) (book : Account D V) (seen : List (List Sample)) (lists : List (List Task)) (accepted : List ℕ) (result : Result Unit End) : Type 0 where
   pub all : List Driven
-  pub each : AllRan owners book 0 (map feds_of lists) all
+  pub each : AllRan owners book seen 0 (map feds_of lists) all
   pub accepted_is : accepted ≡ counts_of all
   pub told : result ≡ worst (ends_of all)

@@ -6,7 +6,7 @@ use Rattle.book_owned.specs.Account.{Account}
 use Rattle.book_owned.specs.Members.{DiskOf}
 use Rattle.book_view.specs.Known.{Note}
 use Rattle.book_shared.specs.Causes.{MarksCaused}
-use Rattle.acq_run.specs.Ran.{AllMayFeed, AllRan, AskedFor}
+use Rattle.acq_run.specs.Ran.{AllMayFeed, AllRan, AreOwned, AskedFor}
 use Rattle.acq_run.specs.declared.tasks.Fed.{Fed}
 use Rattle.acq_run.specs.declared.work.Driven.{Driven}
 use Rattle.acq_run.specs.Audience.{count_in, hands_in, shows_in, which_in}
@@ -54,7 +54,8 @@ pub record MayWork {D G : Type 0} (owners : List ℕ) (book : Account D Audience
 pub record HasNotWorked {D : Type 0} (tells : DiskOf D) (sources : ℕ) (book : Account D Audience) (recorded : Recorded D) : Type 0 where
   pub accepted : Stock ℕ
   pub none : accepted.items ≡ replicate sources 0
-  pub closes : Closes tells book accepted None (Some Memory) recorded
+  pub seen : List (List Sample)
+  pub closes : Closes tells book accepted None (Some Memory) seen recorded
 
 -- they did: the book was driven by all, flushed and closed
 pub record HasWorked {D : Type 0} (tells : DiskOf D) (owners : List ℕ) (book : Account D Audience) (feeds : List (List Fed)) (live : Bool) (recorded : Recorded D) : Type 0 where
@@ -66,15 +67,17 @@ pub record HasWorked {D : Type 0} (tells : DiskOf D) (owners : List ℕ) (book :
   pub fault : Option Fault
   pub note : Option Note
   pub shown : Option ℕ
+  pub seen : List (List Sample)
   pub terms : driven.terms ≡ book.terms
-  pub ran : AllRan owners driven 0 feeds all
+  pub ran : AllRan owners driven seen 0 feeds all
+  pub owned : AreOwned owners (length book.terms.layouts) (length feeds) driven.history
   pub marks : MarksCaused (AskedFor owners 0 feeds driven.history) book.terms.layouts book.terms.block_limit driven.history book.marks driven.marks
   pub last : MarksLast driven flushed
   pub accepted_is : accepted.items ≡ counts_of all
   pub told : ended ≡ worst (ends_of all)
   pub finishes : Finishes driven flushed live ended fault note
   pub shown_is : shown ≡ counted note
-  pub closes : Closes tells flushed accepted shown fault recorded
+  pub closes : Closes tells flushed accepted shown fault seen recorded
 
 abbrev pub Works : {D : Type 0} → DiskOf D → List ℕ → Account D Audience → List (List Fed) → Bool → Recorded D → Type 0
 Works tells owners book feeds live recorded =

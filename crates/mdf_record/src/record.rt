@@ -21,7 +21,7 @@ ghost use Rattle.mdf_layout.specs.declared.sample.Sample.{Sample};
 use crate::gate::Gate;
 use crate::head::head_for;
 use crate::sources::{Accepted, End, TaskFeed, add_none, feeds_of, told_all};
-use acq_run::{Audience, Gathered, Watcher, last_look, record_live};
+use acq_run::{Audience, Gathered, Seen, Watcher, last_look, record_live};
 use acq_script::{Script, Task, generated, read_script};
 use book_owned::{Book, Flush, Marks, Shown};
 use book_view::Told;
@@ -47,14 +47,15 @@ pub enum RecordEnd {
     /// No book was begun.
     Refused(Fault),
     /// A book was begun and closed: how many samples of each source it accepted, how many in all, how many of them are
-    /// durable, how many a reader finds shown, where they are looked at live and nothing went wrong, and what went wrong, if
-    /// anything did.
+    /// durable, how many a reader finds shown, where they are looked at live and nothing went wrong, what went wrong, if
+    /// anything did, and what each source had seen of the history at its last turn.
     Closed {
         accepted: Accepted,
         samples: u64,
         durable: u64,
         live: Option<u64>,
         fault: Option<Fault>,
+        seen: Seen,
     },
 }
 
@@ -246,6 +247,7 @@ fn begin<R: Wait, C: Disk>(
 /// Closes a book that none of so many sources could work at, for want of memory.
 fn give_up<R: Wait, C: Disk>(
     rt: &R,
+    alloc: Global,
     book: Book<C, Audience>,
     mut accepted: Accepted,
     sources: usize,
@@ -255,7 +257,9 @@ fn give_up<R: Wait, C: Disk>(
     ensures gives_up { HasNotWorked C.Disk sources book result }
 {
     add_none(&mut accepted, sources);
-    close(rt, book, accepted, None, Some(Fault::Memory))
+    let none = Vec::new(alloc);
+    let seen = Seen::by(&none);
+    close(rt, book, accepted, None, Some(Fault::Memory), seen)
 }
 
 /// Lets the sources record into a book with no sample, each in a thread of its own, and closes the book. Each watcher that has
@@ -282,14 +286,15 @@ fn work<'a, R: Threads + Wait + Sync, C: Disk + Send, G: Gate + Sync>(
             let Gathered {
                 mut book,
                 all,
+                seen,
                 watchers,
             } = gathered;
             let driven = told_all(all, &mut accepted);
             let (fault, note) = finish(rt, &mut book, live, driven);
             let live = last_look(watchers, note);
-            close(rt, book, accepted, live, fault)
+            close(rt, book, accepted, live, fault, seen)
         }
-        Err((_, book)) => give_up(rt, book, accepted, sources),
+        Err((_, book)) => give_up(rt, alloc, book, accepted, sources),
     }
 }
 
@@ -322,8 +327,9 @@ fn close<R: Wait, C: Disk>(
     accepted: Accepted,
     live: Option<u64>,
     fault: Option<Fault>,
+    seen: Seen,
 ) -> Recorded<C>
-    ensures closes { Closes C.Disk book accepted live fault result }
+    ensures closes { Closes C.Disk book accepted live fault seen result }
 {
     let samples = book.history_len();
     let durable = book.last_mark().through;
@@ -337,6 +343,7 @@ fn close<R: Wait, C: Disk>(
             durable,
             live,
             fault,
+            seen,
         },
         out,
         history,
@@ -450,6 +457,7 @@ fn give_end<K: Sink>(sink: &mut K, end: &RecordEnd) -> Result<(), Failed>
             durable,
             live,
             fault,
+            seen: _,
         } => {
             give_summary(sink, accepted.rest(0), *samples, *durable)?;
             give_rest(sink, live, fault)

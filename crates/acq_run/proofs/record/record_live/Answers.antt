@@ -6,8 +6,9 @@ use Rattle.book_owned.specs.Account.{Terms}
 use Rattle.book_shared.specs.Causes.{MarksCaused}
 use Rattle.book_shared.specs.Seats.{AskedBy}
 use Rattle.book_shared.proofs.Causing.{caused_later}
-use Rattle.acq_run.specs.Ran.{AllMayFeed, AskedFor}
+use Rattle.acq_run.specs.Ran.{AllHeard, AllMayFeed, AllRan, AskedFor}
 use Rattle.acq_run.specs.Workers.{IsReady}
+use Rattle.acq_run.proofs.Groups.{ran_owned}
 use Rattle.acq_run.proofs.Owning.{owned_same}
 use Rattle.acq_run.proofs.Gathering.{all_follow, all_ready, have_worked, seated, seats_count, worked_count, worked_follow, worked_asked, worked_numbers, worked_of_table, worked_ran, HaveWorked}
 use Rattle.acq_run.proofs.Telling.{worked_heard}
@@ -71,8 +72,9 @@ returns-clause-ran g c =
     let lent = c.as_mut_slice.result.now in
     let news = c.drive_all.new.workers in
     let worked = all_worked g (goal.at.returns-clause-ran g c).After-drive_all in
-    worked_ran left book.table book.basis lent news _ c.args.feeds.items worked c.args.owners.now shared.owners_are c.close.result c.close.ensures.terms
-    c.part_all.new.seats.items c.part_all.new.all.items c.part_all.ensures.seats c.part_all.ensures.driven c.close.ensures.seats
+    subst (λ seen. AllRan c.args.owners.now c.close.result seen 0 (map left c.args.feeds.items) c.part_all.new.all.items) (sym c.by-seen.ensures)
+    (worked_ran left book.table book.basis lent news _ c.args.feeds.items worked c.args.owners.now shared.owners_are c.close.result c.close.ensures.terms
+    c.part_all.new.seats.items c.part_all.new.all.items c.part_all.ensures.seats c.part_all.ensures.driven c.close.ensures.seats)
 
 pub returns-clause-marks : goal.returns-clause-marks
 returns-clause-marks g c =
@@ -132,12 +134,14 @@ returns-clause-heard g c =
     let lent = c.as_mut_slice.result.now in
     let news = c.drive_all.new.workers in
     let worked = all_worked g (goal.at.returns-clause-heard g c).After-drive_all in
-    worked_heard left Hears book.table book.basis c.args.owners.now shared.owners_are c.close.result c.close.ensures.terms
+    subst (λ seen. AllHeard Hears c.args.owners.now c.close.result seen 0 (map left c.args.feeds.items) c.part_all.new.all.items c.args.watchers.items c.part_all.new.followers.items)
+    (sym c.by-seen.ensures)
+    (worked_heard left Hears book.table book.basis c.args.owners.now shared.owners_are c.close.result c.close.ensures.terms
     c.seat_all.new.workers.items lent news _ _ c.in_ok-shared.seats.items c.args.feeds.items c.args.watchers.items
     c.seat_all.ensures.seats c.in_ok-shared.ensures.seats c.seat_all.ensures.feeds c.seat_all.ensures.followers c.as_mut_slice.ensures.value worked.after_is
     c.drive_all.auto.workers c.drive_all.ensures.heard
     c.part_all.new.seats.items c.part_all.new.all.items c.part_all.new.followers.items c.part_all.ensures.seats c.part_all.ensures.driven c.part_all.ensures.followers
-    c.close.ensures.seats
+    c.close.ensures.seats)
 
 pub part_all-requires-clause-room : goal.part_all-requires-clause-room
 part_all-requires-clause-room g c =
@@ -158,7 +162,14 @@ part_all-requires-clause-room g c =
 
 pub returns-clause-owned : goal.returns-clause-owned
 returns-clause-owned g c =
-    let basis = c.in_ok-shared.shared.basis in
+    let left = g.F.Feed.left in
+    let book = c.in_ok-shared.shared in
     let shared = c.in_ok-shared.ensures.shared in
-    owned_same basis.owners c.args.owners.now shared.owners_are 0 basis.sources _
-    (omega (arith, shared.sources_is, c.len-count.ensures, c.args.feeds.ok.0, c.requires.sources.1)) c.close.result.history c.close.ensures.sources
+    let feeds = map left c.args.feeds.items in
+    let worked = all_worked g (goal.at.returns-clause-owned g c).After-drive_all in
+    ran_owned c.args.owners.now c.args.book.terms c.close.result _ feeds c.part_all.new.all.items _ (omega (arith, length-map c.args.feeds.items left, c.args.feeds.ok.0))
+    (worked_ran left book.table book.basis c.as_mut_slice.result.now c.drive_all.new.workers _ c.args.feeds.items worked c.args.owners.now shared.owners_are c.close.result
+    c.close.ensures.terms c.part_all.new.seats.items c.part_all.new.all.items c.part_all.ensures.seats c.part_all.ensures.driven c.close.ensures.seats)
+    c.requires.may
+    (owned_same book.basis.owners c.args.owners.now shared.owners_are 0 book.basis.sources _
+    (omega (arith, shared.sources_is, c.len-count.ensures, c.args.feeds.ok.0, c.requires.sources.1)) c.close.result.history c.close.ensures.sources)

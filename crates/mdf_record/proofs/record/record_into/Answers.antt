@@ -44,6 +44,6 @@ work-requires-clause-may g c κs within =
 pub returns-in-Ok-begin : goal.returns-in-Ok-begin
 returns-in-Ok-begin g c =
     record {
-      recorded = works_run g.C.Disk _ c.args.script c.args.file _ c.in-Ok-begin.book c.as_slice.result.now c.in-Ok.prepared.feeds.items c.work.result
+      recorded = works_run g.C.Disk _ c.args.script c.requires.script c.args.file _ c.in-Ok-begin.book c.as_slice.result.now c.in-Ok.prepared.feeds.items c.work.result
           c.in-Ok.ensures.prepared.which c.in-Ok-begin.ensures.begun c.as_slice.ensures c.in-Ok.ensures.prepared.feeds c.work.ensures.works;
     }

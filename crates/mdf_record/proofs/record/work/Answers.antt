@@ -1,4 +1,6 @@
 use Rattle.std.proofs.Common.{◌≡◌, ◌∙◌, ap, arith, inl, inr, length, refl, subst}
+use Rattle.std.specs.Prelude.{vec_len}
+use Rattle.acq_run.specs.Ran.{AreOwned}
 use Rattle.mdf_record.specs.Sources.{feds_of}
 use Rattle.mdf_record.specs.Work.{HasNotWorked, fed_by}
 use Rattle.mdf_record.proofs.Begins.{note_of}
@@ -19,8 +21,8 @@ told_all-driven-requires-clause-room g c =
     let feeds = c.args.prepared.feeds.items in
     let book = c.in-Ok.gathered.book in
     let all = c.in-Ok.gathered.all.items in
-    let ran = ran_lists owners owners book feeds (tasks_of feeds) all refl (tasks_fed feeds) c.in-Ok.ensures.ran in
-    omega (arith, all-length owners book 0 (tasks_of feeds) all ran, length-map feeds (λ feed. feed.tasks.rest.items), c.requires.may.room)
+    let ran = ran_lists owners owners book c.in-Ok.gathered.seen feeds (tasks_of feeds) all refl (tasks_fed feeds) c.in-Ok.ensures.ran in
+    omega (arith, all-length owners book c.in-Ok.gathered.seen 0 (tasks_of feeds) all ran, length-map feeds (λ feed. feed.tasks.rest.items), c.requires.may.room)
 
 pub finish-fault-requires-clause-stopped : goal.finish-fault-requires-clause-stopped
 finish-fault-requires-clause-stopped g c κs within =
@@ -30,9 +32,9 @@ finish-fault-requires-clause-stopped g c κs within =
     let all = c.in-Ok.gathered.all.items in
     let accepted = c.told_all-driven.new.accepted.items in
     let result = c.told_all-driven.result in
-    let ran = ran_lists owners owners book feeds (tasks_of feeds) all refl (tasks_fed feeds) c.in-Ok.ensures.ran in
-    stopped_told owners book (tasks_of feeds) accepted result
-    (ran_all owners book (tasks_of feeds) accepted result all ran c.told_all-driven.ensures.accepted c.told_all-driven.ensures.told)
+    let ran = ran_lists owners owners book c.in-Ok.gathered.seen feeds (tasks_of feeds) all refl (tasks_fed feeds) c.in-Ok.ensures.ran in
+    stopped_told owners book c.in-Ok.gathered.seen (tasks_of feeds) accepted result
+    (ran_all owners book c.in-Ok.gathered.seen (tasks_of feeds) accepted result all ran c.told_all-driven.ensures.accepted c.told_all-driven.ensures.told)
 
 pub last_look-live-requires : goal.last_look-live-requires
 last_look-live-requires g c =
@@ -46,27 +48,31 @@ last_look-live-requires g c =
     )
 
 pub returns-in-Ok : goal.returns-in-Ok
-returns-in-Ok g c = record {
-  works = inr (record {
-    driven = c.in-Ok.gathered.book;
-    flushed = c.finish-fault.new.book;
-    all = c.in-Ok.gathered.all.items;
-    accepted = c.told_all-driven.new.accepted;
-    ended = c.told_all-driven.result;
-    fault = c.finish-fault.result.0;
-    note = c.finish-fault.result.1;
-    shown = c.last_look-live.result;
-    terms = c.in-Ok.ensures.terms;
-    ran = c.in-Ok.ensures.ran;
-    marks = c.in-Ok.ensures.marks;
-    last = c.finish-fault.ensures.last;
-    accepted_is = c.told_all-driven.ensures.accepted;
-    told = c.told_all-driven.ensures.told;
-    finishes = c.finish-fault.ensures.finishes;
-    shown_is = c.last_look-live.ensures;
-    closes = c.close.ensures.closes;
-  });
-}
+returns-in-Ok g c =
+    let feeds = c.args.prepared.feeds.items in
+    let count : vec_len c.args.prepared.feeds ≡ length (fed_by feeds) = omega (arith, c.args.prepared.feeds.ok.0, length-map feeds (λ feed. feds_of feed.tasks.rest.items)) in record {
+      works = inr (record {
+        driven = c.in-Ok.gathered.book;
+        flushed = c.finish-fault.new.book;
+        all = c.in-Ok.gathered.all.items;
+        accepted = c.told_all-driven.new.accepted;
+        ended = c.told_all-driven.result;
+        fault = c.finish-fault.result.0;
+        note = c.finish-fault.result.1;
+        shown = c.last_look-live.result;
+        seen = c.in-Ok.gathered.seen;
+        terms = c.in-Ok.ensures.terms;
+        ran = c.in-Ok.ensures.ran;
+        owned = subst (λ n. AreOwned c.args.owners.now (length c.args.book.terms.layouts) n c.in-Ok.gathered.book.history) count c.in-Ok.ensures.owned;
+        marks = c.in-Ok.ensures.marks;
+        last = c.finish-fault.ensures.last;
+        accepted_is = c.told_all-driven.ensures.accepted;
+        told = c.told_all-driven.ensures.told;
+        finishes = c.finish-fault.ensures.finishes;
+        shown_is = c.last_look-live.ensures;
+        closes = c.close.ensures.closes;
+      });
+    }
 
 pub returns-in-Err : goal.returns-in-Err
 returns-in-Err g c =
