@@ -53,23 +53,23 @@ not_done (fault.NoGroup said groups) result is done = absurd (omega (arith, is, 
 not_done (fault.Differs group) result is done = absurd (omega (arith, is, done))
 not_done (fault.Wide group channel) result is done = absurd (omega (arith, is, done))
 
-completes : (script : Script) (faults : ℕ) (left : Outcome) (result : ℕ) (problem : Option Fault)
+completes : (script : Script) (faults : ℕ) (left : Outcome) (seen : List (List Sample)) (result : ℕ) (problem : Option Fault)
     → (result ≡ fault_code problem) ⊎ (result ≡ unwritten_status (fault_code problem)) → IsDone result
-    → CloseComes script faults left problem → IsComplete script left
-completes script faults left result None is done comes = comes
-completes script faults left result (Some problem) is done comes = absurd (not_done problem result is done)
+    → CloseComes script faults left seen problem → IsComplete script left
+completes script faults left seen result None is done comes = comes
+completes script faults left seen result (Some problem) is done comes = absurd (not_done problem result is done)
 
 -- all that was accepted is durable but where a disk failed
-saves : (script : Script) (faults : ℕ) (left : Outcome) (result : ℕ) (problem : Option Fault)
+saves : (script : Script) (faults : ℕ) (left : Outcome) (seen : List (List Sample)) (result : ℕ) (problem : Option Fault)
     → (result ≡ fault_code problem) ⊎ (result ≡ unwritten_status (fault_code problem)) → result ≢ 4
-    → CloseComes script faults left problem → durable left.marks ≡ length left.history
-saves script faults left result None is other comes = comes.saved.all_durable
-saves script faults left result (Some fault.Device) is other comes = absurd (⊎_elim other other is)
-saves script faults left result (Some (fault.SessionFull held size limit)) is other comes = comes.are.saved.all_durable
-saves script faults left result (Some fault.Memory) is other comes =
+    → CloseComes script faults left seen problem → durable left.marks ≡ length left.history
+saves script faults left seen result None is other comes = comes.saved.all_durable
+saves script faults left seen result (Some fault.Device) is other comes = absurd (⊎_elim other other is)
+saves script faults left seen result (Some (fault.SessionFull held size limit)) is other comes = comes.are.saved.all_durable
+saves script faults left seen result (Some fault.Memory) is other comes =
     ⊎_elim (λ short. short.are.saved.all_durable)
     (λ other. ⊎_elim (λ unshown. unshown.1.saved.all_durable) (λ idle. idle.saved.all_durable) other) comes
-saves script faults left result (Some _) is other comes = absurd comes
+saves script faults left seen result (Some _) is other comes = absurd comes
 
 -- a status 0 was printed only with all of the text, of a command that ended so
 all_printed : (text : List ℕ) (status : ℕ) (sink sink' : SinkState) (result : ℕ) → result ≡ 0 → Prints text status sink sink' result → Appends sink.held sink'.held text
@@ -142,9 +142,9 @@ module _ (Says : Script → Type 0) (Refuses : Fault → Type 0) (name : List �
     begun (inr unmade) =
         subst (λ (s : Script). HoldsSince disk.story out.moment (IsBegun (script_head now s))) (means unmade.script unmade.says) unmade.begun
 
-  of_closed : (accepted : List ℕ) (samples last : ℕ) (live : Option ℕ) (problem : Option Fault) → IsClosed Says name now out left accepted samples last live problem
+  of_closed : (accepted : List ℕ) (samples last : ℕ) (live : Option ℕ) (problem : Option Fault) (seen : List (List Sample)) → IsClosed Says name now out left accepted samples last live problem seen
       → Prints (summary_text accepted samples last ++ (live_text live ++ fault_text problem)) (fault_code problem) sink sink' status → Keep history marks
-  of_closed accepted samples last live problem closed prints =
+  of_closed accepted samples last live problem seen closed prints =
       let is = was_status (summary_text accepted samples last ++ (live_text live ++ fault_text problem)) (fault_code problem) sink sink' status prints in
       let script_is : closed.script ≡ script = means closed.script closed.says in
       let recorded = rw script_is at closed.recorded in
@@ -159,9 +159,9 @@ module _ (Says : Script → Type 0) (Refuses : Fault → Type 0) (name : List �
         flush_lines = recorded.flush_lines;
         causes = inr recorded.causes;
         pending = recorded.pending;
-        complete = λ done. completes script out.faults left status problem is done comes;
+        complete = λ done. completes script out.faults left seen status problem is done comes;
         reported = λ ok. reports script left sink sink' status ok accepted samples last live problem is accepted_is closed.samples_is closed.durable_is
-            (completes script out.faults left status problem is (inl ok) comes) live_is
+            (completes script out.faults left seen status problem is (inl ok) comes) live_is
             (all_printed (summary_text accepted samples last ++ (live_text live ++ fault_text problem)) (fault_code problem) sink sink' status ok prints);
       }
 
@@ -169,7 +169,7 @@ module _ (Says : Script → Type 0) (Refuses : Fault → Type 0) (name : List �
       → Prints (record_text end) (record_status end) sink sink' status → Keep history marks
   recording_keeps (Refused problem) comes prints =
       of_refused problem comes (was_status (record_text (Refused problem)) (record_status (Refused problem)) sink sink' status prints)
-  recording_keeps (Closed accepted samples last live problem) comes prints = of_closed accepted.items samples last live problem comes prints
+  recording_keeps (Closed accepted samples last live problem seen) comes prints = of_closed accepted.items samples last live problem seen comes prints
 
 -- all is durable of a recording, whatever its script is
 module _ (Says : Script → Type 0) (Refuses : Fault → Type 0) (name : List ℕ) (now : ℕ) (out : DiskState) (left : Outcome) (sink sink' : SinkState) (status : ℕ) where
@@ -178,18 +178,18 @@ module _ (Says : Script → Type 0) (Refuses : Fault → Type 0) (name : List �
   durable_refused problem refused is = λ ended.
       ⊎_elim (λ done. absurd (not_done problem status is done)) (λ begun. absurd (omega (arith, begun.0, ap length refused.marks))) ended
 
-  durable_closed : (accepted : List ℕ) (samples last : ℕ) (live : Option ℕ) (problem : Option Fault) → IsClosed Says name now out left accepted samples last live problem
+  durable_closed : (accepted : List ℕ) (samples last : ℕ) (live : Option ℕ) (problem : Option Fault) (seen : List (List Sample)) → IsClosed Says name now out left accepted samples last live problem seen
       → (status ≡ fault_code problem) ⊎ (status ≡ unwritten_status (fault_code problem)) → IsDurable status left.history left.marks
-  durable_closed accepted samples last live problem closed is = λ ended. (
+  durable_closed accepted samples last live problem seen closed is = λ ended. (
     some_from left.marks closed.recorded.marks_rise.first,
-    ⊎_elim (λ done. (completes closed.script out.faults left status problem is done closed.comes).saved.all_durable)
-        (λ begun. saves closed.script out.faults left status problem is begun.1 closed.comes) ended,
+    ⊎_elim (λ done. (completes closed.script out.faults left seen status problem is done closed.comes).saved.all_durable)
+        (λ begun. saves closed.script out.faults left seen status problem is begun.1 closed.comes) ended,
   )
 
   pub recording_durable : (end : RecordEnd) → RecordComes Says Refuses name now out left end
       → Prints (record_text end) (record_status end) sink sink' status → IsDurable status left.history left.marks
   recording_durable (Refused problem) comes prints =
       durable_refused problem comes (was_status (record_text (Refused problem)) (record_status (Refused problem)) sink sink' status prints)
-  recording_durable (Closed accepted samples last live problem) comes prints =
-      durable_closed accepted.items samples last live problem comes
-      (was_status (record_text (Closed accepted samples last live problem)) (fault_code problem) sink sink' status prints)
+  recording_durable (Closed accepted samples last live problem seen) comes prints =
+      durable_closed accepted.items samples last live problem seen comes
+      (was_status (record_text (Closed accepted samples last live problem seen)) (fault_code problem) sink sink' status prints)

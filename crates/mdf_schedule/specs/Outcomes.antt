@@ -44,7 +44,8 @@ pub record IsRecordedTo (script : Script) (start : ℕ) (left : Outcome) (file :
   pub samples : ℕ
   pub last : ℕ
   pub live : Option ℕ
-  pub closed : IsClosed (λ said. said ≡ script) name start disk left accepted samples last live None
+  pub seen : List (List Sample)
+  pub closed : IsClosed (λ said. said ≡ script) name start disk left accepted samples last live None seen
   pub past : disk.moment ≤ left.disk.moment
   pub story : Story
   pub told : left.disk.story ≡ Some story
