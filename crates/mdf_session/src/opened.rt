@@ -1,4 +1,4 @@
-ghost use Rattle.std.specs.Prelude.{◌≡◌, ◌+◌, ◌^◌, ◌≤◌, ◌<◌, ◌++◌, ◌∷◌, [], ℕ, List, Some, length, true, IfOk, IfErr, OnOk};
+ghost use Rattle.std.specs.Prelude.{◌≡◌, ◌+◌, ◌^◌, ◌≤◌, ◌<◌, ◌↔◌, ◌++◌, ◌∷◌, [], ℕ, List, Some, length, true, IsTrue, IfOk, IfErr, OnOk};
 ghost use Rattle.mdf_num.specs.Halt.{HaltCause, StopCause};
 ghost use Rattle.mdf_block.specs.Refusal.{Gives, IsPlain};
 ghost use Rattle.mdf_block.specs.Block.{IsInside};
@@ -58,6 +58,13 @@ fn unit_in<P: Span>(span: &mut P, place: u64) -> Result<BlockAt, Halt<ReadFault>
     }
 }
 
+/// Whether a stream can go on to this place.
+fn can_reach(end: u64) -> bool
+    ensures { IsTrue result ↔ (end < 2 ^ 62) }
+{
+    end < LONGEST
+}
+
 /// Adds the body of the unit at a place to the stream, and answers the place behind it.
 fn add_unit(view: &mut DataView, place: u64, unit: &BlockAt) -> Result<u64, Memory>
     requires below { stream_size view.old ≤ place }
@@ -69,7 +76,7 @@ fn add_unit(view: &mut DataView, place: u64, unit: &BlockAt) -> Result<u64, Memo
     ensures after { OnOk result (place < unit.now.body_at) }
 {
     let end = unit.body_at + unit.body_len;
-    if unit.body_at <= place || end >= LONGEST {
+    if unit.body_at <= place || !can_reach(end) {
         return Err(Memory);
     }
     view.add(unit.body_at, unit.body_len)?;
