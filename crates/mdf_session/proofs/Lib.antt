@@ -2,3 +2,4 @@ pub mod Units
 pub mod Counts
 pub mod Keeps
 mod Firsts
+pub mod Identified

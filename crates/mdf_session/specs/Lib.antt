@@ -2,3 +2,4 @@ pub mod Opened
 pub mod Counted
 pub mod Session
 pub mod Standing
+pub mod Identified
