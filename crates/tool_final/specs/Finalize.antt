@@ -5,6 +5,7 @@ use Rattle.mdf_block.specs.Refusal.{Fails}
 use Rattle.mdf_content.specs.Fault.{read_refusal}
 use Rattle.mdf_disk.specs.State.{DiskState}
 use Rattle.mdf_seal.specs.Seal.{IsKept}
+use Rattle.mdf_session.specs.Identified.{IsIdentifiedRecording}
 use Rattle.mdf_session.specs.Session.{SessionParts, session}
 use Rattle.mdf_tool.specs.Tool.{IsSealed}
 use Rattle.mdf_tool.specs.declared.made.Report.{Report}
@@ -22,12 +23,12 @@ pub record IsFinalizedOf (file : List ℕ) (now : ℕ) (bytes : List ℕ) (repor
   pub report_is : report ≡ report_for found
 
 -- How it ends, by what the disk of the output tells before and after: the finalized session of the file is kept whole; or the
--- file is refused, for its first fault, or memory was wanted, and the disk is as before; or the disk failed.
+-- file is refused, for its first fault, or it is identified and memory was wanted, and the disk is as before; or the disk failed.
 abbrev pub FinalizeEnds : List ℕ → ℕ → DiskState → DiskState → Result Report ToolFault → Type 0
 FinalizeEnds file now old new (Ok report) = (bytes : List ℕ) × IsFinalizedOf file now bytes report × IsKept new.content new.story bytes
 FinalizeEnds file now old new (Err (tool.Read fault)) = IsSome (read_refusal fault) × Fails (read_refusal fault) (session file) × (new ≡ old)
 FinalizeEnds file now old new (Err tool.Failed) = Rose old.faults new.faults
-FinalizeEnds file now old new (Err tool.Memory) = new ≡ old
+FinalizeEnds file now old new (Err tool.Memory) = IsIdentifiedRecording file × (new ≡ old)
 
 -- what a crash may leave: a file under its seal, or the finalized session of the file
 abbrev pub IsFinalizeImage : List ℕ → ℕ → List ℕ → Type 0

@@ -1,9 +1,10 @@
-ghost use Rattle.std.specs.Prelude.{◌≡◌, ◌≤◌, true, is_some, IfOk};
+ghost use Rattle.std.specs.Prelude.{◌≡◌, ◌≤◌, true, is_some, IfOk, IfErr, IfNone};
 ghost use Rattle.mdf_block.specs.Refusal.{GivesOf};
 ghost use Rattle.mdf_content.specs.Fault.{read_refusal};
 ghost use Rattle.mdf_disk.specs.Crash.{Adds};
 ghost use Rattle.mdf_disk.specs.State.{state_of};
 ghost use Rattle.mdf_seal.specs.Seal.{IsBlank};
+ghost use Rattle.mdf_session.specs.Identified.{IsIdentifiedRecording};
 ghost use Rattle.mdf_session.specs.Session.{session};
 ghost use Rattle.mdf_spell.specs.Standing.{AreBytes};
 ghost use Rattle.tool_final.specs.Finalize.{FinalizeEnds, IsFinalizeImage};
@@ -27,6 +28,7 @@ fn are_bytes(bytes: &[u8])
 /// The session of a file, whose memory becomes that of its records.
 fn session_read(alloc: Global, file: Bytes) -> Result<Session, ReadFault>
     ensures exact { GivesOf read_refusal result (session file) }
+    ensures first { IfErr result (λ fault. IfNone (read_refusal fault) (IsIdentifiedRecording file)) }
     ensures bytes { AreBytes file }
 {
     are_bytes(file.as_slice());
