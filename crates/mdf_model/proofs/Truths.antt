@@ -62,16 +62,16 @@ module _ (f : List ℕ) (row : DataRow) (before : ℕ) where
   IsTrue refusal = IsTrueOfData f row before refusal
 
   -- a data link
-  link_turned : (want : Kind) (refusal : Refusal) → IsTrueOfLink f want refusal × IsTrueOf f refusal → IsTrue refusal
-  link_turned want (Bad at kind) both = both.1
-  link_turned want (Compressed at) both = both.1
-  link_turned want (TooMany whats.Block at) both = both.1
-  link_turned want _ both = absurd both.0
+  link_turned : (want : Kind) (at : ℕ) (refusal : Refusal) → IsTrueOfLink f want at refusal × IsTrueOf f refusal → IsTrue refusal
+  link_turned want link (Bad at kind) both = both.1
+  link_turned want link (Compressed at) both = both.1
+  link_turned want link (TooMany whats.Block at) both = both.1
+  link_turned want link _ both = absurd both.0
 
   pub link_true : (want : Kind) → (want ≡ Dt) ⊎ (want ≡ Sd) → (at : ℕ) → Refusing IsTrue (data_parts f want at)
   link_true want data_kind at =
-      refusing_as (λ r. IsTrueOfLink f want r × IsTrueOf f r) IsTrue (data_parts f want at) (link_turned want)
-      (refusing_both (IsTrueOfLink f want) (IsTrueOf f) (data_parts f want at) (parts_true f want at) (data_true f want data_kind at))
+      refusing_as (λ r. IsTrueOfLink f want at r × IsTrueOf f r) IsTrue (data_parts f want at) (link_turned want at)
+      (refusing_both (IsTrueOfLink f want at) (IsTrueOf f) (data_parts f want at) (parts_true f want at) (data_true f want data_kind at))
 
   -- layouts
   first_bad : (layout : Layout) (k : ℕ) (channels : List ChannelRow) (channel : ChannelRow) → first_unplaced layout k channels ≡ Some channel
