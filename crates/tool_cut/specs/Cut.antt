@@ -4,6 +4,7 @@ use Rattle.mdf_format.specs.Cause.{Rose}
 use Rattle.mdf_block.specs.Refusal.{Fails}
 use Rattle.mdf_content.specs.Fault.{read_refusal}
 use Rattle.mdf_disk.specs.State.{DiskState}
+use Rattle.mdf_model.specs.Identified.{IsIdentified}
 use Rattle.mdf_model.specs.Measurement.{Measured, measurement}
 use Rattle.mdf_seal.specs.Seal.{IsKept}
 use Rattle.tool_sort.specs.Kept.{IsSortedOf}
@@ -32,12 +33,12 @@ pub record IsCutOf (file : List ℕ) (asked : Cutting) (bytes : List ℕ) (repor
   pub report_is : report ≡ report_for (cut_of asked.from asked.to found)
 
 -- How it ends, by what the disk of the output tells before and after: that file is kept whole; or the input is refused, for
--- its first fault, or memory was wanted, and the disk is as before; or the disk failed.
+-- its first fault, or it is identified and memory was wanted, and the disk is as before; or the disk failed.
 abbrev pub CutEnds : List ℕ → Cutting → DiskState → DiskState → Result Report ToolFault → Type 0
 CutEnds file asked old new (Ok report) = (bytes : List ℕ) × IsCutOf file asked bytes report × IsKept new.content new.story bytes
 CutEnds file asked old new (Err (tool.Read fault)) = IsSome (read_refusal fault) × Fails (read_refusal fault) (measurement file) × (new ≡ old)
 CutEnds file asked old new (Err tool.Failed) = Rose old.faults new.faults
-CutEnds file asked old new (Err tool.Memory) = new ≡ old
+CutEnds file asked old new (Err tool.Memory) = IsIdentified file × (new ≡ old)
 
 -- what a crash may leave: a file under its seal, or that file
 abbrev pub IsCutImage : List ℕ → Cutting → List ℕ → Type 0

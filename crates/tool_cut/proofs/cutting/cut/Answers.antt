@@ -1,11 +1,18 @@
-use Rattle.std.proofs.Common.{◌≡◌, ◌∙◌, ℤ, to_z-of_z, codes, ap, subst, sym}
+use Rattle.std.proofs.Common.{◌≡◌, ◌∙◌, ℤ, Err, to_z-of_z, codes, ap, refl, subst, sym}
 use Rattle.mdf_disk.specs.State.{state_of}
-use Rattle.mdf_model.specs.Measurement.{Measured}
 use Rattle.tool_sort.specs.Kept.{IsSortedOf, StandsIn}
 use Rattle.tool_sort.specs.Made.{IsMadeOf}
 use Rattle.tool_cut.specs.Kept.{cut_of}
 use Rattle.tool_cut.proofs.Ends.{ends, leaves}
 use Rattle.tool_cut.proofs.Standings.{all_samples, cut_stands}
+use Rattle.std.proofs.lemmas.Result.{err_from_is_err_and}
+use Rattle.mdf_content.specs.Fault.{read_refusal}
+use Rattle.mdf_tool.proofs.Unread.{unread}
+use Rattle.mdf_tool.specs.declared.fault.ToolFault.{ToolFault}
+use Rattle.mdf_model.specs.Identified.{IsIdentified}
+use Rattle.mdf_model.proofs.Identified.{measured_is_identified}
+use Rattle.mdf_model.specs.Measurement.{Measured, measurement}
+use Rattle.tool_cut.specs.Cut.{CutEnds, Cutting}
 use Rattle.tool_cut.proofs.cutting.cut.Given as given
 use Rattle.tool_cut.proofs.cutting.cut.Goals as goal
 use Rattle.tool_cut.proofs.cutting.cut.Goals.{After-write_made}
@@ -42,3 +49,17 @@ returns-clause-any_moment g c =
     let is = cut_made g (goal.at.returns-clause-any_moment g c).After-write_made in
     leaves c.args.file (record { from = c.args.from; to = c.args.to; now = c.args.now_ns }) c.in_ok-found.found c.in_ok-made.made c.in_ok-found.ensures.exact is.0 is.1
     (g.C.Disk.story c.args.out.now) (g.C.Disk.story c.write_made.new.out) c.write_made.ensures.any_moment
+
+pub returns-in_err-found-clause-ends : goal.returns-in_err-found-clause-ends
+returns-in_err-found-clause-ends g c =
+    let state = state_of g.C.Disk c.args.out.now in
+    let asked : Cutting = record { from = c.args.from; to = c.args.to; now = c.args.now_ns } in
+    let p = err_from_is_err_and c.from_residual.result c.from_residual.ensures.1 in
+    let fault = c.in_err-found.field-0.0 in
+    rw (p.1, p.2) (unread (measurement c.args.file) (IsIdentified c.args.file) (λ (problem : ToolFault). CutEnds c.args.file asked state state (Err problem))
+    (λ fault some fails. (some, fails, refl)) (λ known. (known, refl)) fault (read_refusal fault) refl c.in_err-found.ensures.exact c.in_err-found.ensures.first)
+
+pub returns-in_err-made-clause-ends : goal.returns-in_err-made-clause-ends
+returns-in_err-made-clause-ends g c =
+    let p = err_from_is_err_and c.from_residual-in_err-made.result c.from_residual-in_err-made.ensures.1 in
+    rw (p.1, p.2) (measured_is_identified c.args.file c.in_ok-found.found c.in_ok-found.ensures.exact, refl)
