@@ -5,6 +5,7 @@ use Rattle.mdf_disk.specs.State.{DiskState}
 use Rattle.mdf_disk.specs.Story.{Story}
 use Rattle.mdf_disk.proofs.Crash.{adds_more}
 use Rattle.mdf_model.specs.Measurement.{Measured, measurement}
+use Rattle.mdf_model.proofs.Identified.{measured_is_identified}
 use Rattle.tool_sort.specs.Kept.{StandsIn}
 use Rattle.mdf_tool.specs.Tool.{IsToolImage, WriteEnds}
 use Rattle.mdf_tool.specs.declared.fault.ToolFault.{ToolFault}
@@ -38,7 +39,7 @@ module _ (asked : Joining) where
   first_refused (faults.Differs group) is state = absurd is
   first_refused (faults.Wide group channel) is state = absurd is
   first_refused faults.Failed is state = absurd is
-  first_refused faults.Memory is state = refl
+  first_refused faults.Memory is state = (is, refl)
 
   module _ (one : Measured) (first : measurement asked.first ≡ Ok one) where
     pub second_refused : (fault : ConcatFault) → SecondRead asked.second (Err fault) → IsRefusal asked fault
@@ -47,7 +48,7 @@ module _ (asked : Joining) where
     second_refused (faults.Differs group) is state = absurd is
     second_refused (faults.Wide group channel) is state = absurd is
     second_refused faults.Failed is state = absurd is
-    second_refused faults.Memory is state = refl
+    second_refused faults.Memory is state = (measured_is_identified asked.first one first, refl)
 
     pub join_refused : (other : Measured) → measurement asked.second ≡ Ok other → (fault : ConcatFault) → IsRefused one other fault → IsRefusal asked fault
     join_refused other second (faults.First fault) is state = absurd is
@@ -57,7 +58,7 @@ module _ (asked : Joining) where
     join_refused other second (faults.Wide group channel) is state =
         (record { read = record { one = one; other = other; first = first; second = second }; alike = is.0; first = is.1 }, refl)
     join_refused other second faults.Failed is state = absurd is
-    join_refused other second faults.Memory is state = refl
+    join_refused other second faults.Memory is state = (measured_is_identified asked.first one first, refl)
 
 -- how the writing ends
 module _ (asked : Joining) (made : Made) (is : IsMadeOf asked made) where

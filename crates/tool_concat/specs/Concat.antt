@@ -4,6 +4,7 @@ use Rattle.mdf_format.specs.Cause.{Rose}
 use Rattle.mdf_block.specs.Refusal.{Fails}
 use Rattle.mdf_content.specs.Fault.{read_refusal}
 use Rattle.mdf_disk.specs.State.{DiskState}
+use Rattle.mdf_model.specs.Identified.{IsIdentified}
 use Rattle.mdf_model.specs.Measurement.{Measured, measurement}
 use Rattle.mdf_seal.specs.Seal.{IsKept}
 use Rattle.tool_sort.specs.Kept.{IsSortedOf}
@@ -59,8 +60,8 @@ pub record TooWide (asked : Joining) (group channel : ℕ) : Type 0 where
   pub first : IsFirstWide read.one.groups read.other.groups group channel
 
 -- How it ends, by what the disk of the output tells before and after: that file is kept whole; or the first file is refused for
--- its first fault, or else the second, or their groups differ, or an offset is not held, or memory was wanted, and the disk is as
--- before; or the disk failed.
+-- its first fault, or else the second, or their groups differ, or an offset is not held, or the first file is identified and memory
+-- was wanted, and the disk is as before; or the disk failed.
 abbrev pub ConcatEnds : Joining → DiskState → DiskState → Result Report ConcatFault → Type 0
 ConcatEnds asked old new (Ok report) = (bytes : List ℕ) × IsConcatOf asked bytes report × IsKept new.content new.story bytes
 ConcatEnds asked old new (Err (faults.First fault)) = IsSome (read_refusal fault) × Fails (read_refusal fault) (measurement asked.first) × (new ≡ old)
@@ -69,7 +70,7 @@ ConcatEnds asked old new (Err (faults.Second fault)) = ((one : Measured) × (mea
 ConcatEnds asked old new (Err (faults.Differs group)) = Differs asked group × (new ≡ old)
 ConcatEnds asked old new (Err (faults.Wide group channel)) = TooWide asked group channel × (new ≡ old)
 ConcatEnds asked old new (Err faults.Failed) = Rose old.faults new.faults
-ConcatEnds asked old new (Err faults.Memory) = new ≡ old
+ConcatEnds asked old new (Err faults.Memory) = IsIdentified asked.first × (new ≡ old)
 
 -- what a crash may leave: a file under its seal, or that file
 abbrev pub IsConcatImage : Joining → List ℕ → Type 0

@@ -5,6 +5,7 @@ use Rattle.mdf_content.specs.Fault.{read_refusal}
 use Rattle.mdf_content.specs.Layouts.{layout_of}
 use Rattle.mdf_group.specs.Group.{is_variable}
 use Rattle.mdf_model.specs.declared.part.Measure.{Measure}
+use Rattle.mdf_model.specs.Identified.{IsIdentified}
 use Rattle.mdf_model.specs.Measurement.{HasSamples, Measured, measurement}
 use Rattle.tool_sort.specs.Kept.{IsSortedOf, StandsIn}
 use Rattle.tool_sort.specs.Made.{report_for}
@@ -20,11 +21,11 @@ use Rattle.tool_concat.specs.Difference.{AreAlike, IsFirstDifference}
 use Rattle.tool_concat.specs.Joined.{IsJoined}
 use Rattle.tool_concat.specs.Wide.{IsFirstWide, NoneWideTo}
 
--- the first file is read, or refused for its first fault
+-- the first file is read, or refused for its first fault; memory is wanted only for one that is identified
 abbrev pub FirstRead : List ℕ → Result Measured ConcatFault → Type 0
 FirstRead file (Ok found) = measurement file ≡ Ok found
 FirstRead file (Err (faults.First fault)) = IsSome (read_refusal fault) × Fails (read_refusal fault) (measurement file)
-FirstRead file (Err faults.Memory) = Unit {0}
+FirstRead file (Err faults.Memory) = IsIdentified file
 FirstRead file (Err _) = ⊥
 
 -- and so the second
