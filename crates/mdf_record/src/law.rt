@@ -4,7 +4,8 @@ ghost use Rattle.mdf_record.specs.Recovers.{IsFinalizable};
 
 use mdf_carried::what_is_recovered_is_read;
 
-/// A law: a file that holds a recording is finalized where it is the input of a command, whoever wrote it.
+/// A law: a file that holds a recording, within the limits of the reader, is finalized where it is the input of a command,
+/// whoever wrote it.
 pub fn what_is_recoverable_is_finalizable()
     ensures { (file : List ℕ) → IsRecoverable file → IsFinalizable file }
 {
