@@ -1,5 +1,5 @@
 -- Two sound files are joined, unless a disk fails or memory is wanted.
-use Rattle.std.proofs.Common.{◌≡◌, ◌≤◌, ⊎_elim, ℕ, List, length, Option, Some, None, Ok, sym, subst}
+use Rattle.std.proofs.Common.{◌≡◌, ◌≤◌, ⊎_elim, ℕ, List, length, Option, Some, None, Ok, refl, sym, subst}
 use Rattle.std.specs.Prelude.{IfSome}
 use Rattle.mdf_port.specs.State.{SinkState}
 use Rattle.mdf_disk.specs.State.{DiskState}
@@ -48,6 +48,7 @@ module _ (asked : Joining) (one two : List ℕ) (is_one : asked.first ≡ one) (
       absurd (not_differing differs.read.one.groups differs.read.other.groups group (of_read (λ a b. AreAlike a.groups b.groups) differs.read joinable.alike) differs.first)
   both_taken (fault.Wide group channel) wide =
       absurd (not_wide wide.read.one.groups wide.read.other.groups group channel (of_read (λ a b. NoneWideTo a.groups b.groups (length a.groups)) wide.read joinable.held) wide.first)
+  both_taken fault.Memory known = refl
   both_taken problem refuses = absurd refuses
 
 module _ (first second second' : DiskState) (one two : List ℕ) (told_one : first.content ≡ Some one) (told_two : second.content ≡ Some two)

@@ -21,7 +21,7 @@ use Rattle.tool_concat.specs.Concat.{ConcatEnds, Joining}
 use Rattle.tool_concat.specs.declared.fault.ConcatFault.{ConcatFault}
 use Rattle.tool_concat.specs.declared.fault.ConcatFault.TheVariants as concat
 use Rattle.mdf_run.specs.Concat.{AreNotJoined, Joins, fault_of_concat}
-use Rattle.mdf_command.specs.Load.{IsOver, LoadFaultComes, LoadWants}
+use Rattle.mdf_command.specs.Load.{IsCalm, IsOver, LoadFaultComes, LoadWants}
 use Rattle.mdf_format.specs.Cause.{Rose}
 use Rattle.mdf_run.specs.Making.{Inputs, MakeComes, MakesNothing, MakingComes}
 use Rattle.mdf_command.specs.declared.fault.Fault.{Fault}
@@ -65,16 +65,19 @@ module _ (Makes : List ℕ → Report → Type 0) (Refuses : Fault → Type 0) (
   still_attached : mid.attached ≡ true → out' ≡ mid → out'.attached ≡ true
   still_attached attached is = ap (λ (d : DiskState). d.attached) is ∙ attached
 
-  -- why no file was made on the disk that was attached
-  make_fault : mid.attached ≡ true → (problem : Fault) → ToolEnds Makes Refuses mid out' (Err problem) → MakeComes Makes Refuses out out' (Err problem)
-  make_fault attached fault.Device ends = omega (arith, later, ends)
-  make_fault attached fault.Memory ends = (nothing ends, inr (still_attached attached ends))
-  make_fault attached (fault.InputOver size limit) ends = absurd ends
-  make_fault attached problem ends = (ends.0, nothing ends.1, still_attached attached ends.1)
+  still_calm : IsCalm out mid → out' ≡ mid → IsCalm out out'
+  still_calm calm is = ap (λ (d : DiskState). d.faults) is ∙ calm
 
-  pub make_ends : mid.attached ≡ true → (end : Result Report Fault) → ToolEnds Makes Refuses mid out' end → MakeComes Makes Refuses out out' end
-  make_ends attached (Ok report) ends = record { bytes = ends.0; is_of = ends.1; kept = ends.2 }
-  make_ends attached (Err problem) ends = make_fault attached problem ends
+  -- why no file was made on the disk that was attached
+  make_fault : mid.attached ≡ true → IsCalm out mid → (problem : Fault) → ToolEnds Makes Refuses mid out' (Err problem) → MakeComes Makes Refuses out out' (Err problem)
+  make_fault attached calm fault.Device ends = omega (arith, later, ends)
+  make_fault attached calm fault.Memory ends = (nothing ends.1, inr (still_attached attached ends.1, still_calm calm ends.1, ends.0))
+  make_fault attached calm (fault.InputOver size limit) ends = absurd ends
+  make_fault attached calm problem ends = (ends.0, nothing ends.1, still_attached attached ends.1)
+
+  pub make_ends : mid.attached ≡ true → IsCalm out mid → (end : Result Report Fault) → ToolEnds Makes Refuses mid out' end → MakeComes Makes Refuses out out' end
+  make_ends attached calm (Ok report) ends = record { bytes = ends.0; is_of = ends.1; kept = ends.2 }
+  make_ends attached calm (Err problem) ends = make_fault attached calm problem ends
 
   pub make_leaves : Adds mid.story out'.story (IsImage Makes) → HoldsSince out'.story out.moment (IsImage Makes)
   make_leaves adds =
@@ -94,10 +97,10 @@ module _ {Input : Type 0} (inputs : Inputs Input) (Makes : Input → List ℕ �
   load_fault old new out failed over wanted agrees fresh problem comes = absurd comes
 
   -- what was made of inputs that were loaded
-  module _ (out out' : DiskState) (input : Input) (loaded : inputs.AreLoaded input) where
+  module _ (out out' : DiskState) (input : Input) (loaded : inputs.AreLoaded input) (calm : inputs.AreCalm) where
     made_of : (problem : Fault) → MakeComes (Makes input) (Refuses input) out out' (Err problem) → MakingComes inputs Makes Refuses out out' (Err problem)
     made_of fault.Device comes = inr comes
-    made_of fault.Memory comes = (comes.0, inr ((input, loaded), comes.1))
+    made_of fault.Memory comes = (comes.0, inr (calm, (input, loaded, comes.1)))
     made_of (fault.InputOver size limit) comes = absurd comes
     made_of problem comes = ((input, loaded, comes.0), comes.1, comes.2)
 

@@ -115,6 +115,7 @@ one_is_made Makes Refuses IsSound takes disk disk' out out' sink sink' status (S
 -- each file that is read as a recording is finalized
 pub read_is_taken : (file : List ℕ) → IsReadable file → (problem : Fault) → IsNoRecording file problem → fault_status problem ≡ 7
 read_is_taken file readable (fault.Read refused) fails = not_refused (read_refusal refused) (session file) readable.found readable.is_read fails.1
+read_is_taken file readable fault.Memory known = refl
 read_is_taken file readable problem fails = absurd fails
 
 pub finalizable_is_taken : (content : Option (List ℕ)) (P : Type 0) → IfSome content (λ file. IsReadable file → length file ≤ INPUT_LIMIT → P)
@@ -125,6 +126,7 @@ finalizable_is_taken (Some file) P each = λ finalizable. each finalizable.reada
 -- and each finished file is sorted and cut
 pub measured_is_taken : (file : List ℕ) → IsMeasured file → (problem : Fault) → IsNotMeasured file problem → fault_status problem ≡ 7
 measured_is_taken file measured (fault.Read refused) fails = not_refused (read_refusal refused) (measurement file) measured.found measured.is_read fails.1
+measured_is_taken file measured fault.Memory known = refl
 measured_is_taken file measured problem fails = absurd fails
 
 -- and each of its groups is exported

@@ -5,13 +5,14 @@ use Rattle.mdf_block.specs.Refusal.{Fails}
 use Rattle.mdf_content.specs.Fault.{read_refusal}
 use Rattle.mdf_content.specs.declared.fault.ReadFault.{ReadFault}
 use Rattle.mdf_disk.specs.State.{DiskState}
+use Rattle.mdf_model.specs.Identified.{IsIdentified}
 use Rattle.mdf_model.specs.Measurement.{Measured, measurement}
 use Rattle.mdf_port.specs.State.{SinkState}
 use Rattle.mdf_tool.specs.declared.made.Report.{Report}
 use Rattle.tool_concat.specs.Concat.{Differs, IsConcatOf, Joining, TooWide}
 use Rattle.tool_concat.specs.declared.fault.ConcatFault.{ConcatFault}
 use Rattle.tool_concat.specs.declared.fault.ConcatFault.TheVariants as concat
-use Rattle.mdf_command.specs.Load.{IsLoaded, IsOver, LoadWants}
+use Rattle.mdf_command.specs.Load.{IsCalm, IsLoaded, IsOver, LoadWants}
 use Rattle.mdf_command.specs.declared.fault.Fault.{Fault}
 use Rattle.mdf_command.specs.declared.fault.Fault.TheVariants as fault
 use Rattle.mdf_run.specs.Making.{EndsMaking, Inputs}
@@ -38,11 +39,13 @@ abbrev pub OneIsRefused : Joining → ReadFault → Type 0
 OneIsRefused asked refused = IsRefusedWith asked.first refused
     ⊎ (((one : Measured) × (measurement asked.first ≡ Ok one)) × IsRefusedWith asked.second refused)
 
--- It refuses files of which one is refused, or of which groups differ, or of which an offset is not held once it is moved.
+-- It refuses files of which one is refused, or of which groups differ, or of which an offset is not held once it is moved. It
+-- wants memory only where the first is identified as a finalized file.
 abbrev pub AreNotJoined : Joining → Fault → Type 0
 AreNotJoined asked (fault.Read refused) = OneIsRefused asked refused
 AreNotJoined asked (fault.Differs group) = Differs asked group
 AreNotJoined asked (fault.Wide group channel) = TooWide asked group channel
+AreNotJoined asked fault.Memory = IsIdentified asked.first
 AreNotJoined asked _ = ⊥
 
 -- both files are loaded from their disks, and it is joined at this time
@@ -63,13 +66,17 @@ OneFailed disk disk' other other' = (Rose disk.faults disk'.faults × (other' �
 -- the second disk is asked for nothing where the file of the first is not loaded
 abbrev pub OneWants : DiskState → DiskState → DiskState → DiskState → Type 0
 OneWants disk disk' other other' = (LoadWants disk disk' × (other' ≡ other))
-    ⊎ (((file : List ℕ) × IsLoaded disk file) × LoadWants other other')
+    ⊎ (((file : List ℕ) × IsLoaded disk file) × IsCalm disk disk' × LoadWants other other')
+
+abbrev pub BothAreCalm : DiskState → DiskState → DiskState → DiskState → Type 0
+BothAreCalm disk disk' other other' = IsCalm disk disk' × IsCalm other other'
 
 -- two inputs, which are joined at a time in ns
 abbrev pub two_inputs : ℕ → DiskState → DiskState → DiskState → DiskState → Inputs Joining
 two_inputs now disk disk' other other' = record {
   AreLoaded = AreBothLoaded now disk other;
   Failed = OneFailed disk disk' other other';
+  AreCalm = BothAreCalm disk disk' other other';
   IsOver = OneIsOver disk other other';
   Wanted = OneWants disk disk' other other';
 }

@@ -3,6 +3,7 @@ use Rattle.std.specs.Prelude.{ℕ, List, IsSome}
 use Rattle.mdf_block.specs.Refusal.{Fails}
 use Rattle.mdf_content.specs.Fault.{read_refusal}
 use Rattle.mdf_disk.specs.State.{DiskState}
+use Rattle.mdf_model.specs.Identified.{IsIdentified}
 use Rattle.mdf_model.specs.Measurement.{measurement}
 use Rattle.mdf_port.specs.State.{SinkState}
 use Rattle.mdf_tool.specs.declared.made.Report.{Report}
@@ -15,9 +16,10 @@ use Rattle.mdf_command.specs.declared.fault.Fault.TheVariants as fault
 abbrev pub Sorts : ℕ → List ℕ → List ℕ → Report → Type 0
 Sorts now file bytes report = IsSorting file now bytes report
 
--- it refuses a file for the first fault of its measurement
+-- it refuses a file for the first fault of its measurement, and wants memory only for one that is identified as a finalized file
 abbrev pub IsNotMeasured : List ℕ → Fault → Type 0
 IsNotMeasured file (fault.Read refused) = IsSome (read_refusal refused) × Fails (read_refusal refused) (measurement file)
+IsNotMeasured file fault.Memory = IsIdentified file
 IsNotMeasured file _ = ⊥
 
 -- How the command ends, by what the disks of the input and of the output and the sink tell before and after.

@@ -14,10 +14,9 @@ abbrev pub IsImage : (List ℕ → Report → Type 0) → List ℕ → Type 0
 IsImage Makes image = IsSealed image ⊎ ((report : Report) × Makes image report)
 
 -- How it ends, by what the disk of the output tells before and after: what it makes is kept whole; or the disk failed; or
--- memory was wanted or the file is refused, and the disk is as before. It finds no file too long, since it loads none.
+-- the file is refused, or memory was wanted for it, and the disk is as before. It finds no file too long, since it loads none.
 abbrev pub ToolEnds : (List ℕ → Report → Type 0) → (Fault → Type 0) → DiskState → DiskState → Result Report Fault → Type 0
 ToolEnds Makes Refuses old new (Ok report) = (bytes : List ℕ) × Makes bytes report × IsKept new.content new.story bytes
 ToolEnds Makes Refuses old new (Err fault.Device) = Rose old.faults new.faults
-ToolEnds Makes Refuses old new (Err fault.Memory) = new ≡ old
 ToolEnds Makes Refuses old new (Err (fault.InputOver size limit)) = ⊥
 ToolEnds Makes Refuses old new (Err problem) = Refuses problem × (new ≡ old)

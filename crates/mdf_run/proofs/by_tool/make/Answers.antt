@@ -40,7 +40,7 @@ returns-clause-comes g c =
     make_ends (g.T.Tool.makes c.args.tool c.args.file) (g.T.Tool.refuses c.args.tool c.args.file)
     (state_of disk out) (state_of disk c.attach.new.self) (state_of disk c.make.new.out)
     (laws.agrees out) (laws.unattached out (laws.unasked out c.requires)) c.attach.ensures.story c.attach.ensures.cause.later
-    (c.in_ok-attach.ensures.attached.0 refl) c.make.result c.make.ensures.ends
+    (c.in_ok-attach.ensures.attached.0 refl) c.in_ok-attach.ensures.calm c.make.result c.make.ensures.ends
 
 pub returns-clause-any_moment : goal.returns-clause-any_moment
 returns-clause-any_moment g c =

@@ -29,7 +29,7 @@ returns-clause-comes g c =
     let disk = g.C.Disk in
     making_ends (one_input (state_of g.A.Disk c.args.first.now) (state_of g.A.Disk c.load.new.first)) (g.T.Tool.makes c.args.tool) (g.T.Tool.refuses c.args.tool)
     (state_of disk c.args.out.now) (state_of disk c.make.new.out)
-    c.in_ok-file.file c.in_ok-file.ensures.comes c.make.result c.make.ensures.comes
+    c.in_ok-file.file c.in_ok-file.ensures.comes c.in_ok-file.ensures.calm c.make.result c.make.ensures.comes
 
 pub returns-clause-any_moment : goal.returns-clause-any_moment
 returns-clause-any_moment g c = inr (c.in_ok-file.file, c.in_ok-file.ensures.comes, c.make.ensures.any_moment)

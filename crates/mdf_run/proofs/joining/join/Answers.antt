@@ -30,7 +30,7 @@ returns-in_err-two-clause-comes g c =
     let p = err_from_is_err_and c.from_residual-in_err-two.result c.from_residual-in_err-two.ensures.1 in
     rw (p.1, p.2) (load_fault (two_inputs c.args.now_ns first (state_of g.A.Disk c.load.new.first) old new) Joins AreNotJoined old new (state_of disk out)
     (λ failed. inr ((c.in_ok-one.one, c.in_ok-one.ensures.comes), failed))
-    (λ size limit over. inr ((c.in_ok-one.one, c.in_ok-one.ensures.comes), over)) (λ wants. inr ((c.in_ok-one.one, c.in_ok-one.ensures.comes), wants))
+    (λ size limit over. inr ((c.in_ok-one.one, c.in_ok-one.ensures.comes), over)) (λ wants. inr ((c.in_ok-one.one, c.in_ok-one.ensures.comes), c.in_ok-one.ensures.calm, wants))
     (laws.agrees out) (laws.unattached out (laws.unasked out c.requires.out))
     c.in_err-two.field-0.0 c.in_err-two.ensures.comes)
 
@@ -58,7 +58,7 @@ returns-clause-comes g c =
     let asked : Joining = record { first = c.in_ok-one.one; second = c.in_ok-two.two; now = c.args.now_ns } in
     let loaded : AreBothLoaded c.args.now_ns old other asked = record { first = c.in_ok-one.ensures.comes; second = c.in_ok-two.ensures.comes; now = refl } in
     making_ends (two_inputs c.args.now_ns old (state_of g.A.Disk c.load.new.first) other (state_of g.B.Disk c.load-2.new.first)) Joins AreNotJoined
-    (state_of disk c.args.out.now) (state_of disk c.make.new.out) asked loaded c.make.result c.make.ensures.comes
+    (state_of disk c.args.out.now) (state_of disk c.make.new.out) asked loaded (c.in_ok-one.ensures.calm, c.in_ok-two.ensures.calm) c.make.result c.make.ensures.comes
 
 pub returns-clause-any_moment : goal.returns-clause-any_moment
 returns-clause-any_moment g c =
