@@ -11,3 +11,4 @@ pub mod Evens
 pub mod Lefts
 pub mod Backs
 pub mod Behinds
+pub mod Founds
