@@ -175,7 +175,10 @@ fn has_room(view: &DataView, len: u64) -> bool
 }
 
 /// Adds a part at the end of a view.
-fn add_one(view: &mut DataView, part: Part) -> Result<(), Memory>
+///
+/// # Errors
+/// Want of memory, as which count too a part that ends behind the last u64 and a stream of 2^62 bytes and more.
+pub fn add_part(view: &mut DataView, part: Part) -> Result<(), Memory>
     ensures { OnOk result (view.new ≡ view.old ++ part ∷ []) }
 {
     if !is_bounded(part) || !has_room(view, part.len) {
@@ -189,7 +192,7 @@ fn add_all(view: &mut DataView, parts: &[Part]) -> Result<(), Memory>
     ensures { OnOk result (view.new ≡ view.old ++ parts.now) }
 {
     for part in parts {
-        add_one(view, *part)?;
+        add_part(view, *part)?;
     }
     Ok(())
 }
@@ -247,7 +250,7 @@ fn one_in<P: Span>(
 {
     let block = block_of(span, at, want)?;
     let mut view = DataView::empty(alloc);
-    add_one(&mut view, part_of(&block))?;
+    add_part(&mut view, part_of(&block))?;
     Ok(view)
 }
 

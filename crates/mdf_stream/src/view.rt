@@ -41,6 +41,13 @@ impl DataView {
         }
     }
 
+    /// How many parts there are.
+    pub fn count(&self) -> usize
+        ensures { result ≡ length self.now }
+    {
+        self.items.len()
+    }
+
     /// How many bytes the stream has.
     pub fn len(&self) -> u64
         ensures size { result ≡ stream_size self.now }
