@@ -43,7 +43,7 @@ read_into old part stream start size place within long is_part =
     ∙ ap (λ (xs : List ℕ). front ++ xs) (is_part ∙ ap (λ (n : ℕ). bytes_at n stream place) lent)
 
 -- what stands at one more place
-pub more_there : (there : ℕ → List ℕ) (places so_far next one : List ℕ) (k : ℕ) → k < length places → one ≡ there (get_or places k 0)
+pub more_there : {A : Type 0} (there : ℕ → List A) (places : List ℕ) (so_far next one : List A) (k : ℕ) → k < length places → one ≡ there (get_or places k 0)
     → next ≡ so_far ++ one → so_far ≡ flat_map there (take k places) → next ≡ flat_map there (take (k + 1) places)
 more_there there places so_far next one k below is added so_far_is = grind (arith, common_steps)
 

@@ -71,7 +71,7 @@ module _ {B C S : Type 0} (turn : B → C) where
 abbrev firsts : {B : Type 0} → List B × Unit {0} → Read (List B)
 firsts found = Ok found.0
 
-abbrev turned_list : {B C : Type 0} → (B → C) → List B → Read (List C)
+abbrev pub turned_list : {B C : Type 0} → (B → C) → List B → Read (List C)
 turned_list turn found = Ok (map turn found)
 
 list_turned : {B C : Type 0} (turn : B → C) (found : Read (List B × Unit {0}))
@@ -86,7 +86,7 @@ module _ (file : List ℕ) (held : DataStream) where
   unfolding channel_stream channel_found
   channel_is records channel c =
       let met : List Part → Read (Unit {0}) = λ parts.
-          offsets_met (has_value (stream_of file parts)) (offset_in (stream_of file held.parts) records channel) c 0 records.count in
+      offsets_met (has_value (stream_of file parts)) (offset_in (stream_of file held.parts) records channel) c 0 records.count in
       let last : List Part → Read (List ℕ) = λ parts. Ok (stream_of file parts) in
       let here : List Part → Read (List Part) = λ parts. Ok parts in
       sym

@@ -12,3 +12,5 @@ pub mod Lefts
 pub mod Backs
 pub mod Behinds
 pub mod Founds
+pub mod Parts
+pub mod Tested

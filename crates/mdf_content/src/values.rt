@@ -1,4 +1,4 @@
-ghost use Rattle.std.specs.Prelude.{◌≡◌, ◌+◌, ◌-◌, ◌^◌, ◌≤◌, ◌<◌, ◌++◌, if◌then◌else◌, ◌&&◌, nat_eq, [], ℕ, List, Some, length, min, sum_by, slice_index_or, true, false, None, IfOk, IfErr, OnOk};
+ghost use Rattle.std.specs.Prelude.{◌≡◌, ◌+◌, ◌-◌, ◌^◌, ◌≤◌, ◌<◌, ◌++◌, if◌then◌else◌, ◌&&◌, nat_eq, [], ℕ, List, Some, length, map, slice_index_or, true, false, None, IfOk, IfErr, OnOk};
 ghost use Rattle.std.specs.List.{AllByRecursion};
 ghost use Rattle.std.specs.BTreeMap.{get};
 ghost use Rattle.std.specs.Ordering.{nat_cmp};
@@ -6,21 +6,19 @@ ghost use Rattle.mdf_format.specs.Number.{bytes_at};
 ghost use Rattle.mdf_format.specs.Field.{covered_end, covered_size, field_number};
 ghost use Rattle.mdf_bits.specs.Field.{spot_of};
 ghost use Rattle.mdf_num.specs.Halt.{HaltCause, StopCause};
-ghost use Rattle.mdf_format.specs.declared.kind.Kind.TheVariants.{Sd};
 ghost use Rattle.mdf_block.specs.Refusal.{Gives, IsPlain};
 ghost use Rattle.mdf_block.specs.Every.{AllByNumber};
 ghost use Rattle.mdf_stream.specs.Parts.{stream_of, stream_size, ArePartsInside};
-ghost use Rattle.mdf_stream.specs.Link.{data_parts};
+ghost use Rattle.mdf_stream.specs.Range.{parts_between};
 ghost use Rattle.mdf_group.specs.Group.{is_variable};
 ghost use Rattle.mdf_layout.specs.Rule.{spot_in};
 ghost use Rattle.mdf_content.specs.Fault.{read_refusal};
+ghost use Rattle.mdf_content.specs.Found.{channel_found, values_found};
 ghost use Rattle.mdf_content.specs.Layouts.{HasOffset, field_of};
 ghost use Rattle.mdf_content.specs.Values.{
   IsHeld,
   IsValuesTable,
   AreWithin,
-  bytes_of,
-  channel_stream,
   channel_values,
   held_of,
   has_value,
@@ -41,7 +39,8 @@ use mdf_bits::{Field, get};
 use mdf_block::{Kind, Visit, every_in};
 use mdf_data::{DataView, Places};
 use mdf_group::{ChannelRow, GroupRow};
-use mdf_num::{Bytes, Halt, Memory, Span, Stop};
+use mdf_num::{Bytes, Halt, Memory, Rows, Span, Stop};
+use mdf_stream::add_part;
 use mdf_vlsd::{Streams, ValueStream};
 use std::alloc::Global;
 use std::collections::BTreeMap;
@@ -125,46 +124,52 @@ fn value_len_in<P: Span>(
     Ok(len.min(view.len() - place))
 }
 
-/// How many bytes the values in the records at these places have, each with its length; the greatest number for more.
-fn values_len_in<P: Span>(span: &mut P, view: &DataView, places: &Places) -> Result<u64, Stop>
-    requires inside { ArePartsInside (P.size span.old) view.now }
-    requires room { AllByRecursion (λ place. place + 4 ≤ stream_size view.now) places.now }
-    ensures total { IfOk result (λ total. (f : List ℕ) → P.bytes span.old ≡ Some f →
-        total ≡ min (sum_by (value_size (stream_of f view.now) (stream_size view.now)) places.now) (2 ^ 64 - 1)) }
-    ensures same { P.bytes span.new ≡ P.bytes span.old }
-    ensures size { P.size span.new ≡ P.size span.old }
-    ensures cause { StopCause P.may_want (P.faults span.old) (P.faults span.new) result }
+/// Adds the parts of a range of a stream at the end of a view. The search for them begins at part `near` of the stream.
+fn add_range(
+    all: &mut DataView,
+    view: &DataView,
+    place: u64,
+    len: u64,
+    near: &mut usize,
+) -> Result<(), Memory>
+    requires within { place + len ≤ stream_size view.now }
+    ensures { OnOk result (all.new ≡ all.old ++ parts_between view.now place len) }
 {
-    let mut total: u64 = 0;
-    let mut k = 0;
-    let mut near = 0;
-    while k < places.len() {
-        let len = value_len_in(span, view, place_at(places, k), &mut near)?;
-        total = total.saturating_add(len);
-        k += 1;
+    let _total = view.len();
+    let mut at = place;
+    let mut left = len;
+    while left > 0 {
+        let part = view.first_part(at, left, near);
+        add_part(all, part)?;
+        at += part.len;
+        left -= part.len;
     }
-    Ok(total)
+    Ok(())
 }
 
-/// Adds the value in the record at a place, with its length, at the end of a list. The search for it begins at part
+/// Adds the value in the record at a place, with its length, at the end of a view. The search for it begins at part
 /// `near` of the stream of the records.
 fn add_value<P: Span>(
     span: &mut P,
     view: &DataView,
     place: u64,
-    values: &mut Vec<u8>,
+    values: &mut DataView,
     near: &mut usize,
 ) -> Result<(), Stop>
     requires inside { ArePartsInside (P.size span.old) view.now }
     requires room { place + 4 ≤ stream_size view.now }
-    ensures added { OnOk result ((f : List ℕ) → P.bytes span.old ≡ Some f → values.new.items
-        ≡ values.old.items ++ bytes_at (value_size (stream_of f view.now) (stream_size view.now) place) (stream_of f view.now) place) }
+    ensures added { OnOk result ((f : List ℕ) → P.bytes span.old ≡ Some f → values.new
+        ≡ values.old ++ parts_between view.now place (value_size (stream_of f view.now) (stream_size view.now) place)) }
+    ensures lies { ArePartsInside (P.size span.old) values.old → OnOk result (ArePartsInside (P.size span.old) values.new) }
     ensures same { P.bytes span.new ≡ P.bytes span.old }
     ensures size { P.size span.new ≡ P.size span.old }
     ensures cause { StopCause true (P.faults span.old) (P.faults span.new) result }
 {
     let len = value_len_in(span, view, place, near)?;
-    add_bytes(span, view, place, len, values, near)
+    let Ok(()) = add_range(values, view, place, len, near) else {
+        return Err(Stop::Memory);
+    };
+    Ok(())
 }
 
 /// The values in the records at these places, each with its length, one behind the other.
@@ -173,26 +178,23 @@ fn values_in<P: Span>(
     span: &mut P,
     view: &DataView,
     places: &Places,
-    room: &mut Room,
-) -> Result<Bytes, Stop>
+) -> Result<DataView, Stop>
     requires inside { ArePartsInside (P.size span.old) view.now }
     requires room { AllByRecursion (λ place. place + 4 ≤ stream_size view.now) places.now }
-    ensures values { IfOk result (λ values. (f : List ℕ) → P.bytes span.old ≡ Some f → values ≡ stream_of f (values_at f view.now places.now)) }
+    ensures values { IfOk result (λ values. (f : List ℕ) → P.bytes span.old ≡ Some f → values ≡ values_at f view.now places.now) }
+    ensures inside { IfOk result (ArePartsInside (P.size span.old)) }
     ensures same { P.bytes span.new ≡ P.bytes span.old }
     ensures size { P.size span.new ≡ P.size span.old }
     ensures cause { StopCause true (P.faults span.old) (P.faults span.new) result }
 {
-    let total = values_len_in(span, view, places)?;
-    let Ok(mut values) = room.list(alloc, total) else {
-        return Err(Stop::Memory);
-    };
+    let mut values = DataView::empty(alloc);
     let mut k = 0;
     let mut near = 0;
     while k < places.len() {
         add_value(span, view, place_at(places, k), &mut values, &mut near)?;
         k += 1;
     }
-    Ok(Bytes::from_vec(values))
+    Ok(values)
 }
 
 /// The number of the group of values that stands at an address, if one does.
@@ -210,76 +212,74 @@ pub fn places_or<'a>(lists: &'a [Places], k: usize, other: &'a Places) -> &'a Pl
     if k < lists.len() { &lists[k] } else { other }
 }
 
-/// The bytes that a link to values leads to.
-fn linked_values_in<P: Span>(
-    alloc: Global,
-    span: &mut P,
-    at: u64,
-    room: &mut Room,
-) -> Result<Bytes, Halt<ReadFault>>
-    ensures found { (f : List ℕ) → P.bytes span.old ≡ Some f →
-        Gives read_refusal result (bytes_of f (data_parts f Sd at)) }
-    ensures plain { IfErr result (IsPlain read_refusal) }
-    ensures same { P.bytes span.new ≡ P.bytes span.old }
-    ensures size { P.size span.new ≡ P.size span.old }
-    ensures cause { HaltCause true (P.faults span.old) (P.faults span.new) result }
-{
-    let view = view_of(alloc, span, at, Kind::Sd)?;
-    let values = bytes_in(alloc, span, &view, view.len(), room)?;
-    Ok(values)
-}
-
-/// The bytes of the values in the records of group `k`.
+/// The values in the records of group `k`.
 fn group_values_in<P: Span>(
     alloc: Global,
     span: &mut P,
     held: &Held,
     k: u64,
-    room: &mut Room,
-) -> Result<Bytes, Stop>
+) -> Result<DataView, Stop>
     requires held { IsHeld (P.size span.old) held.now }
     requires room { AllByRecursion (λ place. place + 4 ≤ stream_size held.now.view.now) (slice_index_or held.now.lists.now k []) }
     ensures values { IfOk result (λ values. (f : List ℕ) → P.bytes span.old ≡ Some f →
-        values ≡ stream_of f (values_at f held.now.view.now (slice_index_or held.now.lists.now k []))) }
+        values ≡ values_at f held.now.view.now (slice_index_or held.now.lists.now k [])) }
+    ensures inside { IfOk result (ArePartsInside (P.size span.old)) }
     ensures same { P.bytes span.new ≡ P.bytes span.old }
     ensures size { P.size span.new ≡ P.size span.old }
     ensures cause { StopCause true (P.faults span.old) (P.faults span.new) result }
 {
     let none = Places::empty(alloc);
     let places = places_or(held.lists, k as usize, &none);
-    values_in(alloc, span, held.view, places, room)
+    values_in(alloc, span, held.view, places)
 }
 
-/// The bytes of the values of a channel whose own link is `at`: those in the records of a group that stands there, or
-/// those where the link leads to.
+/// The values of a channel whose own link is `at`: those in the records of a group that stands there, or those where the
+/// link leads to.
 #[tactic(auto, unfolding(crate::specs::Values::channel_values))]
 fn channel_values_in<P: Span>(
     alloc: Global,
     span: &mut P,
     held: &Held,
     at: u64,
-    room: &mut Room,
-) -> Result<Bytes, Halt<ReadFault>>
+) -> Result<DataView, Halt<ReadFault>>
     requires held { IsHeld (P.size span.old) held.now }
     ensures found { (f : List ℕ) → P.bytes span.old ≡ Some f →
-        Gives read_refusal result (bytes_of f (channel_values f (held_of held.now) at)) }
+        Gives read_refusal result (channel_values f (held_of held.now) at) }
+    ensures inside { IfOk result (ArePartsInside (P.size span.old)) }
     ensures plain { IfErr result (IsPlain read_refusal) }
     ensures same { P.bytes span.new ≡ P.bytes span.old }
     ensures size { P.size span.new ≡ P.size span.old }
     ensures cause { HaltCause true (P.faults span.old) (P.faults span.new) result }
 {
     let Some(k) = values_group(held, at) else {
-        return linked_values_in(alloc, span, at, room);
+        return view_of(alloc, span, at, Kind::Sd);
     };
-    let values = group_values_in(alloc, span, held, k, room)?;
+    let values = group_values_in(alloc, span, held, k)?;
     Ok(values)
 }
 
-/// Whether a whole value stands at an offset of a stream.
-fn has_value(stream: &ValueStream, offset: u64) -> bool
-    ensures { result ≡ has_value stream.now offset }
+/// Whether a whole value stands at an offset of a stream. The search for it begins at part `near`.
+fn has_value_in<P: Span>(
+    span: &mut P,
+    values: &DataView,
+    offset: u64,
+    near: &mut usize,
+) -> Result<bool, Stop>
+    requires inside { ArePartsInside (P.size span.old) values.now }
+    ensures has { IfOk result (λ has. (f : List ℕ) → P.bytes span.old ≡ Some f → has ≡ has_value (stream_of f values.now) offset) }
+    ensures same { P.bytes span.new ≡ P.bytes span.old }
+    ensures size { P.size span.new ≡ P.size span.old }
+    ensures cause { StopCause P.may_want (P.faults span.old) (P.faults span.new) result }
 {
-    stream.value_at(offset).is_some()
+    let total = values.len();
+    let Some(place) = offset.checked_add(4) else {
+        return Ok(false);
+    };
+    if place > total {
+        return Ok(false);
+    }
+    let size = values.u32_near(span, offset, near)?;
+    Ok(place + size as u64 <= total)
 }
 
 /// Where the offset of a channel of variable length lies in so many data bytes.
@@ -366,18 +366,20 @@ fn offset_met_in<P: Span>(
     span: &mut P,
     view: &DataView,
     records: &Records,
-    values: &ValueStream,
+    values: &DataView,
     channel: &ChannelRow,
     c: u32,
     row: u64,
     near: &mut usize,
+    value_near: &mut usize,
 ) -> Result<(), Halt<ReadFault>>
     requires kind { channel.now.kind ≡ 1 }
     requires placed { HasOffset records.now.data_bytes channel.now }
     requires inside { ArePartsInside (P.size span.old) view.now }
+    requires values { ArePartsInside (P.size span.old) values.now }
     requires within { slice_index_or records.now.places.now row 0 + records.now.data_bytes ≤ stream_size view.now }
     ensures found { (f : List ℕ) → P.bytes span.old ≡ Some f → Gives read_refusal result
-        (offset_met (has_value values.now) (offset_in (stream_of f view.now) (records_of records.now) channel.now) c row) }
+        (offset_met (has_value (stream_of f values.now)) (offset_in (stream_of f view.now) (records_of records.now) channel.now) c row) }
     ensures plain { IfErr result (IsPlain read_refusal) }
     ensures same { P.bytes span.new ≡ P.bytes span.old }
     ensures size { P.size span.new ≡ P.size span.old }
@@ -386,7 +388,8 @@ fn offset_met_in<P: Span>(
     let place = place_at(records.places, row);
     let field = offset_field(channel, records.data_bytes);
     let offset = number_in(span, view, field, records.data_bytes, place, near)?;
-    if !has_value(values, offset) {
+    let met = has_value_in(span, values, offset, value_near)?;
+    if !met {
         return Err(Halt::Fault(ReadFault::Offset {
             channel: c,
             row,
@@ -401,16 +404,17 @@ fn offsets_met_in<P: Span>(
     span: &mut P,
     view: &DataView,
     records: &Records,
-    values: &ValueStream,
+    values: &DataView,
     channel: &ChannelRow,
     c: u32,
 ) -> Result<(), Halt<ReadFault>>
     requires kind { channel.now.kind ≡ 1 }
     requires placed { HasOffset records.now.data_bytes channel.now }
     requires inside { ArePartsInside (P.size span.old) view.now }
+    requires values { ArePartsInside (P.size span.old) values.now }
     requires within { AreWithin (stream_size view.now) (records_of records.now) }
     ensures found { (f : List ℕ) → P.bytes span.old ≡ Some f → Gives read_refusal result
-        (offsets_met (has_value values.now) (offset_in (stream_of f view.now) (records_of records.now) channel.now) c 0 records.now.count) }
+        (offsets_met (has_value (stream_of f values.now)) (offset_in (stream_of f view.now) (records_of records.now) channel.now) c 0 records.now.count) }
     ensures plain { IfErr result (IsPlain read_refusal) }
     ensures same { P.bytes span.new ≡ P.bytes span.old }
     ensures size { P.size span.new ≡ P.size span.old }
@@ -419,39 +423,22 @@ fn offsets_met_in<P: Span>(
     let count = records.count;
     let mut row = 0;
     let mut near = 0;
+    let mut value_near = 0;
     while row < count {
-        offset_met_in(span, view, records, values, channel, c, row, &mut near)?;
+        offset_met_in(
+            span,
+            view,
+            records,
+            values,
+            channel,
+            c,
+            row,
+            &mut near,
+            &mut value_near,
+        )?;
         row += 1;
     }
     Ok(())
-}
-
-/// Adds so many bytes of a stream from a place on at the end of a list. The search for them begins at part `near` of the
-/// stream.
-fn add_bytes<P: Span>(
-    span: &mut P,
-    view: &DataView,
-    place: u64,
-    len: u64,
-    bytes: &mut Vec<u8>,
-    near: &mut usize,
-) -> Result<(), Stop>
-    requires inside { ArePartsInside (P.size span.old) view.now }
-    requires within { place + len ≤ stream_size view.now }
-    ensures added { OnOk result ((f : List ℕ) → P.bytes span.old ≡ Some f →
-        bytes.new.items ≡ bytes.old.items ++ bytes_at len (stream_of f view.now) place) }
-    ensures same { P.bytes span.new ≡ P.bytes span.old }
-    ensures size { P.size span.new ≡ P.size span.old }
-    ensures cause { StopCause true (P.faults span.old) (P.faults span.new) result }
-{
-    let start = bytes.len();
-    let Some(end) = start.checked_add(len as usize) else {
-        return Err(Stop::Memory);
-    };
-    let Ok(()) = bytes.resize(end, 0) else {
-        return Err(Stop::Memory);
-    };
-    view.read_near(span, place, &mut bytes.as_mut_slice()[start..], near)
 }
 
 /// So many bytes of a stream.
@@ -476,9 +463,25 @@ pub(crate) fn bytes_in<P: Span>(
     Ok(Bytes::from_vec(bytes))
 }
 
-/// The stream of a channel of variable length, whose number in its group is `c`.
-#[tactic(auto, unfolding(crate::specs::Values::channel_stream))]
-fn channel_stream_in<P: Span>(
+/// All bytes of a stream.
+fn stream_in<P: Span>(
+    alloc: Global,
+    span: &mut P,
+    view: &DataView,
+    room: &mut Room,
+) -> Result<Bytes, Stop>
+    requires inside { ArePartsInside (P.size span.old) view.now }
+    ensures bytes { IfOk result (λ bytes. (f : List ℕ) → P.bytes span.old ≡ Some f → bytes ≡ stream_of f view.now) }
+    ensures same { P.bytes span.new ≡ P.bytes span.old }
+    ensures size { P.size span.new ≡ P.size span.old }
+    ensures cause { StopCause true (P.faults span.old) (P.faults span.new) result }
+{
+    bytes_in(alloc, span, view, view.len(), room)
+}
+
+/// The values of a channel of variable length, whose number in its group is `c`.
+#[tactic(auto, unfolding(crate::specs::Found::channel_found))]
+fn channel_found_in<P: Span>(
     alloc: Global,
     span: &mut P,
     held: &Held,
@@ -486,22 +489,23 @@ fn channel_stream_in<P: Span>(
     channel: &ChannelRow,
     c: u32,
     room: &mut Room,
-) -> Result<ValueStream, Halt<ReadFault>>
+) -> Result<DataView, Halt<ReadFault>>
     requires kind { channel.now.kind ≡ 1 }
     requires placed { HasOffset records.now.data_bytes channel.now }
     requires held { IsHeld (P.size span.old) held.now }
     requires within { AreWithin (stream_size held.now.view.now) (records_of records.now) }
     ensures found { (f : List ℕ) → P.bytes span.old ≡ Some f → Gives read_refusal result
-        (channel_stream f (held_of held.now) (records_of records.now) channel.now c) }
+        (channel_found f (held_of held.now) (records_of records.now) channel.now c) }
+    ensures inside { IfOk result (ArePartsInside (P.size span.old)) }
     ensures plain { IfErr result (IsPlain read_refusal) }
     ensures same { P.bytes span.new ≡ P.bytes span.old }
     ensures size { P.size span.new ≡ P.size span.old }
     ensures cause { HaltCause true (P.faults span.old) (P.faults span.new) result }
 {
-    let values = channel_values_in(alloc, span, held, channel.values, room)?;
-    let stream = ValueStream::from_bytes(values);
-    offsets_met_in(span, held.view, records, &stream, channel, c)?;
-    Ok(stream)
+    let values = channel_values_in(alloc, span, held, channel.values)?;
+    room.take_parts(values.count())?;
+    offsets_met_in(span, held.view, records, &values, channel, c)?;
+    Ok(values)
 }
 
 /// The channels of a group, with its records.
@@ -512,13 +516,14 @@ struct Channels<'a> {
 }
 
 impl Visit for Channels<'_> {
-    ghost use Rattle.mdf_stream.specs.Parts.{stream_size};
-    ghost use Rattle.mdf_content.specs.Values.{AreWithin, IsHeld, channel_item, held_of, records_of};
+    ghost use Rattle.mdf_stream.specs.Parts.{ArePartsInside, stream_size};
+    ghost use Rattle.mdf_content.specs.Values.{AreWithin, IsHeld, held_of, records_of};
+    ghost use Rattle.mdf_content.specs.Found.{channel_place};
     ghost use Rattle.mdf_content.specs.Layouts.{HasOffset};
 
     type Item = ChannelRow;
 
-    type Found = ValueStream;
+    type Found = DataView;
 
     type State = ();
 
@@ -528,13 +533,15 @@ impl Visit for Channels<'_> {
 
     ghost refusal = { read_refusal };
 
-    ghost read = { λ channels file. channel_item file (held_of channels.held.now) (records_of channels.records.now) };
+    ghost read = { λ channels file. channel_place file (held_of channels.held.now) (records_of channels.records.now) };
 
     ghost needs = { λ channels size. IsHeld size channels.held.now × AreWithin (stream_size channels.held.now.view.now) (records_of channels.records.now) };
 
     ghost admits = { λ channels _. HasOffset channels.records.now.data_bytes };
 
-    #[tactic(auto, unfolding(crate::specs::Values::channel_item))]
+    ghost keeps = { λ _. ArePartsInside };
+
+    #[tactic(auto, unfolding(crate::specs::Found::channel_place))]
     fn item_in<P: Span>(
         &self,
         alloc: Global,
@@ -543,16 +550,66 @@ impl Visit for Channels<'_> {
         item: &ChannelRow,
         state: (),
         room: &mut Room,
-    ) -> Result<(Option<ValueStream>, ()), Halt<ReadFault>> {
+    ) -> Result<(Option<DataView>, ()), Halt<ReadFault>> {
         if item.kind != 1 {
             return Ok((None, state));
         }
         if k > u32::MAX as usize {
             return Err(Halt::Memory);
         }
-        let stream = channel_stream_in(alloc, span, self.held, self.records, item, k as u32, room)?;
-        Ok((Some(stream), state))
+        let values = channel_found_in(alloc, span, self.held, self.records, item, k as u32, room)?;
+        Ok((Some(values), state))
     }
+}
+
+/// The values of the channels of variable length (`cn_type` 1) of a group, in order: those of the group of values that the
+/// channel names, or those where its link to data leads.
+#[tactic(auto, unfolding(crate::specs::Found::values_found))]
+pub(crate) fn values_found_in<P: Span>(
+    alloc: Global,
+    span: &mut P,
+    held: &Held,
+    records: &Records,
+    channels: &[ChannelRow],
+    room: &mut Room,
+) -> Result<Rows<DataView>, Halt<ReadFault>>
+    requires held { IsHeld (P.size span.old) held.now }
+    requires within { AreWithin (stream_size held.now.view.now) (records_of records.now) }
+    requires placed { AllByNumber (λ _. HasOffset records.now.data_bytes) channels.now }
+    ensures found { (f : List ℕ) → P.bytes span.old ≡ Some f → Gives read_refusal result (values_found f (held_of held.now) (records_of records.now) channels.now) }
+    ensures inside { IfOk result (AllByRecursion (ArePartsInside (P.size span.old))) }
+    ensures plain { IfErr result (IsPlain read_refusal) }
+    ensures same { P.bytes span.new ≡ P.bytes span.old }
+    ensures size { P.size span.new ≡ P.size span.old }
+    ensures cause { HaltCause true (P.faults span.old) (P.faults span.new) result }
+{
+    let (values, _) = every_in(alloc, &Channels { held, records }, span, channels, (), room)?;
+    Ok(values)
+}
+
+/// The streams of these parts.
+pub(crate) fn fetch_streams_in<P: Span>(
+    alloc: Global,
+    span: &mut P,
+    views: &[DataView],
+    room: &mut Room,
+) -> Result<Streams, Stop>
+    requires inside { AllByRecursion (ArePartsInside (P.size span.old)) views.now }
+    ensures streams { IfOk result (λ streams. (f : List ℕ) → P.bytes span.old ≡ Some f → streams ≡ map (stream_of f) views.now) }
+    ensures same { P.bytes span.new ≡ P.bytes span.old }
+    ensures size { P.size span.new ≡ P.size span.old }
+    ensures cause { StopCause true (P.faults span.old) (P.faults span.new) result }
+{
+    let mut streams = Rows::empty(alloc);
+    let mut k = 0;
+    while k < views.len() {
+        let bytes = stream_in(alloc, span, &views[k], room)?;
+        let Ok(()) = streams.push(ValueStream::from_bytes(bytes)) else {
+            return Err(Stop::Memory);
+        };
+        k += 1;
+    }
+    Ok(streams)
 }
 
 /// The streams of the channels of variable length (`cn_type` 1) of a group, in order, each with its values: those of the
@@ -562,7 +619,6 @@ impl Visit for Channels<'_> {
 /// Of each channel of variable length in order the fault of its link to data, and `Offset` exactly where the offset in a
 /// record that is looked at meets no value, with the first such record. The span's own; and want of memory, which is
 /// answered too where the room does not suffice for the streams.
-#[tactic(auto, unfolding(crate::specs::Values::streams))]
 pub fn streams_in<P: Span>(
     alloc: Global,
     span: &mut P,
@@ -580,6 +636,7 @@ pub fn streams_in<P: Span>(
     ensures size { P.size span.new ≡ P.size span.old }
     ensures cause { HaltCause true (P.faults span.old) (P.faults span.new) result }
 {
-    let (streams, _) = every_in(alloc, &Channels { held, records }, span, channels, (), room)?;
+    let values = values_found_in(alloc, span, held, records, channels, room)?;
+    let streams = fetch_streams_in(alloc, span, values.as_slice(), room)?;
     Ok(streams)
 }

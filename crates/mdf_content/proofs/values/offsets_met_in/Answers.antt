@@ -13,7 +13,7 @@ returns-in_err-offset_met_in-clause-found g c = λ f told.
     let values = c.args.values.now in
     let records = c.args.records.now in
     rw (p.1, p.2) (
-    ends (has_value values) (offset_in (stream_of f c.args.view.now) (records_of records) c.args.channel.now) c.args.c
+    ends (has_value (stream_of f values)) (offset_in (stream_of f c.args.view.now) (records_of records) c.args.channel.now) c.args.c
     read_refusal _ loop.row records.count c.loop-row-test.true (c.in_err-offset_met_in.ensures.found f (loop.invariant.same ∙ told)) _
     (loop.invariant.found f told)
     )
@@ -24,7 +24,7 @@ loop-row-preserved g c = record {
       let loop = c.loop-row in
       let values = c.args.values.now in
       let records = c.args.records.now in
-      sym (goes_on (has_value values) (offset_in (stream_of f c.args.view.now) (records_of records) c.args.channel.now) c.args.c
+      sym (goes_on (has_value (stream_of f values)) (offset_in (stream_of f c.args.view.now) (records_of records) c.args.channel.now) c.args.c
       loop.row records.count c.loop-row-test.true (c.in_ok-offset_met_in.ensures.found f (loop.invariant.same ∙ told)))
       ∙ loop.invariant.found f told;
   same = c.in_ok-offset_met_in.ensures.same ∙ c.loop-row.invariant.same;
@@ -38,5 +38,5 @@ returns-clause-found g c = λ f told.
     let values = c.args.values.now in
     let records = c.args.records.now in
     sym (loop.invariant.found f told)
-    ∙ is_done (has_value values) (offset_in (stream_of f c.args.view.now) (records_of records) c.args.channel.now) c.args.c
+    ∙ is_done (has_value (stream_of f values)) (offset_in (stream_of f c.args.view.now) (records_of records) c.args.channel.now) c.args.c
     loop.row records.count c.loop-row-test.false

@@ -6,8 +6,8 @@ use Rattle.mdf_content.proofs.values.offsets_met_in.Given as goal
 abbrev pub invariant-loop-row : goal.invariant-loop-row
 invariant-loop-row g l = record {
   found : (f : List ℕ) → g.P.Span.bytes l.initial.span ≡ Some f
-      → offsets_met (has_value l.values) (offset_in (stream_of f l.view) (records_of l.records) l.channel) l.c l.row (l.records.count - l.row)
-      ≡ offsets_met (has_value l.values) (offset_in (stream_of f l.view) (records_of l.records) l.channel) l.c 0 l.records.count;
+      → offsets_met (has_value (stream_of f l.values)) (offset_in (stream_of f l.view) (records_of l.records) l.channel) l.c l.row (l.records.count - l.row)
+      ≡ offsets_met (has_value (stream_of f l.values)) (offset_in (stream_of f l.view) (records_of l.records) l.channel) l.c 0 l.records.count;
   same : g.P.Span.bytes l.span ≡ g.P.Span.bytes l.initial.span;
   size : g.P.Span.size l.span ≡ g.P.Span.size l.initial.span;
   later : g.P.Span.faults l.initial.span ≤ g.P.Span.faults l.span;

@@ -1,9 +1,9 @@
-use Rattle.std.proofs.Common.{◌<◌, ℕ, List, length, ◌∙◌, ap, arith}
+use Rattle.std.proofs.Common.{◌<◌, ℕ, List, length, ◌∙◌, ap, subst, sym, arith}
 use Rattle.std.proofs.lemmas.List.{take_all}
-use Rattle.std.specs.List.{flat_map}
-use Rattle.mdf_stream.specs.Parts.{stream_size}
-use Rattle.mdf_stream.proofs.Joins.{told_inside}
-use Rattle.mdf_content.proofs.Behinds.{more_there, value_there, values_stream}
+use Rattle.mdf_stream.specs.Parts.{ArePartsInside, stream_of, stream_size}
+use Rattle.mdf_stream.specs.Range.{parts_between}
+use Rattle.mdf_content.specs.Values.{value_size, values_at}
+use Rattle.mdf_content.proofs.Behinds.{more_there}
 use Rattle.mdf_content.proofs.Rooms.{one_fits}
 use Rattle.mdf_content.proofs.values.values_in.Goals as goal
 
@@ -16,11 +16,14 @@ pub loop-k-preserved : goal.loop-k-preserved
 loop-k-preserved g c =
     let loop = c.loop-k in
     let read = c.in_ok-add_value.ensures in
+    let view = c.args.view.now in
     let below : loop.k < length c.args.places.now = omega (arith, c.loop-k-test.true, c.len.ensures) in record {
       values = λ f told.
-          let there = value_there f c.args.view.now in
-          more_there there c.args.places.now loop.values.items c.add_value.new.values.items (there c.place_at.result) loop.k below
+          let there = λ (place : ℕ). parts_between view place (value_size (stream_of f view) (stream_size view) place) in
+          more_there there c.args.places.now loop.values c.add_value.new.values (there c.place_at.result) loop.k below
           (ap there c.place_at.ensures) (read.added f (loop.invariant.same ∙ told)) (loop.invariant.values f told);
+      inside = subst (λ (n : ℕ). ArePartsInside n c.add_value.new.values) loop.invariant.size
+          (read.lies (subst (λ (n : ℕ). ArePartsInside n loop.values) (sym loop.invariant.size) loop.invariant.inside));
       within = omega (arith, below);
       same = read.same ∙ loop.invariant.same;
       size = read.size ∙ loop.invariant.size;
@@ -30,9 +33,6 @@ loop-k-preserved g c =
 pub returns-clause-values : goal.returns-clause-values
 returns-clause-values g c = λ f told.
     let loop = c.loop-k in
-    let view = c.args.view.now in
     let places = c.args.places.now in
-    c.from_vec.ensures
-    ∙ loop.invariant.values f (c.in_ok-total.ensures.same ∙ told)
-    ∙ ap (λ (all : List ℕ). flat_map (value_there f view) all) (take_all loop.k places (omega (arith, c.loop-k-test.false, c.len.ensures)))
-    ∙ values_stream f view places (told_inside _ _ f view (g.met.P.Span.whole c.args.span.now) told c.requires.inside)
+    loop.invariant.values f told
+    ∙ ap (values_at f c.args.view.now) (take_all loop.k places (omega (arith, c.loop-k-test.false, c.len.ensures)))
