@@ -19,27 +19,27 @@ use Rattle.mdf_content.specs.declared.contents.DataContents.{DataContents}
 use Rattle.mdf_content.specs.declared.found.Found.{Found}
 use Rattle.mdf_content.specs.declared.found.DataFound.{DataFound}
 use Rattle.mdf_content.specs.Contents.{all_contents, contents, content_of, count_of, data_of, found_of, group_item, is_strict, records_at}
-use Rattle.mdf_content.specs.Found.{channel_found, channel_place, data_fetched, data_found, fetched, group_found, group_place, groups_found, values_found}
+use Rattle.mdf_content.specs.Found.{channel_found, channel_place, data_at, data_fetched, data_found, fetched, group_found, group_place, groups_found, values_found}
 use Rattle.mdf_content.specs.Layouts.{first_unplaced, layout, layout_of, layout_unless, layouts, placed_channels}
 use Rattle.mdf_content.specs.Records.{counted, places_of, record_size}
 use Rattle.mdf_content.specs.Values.{DataStream, GroupRecords, channel_item, channel_stream, channel_values, has_value, offset_in, offsets_met, streams}
 
 -- steps one after another
-bind_bind : {A B C : Type 0} (read : Read A) (next : A → Read B) (last : B → Read C)
+pub bind_bind : {A B C : Type 0} (read : Read A) (next : A → Read B) (last : B → Read C)
     → ((read >>= next) >>= last) ≡ (read >>= λ x. next x >>= last)
 bind_bind (Ok x) next last = refl
 bind_bind (Err refusal) next last = refl
 
-bind_same : {A B : Type 0} (read : Read A) (next other : A → Read B) → ((x : A) → next x ≡ other x) → (read >>= next) ≡ (read >>= other)
+pub bind_same : {A B : Type 0} (read : Read A) (next other : A → Read B) → ((x : A) → next x ≡ other x) → (read >>= next) ≡ (read >>= other)
 bind_same (Ok x) next other same = same x
 bind_same (Err refusal) next other same = refl
 
 -- what is found of each item is turned
 module _ {B C S : Type 0} (turn : B → C) where
-  abbrev one : Option B × S → Read (Option C × S)
+  abbrev pub one : Option B × S → Read (Option C × S)
   one found = Ok (option_map turn found.0, found.1)
 
-  abbrev all : List B × S → Read (List C × S)
+  abbrev pub all : List B × S → Read (List C × S)
   all found = Ok (map turn found.0, found.1)
 
   abbrev joined : {D : Type 0} → Option D → List D × S → Read (List D × S)
@@ -58,7 +58,7 @@ module _ {B C S : Type 0} (turn : B → C) where
   turned_first (Err refusal) later lately same = refl
 
   -- an item of one list is read as that of another, turned
-  every_turned : {A : Type 0} (item : ℕ → A → S → Read (Option B × S)) (other : ℕ → A → S → Read (Option C × S))
+  pub every_turned : {A : Type 0} (item : ℕ → A → S → Read (Option B × S)) (other : ℕ → A → S → Read (Option C × S))
       → ((k : ℕ) (x : A) (left : S) → other k x left ≡ (item k x left >>= one)) → (k : ℕ) (xs : List A) (left : S)
       → every other k xs left ≡ (every item k xs left >>= all)
   unfolding every
@@ -68,13 +68,13 @@ module _ {B C S : Type 0} (turn : B → C) where
       ∙ turned_first (item k x left) (every other (k + 1) xs) (every item (k + 1) xs) (every_turned item other same (k + 1) xs)
 
 -- the list of what is found, with no more
-abbrev firsts : {B : Type 0} → List B × Unit {0} → Read (List B)
+abbrev pub firsts : {B S : Type 0} → List B × S → Read (List B)
 firsts found = Ok found.0
 
 abbrev pub turned_list : {B C : Type 0} → (B → C) → List B → Read (List C)
 turned_list turn found = Ok (map turn found)
 
-list_turned : {B C : Type 0} (turn : B → C) (found : Read (List B × Unit {0}))
+pub list_turned : {B C S : Type 0} (turn : B → C) (found : Read (List B × S))
     → ((found >>= all turn) >>= firsts) ≡ ((found >>= firsts) >>= turned_list turn)
 list_turned turn (Ok found) = refl
 list_turned turn (Err refusal) = refl
@@ -183,12 +183,15 @@ module _ (file : List ℕ) (row : DataRow) (number : ℕ) where
   abbrev read_numbered : ℕ → DataContents → Read (DataContents × ℕ)
   read_numbered next found = Ok (found, next)
 
-  abbrev data_made : List Part → List (List ℕ) → ℕ → List Found → Read (DataFound × ℕ)
-  data_made parts lists next groups = Ok (record { view = parts; lists = lists; groups = groups; strict = is_so parts lists }, next)
+  abbrev found_made_of : List Part → List (List ℕ) → List Found → Read DataFound
+  found_made_of parts lists groups = Ok (record { view = parts; lists = lists; groups = groups; strict = is_so parts lists })
+
+  abbrev found_numbered : ℕ → DataFound → Read (DataFound × ℕ)
+  found_numbered next found = Ok (found, next)
 
   data_so : (parts : List Part) (lists : List (List ℕ)) (next : ℕ) (found : Read (List Found))
       → (((found >>= turned_list (fetched file parts lists)) >>= read_made parts lists) >>= read_numbered next)
-      ≡ ((found >>= data_made parts lists next) >>= numbered)
+      ≡ (((found >>= found_made_of parts lists) >>= found_numbered next) >>= numbered)
   data_so parts lists next (Ok found) = refl
   data_so parts lists next (Err refusal) = refl
 
@@ -196,10 +199,10 @@ module _ (file : List ℕ) (row : DataRow) (number : ℕ) where
   read_rest parts lists next = found_of file parts row lists >>= read_numbered next
 
   abbrev found_rest : List Part → List (List ℕ) → ℕ → Read (DataFound × ℕ)
-  found_rest parts lists next = groups_found file (held_by parts lists) >>= data_made parts lists next
+  found_rest parts lists next = data_at file parts row lists >>= found_numbered next
 
   rest_so : (parts : List Part) (lists : List (List ℕ)) (next : ℕ) → read_rest parts lists next ≡ (found_rest parts lists next >>= numbered)
-  unfolding found_of
+  unfolding found_of data_at
   rest_so parts lists next =
       ap (λ (all : Read (List Contents)). (all >>= read_made parts lists) >>= read_numbered next) (all_are file (held_by parts lists))
       ∙ data_so parts lists next (groups_found file (held_by parts lists))

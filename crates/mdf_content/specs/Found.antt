@@ -53,6 +53,12 @@ group_place file held k group left =
 unfoldable pub groups_found : List ℕ → DataStream → Read (List Found)
 groups_found file held = every (group_place file held) 0 held.groups tt >>= λ found. Ok found.0
 
+-- a data group whose records are found
+unfoldable pub data_at : List ℕ → List Part → DataRow → List (List ℕ) → Read DataFound
+data_at file parts row lists = do
+  groups ← groups_found file (record { parts = parts; groups = row.groups; lists = lists })
+  Ok (record { view = parts; lists = lists; groups = groups; strict = is_strict row (stream_size parts) lists })
+
 -- a data group, where so many groups of the file were counted before, and how many then
 unfoldable pub data_found : List ℕ → DataRow → ℕ → Read (DataFound × ℕ)
 data_found file row number = do
@@ -60,8 +66,8 @@ data_found file row number = do
   parts ← data_parts file Dt row.content
   lists ← places_of (stream_of file parts) (stream_size parts) true row
   next ← counted lists row.groups number
-  groups ← groups_found file (record { parts = parts; groups = row.groups; lists = lists })
-  Ok (record { view = parts; lists = lists; groups = groups; strict = is_strict row (stream_size parts) lists }, next)
+  found ← data_at file parts row lists
+  Ok (found, next)
 
 -- what is found of a group with the bytes of its records and of its values
 abbrev pub fetched : List ℕ → List Part → List (List ℕ) → Found → Contents

@@ -470,7 +470,7 @@ fn are_ids_apart(alloc: Global, groups: &[GroupRow]) -> Result<bool, Memory>
 }
 
 /// Whether a data group with a stream of so many bytes is as the standard has it.
-fn is_strict(alloc: Global, row: &DataRow, total: u64, lists: &[Places]) -> Result<bool, Memory>
+pub(crate) fn is_strict(alloc: Global, row: &DataRow, total: u64, lists: &[Places]) -> Result<bool, Memory>
     ensures { IfOk result (λ strict. strict ≡ is_strict row.now total lists.now) }
 {
     let groups = row.groups.as_slice();

@@ -16,7 +16,7 @@ mod values;
 
 pub use contents::{Contents, DataContents, data_in};
 pub use fault::ReadFault;
-pub use found::{DataFound, Found};
+pub use found::{DataFound, Found, data_found_in};
 pub use layouts::{is_variable, layout_in, layouts_in};
 pub use left::put_back;
 pub use mdf_block::{Kind, What};
