@@ -5,7 +5,7 @@ pub mod Onces
 -- the groups that are read are those that stand in the file
 pub mod Stands
 pub mod Recordables
-mod Costs
+pub mod Costs
 mod Held
 -- a refusal is true of the file
 pub mod Truths

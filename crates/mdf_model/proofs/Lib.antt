@@ -26,3 +26,4 @@ mod Undefined
 mod Walks
 pub mod Wholes
 pub mod Identified
+pub mod Passed

@@ -9,3 +9,4 @@ pub mod Truth
 pub mod Limits
 pub mod Same
 pub mod Identified
+pub mod Passed

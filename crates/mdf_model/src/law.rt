@@ -8,7 +8,10 @@ ghost use Rattle.mdf_group.specs.declared.row.GroupRow.{GroupRow};
 ghost use Rattle.mdf_model.specs.declared.part.Measure.{Measure};
 ghost use Rattle.mdf_model.specs.Measurement.{Measured, measurement};
 ghost use Rattle.mdf_model.specs.InWords.{IsMeasurement, IsValidFile};
+ghost use Rattle.mdf_model.specs.declared.tree.Tree.{Tree};
+ghost use Rattle.mdf_model.specs.Tree.{tree};
 ghost use Rattle.mdf_model.specs.Limits.{IsWithinLimits};
+ghost use Rattle.mdf_model.specs.Passed.{links_passed_over};
 ghost use Rattle.mdf_model.specs.Same.{plain_flags, plain_channel, SameHead, SameRows};
 ghost use Rattle.mdf_model.specs.Truth.{IsAboutData, IsTrueOfFile};
 
@@ -39,6 +42,13 @@ pub fn a_refusal_is_true()
 pub fn what_is_measured_is_read()
     ensures { (file : List ℕ) (head : Head) (history : List History) (groups : List Measure) → (is : IsMeasurement file head history groups)
         → IsWithinLimits file head history is.rows → (m : Measured) × (measurement file ≡ Ok m) }
+{}
+
+/// The count of links that were passed over is that of the file, be it a finalized one or a recording.
+pub fn links_passed_over_are_counted()
+    ensures tree { (file : List ℕ) (t : Tree) → tree file ≡ Ok t → t.dropped ≡ links_passed_over file t.rows }
+    ensures measurement { (file : List ℕ) (m : Measured) (is : IsMeasurement file m.head m.history m.groups) → measurement file ≡ Ok m
+        → m.dropped ≡ links_passed_over file is.rows }
 {}
 
 /// A file whose layouts, records, counts or values are refused has no measurement.

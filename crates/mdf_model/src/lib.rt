@@ -13,8 +13,9 @@ mod whole;
 
 pub use identity::{finalized_in, identity_in};
 pub use law::{
-    a_refusal_is_true, measurements_agree, refused_data_has_no_measurement, strict_is_valid,
-    what_is_measured_is_read, what_is_placed_anew_is_the_same, what_is_read_is_the_measurement,
+    a_refusal_is_true, links_passed_over_are_counted, measurements_agree,
+    refused_data_has_no_measurement, strict_is_valid, what_is_measured_is_read,
+    what_is_placed_anew_is_the_same, what_is_read_is_the_measurement,
 };
 pub use mdf_content::ReadFault;
 pub use measurement::{Measurement, read_measurement, take_measurement};
