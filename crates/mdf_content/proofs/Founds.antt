@@ -1,5 +1,5 @@
 -- What is read is what is found, with the bytes there.
-use Rattle.std.proofs.Common.{◌≡◌, ◌+◌, ℕ, Bool, true, false, List, [], ◌∷◌, ◌++◌, map, take, Option, Some, None, Ok, Err, refl, sym, ◌∙◌, ap}
+use Rattle.std.proofs.Common.{◌≡◌, ◌+◌, ℕ, Bool, true, false, List, [], ◌∷◌, ◌++◌, map, take, Option, Some, None, Ok, Err, refl, ◌∙◌, ap}
 use Rattle.std.specs.Option.{option_map, option_to_list}
 use Rattle.std.specs.Prelude.{if◌then◌else◌, nat_eq, slice_index_or}
 use Rattle.mdf_format.specs.declared.kind.Kind.TheVariants.{Dt}
@@ -24,15 +24,11 @@ use Rattle.mdf_content.specs.Layouts.{first_unplaced, layout, layout_of, layout_
 use Rattle.mdf_content.specs.Records.{counted, places_of, record_size}
 use Rattle.mdf_content.specs.Values.{DataStream, GroupRecords, channel_item, channel_stream, channel_values, has_value, offset_in, offsets_met, streams}
 
--- steps one after another
-pub bind_bind : {A B C : Type 0} (read : Read A) (next : A → Read B) (last : B → Read C)
-    → ((read >>= next) >>= last) ≡ (read >>= λ x. next x >>= last)
-bind_bind (Ok x) next last = refl
-bind_bind (Err refusal) next last = refl
-
-pub bind_same : {A B : Type 0} (read : Read A) (next other : A → Read B) → ((x : A) → next x ≡ other x) → (read >>= next) ≡ (read >>= other)
-bind_same (Ok x) next other same = same x
-bind_same (Err refusal) next other same = refl
+-- a step more before what is turned
+pub then_turned : {A B C : Type 0} (turn : B → Read C) (read : Read A) (finds : A → Read B) (reads : A → Read C)
+    → ((x : A) → reads x ≡ (finds x >>= turn)) → (read >>= reads) ≡ ((read >>= finds) >>= turn)
+then_turned turn (Ok x) finds reads same = same x
+then_turned turn (Err refusal) finds reads same = refl
 
 -- what is found of each item is turned
 module _ {B C S : Type 0} (turn : B → C) where
@@ -87,12 +83,10 @@ module _ (file : List ℕ) (held : DataStream) where
   channel_is records channel c =
       let met : List Part → Read (Unit {0}) = λ parts.
       offsets_met (has_value (stream_of file parts)) (offset_in (stream_of file held.parts) records channel) c 0 records.count in
-      let last : List Part → Read (List ℕ) = λ parts. Ok (stream_of file parts) in
       let here : List Part → Read (List Part) = λ parts. Ok parts in
-      sym
-      (bind_bind (channel_values file held channel.values) (λ parts. met parts >>= λ _. here parts) last
-      ∙ bind_same (channel_values file held channel.values) (λ parts. (met parts >>= λ _. here parts) >>= last) (λ parts. met parts >>= λ _. last parts)
-      (λ parts. bind_bind (met parts) (λ _. here parts) last))
+      let last : List Part → Read (List ℕ) = λ parts. Ok (stream_of file parts) in
+      then_turned last (channel_values file held channel.values) (λ parts. met parts >>= λ _. here parts) (λ parts. met parts >>= λ _. last parts)
+      (λ parts. then_turned last (met parts) (λ _. here parts) (λ _. last parts) (λ _. refl))
 
   item_by : (b : Bool) (found : Read (List Part)) (stream : Read (List ℕ)) (left : Unit {0}) → stream ≡ (found >>= λ parts. Ok (stream_of file parts))
       → ◌≡◌ {A = Read (Option (List ℕ) × Unit {0})} (if b then (stream >>= λ one. Ok (Some one, left)) else Ok (None, left))
@@ -142,7 +136,7 @@ module _ (file : List ℕ) (held : DataStream) where
   laid_so group (Some channel) k values streams same = refl
 
   pub contents_are : (group : GroupRow) (k : ℕ) → let places = slice_index_or held.lists k [] in
-      contents file held true group places ≡ (group_found file held k group places >>= fetched_of)
+      contents file held group places ≡ (group_found file held k group places >>= fetched_of)
   unfolding contents group_found layout
   contents_are group k =
       let records = records_at true group (slice_index_or held.lists k []) in
@@ -157,13 +151,13 @@ module _ (file : List ℕ) (held : DataStream) where
   group_by false (Ok found) read left same = ap (λ (all : Read Contents). all >>= λ one. Ok (Some one, left)) same
   group_by false (Err refusal) read left same = ap (λ (all : Read Contents). all >>= λ one. Ok (Some one, left)) same
 
-  pub all_are : all_contents file held true ≡ (groups_found file held >>= turned_list (fetched file held.parts held.lists))
+  pub all_are : all_contents file held ≡ (groups_found file held >>= turned_list (fetched file held.parts held.lists))
   unfolding all_contents groups_found group_item group_place
   all_are =
       ap (λ (found : Read (List Contents × Unit {0})). found >>= firsts)
-      (every_turned (fetched file held.parts held.lists) (group_place file held) (group_item file held true)
+      (every_turned (fetched file held.parts held.lists) (group_place file held) (group_item file held)
       (λ k group left. group_by (is_variable group) (group_found file held k group (slice_index_or held.lists k []))
-      (contents file held true group (slice_index_or held.lists k [])) left (contents_are group k)) 0 held.groups tt)
+      (contents file held group (slice_index_or held.lists k [])) left (contents_are group k)) 0 held.groups tt)
       ∙ list_turned (fetched file held.parts held.lists) (every (group_place file held) 0 held.groups tt)
 
 -- what is read of a data group is what is found of it, with the bytes there
@@ -213,23 +207,19 @@ module _ (file : List ℕ) (row : DataRow) (number : ℕ) where
   abbrev next_of : List (List ℕ) → Read ℕ
   next_of lists = counted lists row.groups number
 
-  listed_so : (parts : List Part) → (lists_of parts >>= λ lists. next_of lists >>= read_rest parts lists)
-      ≡ ((lists_of parts >>= λ lists. next_of lists >>= found_rest parts lists) >>= numbered)
-  listed_so parts =
-      bind_same (lists_of parts) (λ lists. next_of lists >>= read_rest parts lists) (λ lists. (next_of lists >>= found_rest parts lists) >>= numbered)
-      (λ lists. bind_same (next_of lists) (read_rest parts lists) (λ next. found_rest parts lists next >>= numbered) (rest_so parts lists)
-      ∙ sym (bind_bind (next_of lists) (found_rest parts lists) numbered))
-      ∙ sym (bind_bind (lists_of parts) (λ lists. next_of lists >>= found_rest parts lists) numbered)
+  abbrev reads : List Part → Read (DataContents × ℕ)
+  reads parts = lists_of parts >>= λ lists. next_of lists >>= read_rest parts lists
 
-  abbrev parted : {A : Type 0} → (List Part → Read A) → Unit {0} → Read A
-  parted next _ = data_parts file Dt row.content >>= next
+  abbrev finds : List Part → Read (DataFound × ℕ)
+  finds parts = lists_of parts >>= λ lists. next_of lists >>= found_rest parts lists
+
+  listed_so : (parts : List Part) → reads parts ≡ (finds parts >>= numbered)
+  listed_so parts =
+      then_turned numbered (lists_of parts) (λ lists. next_of lists >>= found_rest parts lists) (λ lists. next_of lists >>= read_rest parts lists)
+      (λ lists. then_turned numbered (next_of lists) (found_rest parts lists) (read_rest parts lists) (rest_so parts lists))
 
   pub data_is : data_of file row number ≡ (data_found file row number >>= numbered)
   unfolding data_of data_found
   data_is =
-      let reads = λ (parts : List Part). lists_of parts >>= λ lists. next_of lists >>= read_rest parts lists in
-      let finds = λ (parts : List Part). lists_of parts >>= λ lists. next_of lists >>= found_rest parts lists in
-      bind_same (layouts row) (parted reads) (λ left. parted finds left >>= numbered)
-      (λ left. bind_same (data_parts file Dt row.content) reads (λ parts. finds parts >>= numbered) listed_so
-      ∙ sym (bind_bind (data_parts file Dt row.content) finds numbered))
-      ∙ sym (bind_bind (layouts row) (parted finds) numbered)
+      let parts = data_parts file Dt row.content in
+      then_turned numbered (layouts row) (λ _. parts >>= finds) (λ _. parts >>= reads) (λ _. then_turned numbered parts finds reads listed_so)

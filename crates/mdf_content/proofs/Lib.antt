@@ -8,9 +8,8 @@ pub mod Spots
 pub mod Strictness
 pub mod Samples
 pub mod Evens
-pub mod Lefts
-pub mod Backs
 pub mod Behinds
 pub mod Founds
 pub mod Parts
+pub mod Pops
 pub mod Tested

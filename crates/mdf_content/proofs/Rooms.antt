@@ -1,5 +1,5 @@
 -- The places of records leave room for the bodies of their groups.
-use Rattle.std.proofs.Common.{◌≡◌, ◌+◌, ◌*◌, ◌/◌, ◌<◌, ◌≤◌, ℕ, zero, suc, List, [], ◌∷◌, false, length, get_or, map, refl, sym, ◌∙◌, ap, subst, arith}
+use Rattle.std.proofs.Common.{◌≡◌, ◌+◌, ◌*◌, ◌/◌, ◌<◌, ◌≤◌, ℕ, zero, suc, List, [], ◌∷◌, length, get_or, map, sym, ◌∙◌, ap, subst, arith}
 use Rattle.std.proofs.lemmas.List.{length-map, get_or-map}
 use Rattle.std.proofs.lemmas.Bool.{cond-false, ne_eqb}
 use Rattle.std.proofs.Math.Nat.{div-mul-le_self, suc-ne-zero}
@@ -13,8 +13,7 @@ use Rattle.mdf_data.specs.Places.{steps, places_alone, HaveRoom}
 use Rattle.mdf_data.proofs.Steps.{step_more}
 use Rattle.mdf_group.specs.declared.row.GroupRow.{GroupRow}
 use Rattle.mdf_block.specs.Every.{AllByNumber}
-use Rattle.mdf_group.specs.Group.{is_variable}
-use Rattle.mdf_content.specs.Records.{record_size, size_of, known_of, HasRoom}
+use Rattle.mdf_content.specs.Records.{size_of, known_of, HasRoom}
 
 -- what holds of each holds of the one at a place
 pub all_at : {A : Type 0} (P : A → Type 0) (xs : List A) (k : ℕ) (d : A) → k < length xs → AllByRecursion P xs → P (get_or xs k d)
@@ -27,20 +26,6 @@ pub one_fits : (size total : ℕ) (places : List ℕ) (row place : ℕ) → row 
     → AllByRecursion (λ place. place + size ≤ total) places → place + size ≤ total
 one_fits size total places row place below is room =
     subst (λ (at : ℕ). at + size ≤ total) (sym is) (all_at (λ (at : ℕ). at + size ≤ total) places row 0 below room)
-
--- the data bytes of the first so many records fit
-pub data_fits : (total : ℕ) (group : GroupRow) (places : List ℕ) (count : ℕ) → count ≤ length places
-    → AllByRecursion (λ place. place + record_size group ≤ total) places
-    → (row : ℕ) → row < count → get_or places row 0 + group.data_bytes ≤ total
-data_fits total group places count few room row below =
-    let fits = one_fits (record_size group) total places row (get_or places row 0) (omega (arith, few, below)) refl room in omega (arith, fits)
-
--- the records of a group that holds no values have one size
-pub bodies_fit : (total : ℕ) (group : GroupRow) (places : List ℕ) → is_variable group ≡ false
-    → AllByRecursion (λ place. place + least_size (size_of group) ≤ total) places → AllByRecursion (λ place. place + record_size group ≤ total) places
-bodies_fit total group places other room =
-    subst (λ (s : Size). AllByRecursion (λ place. place + least_size s ≤ total) places)
-    (cond-false (is_variable group) sizes.Variable (sizes.Fixed (record_size group)) other) room
 
 first_fits : (from step more total : ℕ) → from + step + more ≤ total → from + step ≤ total
 first_fits from step more total within = omega (arith, within)

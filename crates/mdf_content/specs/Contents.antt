@@ -31,25 +31,25 @@ records_at believed group places =
     record { data_bytes = group.data_bytes; places = places; count = count_of believed group places }
 
 -- a group that holds no values: its layout, and then the streams of its channels of variable length
-unfoldable pub contents : List ℕ → DataStream → Bool → GroupRow → List ℕ → Read Contents
-contents file held believed group places = do
+unfoldable pub contents : List ℕ → DataStream → GroupRow → List ℕ → Read Contents
+contents file held group places = do
   shape ← layout group
-  found ← streams file held (records_at believed group places) group.channels
+  found ← streams file held (records_at true group places) group.channels
   Ok (record {
     shape = shape;
-    count = count_of believed group places;
-    content = content_of (stream_of file held.parts) (record_size group) (take (count_of believed group places) places);
+    count = count_of true group places;
+    content = content_of (stream_of file held.parts) (record_size group) (take (count_of true group places) places);
     streams = found;
   })
 
 -- the groups of a data group one after another; those of values are passed over
-unfoldable pub group_item : List ℕ → DataStream → Bool → ℕ → GroupRow → Unit {0} → Read (Option Contents × Unit {0})
-group_item file held believed k group left =
+unfoldable pub group_item : List ℕ → DataStream → ℕ → GroupRow → Unit {0} → Read (Option Contents × Unit {0})
+group_item file held k group left =
     if is_variable group then Ok (None, left)
-    else (contents file held believed group (slice_index_or held.lists k []) >>= λ found. Ok (Some found, left))
+    else (contents file held group (slice_index_or held.lists k []) >>= λ found. Ok (Some found, left))
 
-unfoldable pub all_contents : List ℕ → DataStream → Bool → Read (List Contents)
-all_contents file held believed = every (group_item file held believed) 0 held.groups tt >>= λ found. Ok found.0
+unfoldable pub all_contents : List ℕ → DataStream → Read (List Contents)
+all_contents file held = every (group_item file held) 0 held.groups tt >>= λ found. Ok found.0
 
 -- how many bytes of a stream without ids are records of its one group
 abbrev pub taken : List GroupRow → List (List ℕ) → ℕ
@@ -80,7 +80,7 @@ is_strict row total lists = leaves_nothing row total lists && (are_said lists 0 
 -- a data group whose records are found
 unfoldable pub found_of : List ℕ → List Part → DataRow → List (List ℕ) → Read DataContents
 found_of file parts row lists = do
-  groups ← all_contents file (record { parts = parts; groups = row.groups; lists = lists }) true
+  groups ← all_contents file (record { parts = parts; groups = row.groups; lists = lists })
   Ok (record { groups = groups; strict = is_strict row (stream_size parts) lists })
 
 -- a data group, where so many groups of the file were counted before, and how many then: its id size and layouts, its

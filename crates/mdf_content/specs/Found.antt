@@ -1,5 +1,5 @@
 -- Where what is read of a channel group and of a data group stands in the file, and that with the bytes there.
-use Rattle.std.specs.Prelude.{ℕ, ◌+◌, ◌≤◌, true, nat_eq, if◌then◌else◌, List, [], length, map, take, min, slice_index_or, Option, Some, None, Ok}
+use Rattle.std.specs.Prelude.{ℕ, ◌+◌, ◌≤◌, true, nat_eq, if◌then◌else◌, List, [], length, map, take, slice_index_or, Option, Some, None, Ok}
 use Rattle.std.specs.List.{AllByRecursion}
 use Rattle.mdf_format.specs.declared.kind.Kind.TheVariants.{Dt}
 use Rattle.mdf_block.specs.Every.{every}

@@ -4,5 +4,4 @@ pub mod Records
 pub mod Values
 pub mod Samples
 pub mod Contents
-pub mod Left
 pub mod Found

@@ -86,10 +86,6 @@ values_in file held at None = data_parts file Sd at
 unfoldable pub channel_values : List ℕ → DataStream → ℕ → Read (List Part)
 channel_values file held at = values_in file held at (values_group held.groups at 0)
 
--- the bytes of the parts that are found
-abbrev pub bytes_of : List ℕ → Read (List Part) → Read (List ℕ)
-bytes_of file found = found >>= λ parts. Ok (stream_of file parts)
-
 -- the records of a group that are looked at: how many data bytes they have, their places, and how many they are
 pub record GroupRecords : Type 0 where
   pub data_bytes : ℕ

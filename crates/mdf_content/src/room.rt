@@ -1,4 +1,4 @@
-ghost use Rattle.std.specs.Prelude.{◌≡◌, ◌+◌, ◌*◌, ◌-◌, ◌^◌, ◌<◌, [], min, replicate, vec_len, IfOk, OnOk, OnErr};
+ghost use Rattle.std.specs.Prelude.{◌≡◌, ◌+◌, ◌*◌, ◌-◌, ◌^◌, ◌<◌, min, replicate, vec_len, IfOk, OnOk, OnErr};
 
 use mdf_num::{Memory, Span};
 use std::alloc::Global;
@@ -57,18 +57,6 @@ impl Room {
         Ok(())
     }
 
-    /// A list without bytes that has room for so many, which is taken.
-    ///
-    /// # Errors
-    /// Where there is less room; and want of memory.
-    pub(crate) fn list(&mut self, alloc: Global, len: u64) -> Result<Vec<u8>, Memory>
-        ensures empty { IfOk result (λ list. list.items ≡ []) }
-    {
-        self.take(len)?;
-        let list = Vec::with_capacity(alloc, len as usize)?;
-        Ok(list)
-    }
-
     /// A list of so many bytes, which are 0; the room for them is taken.
     ///
     /// # Errors
@@ -77,7 +65,8 @@ impl Room {
         ensures zeros { IfOk result (λ list. list.items ≡ replicate len 0) }
         ensures len { IfOk result (λ list. vec_len list ≡ len) }
     {
-        let mut list = self.list(alloc, len)?;
+        self.take(len)?;
+        let mut list = Vec::with_capacity(alloc, len as usize)?;
         list.resize(len as usize, 0)?;
         Ok(list)
     }

@@ -1,4 +1,4 @@
-use Rattle.std.proofs.Common.{◌≡◌, length, ◌∙◌, sym, arith}
+use Rattle.std.proofs.Common.{◌∙◌, sym, arith}
 use Rattle.mdf_stream.specs.Parts.{stream_of, stream_size}
 use Rattle.mdf_content.proofs.Takes.{told_long}
 use Rattle.mdf_content.proofs.Tested.{value_short, value_tested}

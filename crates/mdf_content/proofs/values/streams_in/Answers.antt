@@ -1,4 +1,4 @@
-use Rattle.std.proofs.Common.{rules, ◌≡◌, ℕ, List, map, Ok, sym, ◌∙◌, ap, subst}
+use Rattle.std.proofs.Common.{rules, ℕ, List, map, Ok, sym, ◌∙◌, ap, subst}
 use Rattle.mdf_block.specs.Refusal.{Gives, Read, ◌>>=◌}
 use Rattle.mdf_stream.specs.declared.part.Part.{Part}
 use Rattle.mdf_stream.specs.Parts.{stream_of}

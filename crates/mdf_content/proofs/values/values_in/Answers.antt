@@ -1,4 +1,4 @@
-use Rattle.std.proofs.Common.{◌<◌, ℕ, List, length, ◌∙◌, ap, subst, sym, arith}
+use Rattle.std.proofs.Common.{◌<◌, ℕ, length, ◌∙◌, ap, subst, sym, arith}
 use Rattle.std.proofs.lemmas.List.{take_all}
 use Rattle.mdf_stream.specs.Parts.{ArePartsInside, stream_of, stream_size}
 use Rattle.mdf_stream.specs.Range.{parts_between}
