@@ -7,9 +7,10 @@ use Rattle.std.proofs.lemmas.Option.{slice_get_within, get_or_from_slice_get}
 use Rattle.std.proofs.lemmas.List.Filters.{length-filter_more}
 use Rattle.mdf_vlsd.specs.Value.{value_at}
 use Rattle.mdf_layout.specs.Rule.{is_variable}
-use Rattle.mdf_layout.specs.Fault.{LackCause, DecodeCause, fault_at}
-use Rattle.mdf_layout.specs.declared.reading.Lack.{Lack}
-use Rattle.mdf_layout.specs.declared.reading.Lack.TheVariants.{Offset, Memory}
+use Rattle.mdf_layout.specs.Fault.{LackCause, MissingCause, missing_at}
+use Rattle.mdf_num.specs.Halt.{HaltReason}
+use Rattle.mdf_num.specs.declared.halt.Halt.{Halt}
+use Rattle.mdf_num.specs.declared.halt.Halt.TheVariants.{Fault, Failed, Memory}
 use Rattle.mdf_layout.specs.Values.{Finder, entry_of, first_finder, finders_behind, finder_at, sample_by, streams_before}
 use Rattle.mdf_layout.specs.declared.field.FieldRow.{FieldRow}
 use Rattle.mdf_layout.specs.declared.sample.Entry.{Entry}
@@ -73,10 +74,10 @@ few_more true n k few = omega arith
 few_more false n k few = omega arith
 
 -- a channel whose offset meets no value, behind channels with entries
-pub missing_at : (rows : List FieldRow) (k : ℕ) (row : FieldRow) (bytes inval : List ℕ) (finders : List Finder) (index : ℕ) (entries : List Entry) (lack : Lack)
+pub missing_behind : (rows : List FieldRow) (k : ℕ) (row : FieldRow) (bytes inval : List ℕ) (finders : List Finder) (index : ℕ) (entries : List Entry) (lack : Halt ℕ)
     → slice_get rows k ≡ Some row → sample_by (take k rows) bytes inval finders index ≡ Some entries
-    → LackCause row bytes (finder_at finders (streams_before rows k)) lack → DecodeCause rows bytes inval finders index (fault_at k lack)
-missing_at rows k row bytes inval finders index entries (Offset offset) there before lacks = record {
+    → LackCause row bytes (finder_at finders (streams_before rows k)) lack → MissingCause rows bytes inval finders index (missing_at k lack)
+missing_behind rows k row bytes inval finders index entries (Fault offset) there before lacks = record {
   row = row;
   there = there;
   kind = lacks.kind;
@@ -85,7 +86,13 @@ missing_at rows k row bytes inval finders index entries (Offset offset) there be
   entries = entries;
   earlier = before;
 }
-missing_at rows k row bytes inval finders index entries Memory there before lacks = tt
+missing_behind rows k row bytes inval finders index entries Failed there before lacks = tt
+missing_behind rows k row bytes inval finders index entries Memory there before lacks = tt
+
+pub reason_at : (before now channel : ℕ) (lack : Halt ℕ) → HaltReason true before now lack → HaltReason true before now (missing_at channel lack)
+reason_at before now channel (Fault offset) reason = tt
+reason_at before now channel Failed reason = reason
+reason_at before now channel Memory reason = tt
 
 -- the finder of a stream
 pub finder_found : (streams : List (List ℕ)) (n : ℕ) (stream : List ℕ) → n < length streams → stream ≡ get_or streams n stream

@@ -3,11 +3,12 @@ use Rattle.std.specs.Prelude.{ℕ, ◌≡◌, List, None}
 use Rattle.mdf_format.specs.Field.{field_number}
 use Rattle.mdf_layout.specs.Rule.{spot_in, IsFirstBad}
 use Rattle.mdf_layout.specs.Values.{Finder, IsFirstMissing}
-use Rattle.mdf_layout.specs.declared.reading.Lack.{Lack}
-use Rattle.mdf_layout.specs.declared.reading.Lack.TheVariants as lacks
+use Rattle.mdf_num.specs.declared.halt.Halt.{Halt}
+use Rattle.mdf_num.specs.declared.halt.Halt.TheVariants as halts
 use Rattle.mdf_layout.specs.declared.field.FieldKind.TheVariants.{Variable}
 use Rattle.mdf_layout.specs.declared.reading.DecodeFault.{DecodeFault}
 use Rattle.mdf_layout.specs.declared.reading.DecodeFault.TheVariants as decodes
+use Rattle.mdf_layout.specs.declared.reading.Missing.{Missing}
 use Rattle.mdf_layout.specs.declared.field.FieldRow.{FieldRow}
 use Rattle.mdf_layout.specs.declared.shape.ShapeFault.{ShapeFault}
 use Rattle.mdf_layout.specs.declared.shape.ShapeFault.TheVariants.{Bad, Memory}
@@ -23,15 +24,25 @@ pub record IsMissing (row : FieldRow) (bytes : List ℕ) (find : Finder) (offset
   pub offset_is : offset ≡ field_number (spot_in row) bytes
   pub missing : find offset ≡ None
 
-abbrev pub LackCause : FieldRow → List ℕ → Finder → Lack → Type 0
-LackCause row bytes find (lacks.Offset offset) = IsMissing row bytes find offset
-LackCause row bytes find lacks.Memory = Unit {0}
+-- what a fault of a reader over a span says
+abbrev pub OnFault : {E : Type 0} → (E → Type 0) → Halt E → Type 0
+OnFault P (halts.Fault fault) = P fault
+OnFault P halts.Failed = Unit {0}
+OnFault P halts.Memory = Unit {0}
+
+abbrev pub LackCause : FieldRow → List ℕ → Finder → Halt ℕ → Type 0
+LackCause row bytes find lack = OnFault (IsMissing row bytes find) lack
+
+abbrev pub MissingCause : List FieldRow → List ℕ → List ℕ → List Finder → ℕ → Halt Missing → Type 0
+MissingCause rows bytes inval finders index halt =
+    OnFault (λ missing. IsFirstMissing rows bytes inval finders index missing.channel missing.offset) halt
 
 abbrev pub DecodeCause : List FieldRow → List ℕ → List ℕ → List Finder → ℕ → DecodeFault → Type 0
 DecodeCause rows bytes inval finders index (decodes.Offset channel offset) = IsFirstMissing rows bytes inval finders index channel offset
 DecodeCause rows bytes inval finders index decodes.Memory = Unit {0}
 
 -- why channel k has no value, as why the record has no sample
-abbrev pub fault_at : ℕ → Lack → DecodeFault
-fault_at channel (lacks.Offset offset) = decodes.Offset channel offset
-fault_at channel lacks.Memory = decodes.Memory
+abbrev pub missing_at : ℕ → Halt ℕ → Halt Missing
+missing_at channel (halts.Fault offset) = halts.Fault (record { channel = channel; offset = offset })
+missing_at channel halts.Failed = halts.Failed
+missing_at channel halts.Memory = halts.Memory

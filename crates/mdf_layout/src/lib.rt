@@ -24,7 +24,7 @@ pub use field::{FieldKind, FieldRow};
 pub use fitting::{are_apart, entries_fit};
 pub use law::records_are_of_one_list;
 pub use next::NextValues;
-pub use reading::{DecodeFault, decode};
+pub use reading::{DecodeFault, Missing, Values, decode, decode_in};
 pub use reserved::Reserved;
 pub use row::{ChannelNumbers, field_row, rules_are_tested};
 pub use rule::first_bad;

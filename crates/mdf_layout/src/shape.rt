@@ -1,17 +1,21 @@
-ghost use Rattle.std.specs.Prelude.{◌≡◌, ℕ, ◌^◌, ◌<◌, ◌≤◌, ◌↔◌, List, length, map, take, drop, false, All, IsTrue, IfOk, IfErr, Some};
+ghost use Rattle.std.specs.Prelude.{◌≡◌, ℕ, ◌^◌, ◌<◌, ◌≤◌, ◌↔◌, List, length, map, true, take, drop, false, All, IsTrue, IfOk, IfErr, Some};
 ghost use Rattle.mdf_format.specs.Field.{bit_of};
 ghost use Rattle.mdf_vlsd.specs.Value.{value_at};
 ghost use Rattle.mdf_layout.specs.Values.{Finder, sample_by, sample_of};
 ghost use Rattle.mdf_layout.specs.Written.{AreApart, AreEntriesOf, OffsetsFit, AreFound, HoldValues, HoldMarks, IsFree, IsFreePosition};
 ghost use Rattle.mdf_layout.specs.Behind.{variables};
 ghost use Rattle.mdf_layout.specs.Layout.{IsRuled, record_size};
-ghost use Rattle.mdf_layout.specs.Fault.{ShapeCause, DecodeCause};
+ghost use Rattle.mdf_layout.specs.Fault.{ShapeCause, DecodeCause, MissingCause};
+ghost use Rattle.mdf_num.specs.Halt.{HaltCause};
 
 use crate::reading::streams_with;
 use crate::rule::{least_bad, row_at};
 use crate::runs::first_meeting;
-use crate::{DecodeFault, Entries, FieldRow, Sample, are_apart, decode, encode, entries_fit};
-use mdf_num::{Memory, Rows};
+use crate::{
+    DecodeFault, Entries, FieldRow, Missing, Sample, Values, are_apart, decode, decode_in, encode,
+    entries_fit,
+};
+use mdf_num::{Halt, Memory, Rows, Span};
 use mdf_vlsd::Streams;
 use std::alloc::Global;
 use std::marker::Model;
@@ -226,6 +230,40 @@ impl Shape {
             content,
             inval,
             streams.as_slice(),
+            index,
+        )
+    }
+    /// The sample of a record, as `decode`, with what finds the values of its channels of variable length in a file of which
+    /// only some pages are in memory.
+    ///
+    /// # Errors
+    /// The least channel whose offset meets no value in its stream; the span's own; and want of memory.
+    pub fn decode_in<V: Values, P: Span>(
+        &self,
+        alloc: Global,
+        span: &mut P,
+        bytes: &[u8],
+        values: &V,
+        index: u64,
+    ) -> Result<Entries, Halt<Missing>>
+        requires size { length bytes.now ≡ record_size self.now }
+        requires needs { V.needs values.now (P.size span.old) }
+        ensures sample { (f : List ℕ) → P.bytes span.old ≡ Some f → IfOk result (λ entries. sample_by self.now.rows
+            (take self.now.data_bytes bytes.now) (drop self.now.data_bytes bytes.now) (V.finders values.now f) index ≡ Some entries) }
+        ensures fault { (f : List ℕ) → P.bytes span.old ≡ Some f → IfErr result (MissingCause self.now.rows
+            (take self.now.data_bytes bytes.now) (drop self.now.data_bytes bytes.now) (V.finders values.now f) index) }
+        ensures same { P.bytes span.new ≡ P.bytes span.old }
+        ensures size { P.size span.new ≡ P.size span.old }
+        ensures cause { HaltCause true (P.faults span.old) (P.faults span.new) result }
+    {
+        let (content, inval) = bytes.split_at(self.data_bytes as usize);
+        decode_in(
+            alloc,
+            span,
+            self.rows.as_slice(),
+            content,
+            inval,
+            values,
             index,
         )
     }
