@@ -1,9 +1,11 @@
 -- The front of a book: over a put, a hand-over and what became of it.
-use Rattle.std.proofs.Common.{◌≡◌, ◌≢◌, ◌+◌, ◌-◌, ◌<◌, ◌≤◌, ℕ, Bool, true, false, List, [], ◌∷◌, ◌++◌, length, take, drop, Option, Some, None, refl, sym, ◌∙◌, ap, subst, arith, rules, length-take}
+use Rattle.std.proofs.Common.{◌≡◌, ◌≢◌, ◌+◌, ◌-◌, ◌*◌, ◌<◌, ◌≤◌, ℕ, Bool, true, false, List, [], ◌∷◌, ◌++◌, length, take, drop, Option, Some, None, refl, sym, ◌∙◌, ap, subst, arith, rules, length-take}
 use Rattle.std.proofs.lemmas.Bool.{false≢true}
-use Rattle.std.proofs.lemmas.List.{take_all, drop_all, take-take, take-append-le}
+use Rattle.std.proofs.lemmas.List.{take_all, drop_all, take-take, take-append-le, drop-take, drop-drop}
+use Rattle.std.proofs.lemmas.List.Sums.{sum_by-take-drop}
 use Rattle.std.specs.Prelude.{is_some}
 use mathlib.Core.List.{IsPrefix}
+use Rattle.mdf_layout.specs.Layout.{Layout}
 use Rattle.mdf_layout.specs.Record.{cost_of, encoded_size, history_size}
 use Rattle.mdf_layout.specs.Stock.{Stock}
 use Rattle.mdf_layout.specs.declared.sample.Sample.{Sample}
@@ -27,6 +29,21 @@ use Rattle.book_owned.proofs.Turning.{block_small, cost_parts, counted_as, some_
 -- nothing lies between a number of samples and itself
 pub none_between : {A : Type 0} (n : ℕ) (xs : List A) → drop n (take n xs) ≡ []
 none_between n xs = drop_all n (take n xs) (omega (arith, length-take n xs))
+
+-- the samples behind one number are those up to another and those behind that
+size_parts : (layouts : List Layout) (history : List Sample) (low from : ℕ) → low ≤ from
+    → history_size layouts (drop low history) ≡ history_size layouts (drop low (take from history)) + history_size layouts (drop from history)
+size_parts layouts history low from less =
+    let place : low + (from - low) ≡ from = omega (arith, less) in
+    let front : drop low (take from history) ≡ take (from - low) (drop low history) =
+    ap (λ n. drop low (take n history)) (sym place) ∙ drop-take low (from - low) history in
+    let back : drop (from - low) (drop low history) ≡ drop from history = drop-drop (from - low) low history ∙ ap (λ n. drop n history) place in
+    omega (
+      arith,
+      sum_by-take-drop (encoded_size layouts) (drop low history) (from - low),
+      ap (history_size layouts) front,
+      ap (history_size layouts) back,
+    )
 
 -- what shows a beginning of the durable samples shows one of more
 pub showing_marked : {V N : Type 0} (view : ViewOf V N) (now : V) (history : List Sample) (marks more : List Mark) (mark : Mark)
@@ -75,15 +92,24 @@ module _ {V N : Type 0} (view : ViewOf V N) (memory : InMemory V) (spare : Optio
       search (rules, rest, same_history, same_marks, front, has)
 
   -- a sample was put
-  pub front_put : (new : InMemory V) (sample : Sample) → IsPut memory new sample → 2 ≤ memory.marks.spare
+  pub front_put : (new : InMemory V) (sample : Sample) → IsPut memory new sample → stopped ≡ false → 2 ≤ memory.marks.spare
       → memory.held + cost_of memory.shapes sample ≤ memory.session_limit
       → history_size memory.shapes (drop from history) + encoded_size memory.shapes sample ≤ memory.block.limit
       → IsFront view new spare from stopped
-  front_put new sample put room session fits =
+  front_put new sample put going room session fits =
       let at : InMemory V = record memory { history = new.history; held = new.held; block = new.block; next = new.next } in
       let put_at : IsPut memory at sample = subst (λ f. IsPut memory f sample) put.rest put in
       let handed : take from new.history.items ≡ take from history =
       ap (take from) put.history ∙ take-append-le from history (sample ∷ []) front.pending.through in
+      let more : history_size memory.shapes (drop from new.history.items) ≤ new.block.limit = omega (
+        arith,
+        fits,
+        put.limit,
+        ap (λ h. history_size memory.shapes (drop from h)) put.history,
+        size_one_more memory.shapes history from sample front.pending.through,
+      ) in
+      let once : history_size memory.shapes (drop (durable marks) (take from new.history.items)) ≤ new.block.limit =
+      omega (arith, front.few_handed going, put.limit, ap (λ h. history_size memory.shapes (drop (durable marks) h)) handed) in
       subst (λ f. IsFront view f spare from stopped) (sym put.rest) (record {
         counted = counted_put memory at sample put_at front.counted session;
         pending = pending_put memory at sample put_at from stopped front.pending (omega (arith, room));
@@ -91,14 +117,9 @@ module _ {V N : Type 0} (view : ViewOf V N) (memory : InMemory V) (spare : Optio
         shown = showing_longer view memory.view history new.history.items sample marks put.history (omega (arith, front.low, front.pending.through)) front.shown;
         throughs = front.throughs;
         has_spare = still spare front.has_spare;
-        few = omega (
-          arith,
-          fits,
-          put.limit,
-          ap (λ h. history_size memory.shapes (drop from h)) put.history,
-          size_one_more memory.shapes history from sample front.pending.through,
-        );
-        few_handed = omega (arith, front.few_handed, put.limit, ap (λ h. history_size memory.shapes (drop (durable marks) h)) handed);
+        few = λ _. more;
+        few_handed = λ _. once;
+        few_all = omega (arith, more, once, size_parts memory.shapes new.history.items (durable marks) from front.low, put.limit);
       }) where
         still : (spare : Option Buffered) → HasSpare memory from stopped spare
             → HasSpare (record memory { history = new.history; held = new.held; block = new.block; next = new.next }) from stopped spare
@@ -130,10 +151,11 @@ module _ {V N : Type 0} (view : ViewOf V N) (memory : InMemory V) (spare : Optio
       shown = record { most = front.shown.most; shown = front.shown.shown; handed = front.shown.handed };
       throughs = front.throughs;
       has_spare = (going, omega (arith, given.2 going, more, all), front.pending.room some, λ bytes. absurd (bytes given.0));
-      few = subst (λ samples. history_size memory.shapes samples ≤ dest.limit) (sym (drop_all through history (omega (arith, all)))) (omega arith);
-      few_handed = omega (
+      few = λ _. subst (λ samples. history_size memory.shapes samples ≤ dest.limit) (sym (drop_all through history (omega (arith, all)))) (omega arith);
+      few_all = omega (arith, front.few_all, given.1);
+      few_handed = λ _. omega (
         arith,
-        front.few,
+        front.few going,
         given.1,
         ap (λ h. history_size memory.shapes (drop (durable marks) h)) whole,
         ap (λ n. history_size memory.shapes (drop n history)) (given.2 going),
@@ -154,7 +176,7 @@ module _ {V N : Type 0} (view : ViewOf V N) (memory : InMemory V) (spare : Optio
           records,
           record {
             fewer = throughs_most marks front.throughs;
-            short = omega (arith, front.few, encodings-length memory.shapes (take from history) memory.block.bytes (drop from history) records);
+            short = omega (arith, front.few going, encodings-length memory.shapes (take from history) memory.block.bytes (drop from history) records);
             size = omega (
               arith,
               block_small memory.shapes (take from history) (drop from history) memory.block.bytes records some,
@@ -193,6 +215,7 @@ module _ {V N : Type 0} (view : ViewOf V N) (memory : InMemory V) (spare : Optio
         throughs = subst AreThroughs (sym marks_are) (throughs-push marks mark front.throughs (omega (arith, has.1, through_is)));
         has_spare = (emptied, limit, λ going. sym is);
         few = front.few;
-        few_handed = subst (λ n. history_size memory.shapes (drop n (take from history)) ≤ memory.block.limit) (sym is)
+        few_all = omega (arith, front.few has.0, ap (λ n. history_size memory.shapes (drop n history)) is);
+        few_handed = λ _. subst (λ n. history_size memory.shapes (drop n (take from history)) ≤ memory.block.limit) (sym is)
             (subst (λ samples. history_size memory.shapes samples ≤ memory.block.limit) (sym (none_between from history)) (omega arith));
       })

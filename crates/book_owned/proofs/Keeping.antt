@@ -1,5 +1,5 @@
 -- What a book keeps of its file, over the calls that change the file or the history.
-use Rattle.std.proofs.Common.{◌≡◌, ◌⊎◌, ◌-◌, ◌<◌, ◌≤◌, ℕ, Bool, true, false, List, [], ◌∷◌, ◌++◌, length, drop, get_or, slice_get, Option, sym, ◌∙◌, ap, subst, inl, inr, ⊎_elim, arith, length-append}
+use Rattle.std.proofs.Common.{◌≡◌, ◌⊎◌, ◌-◌, ◌*◌, ◌<◌, ◌≤◌, ℕ, Bool, true, false, List, [], ◌∷◌, ◌++◌, length, drop, get_or, slice_get, Option, sym, ◌∙◌, ap, subst, inl, inr, ⊎_elim, arith, length-append}
 use Rattle.std.specs.Prelude.{AllPairs, IsSomeAnd, is_some}
 use Rattle.std.specs.Bool.{OnTrue}
 use Rattle.std.specs.List.{All}
@@ -165,7 +165,7 @@ module _ (terms : Terms) (disk : DiskState) (history : List Sample) (marks : Lis
   abbrev pub FileKeeps : Type 0
   FileKeeps = Keeps terms.layouts terms.head terms.start disk.story disk.moment history marks
 
-  pub kept_of : FileKeeps → AreThroughs marks → history_size terms.layouts (drop (durable marks) history) ≤ terms.block_limit → IsKept terms disk history marks
+  pub kept_of : FileKeeps → AreThroughs marks → history_size terms.layouts (drop (durable marks) history) ≤ 2 * terms.block_limit → IsKept terms disk history marks
   kept_of keeps throughs pending = record {
     marks_hold = keeps.marks_hold;
     start_holds = keeps.start_holds;

@@ -26,8 +26,9 @@ module _ {D V N : Type 0} (disk : DiskOf D) (view : ViewOf V N) (memory : InMemo
         shown = book.shown;
         throughs = throughs_of (terms_of disk view memory file) (state_of disk file.disk) memory.history.items memory.marks.items book.back.kept;
         has_spare = (emptied, limit, λ going. refl);
-        few = book.back.kept.pending;
-        few_handed = subst (λ samples. history_size memory.shapes samples ≤ memory.block.limit) (sym (none_between through memory.history.items)) (omega arith);
+        few = λ going. book.back.few going;
+        few_all = book.back.kept.pending;
+        few_handed = λ _. subst (λ samples. history_size memory.shapes samples ≤ memory.block.limit) (sym (none_between through memory.history.items)) (omega arith);
       }))
 
   pub book_back : IsBook disk view memory file → IsBackOf disk (account_of disk view memory file) file
@@ -57,12 +58,10 @@ module _ {D V N : Type 0} (disk : DiskOf D) (view : ViewOf V N) (memory : InMemo
         shown = front.shown;
         back = record {
           kept = kept_of (terms_of disk view memory file) (state_of disk file.disk) memory.history.items memory.marks.items halves.keeps front.throughs
-              (short stopped same halves.pending);
+              front.few_all;
           holds = λ going. halves.holds (halves.stop ∙ going);
+          few = λ going.
+              let goes = halves.stop ∙ going in
+              subst (λ n. history_size memory.shapes (drop n memory.history.items) ≤ memory.block.limit) (same goes) (front.few goes);
         };
-      } where
-        short : (s : Bool) → (s ≡ false → from ≡ durable memory.marks.items)
-            → (s ≡ true → history_size memory.shapes (drop (durable memory.marks.items) memory.history.items) ≤ memory.block.limit)
-            → history_size memory.shapes (drop (durable memory.marks.items) memory.history.items) ≤ memory.block.limit
-        short true same pending = pending refl
-        short false same pending = subst (λ n. history_size memory.shapes (drop n memory.history.items) ≤ memory.block.limit) (same refl) front.few
+      }

@@ -1,5 +1,5 @@
 -- The halves of a book when it begins, and when a sample was put into them.
-use Rattle.std.proofs.Common.{◌≡◌, ◌+◌, ◌<◌, ◌≤◌, ℕ, Bool, false, zero, suc, List, [], ◌∷◌, ◌++◌, length, take, drop, get_or, refl, sym, ◌∙◌, ap, subst, arith, rules, length-append}
+use Rattle.std.proofs.Common.{◌≡◌, ◌+◌, ◌*◌, ◌<◌, ◌≤◌, ℕ, Bool, false, zero, suc, List, [], ◌∷◌, ◌++◌, length, take, drop, get_or, refl, sym, ◌∙◌, ap, subst, arith, rules, length-append}
 use Rattle.std.proofs.lemmas.List.{drop-append-le, take-append-le}
 use Rattle.std.proofs.lemmas.List.Sums.{sum_by-append, sum_by-cons}
 use Rattle.std.specs.Prelude.{is_some, IfSome}
@@ -130,6 +130,7 @@ module _ {D V N : Type 0} (disk : DiskOf D) (view : ViewOf V N) where
         back = record {
           kept = kept_of (terms_of disk view at file) state new.history.items old.marks.items keeps (throughs_of terms state history old.marks.items book.back.kept)
               (omega (arith, few, put.limit));
+          few = λ going. omega (arith, few, put.limit);
           holds = λ still. subst (λ most. FileHolds disk old.shapes most file (take through new.history.items)) (sym put.limit)
               (subst (FileHolds disk old.shapes old.block.limit file) (sym same) (book.back.holds still));
         };
@@ -192,8 +193,9 @@ module _ {D V N : Type 0} (disk : DiskOf D) (view : ViewOf V N) where
             marks_hold = subst (MarksHold front.shapes head (disk.story file.disk) (disk.moment file.disk) front.history.items) (sym marks_are) (λ k d below. all_one first mark_holds k d below);
             start_holds = λ f left. carries_begun front.shapes head front.history.items f (created.begun f left);
             marks_rise = subst (AreRising (is_some (disk.story file.disk))) (sym marks_are) (record { first = refl; rise = λ i j d less below. absurd (omega (arith, less, below)) });
-            pending = subst (λ samples. history_size front.shapes samples ≤ front.block.limit) (sym (dropped (durable front.marks.items) front.history.items history_is)) (omega arith);
+            pending = subst (λ samples. history_size front.shapes samples ≤ 2 * front.block.limit) (sym (dropped (durable front.marks.items) front.history.items history_is)) (omega arith);
           };
+          few = λ going. subst (λ samples. history_size front.shapes samples ≤ front.block.limit) (sym (dropped (durable front.marks.items) front.history.items history_is)) (omega arith);
           holds = λ going. record {
             going = going;
             written = record {

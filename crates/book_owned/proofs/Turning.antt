@@ -1,5 +1,5 @@
 -- The halves of a book when the pending records were handed over, or could not be.
-use Rattle.std.proofs.Common.{◌≡◌, ◌≢◌, ◌+◌, ◌-◌, ◌<◌, ◌≤◌, ℕ, Bool, true, false, List, [], ◌∷◌, ◌++◌, length, take, drop, Option, Some, None, refl, sym, ◌∙◌, ap, subst, arith, length-drop, take-append-drop}
+use Rattle.std.proofs.Common.{◌≡◌, ◌≢◌, ◌+◌, ◌-◌, ◌*◌, ◌<◌, ◌≤◌, ℕ, Bool, true, false, List, [], ◌∷◌, ◌++◌, length, take, drop, Option, Some, None, refl, sym, ◌∙◌, ap, subst, arith, length-drop, take-append-drop}
 use Rattle.std.proofs.lemmas.List.{take_all, drop_all}
 use Rattle.std.specs.Prelude.{is_some, IfSome}
 use Rattle.std.specs.Bool.{OnTrue}
@@ -125,7 +125,7 @@ module _ {D V N : Type 0} (disk : DiskOf D) (view : ViewOf V N) (front : InMemor
       record {
         more = omega (arith, book.pending.through, all);
         within = omega (arith, all);
-        short = omega (arith, book.back.kept.pending, encodings-length front.shapes (take (durable front.marks.items) history) front.block.bytes (drop (durable front.marks.items) history) records);
+        short = omega (arith, book.back.few going, encodings-length front.shapes (take (durable front.marks.items) history) front.block.bytes (drop (durable front.marks.items) history) records);
         records = subst (λ samples. AreEncodingsBehind front.shapes (take (durable front.marks.items) history) front.block.bytes (drop (durable front.marks.items) samples))
             (sym whole) records;
       }
@@ -152,6 +152,7 @@ module _ {D V N : Type 0} (disk : DiskOf D) (view : ViewOf V N) (front : InMemor
             (throughs_of (terms_of disk view front file) (state_of disk file.disk) history front.marks.items book.back.kept)
             (omega (arith, book.back.kept.pending, limit));
         holds = λ going. absurd (both going);
+        few = λ going. absurd (both going);
       };
     } where
       both : file'.failed ≡ false → ⊥
@@ -200,7 +201,8 @@ module _ {D V N : Type 0} (disk : DiskOf D) (view : ViewOf V N) (front : InMemor
                   (subst (λ samples. BackKeeps disk front.shapes file' samples (front.marks.items ++ mark ∷ [])) whole keeps))
                   (subst AreThroughs (sym marks_are) (throughs-push front.marks.items mark
                   (throughs_of (terms_of disk view front file) (state_of disk file.disk) history front.marks.items book.back.kept) (omega (arith, more, through_is, all))))
-                  (subst (λ samples. history_size front.shapes samples ≤ block.limit) (sym none) (omega arith));
+                  (subst (λ samples. history_size front.shapes samples ≤ 2 * block.limit) (sym none) (omega arith));
+              few = λ g. subst (λ samples. history_size front.shapes samples ≤ block.limit) (sym none) (omega arith);
               holds = λ g. subst (FileHolds disk front.shapes block.limit file') (whole ∙ sym taken)
                   (subst (λ most. FileHolds disk front.shapes most file' (take through history)) (sym limit) holds);
             };

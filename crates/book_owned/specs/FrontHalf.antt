@@ -1,5 +1,5 @@
 -- The front of a book: its history, its marks, the records that are not handed over, and the view.
-use Rattle.std.specs.Prelude.{ℕ, ◌≡◌, ◌≢◌, ◌+◌, ◌^◌, ◌≤◌, ◌<◌, Bool, true, false, List, [], ◌∷◌, ◌++◌, length, take, drop, All, AllPairs, Option, Some, None, is_some, slice_get, IsSomeAnd}
+use Rattle.std.specs.Prelude.{ℕ, ◌≡◌, ◌≢◌, ◌+◌, ◌*◌, ◌^◌, ◌≤◌, ◌<◌, Bool, true, false, List, [], ◌∷◌, ◌++◌, length, take, drop, All, AllPairs, Option, Some, None, is_some, slice_get, IsSomeAnd}
 use Rattle.mdf_layout.specs.Layout.{Layout}
 use Rattle.mdf_layout.specs.Record.{cost_of, encoded_size, history_cost, history_size}
 use Rattle.mdf_layout.specs.Behind.{AreEncodingsBehind}
@@ -67,8 +67,8 @@ HasSpare memory from stopped (Some block) =
 HasSpare memory from stopped None =
     (stopped ≡ false) × (durable memory.marks.items < from) × (1 ≤ memory.marks.spare) × (memory.block.bytes ≢ [] → 2 ≤ memory.marks.spare)
 
--- What is true of a front between two calls: the records of the samples that were handed over and are not durable fit into
--- one block, and those of the samples behind them into another.
+-- What is true of a front between two calls. While it goes on the records of the samples that were handed over and are not
+-- durable fit into one block, and those of the samples behind them into another; so all of them fit into two, and stay so.
 pub record IsFront {V N : Type 0} (view : ViewOf V N) (memory : InMemory V) (spare : Option Buffered) (from : ℕ) (stopped : Bool) : Type 0 where
   pub counted : IsCounted memory
   pub pending : IsPending from stopped memory
@@ -76,8 +76,9 @@ pub record IsFront {V N : Type 0} (view : ViewOf V N) (memory : InMemory V) (spa
   pub shown : IsShowing view memory.view memory.history.items memory.marks.items
   pub throughs : AreThroughs memory.marks.items
   pub has_spare : HasSpare memory from stopped spare
-  pub few : history_size memory.shapes (drop from memory.history.items) ≤ memory.block.limit
-  pub few_handed : history_size memory.shapes (drop (durable memory.marks.items) (take from memory.history.items)) ≤ memory.block.limit
+  pub few : stopped ≡ false → history_size memory.shapes (drop from memory.history.items) ≤ memory.block.limit
+  pub few_handed : stopped ≡ false → history_size memory.shapes (drop (durable memory.marks.items) (take from memory.history.items)) ≤ memory.block.limit
+  pub few_all : history_size memory.shapes (drop (durable memory.marks.items) memory.history.items) ≤ 2 * memory.block.limit
 
 -- the samples behind the last hand-over
 abbrev pub behind : {V : Type 0} → FrontAccount V → List Sample

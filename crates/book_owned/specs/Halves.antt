@@ -2,7 +2,7 @@
 use Rattle.std.specs.Prelude.{ℕ, ◌≡◌, ◌≢◌, ◌+◌, ◌≤◌, Bool, false, List, [], ◌∷◌, ◌++◌, length, take, drop, All, sum_by, is_some}
 use Rattle.mdf_disk.specs.State.{state_of}
 use Rattle.mdf_layout.specs.Written.{AreApart}
-use Rattle.mdf_layout.specs.Record.{SampleFits, cost_of, history_cost}
+use Rattle.mdf_layout.specs.Record.{SampleFits, cost_of, history_cost, history_size}
 use Rattle.mdf_layout.specs.Behind.{variables, IsEncodingBehind, AreEncodingsBehind}
 use Rattle.mdf_layout.specs.Stored.{IsStored}
 use Rattle.mdf_layout.specs.Next.{AreNext}
@@ -64,10 +64,12 @@ pub record IsPending {V : Type 0} (from : ℕ) (failed : Bool) (front : InMemory
   pub records : failed ≡ false → AreEncodingsBehind front.shapes (take from front.history.items) front.block.bytes (drop from front.history.items)
   pub room : front.block.bytes ≢ [] → 1 ≤ front.marks.spare
 
--- What the file keeps whatever happens, and that it holds the durable samples while no call failed.
+-- What the file keeps whatever happens; and while no call failed, that it holds the durable samples, and that the records of
+-- the others fit into one block.
 pub record IsBack {D V : Type 0} (disk : DiskOf D) (front : InMemory V) (file : Gated D) (terms : Terms) : Type 0 where
   pub kept : IsKept terms (state_of disk file.disk) front.history.items front.marks.items
   pub holds : file.failed ≡ false → FileHolds disk front.shapes front.block.limit file (take (durable front.marks.items) front.history.items)
+  pub few : file.failed ≡ false → history_size front.shapes (drop (durable front.marks.items) front.history.items) ≤ front.block.limit
 
 -- the halves of a book between two calls
 pub record IsBook {D V N : Type 0} (disk : DiskOf D) (view : ViewOf V N) (front : InMemory V) (file : Gated D) : Type 0 where

@@ -1,5 +1,5 @@
 -- What a book keeps of its file, whatever happens.
-use Rattle.std.specs.Prelude.{ℕ, ◌≤◌, ◌⊎◌, List, length, take, drop, All, Option, is_some}
+use Rattle.std.specs.Prelude.{ℕ, ◌*◌, ◌≤◌, ◌⊎◌, List, length, take, drop, All, Option, is_some}
 use mathlib.Core.List.{IsPrefix}
 use Rattle.mdf_disk.specs.Story.{Story}
 use Rattle.mdf_disk.specs.Crash.{HoldsSince}
@@ -32,12 +32,16 @@ abbrev pub StartHolds : List Layout → List ℕ → Option Story → ℕ → Li
 StartHolds layouts head story start history =
     HoldsSince story start (λ file. IsNotMdf file ⊎ Carries layouts head history 0 file)
 
--- What is true of a book's disk, whatever happens: the records of the samples that are not durable fit into one block.
+-- the records of the samples that are not durable fit into one block
+abbrev pub FitsOne : Terms → List Sample → List Mark → Type 0
+FitsOne terms history marks = history_size terms.layouts (drop (durable marks) history) ≤ terms.block_limit
+
+-- What is true of a book's disk, whatever happens: the records of the samples that are not durable fit into two blocks.
 pub record IsKept (terms : Terms) (disk : DiskState) (history : List Sample) (marks : List Mark) : Type 0 where
   pub marks_hold : MarksHold terms.layouts terms.head disk.story disk.moment history marks
   pub start_holds : StartHolds terms.layouts terms.head disk.story terms.start history
   pub marks_rise : AreRising (is_some disk.story) marks
-  pub pending : history_size terms.layouts (drop (durable marks) history) ≤ terms.block_limit
+  pub pending : history_size terms.layouts (drop (durable marks) history) ≤ 2 * terms.block_limit
 
 -- The view shows a beginning of the durable samples, and handed no other samples on.
 pub record IsShowing {V N : Type 0} (view : ViewOf V N) (now : V) (history : List Sample) (marks : List Mark) : Type 0 where

@@ -1,6 +1,5 @@
 -- A book that is split into its halves, and the book of two halves.
-use Rattle.std.specs.Prelude.{◌≡◌, ◌≤◌, true, false, take, drop}
-use Rattle.mdf_layout.specs.Record.{history_size}
+use Rattle.std.specs.Prelude.{◌≡◌, true, false, take}
 use Rattle.mdf_gate.specs.Gated.{Gated}
 use Rattle.book_owned.specs.Members.{DiskOf}
 use Rattle.book_owned.specs.Marks.{durable}
@@ -50,13 +49,12 @@ pub record IsBackOf {D V : Type 0} (disk : DiskOf D) (book : Account D V) (half 
   pub holds : book.stopped ≡ false → FileHolds disk book.terms.layouts book.terms.block_limit half (take (durable book.marks) book.history)
 
 -- Halves of one book: the front has its spare block and is stopped where the file has failed, and the file keeps the front's
--- history and marks and holds the durable samples. Where they are stopped, what is not durable fits into one block.
+-- history and marks and holds the durable samples.
 pub record AreHalves {D V : Type 0} (disk : DiskOf D) (half : FrontAccount V) (file : Gated D) : Type 0 where
   pub spare : half.spare ≡ true
   pub stop : half.stopped ≡ file.failed
   pub keeps : BackKeeps disk half.terms.layouts file half.history half.marks
   pub holds : half.stopped ≡ false → FileHolds disk half.terms.layouts half.terms.block_limit file (take (durable half.marks) half.history)
-  pub pending : half.stopped ≡ true → history_size half.terms.layouts (drop (durable half.marks) half.history) ≤ half.terms.block_limit
 
 -- their book
 abbrev pub book_of_halves : {D V : Type 0} → DiskOf D → FrontAccount V → Gated D → Account D V

@@ -58,7 +58,7 @@ fn buffers(
 impl<D: Disk, V: Shown> Book<D, V> {
     ghost use Rattle.book_owned.specs.Marks.{last_mark, durable};
     ghost use Rattle.book_owned.specs.Account.{Account, Steps};
-    ghost use Rattle.book_owned.specs.Kept.{HoldsDurable, IsKept, IsShowing};
+    ghost use Rattle.book_owned.specs.Kept.{FitsOne, HoldsDurable, IsKept, IsShowing};
     ghost use Rattle.book_owned.specs.Begun.{IsNewFile, IsAdmissible, HasBegun};
     ghost use Rattle.book_owned.specs.Answers.{AppendAnswers, FlushAnswers, HasRoom, PassesBlock, FitsBlock, IsRefusal, accepted_by};
     ghost use Rattle.book_owned.specs.Events.{AppendEvents, PutEvents, FlushEvents};
@@ -217,6 +217,7 @@ impl<D: Disk, V: Shown> Book<D, V> {
         ensures told { is_some (D.story self.disk) ≡ self.terms.told }
         ensures content { self.stopped ≡ false → IfSome (D.content self.disk) (HoldsDurable self.terms self.history self.marks) }
         ensures kept { IsKept self.terms (state_of D.Disk self.disk) self.history self.marks }
+        ensures one_block { self.stopped ≡ false → FitsOne self.terms self.history self.marks }
         ensures shown { IsShowing V.Shown self.view self.history self.marks }
     {
         let Book { front, file } = self;
@@ -295,9 +296,11 @@ impl<D: Disk, V: Shown> Book<D, V> {
         self.front.history.len()
     }
 
-    /// Whether a call was answered by a fault of the disk, which is where its file has failed.
+    /// Whether a call was answered by a fault of the disk, which is where its file has failed. While none was, the records of
+    /// the samples that are not durable fit into one block.
     pub fn stopped(&self) -> bool
         ensures stopped { result ≡ self.now.stopped }
+        ensures one_block { self.now.stopped ≡ false → FitsOne self.now.terms self.now.history self.now.marks }
         ensures cause { self.now.stopped ≡ true → Rose self.now.terms.faults (D.faults self.now.disk) }
     {
         self.file.failed()

@@ -1,4 +1,4 @@
-ghost use Rattle.std.specs.Prelude.{ℕ, ◌≤◌, ◌↔◌, List, drop, Option};
+ghost use Rattle.std.specs.Prelude.{ℕ, ◌*◌, ◌≤◌, ◌↔◌, List, drop, Option};
 ghost use mathlib.Core.List.{IsPrefix};
 ghost use Rattle.mdf_disk.specs.Story.{Story};
 ghost use Rattle.mdf_disk.specs.State.{DiskState};
@@ -22,5 +22,5 @@ pub fn keeps_law()
         → IsPrefix fewer marks → Keeps layouts head start story clock samples marks → Keeps layouts head start story clock samples fewer }
     ensures book { (terms : Terms) (disk : DiskState) (history : List Sample) (marks : List Mark)
         → IsKept terms disk history marks ↔ (Keeps terms.layouts terms.head terms.start disk.story disk.moment history marks × AreThroughs marks
-        × (history_size terms.layouts (drop (durable marks) history) ≤ terms.block_limit)) }
+        × (history_size terms.layouts (drop (durable marks) history) ≤ 2 * terms.block_limit)) }
 {}

@@ -41,7 +41,7 @@ invariant_of-self-2 g c =
       ap (λ f. f.block.limit) c.reserve.ensures.rest,
     ) in
     front_put g.V.Shown front c.self.inside.spare c.self.inside.from c.self.inside.stopped (reserved g at) c.accept.new.front c.args.sample
-    c.accept.ensures.put (omega (arith, c.in-Ok.ensures.room.1)) room small
+    c.accept.ensures.put (goes g at) (omega (arith, c.in-Ok.ensures.room.1)) room small
 
 pub invariant_of-self : goal.invariant_of-self
 invariant_of-self g c = reserved g (goal.at.invariant_of-self g c).After-reserve
