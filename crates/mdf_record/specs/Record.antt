@@ -1,5 +1,5 @@
 -- The command `record OUT`.
-use Rattle.std.specs.Prelude.{ℕ, ◌≡◌, ◌⊎◌, Bool, true, false, ◌+◌, ◌≤◌, ◌<◌, List, [], ◌∷◌, ◌++◌, length, codes, slice_get, slice_index, take, drop, All, Option, Some, None, IfSome, is_some, Result, Ok, Err}
+use Rattle.std.specs.Prelude.{ℕ, ◌≡◌, ◌⊎◌, Bool, true, false, ◌+◌, ◌*◌, ◌≤◌, ◌<◌, List, [], ◌∷◌, ◌++◌, length, codes, slice_get, slice_index, take, drop, All, Option, Some, None, IfSome, is_some, Result, Ok, Err}
 use Rattle.std.specs.Fmt.{decimal}
 use Rattle.std.specs.List.{slice_index_or}
 use mathlib.Core.List.{IsPrefix}
@@ -184,7 +184,7 @@ CloseComes script faults left seen (Some _) = ⊥
 
 -- What a recording of this script keeps, whatever happened: of its marks, of what a crash since its start may leave, of the
 -- samples and the flushes of each source, that each sample is of a group of the script which one of its sources owns, that all
--- samples cost no more than the session limit, and that the records of those that are not durable fit into one block.
+-- samples cost no more than the session limit, and that the records of those that are not durable fit into two blocks.
 pub record IsRecorded (script : Script) (head : List ℕ) (start : ℕ) (left : Outcome) : Type 0 where
   pub marks_hold : MarksHold script.plan.shapes head left.disk.story left.disk.moment left.history left.marks
   pub start_holds : StartHolds script.plan.shapes head left.disk.story start left.history
@@ -195,4 +195,4 @@ pub record IsRecorded (script : Script) (head : List ℕ) (start : ℕ) (left : 
       (λ n. n < length (source_samples script.plan.owners left.history source)) [] tasks)
   pub causes : HaveCauses script left.history left.marks
   pub cost : history_cost script.plan.shapes left.history ≤ script.plan.session
-  pub pending : history_size script.plan.shapes (drop (durable left.marks) left.history) ≤ script.plan.block
+  pub pending : history_size script.plan.shapes (drop (durable left.marks) left.history) ≤ 2 * script.plan.block

@@ -1,5 +1,5 @@
 -- What `run` keeps of a recording, whatever happens.
-use Rattle.std.specs.Prelude.{ℕ, ◌≡◌, ◌≢◌, ◌⊎◌, ◌<◌, ◌≤◌, List, [], length, drop, Option, Some, Ok, is_some, ◌++◌, None}
+use Rattle.std.specs.Prelude.{ℕ, ◌≡◌, ◌≢◌, ◌⊎◌, ◌*◌, ◌<◌, ◌≤◌, List, [], length, drop, Option, Some, Ok, is_some, ◌++◌, None}
 use Rattle.std.specs.Io.KnownBytes.{Appends}
 use mathlib.Core.List.{IsPrefix}
 use Rattle.mdf_disk.specs.State.{DiskState}
@@ -99,6 +99,6 @@ pub record Keeps (start now : ℕ) (script : Script) (disk : DiskState) (history
   pub flush_lines : OfSources script (λ source tasks. AreOwnMarked script.plan.owners source history marks
       (λ n. n < length (source_samples script.plan.owners history source)) [] tasks)
   pub causes : (marks ≡ []) ⊎ HaveCauses script history marks
-  pub pending : history_size script.plan.shapes (drop (durable marks) history) ≤ script.plan.block
+  pub pending : history_size script.plan.shapes (drop (durable marks) history) ≤ 2 * script.plan.block
   pub complete : IsDone status → IsComplete script (record { disk = disk; history = history; marks = marks })
   pub reported : status ≡ 0 → IsReported script disk history marks old new

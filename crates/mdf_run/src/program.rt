@@ -1,4 +1,4 @@
-ghost use Rattle.std.specs.Prelude.{◌≡◌, ◌↔◌, ◌⊎◌, ◌<◌, ◌≤◌, List, ℕ, ℤ, [], length, drop, None, is_some, IfSome};
+ghost use Rattle.std.specs.Prelude.{◌≡◌, ◌↔◌, ◌⊎◌, ◌*◌, ◌<◌, ◌≤◌, List, ℕ, ℤ, [], length, drop, None, is_some, IfSome};
 ghost use mathlib.Core.List.{IsPrefix};
 ghost use Rattle.mdf_format.specs.Cause.{Rose};
 ghost use Rattle.mdf_port.specs.State.{sink_state, source_state};
@@ -112,7 +112,7 @@ where
         (sink_state K.Sink sink.old) (sink_state K.Sink sink.new) result.status }
 
     // What a recording keeps, whatever happens: of each crash, of the marks, of the samples of each source and of its
-    // flushes, and that what is not durable fits into one block; and what it has done where the status is 0, or 6.
+    // flushes, and that what is not durable fits into two blocks; and what it has done where the status is 0, or 6.
     ensures marks_hold { OfRecording words.now (S.left source.old) (λ script. MarksHold script.plan.shapes (script_head now_ns script)
         (C.story result.out) (C.moment result.out) result.history.items result.marks.items) }
     ensures start_holds { OfRecording words.now (S.left source.old) (λ script. StartHolds script.plan.shapes (script_head now_ns script)
@@ -125,7 +125,7 @@ where
         AreOwnMarked script.plan.owners number result.history.items result.marks.items
         (λ n. n < length (source_samples script.plan.owners result.history.items number)) [] tasks)) }
     ensures pending { OfRecording words.now (S.left source.old) (λ script.
-        history_size script.plan.shapes (drop (durable result.marks.items) result.history.items) ≤ script.plan.block) }
+        history_size script.plan.shapes (drop (durable result.marks.items) result.history.items) ≤ 2 * script.plan.block) }
     ensures marks_have_causes { OfRecording words.now (S.left source.old) (λ script.
         (result.marks.items ≡ []) ⊎ HaveCauses script result.history.items result.marks.items) }
     ensures complete { OfRecording words.now (S.left source.old) (λ script. IsDone result.status
