@@ -125,7 +125,7 @@ module _ (f : List ℕ) (row : DataRow) (parts : List Part) (lists : List (List 
         content = flat_map (bytes_at (group.data_bytes + group.inval_bytes) (stream_of f parts)) (take (min count (length (places k))) (places k));
         streams = found;
       } in
-      let is_made : contents f held true one (places k) ≡ Ok (made is.shape found) =
+      let is_made : contents f held one (places k) ≡ Ok (made is.shape found) =
       ap (λ (l : Read Layout). l >>= λ shape. streams f held (records_at true one (places k)) one.channels >>= λ found. Ok (made shape found)) shaped
       ∙ ap (λ (r : Read (List (List ℕ))). r >>= λ found. Ok (made is.shape found)) read in (
         made is.shape found,

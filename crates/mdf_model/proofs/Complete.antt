@@ -216,29 +216,29 @@ module _ (f : List ℕ) (row : DataRow) (found : List Contents) (is : IsDataCont
           (λ read _. refusing_none IsOfData read.0)
 
     group_of_data : (k : ℕ) (group : GroupRow) (left : Unit {0}) → IsThere row.groups k group → Unit {0}
-        → Refusing IsOfData (group_item f (held_by parts row lists) true k group left)
+        → Refusing IsOfData (group_item f (held_by parts row lists) k group left)
     unfolding group_item contents
     group_of_data k group left there nothing =
         refusing_if IsOfData (is_variable group) (Ok (None, left)) _ (λ _. refusing_none IsOfData (None, left))
-        (λ samples. refusing_then IsOfData (contents f (held_by parts row lists) true group _) (λ read. Ok (Some read, left))
+        (λ samples. refusing_then IsOfData (contents f (held_by parts row lists) group _) (λ read. Ok (Some read, left))
         (refusing_then IsOfData (layout group) _ (layout_of_data group) (λ shape _.
         refusing_then IsOfData (streams f (held_by parts row lists) (records_at true group _) group.channels) _
         (streams_of_data k group (record { there = there; samples = samples }) (records_at true group _))
         (λ read _. refusing_none IsOfData _)))
         (λ read _. refusing_none IsOfData (Some read, left)))
 
-    all_of_data : Refusing IsOfData (all_contents f (held_by parts row lists) true)
+    all_of_data : Refusing IsOfData (all_contents f (held_by parts row lists))
     unfolding all_contents
     all_of_data =
-        refusing_then IsOfData (every (group_item f (held_by parts row lists) true) 0 row.groups tt) (λ read. Ok read.0)
-        (refusing_every IsOfData (group_item f (held_by parts row lists) true) (IsThere row.groups) (λ k left. Unit {0}) group_of_data
+        refusing_then IsOfData (every (group_item f (held_by parts row lists)) 0 row.groups tt) (λ read. Ok read.0)
+        (refusing_every IsOfData (group_item f (held_by parts row lists)) (IsThere row.groups) (λ k left. Unit {0}) group_of_data
         (λ k group left read there nothing of. tt) 0 row.groups tt (all_there row.groups) tt)
         (λ read _. refusing_none IsOfData read.0)
 
     found_of_data : Refusing IsOfData (found_of f parts row lists)
     unfolding found_of
     found_of_data =
-        refusing_then IsOfData (all_contents f (held_by parts row lists) true) _ all_of_data (λ groups_read _. refusing_none IsOfData _)
+        refusing_then IsOfData (all_contents f (held_by parts row lists)) _ all_of_data (λ groups_read _. refusing_none IsOfData _)
 
   of_data : (number : ℕ) → Refusing IsOfData (data_of f row number)
   unfolding data_of

@@ -269,7 +269,7 @@ module _ (f : List ℕ) (row : DataRow) (before : ℕ) (parts : List Part) (list
         0 group.channels tt (all_there group.channels) tt)
         (λ found _. refusing_none (IsTrueOfData f row before) found.0)
 
-    contents_true : Refusing (IsTrueOfData f row before) (contents f (held_by parts row lists) true group places)
+    contents_true : Refusing (IsTrueOfData f row before) (contents f (held_by parts row lists) group places)
     unfolding contents
     contents_true =
         refusing_then (IsTrueOfData f row before) (layout group) _ (layout_true f row before k group there)
@@ -277,18 +277,18 @@ module _ (f : List ℕ) (row : DataRow) (before : ℕ) (parts : List Part) (list
         (λ found _. refusing_none (IsTrueOfData f row before) _))
 
   group_true : (k : ℕ) (group : GroupRow) (left : Unit {0}) → slice_get row.groups k ≡ Some group → Unit {0}
-      → Refusing (IsTrueOfData f row before) (group_item f (held_by parts row lists) true k group left)
+      → Refusing (IsTrueOfData f row before) (group_item f (held_by parts row lists) k group left)
   unfolding group_item
   group_true k group left there nothing =
       refusing_if (IsTrueOfData f row before) (is_variable group) (Ok (None, left)) _ (λ _. refusing_none (IsTrueOfData f row before) (None, left))
-      (λ samples. refusing_then (IsTrueOfData f row before) (contents f (held_by parts row lists) true group (get_or lists k [])) (λ found. Ok (Some found, left))
+      (λ samples. refusing_then (IsTrueOfData f row before) (contents f (held_by parts row lists) group (get_or lists k [])) (λ found. Ok (Some found, left))
       (contents_true k group there samples) (λ found _. refusing_none (IsTrueOfData f row before) (Some found, left)))
 
-  pub all_true : Refusing (IsTrueOfData f row before) (all_contents f (held_by parts row lists) true)
+  pub all_true : Refusing (IsTrueOfData f row before) (all_contents f (held_by parts row lists))
   unfolding all_contents
   all_true =
-      refusing_then (IsTrueOfData f row before) (every (group_item f (held_by parts row lists) true) 0 row.groups tt) (λ found. Ok found.0)
-      (refusing_every (IsTrueOfData f row before) (group_item f (held_by parts row lists) true)
+      refusing_then (IsTrueOfData f row before) (every (group_item f (held_by parts row lists)) 0 row.groups tt) (λ found. Ok found.0)
+      (refusing_every (IsTrueOfData f row before) (group_item f (held_by parts row lists))
       (λ k group. slice_get row.groups k ≡ Some group) (λ k left. Unit {0}) group_true (λ k group left found there nothing is. tt)
       0 row.groups tt (all_there row.groups) tt)
       (λ found _. refusing_none (IsTrueOfData f row before) found.0)

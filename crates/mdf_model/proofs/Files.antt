@@ -59,11 +59,11 @@ module _ (f : List ℕ) (row : DataRow) (before : ℕ) where
   abbrev IsTrue : Refusal → Type 0
   IsTrue refusal = IsTrueOfData f row before refusal
 
-  found_true : (parts : List Part) (lists : List (List ℕ)) → Refusing IsTrue (all_contents f (held_by parts row lists) true)
+  found_true : (parts : List Part) (lists : List (List ℕ)) → Refusing IsTrue (all_contents f (held_by parts row lists))
       → Refusing IsTrue (found_of f parts row lists)
   unfolding found_of
   found_true parts lists all =
-      refusing_then IsTrue (all_contents f (held_by parts row lists) true) _ all (λ groups _. refusing_none IsTrue _)
+      refusing_then IsTrue (all_contents f (held_by parts row lists)) _ all (λ groups _. refusing_none IsTrue _)
 
   pub data_true : Refusing IsTrue (data_of f row before)
   unfolding data_of

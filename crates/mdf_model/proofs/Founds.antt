@@ -94,7 +94,7 @@ module _ (f : List ℕ) (row : DataRow) (parts : List Part) (lists : List (List 
   pub contents_found : (k : ℕ) (group : GroupRow) (found : Contents)
       → bodies_at (stream_of f parts) (size_of group) (get_or lists k []) ≡ bodies row.id_size records k
       → AllByRecursion (HasRoom (stream_of f parts) (size_of group)) (get_or lists k []) → is_variable group ≡ false
-      → group.cycles ≤ length (get_or lists k []) → contents f (held_by parts row lists) true group (get_or lists k []) ≡ Ok found
+      → group.cycles ≤ length (get_or lists k []) → contents f (held_by parts row lists) group (get_or lists k []) ≡ Ok found
       → IsContents f row records k group found
   unfolding contents
   contents_found k group found held_there room other enough is =
@@ -140,13 +140,13 @@ module _ (f : List ℕ) (row : DataRow) (parts : List Part) (lists : List (List 
 
   abbrev IsReadOf : ℕ → GroupRow → Option Contents → Type 0
   IsReadOf k group None = is_variable group ≡ true
-  IsReadOf k group (Some found) = (is_variable group ≡ false) × (contents f (held_by parts row lists) true group (get_or lists k []) ≡ Ok found)
+  IsReadOf k group (Some found) = (is_variable group ≡ false) × (contents f (held_by parts row lists) group (get_or lists k []) ≡ Ok found)
 
   item_found : (k : ℕ) (group : GroupRow) (left : Unit {0}) (found : Option Contents × Unit {0})
-      → group_item f (held_by parts row lists) true k group left ≡ Ok found → IsReadOf k group found.0
+      → group_item f (held_by parts row lists) k group left ≡ Ok found → IsReadOf k group found.0
   unfolding group_item
   item_found k group left found is =
-      let item = contents f (held_by parts row lists) true group (get_or lists k []) in
+      let item = contents f (held_by parts row lists) group (get_or lists k []) in
       elim (chosen (is_variable group) (Ok (None, left)) (item >>= λ found. Ok (Some found, left)) (Ok found) is) [
         | inl values ↦
             subst (λ (y : Option Contents × Unit {0}). IsReadOf k group y.0) (ok_injective (None, left) found values.1) values.0
@@ -173,10 +173,10 @@ module _ (f : List ℕ) (row : DataRow) (parts : List Part) (lists : List (List 
 
   all_found : (found : List Contents)
       → AreNumbered (λ n group. is_variable group ≡ false → group.cycles ≤ length (get_or lists n [])) 0 row.groups
-      → all_contents f (held_by parts row lists) true ≡ Ok found → AllZip IsOfSamples (sample_groups row) found
+      → all_contents f (held_by parts row lists) ≡ Ok found → AllZip IsOfSamples (sample_groups row) found
   unfolding all_contents
   all_found found counts is =
-      let item = group_item f (held_by parts row lists) true in
+      let item = group_item f (held_by parts row lists) in
       let first = bind_ok (every item 0 row.groups tt) (λ found. Ok found.0) found is in
       let read = all_read item IsReadOf (λ k group left y. item_found k group left y) 0 row.groups tt first.0 first.1 in
       let known : AreNumbered IsKnown 0 row.groups = numbered_both
@@ -189,11 +189,11 @@ module _ (f : List ℕ) (row : DataRow) (parts : List Part) (lists : List (List 
 
 -- what a data group holds
 strict_found : (f : List ℕ) (row : DataRow) (parts : List Part) (lists : List (List ℕ)) (found : DataContents) → found_of f parts row lists ≡ Ok found
-    → (all_contents f (held_by parts row lists) true ≡ Ok found.groups) × (found.strict ≡ is_strict row (stream_size parts) lists)
+    → (all_contents f (held_by parts row lists) ≡ Ok found.groups) × (found.strict ≡ is_strict row (stream_size parts) lists)
 unfolding found_of
 strict_found f row parts lists found is =
     let made : List Contents → DataContents = λ groups. record { groups = groups; strict = is_strict row (stream_size parts) lists } in
-    let first = bind_ok (all_contents f (held_by parts row lists) true) (λ groups. Ok (made groups)) found is in
+    let first = bind_ok (all_contents f (held_by parts row lists)) (λ groups. Ok (made groups)) found is in
     let same : made first.0 ≡ found = ok_injective (made first.0) found first.2 in (
       first.1 ∙ ap (λ (y : DataContents). Ok y.groups) same,
       sym (ap (λ (y : DataContents). y.strict) same),
@@ -209,7 +209,7 @@ pub record IsDataFound (f : List ℕ) (row : DataRow) (found : DataContents) : T
   pub hold : HoldBodies (stream_of f parts) row lists split.records
   pub rooms : HaveRooms (stream_of f parts) row lists
   pub counts : AreNumbered (λ n group. is_variable group ≡ false → group.cycles ≤ length (get_or lists n [])) 0 row.groups
-  pub groups : all_contents f (held_by parts row lists) true ≡ Ok found.groups
+  pub groups : all_contents f (held_by parts row lists) ≡ Ok found.groups
   pub strict : found.strict ≡ is_strict row (stream_size parts) lists
 
 known_at : (groups : List GroupRow) (k : ℕ) (group : GroupRow) → slice_get groups k ≡ Some group

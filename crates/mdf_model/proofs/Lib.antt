@@ -12,7 +12,7 @@ mod Firsts
 pub mod Fronts
 pub mod Insides
 pub mod Items
-pub mod Lefts
+pub mod Fetches
 pub mod Onces
 pub mod Picks
 mod Rests

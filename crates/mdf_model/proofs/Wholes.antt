@@ -1,7 +1,7 @@
 -- What is read of a file is its measurement.
 use Rattle.std.proofs.Common.{◌≡◌, ℕ, List, [], ◌∷◌, ◌++◌, map, Ok, Err, refl, ◌∙◌, ap, subst, inl, inr}
 use Rattle.std.specs.Prelude.{true, filter, zip, if◌then◌else◌, codes, Option, Some}
-use Rattle.std.specs.List.{flat_map, AllZip}
+use Rattle.std.specs.List.{flat_map, AllByRecursion, AllZip}
 use Rattle.std.proofs.lemmas.Bool.{and_parts, or_cases, leb-true}
 use Rattle.std.proofs.lemmas.Slice.Eq.{bytes_eq-Decides}
 use Rattle.mdf_format.specs.Number.{bytes_at}
@@ -20,6 +20,7 @@ use Rattle.mdf_head.specs.Ident.{is_mdf, has_read_version, the_ident, identify}
 use Rattle.mdf_head.specs.Head.{head, IsHead}
 use Rattle.mdf_head.proofs.Heads.{head_found}
 use Rattle.mdf_group.specs.declared.row.DataRow.{DataRow}
+use Rattle.mdf_group.specs.declared.row.GroupRow.{GroupRow}
 use Rattle.mdf_group.specs.Group.{groups}
 use Rattle.mdf_group.specs.Standing.{AreDataGroups}
 use Rattle.mdf_group.proofs.Stands.{all_found}
@@ -27,14 +28,14 @@ use Rattle.mdf_group.proofs.Nested.{without_limit}
 use Rattle.mdf_content.specs.declared.contents.Contents.{Contents}
 use Rattle.mdf_content.specs.declared.contents.DataContents.{DataContents}
 use Rattle.mdf_block.specs.Every.{every}
-use Rattle.mdf_content.specs.Contents.{data_of}
+use Rattle.mdf_content.specs.Contents.{AllHaveSamples, HaveSamples, data_of}
 use Rattle.mdf_model.specs.declared.part.Measure.{Measure}
 use Rattle.mdf_model.specs.declared.tree.Tree.{Tree}
 use Rattle.mdf_model.specs.declared.whole.Whole.{Whole}
 use Rattle.mdf_model.specs.Tree.{finalized_by, finalized, whole_budget, header_of, passed_over, tree}
 use Rattle.mdf_model.specs.Whole.{data_item, all_data, whole}
 use Rattle.mdf_model.specs.Measurement.{measures, Measured, measured, measurement}
-use Rattle.mdf_model.specs.Contents.{IsDataContents}
+use Rattle.mdf_model.specs.Contents.{IsContents, IsDataContents, sample_groups}
 use Rattle.mdf_model.specs.InWords.{IsFinalizedMdf, row_measures, IsMeasurement}
 use Rattle.mdf_model.proofs.Picks.{IsPicked, all_read, picked, keyed_own}
 use Rattle.mdf_model.proofs.Founds.{IsDataFound, data_found, contents_are}
@@ -179,6 +180,23 @@ whole_found f all is =
       held = data_all_found f two.0.rows three.0 three.1;
     } in
     subst (IsWhole f) (ok_injective (made one.0 two.0 three.0) all three.2) all_is
+
+-- each record that is read has a sample
+zipped : {A B : Type 0} (P : A → B → Type 0) (Q : B → Type 0) → ((x : A) (y : B) → P x y → Q y) → (xs : List A) (ys : List B) → AllZip P xs ys
+    → AllByRecursion Q ys
+zipped P Q each [] [] all = tt
+zipped P Q each [] (y ∷ ys) all = absurd all
+zipped P Q each (x ∷ xs) [] all = absurd all
+zipped P Q each (x ∷ xs) (y ∷ ys) all = (each x y all.0, zipped P Q each xs ys all.1)
+
+data_samples : (f : List ℕ) (row : DataRow) (found : DataContents) → IsDataFound f row found → AllHaveSamples found
+data_samples f row found is =
+    let holds = contents_are f row found is in
+    zipped (λ (group : ℕ × GroupRow) (contents : Contents). IsContents f row holds.records group.0 group.1 contents) HaveSamples
+    (λ group contents held. held.samples) (sample_groups row) found.groups holds.groups
+
+pub whole_samples : (f : List ℕ) (all : Whole) → whole f ≡ Ok all → AllByRecursion AllHaveSamples all.contents
+whole_samples f all is = zipped (IsDataFound f) AllHaveSamples (data_samples f) all.tree.rows all.contents (whole_found f all is).held
 
 abbrev pub measurement_of : (f : List ℕ) (all : Whole) → IsWhole f all → IsMeasurement f all.tree.head all.tree.history (measures all.tree.rows all.contents)
 measurement_of f all is = record {

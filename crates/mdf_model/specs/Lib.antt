@@ -1,7 +1,7 @@
 pub mod Tree
 pub mod Whole
 pub mod Measurement
-pub mod Left
+pub mod Found
 pub mod Bodies
 pub mod Contents
 pub mod InWords

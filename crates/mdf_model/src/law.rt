@@ -7,6 +7,7 @@ ghost use Rattle.mdf_group.specs.declared.row.ChannelRow.{ChannelRow};
 ghost use Rattle.mdf_group.specs.declared.row.GroupRow.{GroupRow};
 ghost use Rattle.mdf_model.specs.declared.part.Measure.{Measure};
 ghost use Rattle.mdf_model.specs.Measurement.{Measured, measurement};
+ghost use Rattle.mdf_model.specs.Found.{found_measurement};
 ghost use Rattle.mdf_model.specs.InWords.{IsMeasurement, IsValidFile};
 ghost use Rattle.mdf_model.specs.declared.tree.Tree.{Tree};
 ghost use Rattle.mdf_model.specs.Tree.{tree};
@@ -18,6 +19,11 @@ ghost use Rattle.mdf_model.specs.Truth.{IsAboutData, IsTrueOfFile};
 /// What is read of a file is its measurement.
 pub fn what_is_read_is_the_measurement()
     ensures { (file : List ℕ) (m : Measured) → measurement file ≡ Ok m → IsMeasurement file m.head m.history m.groups }
+{}
+
+/// The measurement of a file is what is found of it, with the bytes there; and what is refused is so with the same fault.
+pub fn what_is_found_is_read()
+    ensures { (file : List ℕ) → measurement file ≡ found_measurement file }
 {}
 
 /// A file has one measurement.

@@ -14,12 +14,12 @@ mod whole;
 pub use identity::{finalized_in, identity_in};
 pub use law::{
     a_refusal_is_true, links_passed_over_are_counted, measurements_agree,
-    refused_data_has_no_measurement, strict_is_valid, what_is_measured_is_read,
-    what_is_placed_anew_is_the_same, what_is_read_is_the_measurement,
+    refused_data_has_no_measurement, strict_is_valid, what_is_found_is_read,
+    what_is_measured_is_read, what_is_placed_anew_is_the_same, what_is_read_is_the_measurement,
 };
 pub use mdf_content::ReadFault;
 pub use measurement::{Measurement, read_measurement, take_measurement};
 pub use part::{GroupPart, Measure};
 pub use read::{read_file, take_file};
 pub use tree::{Tree, tree_in};
-pub use whole::{Whole, whole_in};
+pub use whole::{Whole, WholeFound, whole_found_in, whole_in};

@@ -1,4 +1,4 @@
-ghost use Rattle.std.specs.Prelude.{◌≡◌, ◌^◌, ◌<◌, List, [], Some, true, length, slice_index_or, Ok, IfOk, IfErr, IfNone};
+ghost use Rattle.std.specs.Prelude.{◌≡◌, ◌^◌, ◌<◌, ◌∷◌, [], Some, length, map, reverse, slice_index_or, Ok, IfOk, IfErr, IfNone};
 ghost use Rattle.std.specs.List.{AllByRecursion, list_all};
 ghost use Rattle.mdf_content.specs.declared.contents.DataContents.{DataContents};
 ghost use Rattle.mdf_block.specs.Refusal.{GivesOf};
@@ -6,17 +6,17 @@ ghost use Rattle.mdf_head.specs.declared.identity.Ident.{Ident};
 ghost use Rattle.mdf_layout.specs.Layout.{record_size};
 ghost use Rattle.mdf_content.specs.Contents.{AllHaveSamples};
 ghost use Rattle.mdf_content.specs.Fault.{read_refusal};
+ghost use Rattle.mdf_content.specs.Found.{IsFoundInside, data_fetched};
 ghost use Rattle.mdf_content.specs.Samples.{AreSamples, record_at};
 ghost use Rattle.mdf_model.specs.declared.part.Measure.{Measure};
 ghost use Rattle.mdf_model.specs.Measurement.{HasSamples, is_strict, measured, measurement, sample_of, with_records};
 ghost use Rattle.mdf_model.specs.Tree.{finalized};
 ghost use Rattle.mdf_model.specs.Whole.{whole};
-ghost use Rattle.mdf_model.specs.Left.{AreLeft, HaveSamplesBut, is_left, whole_read};
+ghost use Rattle.mdf_model.specs.Found.{whole_found};
 
 use crate::part::{GroupPart, Measure, measures_of};
-use crate::whole::{Whole, is_left, joined, whole_left_in};
-use mdf_content::{DataContents, ReadFault, put_back};
-use mdf_group::DataRow;
+use crate::whole::{Whole, WholeFound, add_fetched_in, whole_found_in, whole_in};
+use mdf_content::{DataContents, DataFound, ReadFault, Room, fetch_from};
 use mdf_head::{Head, History};
 use mdf_layout::{DecodeFault, Entries, Shape};
 use mdf_num::{Bytes, Halt, Memory, Rows, SliceSpan};
@@ -241,13 +241,13 @@ impl Measurement {
     }
 }
 
-/// All that is read of a finalized file in memory. The records of its first data group may be left there.
-fn whole_left_of(alloc: Global, bytes: &[u8], wanted: bool) -> Result<Whole, ReadFault>
-    ensures exact { GivesOf read_refusal result (whole_read wanted bytes.now) }
+/// All that is read of a finalized file in memory.
+fn whole_of(alloc: Global, bytes: &[u8]) -> Result<Whole, ReadFault>
+    ensures exact { GivesOf read_refusal result (whole bytes.now) }
     ensures first { IfErr result (λ fault. IfNone (read_refusal fault) ((id : Ident) × (finalized bytes.now ≡ Ok id))) }
-    ensures samples { IfOk result (λ all. HaveSamplesBut (is_left wanted all.tree.rows) all.contents) }
+    ensures samples { IfOk result (λ all. AllByRecursion AllHaveSamples all.contents) }
 {
-    match whole_left_in(alloc, &mut SliceSpan::new(bytes), wanted) {
+    match whole_in(alloc, &mut SliceSpan::new(bytes)) {
         Ok(all) => Ok(all),
         Err(Halt::Fault(fault)) => Err(fault),
         Err(Halt::Failed) => unreachable!(),
@@ -255,34 +255,65 @@ fn whole_left_of(alloc: Global, bytes: &[u8], wanted: bool) -> Result<Whole, Rea
     }
 }
 
-/// All that is read of a finalized file in memory.
-fn whole_of(alloc: Global, bytes: &[u8]) -> Result<Whole, ReadFault>
-    ensures exact { GivesOf read_refusal result (whole bytes.now) }
+/// Where all that is read of a finalized file in memory stands.
+fn whole_found_of(alloc: Global, bytes: &[u8]) -> Result<WholeFound, ReadFault>
+    ensures exact { GivesOf read_refusal result (whole_found bytes.now) }
     ensures first { IfErr result (λ fault. IfNone (read_refusal fault) ((id : Ident) × (finalized bytes.now ≡ Ok id))) }
-    ensures samples { IfOk result (λ all. AllByRecursion AllHaveSamples all.contents) }
+    ensures inside { IfOk result (λ all. AllByRecursion (IsFoundInside (length bytes.now)) all.found) }
 {
-    whole_left_of(alloc, bytes, false)
+    match whole_found_in(alloc, &mut SliceSpan::new(bytes)) {
+        Ok(all) => Ok(all),
+        Err(Halt::Fault(fault)) => Err(fault),
+        Err(Halt::Failed) => unreachable!(),
+        Err(Halt::Memory) => Err(ReadFault::Memory),
+    }
 }
 
-/// What the data groups hold, with the records of the first, where they were left in the file.
+/// What is found of data groups of a file, with the bytes there. They stand with the last first.
+fn contents_of(
+    alloc: Global,
+    file: &Bytes,
+    found: Vec<DataFound>,
+    room: &mut Room,
+) -> Result<Rows<DataContents>, Memory>
+    requires inside { AllByRecursion (IsFoundInside (length file.now)) found.items }
+    ensures { IfOk result (λ all. all ≡ map (data_fetched file.now) (reverse found.items)) }
+{
+    let mut span = SliceSpan::new(file.as_slice());
+    let mut all = Rows::empty(alloc);
+    match add_fetched_in(alloc, &mut span, found, &mut all, room) {
+        Ok(()) => Ok(all),
+        Err(_) => Err(Memory),
+    }
+}
+
+/// A list with one item more in front.
+fn joined(first: DataContents, rest: Rows<DataContents>) -> Result<Rows<DataContents>, Memory>
+    ensures { IfOk result (λ all. all ≡ first ∷ rest) }
+{
+    let mut all = rest.into_vec();
+    all.insert(0, first)?;
+    Ok(Rows::from_vec(all))
+}
+
+/// What is found of data groups of a file that is handed over, with the bytes there. The first takes the file.
 fn contents_from(
     alloc: Global,
     file: Bytes,
-    rows: &[DataRow],
-    contents: Rows<DataContents>,
+    found: Rows<DataFound>,
 ) -> Result<Rows<DataContents>, Memory>
-    requires left { (found : List DataContents) × AreLeft file rows.now contents found }
-    requires samples { HaveSamplesBut (is_left true rows.now) contents }
-    ensures back { (found : List DataContents) → AreLeft file rows.now contents found → IfOk result (λ back. back ≡ found) }
-    ensures samples { IfOk result (AllByRecursion AllHaveSamples) }
+    requires inside { AllByRecursion (IsFoundInside (length file)) found }
+    ensures { IfOk result (λ all. all ≡ map (data_fetched file) found) }
 {
-    if !is_left(true, rows) {
-        return Ok(contents);
-    }
-    let mut rest = contents.into_vec();
-    let left = rest.remove(0);
-    let first = put_back(alloc, file, &rows[0], left)?;
-    joined(first, Rows::from_vec(rest))
+    let mut room = Room::of_file(&SliceSpan::new(file.as_slice()));
+    let mut found = found.into_vec();
+    found.reverse();
+    let Some(first) = found.pop() else {
+        return Ok(Rows::empty(alloc));
+    };
+    let others = contents_of(alloc, &file, found, &mut room)?;
+    let first = fetch_from(alloc, file, first, &mut room)?;
+    joined(first, others)
 }
 
 /// All that is read of a finalized file, which is handed over.
@@ -291,12 +322,8 @@ fn whole_from(alloc: Global, file: Bytes) -> Result<Whole, ReadFault>
     ensures first { IfErr result (λ fault. IfNone (read_refusal fault) ((id : Ident) × (finalized file ≡ Ok id))) }
     ensures samples { IfOk result (λ all. AllByRecursion AllHaveSamples all.contents) }
 {
-    let Whole {
-        ident,
-        tree,
-        contents,
-    } = whole_left_of(alloc, file.as_slice(), true)?;
-    match contents_from(alloc, file, tree.rows.as_slice(), contents) {
+    let WholeFound { ident, tree, found } = whole_found_of(alloc, file.as_slice())?;
+    match contents_from(alloc, file, found) {
         Ok(contents) => Ok(Whole {
             ident,
             tree,

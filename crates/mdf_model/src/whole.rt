@@ -1,21 +1,22 @@
-ghost use Rattle.std.specs.Prelude.{◌≡◌, ◌∷◌, ℕ, List, Some, true, IfOk, IfErr};
+ghost use Rattle.std.specs.Prelude.{◌≡◌, ◌++◌, ℕ, List, Some, map, reverse, true, IfOk, IfErr, OnOk};
 ghost use Rattle.std.specs.List.{AllByRecursion};
-ghost use Rattle.mdf_num.specs.Halt.{HaltCause};
+ghost use Rattle.mdf_num.specs.Halt.{HaltCause, StopCause};
 ghost use Rattle.mdf_block.specs.Refusal.{Gives, HidesNone, IsPlain};
 ghost use Rattle.mdf_content.specs.Fault.{read_refusal};
 ghost use Rattle.mdf_content.specs.Contents.{AllHaveSamples};
+ghost use Rattle.mdf_content.specs.Found.{IsFoundInside, data_fetched};
+ghost use Rattle.mdf_model.specs.Found.{all_found, whole_found};
 ghost use Rattle.mdf_model.specs.Tree.{finalized};
 ghost use Rattle.mdf_model.specs.Whole.{whole};
-ghost use Rattle.mdf_model.specs.Left.{HaveSamplesBut, all_apart, all_read, is_left, whole_read};
 
 use crate::Tree;
 use crate::identity::finalized_in;
 use crate::tree::tree_in;
 use mdf_block::{Visit, every_in};
-use mdf_content::{DataContents, ReadFault, Room, data_in};
+use mdf_content::{DataContents, DataFound, ReadFault, Room, data_found_in, fetch_in};
 use mdf_group::DataRow;
 use mdf_head::Ident;
-use mdf_num::{Halt, Memory, Rows, Span};
+use mdf_num::{Halt, Memory, Rows, Span, Stop};
 use std::alloc::Global;
 
 /// All that is read of a finalized file.
@@ -29,16 +30,27 @@ pub struct Whole {
     pub contents: Rows<DataContents>,
 }
 
+/// Where all that is read of a finalized file stands.
+#[derive(Drop)]
+pub struct WholeFound {
+    /// Its identification.
+    pub ident: Ident,
+    /// Its header, its history and its data groups.
+    pub tree: Tree,
+    /// Where what the data groups hold stands, in the same order.
+    pub found: Rows<DataFound>,
+}
+
 /// The data groups of a file.
 struct DataGroups;
 
 impl Visit for DataGroups {
-    ghost use Rattle.mdf_content.specs.Contents.{AllHaveSamples};
-    ghost use Rattle.mdf_model.specs.Whole.{data_item};
+    ghost use Rattle.mdf_content.specs.Found.{IsFoundInside};
+    ghost use Rattle.mdf_model.specs.Found.{data_place};
 
     type Item = DataRow;
 
-    type Found = DataContents;
+    type Found = DataFound;
 
     type State = u32;
 
@@ -48,13 +60,13 @@ impl Visit for DataGroups {
 
     ghost refusal = { read_refusal };
 
-    ghost read = { λ _. data_item };
+    ghost read = { λ _. data_place };
 
     ghost needs = { λ _ _. Unit {0} };
 
     ghost admits = { λ _ _ _. Unit {0} };
 
-    ghost gives = { λ _. AllHaveSamples };
+    ghost keeps = { λ _. IsFoundInside };
 
     fn item_in<P: Span>(
         &self,
@@ -64,92 +76,43 @@ impl Visit for DataGroups {
         item: &DataRow,
         number: u32,
         room: &mut Room,
-    ) -> Result<(Option<DataContents>, u32), Halt<ReadFault>> {
-        let (found, next) = data_in(alloc, span, item, number, false, room)?;
+    ) -> Result<(Option<DataFound>, u32), Halt<ReadFault>> {
+        let (found, next) = data_found_in(alloc, span, item, number, room)?;
         Ok((Some(found), next))
     }
 }
 
-/// What the first data group holds, and what the others do, with how many groups that hold no values come before them.
-#[tactic(auto, unfolding(crate::specs::Left::all_apart))]
-fn all_apart_in<P: Span>(
+/// Where what the data groups hold stands.
+#[tactic(auto, unfolding(crate::specs::Found::all_found))]
+fn all_found_in<P: Span>(
     alloc: Global,
     span: &mut P,
-    first: &DataRow,
-    rest: &[DataRow],
-    left: bool,
-) -> Result<(DataContents, Rows<DataContents>), Halt<ReadFault>>
-    ensures found { (f : List ℕ) → P.bytes span.old ≡ Some f → Gives read_refusal result (all_apart left f first.now rest.now) }
-    ensures samples { (f : List ℕ) → P.bytes span.old ≡ Some f → IfOk result (λ found. HaveSamplesBut left (found.0 ∷ found.1)) }
+    rows: &[DataRow],
+) -> Result<Rows<DataFound>, Halt<ReadFault>>
+    ensures found { (f : List ℕ) → P.bytes span.old ≡ Some f → Gives read_refusal result (all_found f rows.now) }
+    ensures inside { IfOk result (AllByRecursion (IsFoundInside (P.size span.old))) }
     ensures plain { IfErr result (IsPlain read_refusal) }
     ensures same { P.bytes span.new ≡ P.bytes span.old }
     ensures size { P.size span.new ≡ P.size span.old }
     ensures cause { HaltCause true (P.faults span.old) (P.faults span.new) result }
 {
     let mut room = Room::of_file(span);
-    let (found, number) = data_in(alloc, span, first, 0, left, &mut room)?;
-    let (others, _) = every_in(alloc, &DataGroups, span, rest, number, &mut room)?;
-    Ok((found, others))
+    let (found, _) = every_in(alloc, &DataGroups, span, rows, 0, &mut room)?;
+    Ok(found)
 }
 
-/// A list with one item more in front.
-pub(crate) fn joined(
-    first: DataContents,
-    rest: Rows<DataContents>,
-) -> Result<Rows<DataContents>, Memory>
-    ensures { IfOk result (λ all. all ≡ first ∷ rest) }
-{
-    let mut all = rest.into_vec();
-    all.insert(0, first)?;
-    Ok(Rows::from_vec(all))
-}
-
-/// Whether the records of the first data group are to be left in the file: where that is wanted, and they have no ids.
-pub(crate) fn is_left(wanted: bool, rows: &[DataRow]) -> bool
-    ensures { result ≡ is_left wanted rows.now }
-{
-    match rows.first() {
-        Some(row) => wanted && row.id_size == 0,
-        None => false,
-    }
-}
-
-/// What the data groups hold. The records of the first may be left in the file.
-fn all_data_in<P: Span>(
-    alloc: Global,
-    span: &mut P,
-    rows: &[DataRow],
-    wanted: bool,
-) -> Result<Rows<DataContents>, Halt<ReadFault>>
-    ensures found { (f : List ℕ) → P.bytes span.old ≡ Some f → Gives read_refusal result (all_read wanted f rows.now) }
-    ensures samples { (f : List ℕ) → P.bytes span.old ≡ Some f → IfOk result (HaveSamplesBut (is_left wanted rows.now)) }
-    ensures plain { IfErr result (IsPlain read_refusal) }
-    ensures same { P.bytes span.new ≡ P.bytes span.old }
-    ensures size { P.size span.new ≡ P.size span.old }
-    ensures cause { HaltCause true (P.faults span.old) (P.faults span.new) result }
-{
-    let left = is_left(wanted, rows);
-    let Some((first, rest)) = rows.split_first() else {
-        return Ok(Rows::empty(alloc));
-    };
-    let (found, others) = all_apart_in(alloc, span, first, rest, left)?;
-    let all = joined(found, others)?;
-    Ok(all)
-}
-
-/// All that is read of a finalized file. The records of the first data group may be left in the file.
+/// Where all that is read of a finalized file stands. None of its records are read but for the offsets of channels of variable
+/// length, and of their values the lengths alone.
 ///
 /// # Errors
-/// As `whole_in`.
-#[tactic(auto, unfolding(crate::specs::Left::whole_read))]
-pub(crate) fn whole_left_in<P: Span>(
-    alloc: Global,
-    span: &mut P,
-    wanted: bool,
-) -> Result<Whole, Halt<ReadFault>>
-    ensures found { (f : List ℕ) → P.bytes span.old ≡ Some f → Gives read_refusal result (whole_read wanted f) }
+/// The first fault in this order: of the identification; of the tree, as `tree_in`; and of the data groups in order, as
+/// `data_found_in`. The span's own; and want of memory, which is answered too where the values have more parts than the file
+/// has bytes.
+#[tactic(auto, unfolding(crate::specs::Found::whole_found))]
+pub fn whole_found_in<P: Span>(alloc: Global, span: &mut P) -> Result<WholeFound, Halt<ReadFault>>
+    ensures found { (f : List ℕ) → P.bytes span.old ≡ Some f → Gives read_refusal result (whole_found f) }
     ensures first { (f : List ℕ) → P.bytes span.old ≡ Some f → HidesNone P.may_want result (finalized f) }
-    ensures samples { (f : List ℕ) → P.bytes span.old ≡ Some f → IfOk result (λ all. HaveSamplesBut (is_left wanted all.tree.rows) all.contents) }
+    ensures inside { IfOk result (λ all. AllByRecursion (IsFoundInside (P.size span.old)) all.found) }
     ensures plain { IfErr result (IsPlain read_refusal) }
     ensures same { P.bytes span.new ≡ P.bytes span.old }
     ensures size { P.size span.new ≡ P.size span.old }
@@ -157,20 +120,59 @@ pub(crate) fn whole_left_in<P: Span>(
 {
     let ident = finalized_in(span)?;
     let tree = tree_in(alloc, span)?;
-    let contents = all_data_in(alloc, span, tree.rows.as_slice(), wanted)?;
-    Ok(Whole {
-        ident,
-        tree,
-        contents,
-    })
+    let found = all_found_in(alloc, span, tree.rows.as_slice())?;
+    Ok(WholeFound { ident, tree, found })
 }
 
-/// All that is read of a finalized file.
+/// Adds what is found of data groups, with the bytes there. They stand with the last first.
+pub(crate) fn add_fetched_in<P: Span>(
+    alloc: Global,
+    span: &mut P,
+    found: Vec<DataFound>,
+    all: &mut Rows<DataContents>,
+    room: &mut Room,
+) -> Result<(), Stop>
+    requires inside { AllByRecursion (IsFoundInside (P.size span.old)) found.items }
+    ensures fetched { OnOk result ((f : List ℕ) → P.bytes span.old ≡ Some f → all.new ≡ all.old ++ map (data_fetched f) (reverse found.items)) }
+    ensures same { P.bytes span.new ≡ P.bytes span.old }
+    ensures size { P.size span.new ≡ P.size span.old }
+    ensures cause { StopCause true (P.faults span.old) (P.faults span.new) result }
+{
+    let mut found = found;
+    'found: while let Some(one) = found.pop() {
+        let contents = fetch_in(alloc, span, one, room)?;
+        let Ok(()) = all.push(contents) else {
+            return Err(Stop::Memory);
+        };
+    }
+    Ok(())
+}
+
+/// What is found of data groups, with the bytes there.
+fn all_fetched_in<P: Span>(
+    alloc: Global,
+    span: &mut P,
+    found: Rows<DataFound>,
+    room: &mut Room,
+) -> Result<Rows<DataContents>, Stop>
+    requires inside { AllByRecursion (IsFoundInside (P.size span.old)) found }
+    ensures fetched { IfOk result (λ all. (f : List ℕ) → P.bytes span.old ≡ Some f → all ≡ map (data_fetched f) found) }
+    ensures same { P.bytes span.new ≡ P.bytes span.old }
+    ensures size { P.size span.new ≡ P.size span.old }
+    ensures cause { StopCause true (P.faults span.old) (P.faults span.new) result }
+{
+    let mut found = found.into_vec();
+    found.reverse();
+    let mut all = Rows::empty(alloc);
+    add_fetched_in(alloc, span, found, &mut all, room)?;
+    Ok(all)
+}
+
+/// All that is read of a finalized file: it is found, and then the bytes there are fetched.
 ///
 /// # Errors
-/// The first fault in this order: of the identification; of the tree, as `tree_in`; and of the data groups in order, as
-/// `data_in`. The span's own; and want of memory, which is answered too where the records and the values that are read have
-/// more than twice as many bytes as the file.
+/// As `whole_found_in`; and want of memory, which is answered too where the records and the values that are read have more than
+/// twice as many bytes as the file.
 pub fn whole_in<P: Span>(alloc: Global, span: &mut P) -> Result<Whole, Halt<ReadFault>>
     ensures found { (f : List ℕ) → P.bytes span.old ≡ Some f → Gives read_refusal result (whole f) }
     ensures first { (f : List ℕ) → P.bytes span.old ≡ Some f → HidesNone P.may_want result (finalized f) }
@@ -180,5 +182,12 @@ pub fn whole_in<P: Span>(alloc: Global, span: &mut P) -> Result<Whole, Halt<Read
     ensures size { P.size span.new ≡ P.size span.old }
     ensures cause { HaltCause true (P.faults span.old) (P.faults span.new) result }
 {
-    whole_left_in(alloc, span, false)
+    let WholeFound { ident, tree, found } = whole_found_in(alloc, span)?;
+    let mut room = Room::of_file(span);
+    let contents = all_fetched_in(alloc, span, found, &mut room)?;
+    Ok(Whole {
+        ident,
+        tree,
+        contents,
+    })
 }

@@ -1,34 +1,33 @@
-use Rattle.std.proofs.Common.{rules, ◌≡◌, true, List, Ok, sym, ◌∙◌, ap, subst}
-use Rattle.mdf_block.specs.Refusal.{GivesOf}
-use Rattle.mdf_group.specs.declared.row.DataRow.{DataRow}
+use Rattle.std.proofs.Common.{rules, ◌≡◌, List, Ok, sym, ◌∙◌, ap, subst}
+use Rattle.mdf_block.specs.Refusal.{GivesOf, Read, ◌>>=◌}
+use Rattle.mdf_content.specs.declared.contents.DataContents.{DataContents}
 use Rattle.mdf_content.specs.Fault.{read_refusal}
-use Rattle.mdf_model.specs.Left.{AreLeft, whole_read}
-use Rattle.mdf_model.proofs.Firsts.{left_first}
-use Rattle.mdf_model.proofs.Lefts.{whole_back, whole_left, whole_refused_of}
+use Rattle.mdf_model.specs.declared.whole.Whole.{Whole}
+use Rattle.mdf_model.specs.declared.whole.WholeFound.{WholeFound}
+use Rattle.mdf_model.specs.Found.{whole_found}
+use Rattle.mdf_model.proofs.Fetches.{fetched_of, whole_is}
+use Rattle.mdf_model.proofs.Firsts.{found_first}
+use Rattle.mdf_model.proofs.Wholes.{whole_samples}
 use Rattle.mdf_model.proofs.measurement.whole_from.Goals as goal
 
 pub returns-in_err-ident-clause-exact : goal.returns-in_err-ident-clause-exact
 returns-in_err-ident-clause-exact c =
-    let left : GivesOf read_refusal c.from_residual.result (whole_read true c.args.file) = search rules in
-    whole_refused_of c.args.file c.from_residual.result c.from_residual.ensures.0 left
-
-pub contents_from-requires-clause-left : goal.contents_from-requires-clause-left
-contents_from-requires-clause-left c =
-    let left = c.in_ok-ident.field-0 in
-    let read : whole_read true c.args.file ≡ Ok left = search rules in
-    let all = whole_left c.args.file left read in
-    (all.all.contents, subst (λ (rows : List DataRow). AreLeft c.args.file rows left.contents all.all.contents) (sym c.as_slice-2.ensures) all.contents)
+    let refused : GivesOf read_refusal c.from_residual.result (whole_found c.args.file >>= fetched_of c.args.file) = search rules in
+    subst (GivesOf read_refusal c.from_residual.result) (sym (whole_is c.args.file)) refused
 
 pub returns-in-Ok-clause-exact : goal.returns-in-Ok-clause-exact
 returns-in-Ok-clause-exact c =
-    let left = c.in_ok-ident.field-0 in
-    let read : whole_read true c.args.file ≡ Ok left = search rules in
-    let all = whole_left c.args.file left read in
-    let there =
-    subst (λ (rows : List DataRow). AreLeft c.args.file rows left.contents all.all.contents) (sym c.as_slice-2.ensures) all.contents in
-    all.read ∙ ap Ok (whole_back left all.all c.in-Ok.contents all.left_is (c.in-Ok.ensures.back all.all.contents there))
+    let all = c.in_ok-ident.field-0 in
+    let made : List DataContents → Read Whole = λ contents. Ok (record { ident = all.ident; tree = all.tree; contents = contents }) in
+    let found : whole_found c.args.file ≡ Ok all = search rules in
+    whole_is c.args.file
+    ∙ ap (λ (found : Read WholeFound). found >>= fetched_of c.args.file) found
+    ∙ ap made (sym c.in-Ok.ensures)
+
+pub returns-in-Ok-clause-samples : goal.returns-in-Ok-clause-samples
+returns-in-Ok-clause-samples c = whole_samples c.args.file _ (returns-in-Ok-clause-exact c)
 
 pub returns-in-Err-clause-first : goal.returns-in-Err-clause-first
 returns-in-Err-clause-first c =
-    let read : whole_read true c.args.file ≡ Ok c.in_ok-ident.field-0 = search rules in
-    left_first true c.args.file c.in_ok-ident.field-0 read
+    let found : whole_found c.args.file ≡ Ok c.in_ok-ident.field-0 = search rules in
+    found_first c.args.file c.in_ok-ident.field-0 found

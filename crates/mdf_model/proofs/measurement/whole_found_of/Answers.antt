@@ -1,5 +1,5 @@
 use Rattle.std.proofs.Common.{rules}
-use Rattle.mdf_model.proofs.measurement.whole_left_of.Goals as goal
+use Rattle.mdf_model.proofs.measurement.whole_found_of.Goals as goal
 
 pub returns-in-Err-Memory-clause-first : goal.returns-in-Err-Memory-clause-first
 returns-in-Err-Memory-clause-first c =
