@@ -65,7 +65,7 @@ one_size i size n same = omega (arith, same, one_longer i size)
 one_size_less : (i size n : ℕ) → n ≡ size → suc i * size - n ≡ i * size
 one_size_less i size n same = omega (arith, same, one_longer i size)
 
-content_at : (stream : List ℕ) (size : ℕ) (places : List ℕ) (i d : ℕ) → HaveRoom (length stream) size places → i < length places
+pub content_at : (stream : List ℕ) (size : ℕ) (places : List ℕ) (i d : ℕ) → HaveRoom (length stream) size places → i < length places
     → bytes_at size (content_of stream size places) (i * size) ≡ bytes_at size stream (get_or places i d)
 content_at stream size [] i d room below = absurd (omega (arith, below))
 content_at stream size (place ∷ places) zero d room below =
@@ -78,7 +78,7 @@ content_at stream size (place ∷ places) (suc i) d room below =
     ∙ ap (bytes_at size (content_of stream size places)) (one_size_less i size (length first) long)
     ∙ content_at stream size places i d room.1 (omega (arith, below))
 
-front_room : (total size n : ℕ) (places : List ℕ) → HaveRoom total size places → HaveRoom total size (take n places)
+pub front_room : (total size n : ℕ) (places : List ℕ) → HaveRoom total size places → HaveRoom total size (take n places)
 front_room total size zero places room = tt
 front_room total size (suc n) [] room = tt
 front_room total size (suc n) (place ∷ places) room = (room.0, front_room total size n places room.1)
