@@ -101,6 +101,7 @@ pub does_none : (v : View) (source : ℕ) → Does v v source [] 0
 does_none v source = record {
   later = record { seen = prefix_self v.seen; kept = prefix_self v.kept; knows = λ is. is; basis_is = refl };
   mine = sym (append-nil (own_part v.mine));
+  own = λ is. is;
   marked = tt;
   counted = refl;
   asked = λ n there. inl there;
@@ -112,6 +113,7 @@ does_more v u w source done more n m first second = record {
   later = later_trans v u w first.later second.later;
   mine = second.mine ∙ ap (λ own. own ++ samples_of more) first.mine ∙ append_assoc (own_part v.mine) (samples_of done) (samples_of more)
       ∙ ap (λ s. own_part v.mine ++ s) (sym (samples_of-append done more));
+  own = λ is. second.own (first.own is);
   marked = marked_more w.basis.owners source w.seen w.kept (own_part v.mine) (own_part u.mine) done more first.mine
       (marked_later w.basis.owners source u.seen w.seen u.kept w.kept (own_part v.mine) done second.later.seen second.later.kept
       (subst (λ (b : Basis). AreMarked b.owners source u.seen u.kept (own_part v.mine) done) (sym second.later.basis_is) first.marked))

@@ -11,13 +11,13 @@ use Rattle.mdf_layout.specs.declared.sample.Sample.{Sample}
 use Rattle.book_owned.specs.Account.{Account, Terms}
 use Rattle.book_shared.specs.Basis.{Basis}
 use Rattle.book_shared.specs.Rule.{asks}
-use Rattle.book_shared.specs.Place.{Place, own_part}
+use Rattle.book_shared.specs.Place.{Place}
 use Rattle.book_shared.specs.Seats.{new_seat, new_seats, AreOf, AskedBy, HasNumber, Closed, Closes}
 use Rattle.book_shared.proofs.Beginning.{new_seats-length}
 use Rattle.acq_run.specs.Tasks.{MayFeed}
-use Rattle.acq_run.specs.Works.{AreMarked, HasDriven, HasRoomNext, IsFlushed, IsOver}
+use Rattle.acq_run.specs.Works.{AreMarked, Ends, HasDriven, HasRoomNext, IsFlushed, IsOver}
 use Rattle.acq_run.specs.Workers.{IsReady, driven_of}
-use Rattle.acq_run.specs.Ran.{AllMayFeed, AllRan, AskedFor, EndsIn, Ran, RefusedBehind, seen_by}
+use Rattle.acq_run.specs.Ran.{AllMayFeed, AllRan, AskedFor, EndsIn, Ran, seen_by}
 use Rattle.acq_run.specs.declared.tasks.Fed.{Fed}
 use Rattle.acq_run.specs.declared.work.Driven.{Driven}
 use Rattle.acq_run.specs.declared.work.Ended.{Ended}
@@ -26,45 +26,40 @@ use Rattle.acq_run.specs.declared.work.Worker.{Worker}
 use Rattle.acq_run.proofs.Doing.{flushed_later, marked_later}
 use Rattle.acq_run.proofs.Owning.{flushed_same, may_same, ran_same}
 
+-- why the work of a source ended, in the book that is one again
+ends_in : {D V : Type 0} (basis : Basis) (book : Account D V) (seat : Place) (source : ℕ) (rest : List Fed) (how : Ended) → Closed basis book seat
+    → seat.know.basis.terms ≡ book.terms → Ends seat.know source rest how → EndsIn book seat.know.seen rest how
+ends_in basis book seat source rest Running closed terms ends = absurd ends
+ends_in basis book seat source rest Done closed terms ends = ends
+ends_in basis book seat source rest (SessionFull held size limit) closed terms ends = subst (λ (t : Terms). IsOver t seat.know.seen rest held size limit) terms ends.0
+ends_in basis book seat source rest (Stopped mark) closed terms ends = (closed.knows ends.1, (seat.know.kept, closed.kept, ends.0))
+ends_in basis book seat source rest (DiskFault before after) closed terms ends = (closed.knows ends.1, ends.0)
+ends_in basis book seat source rest Memory closed terms ends = subst (λ (t : Terms). HasRoomNext t seat.know.seen rest) terms ends.1
+
 -- one source
 module _ {D V : Type 0} (basis : Basis) (book : Account D V) (terms : book.terms ≡ basis.terms) (table : TableId) (number : ℕ) (seat : Place)
     (closed : Closed basis book seat) (feds : List Fed) (accepted : ℕ) (how : Ended) (driven : HasDriven (new_seat table basis number) seat feds accepted how) where
-  of_book : own_part seat.know.mine ≡ source_samples basis.owners book.history number
-  of_book = closed.mine ∙ ap (λ k. source_samples basis.owners book.history k) driven.seat.number_is
-
   same_basis : seat.know.basis ≡ basis
   same_basis = driven.drives.does.later.basis_is
 
-  ran_with : (before : List Sample) → IsPrefix before book.history → source_samples basis.owners before number ≡ source_samples basis.owners book.history number
-      → EndsIn book before driven.drives.rest how → RefusedBehind seat.know.seen before how
-      → Ran basis.owners book number seat.know.seen feds (record { accepted = accepted; ended = how })
-  ran_with before begins all_own ends behind = record {
+  pub ran_of : Ran basis.owners book number seat.know.seen feds (record { accepted = accepted; ended = how })
+  ran_of = record {
     done = driven.drives.done;
     rest = driven.drives.rest;
     parts = driven.drives.parts;
-    own = sym of_book ∙ driven.drives.does.mine;
-    marked = marked_later basis.owners number seat.know.seen book.history seat.know.kept book.marks [] driven.drives.done closed.seen closed.kept
-        (subst (λ (b : Basis). AreMarked b.owners number seat.know.seen seat.know.kept [] driven.drives.done) same_basis driven.drives.does.marked);
+    own = ap (λ k. source_samples basis.owners book.history k) (sym driven.seat.number_is) ∙ sym closed.mine ∙ driven.drives.does.mine;
     counted = driven.drives.does.counted;
-    before = before;
-    begins = begins;
-    all_own = all_own;
-    ends = ends;
-    behind = behind;
+    begins = closed.seen;
+    all_own = ap (λ (b : Basis). source_samples b.owners seat.know.seen number) (sym same_basis) ∙ driven.drives.does.own refl ∙ driven.drives.does.mine;
+    marked = marked_later basis.owners number seat.know.seen seat.know.seen seat.know.kept book.marks [] driven.drives.done (prefix_self seat.know.seen) closed.kept
+        (subst (λ (b : Basis). AreMarked b.owners number seat.know.seen seat.know.kept [] driven.drives.done) same_basis driven.drives.does.marked);
+    ends = ends_in basis book seat number driven.drives.rest how closed (ap (λ (b : Basis). b.terms) same_basis ∙ sym terms) driven.drives.ends;
   }
 
-  ran_all : EndsIn book book.history driven.drives.rest how → RefusedBehind seat.know.seen book.history how
-      → Ran basis.owners book number seat.know.seen feds (record { accepted = accepted; ended = how })
-  ran_all ends behind = ran_with book.history (prefix_self book.history) refl ends behind
-
-  same_terms : seat.know.basis.terms ≡ book.terms
-  same_terms = ap (λ (b : Basis). b.terms) same_basis ∙ sym terms
-
-  -- it ended where all of its own had been seen
-  ran_seen : source_samples seat.know.basis.owners seat.know.seen number ≡ own_part seat.know.mine → EndsIn book seat.know.seen driven.drives.rest how
-      → RefusedBehind seat.know.seen seat.know.seen how → Ran basis.owners book number seat.know.seen feds (record { accepted = accepted; ended = how })
-  ran_seen all_own ends behind =
-      ran_with seat.know.seen closed.seen (ap (λ (b : Basis). source_samples b.owners seat.know.seen number) (sym same_basis) ∙ all_own ∙ of_book) ends behind
+  -- what is said to be done of it is what its work did
+  pub done_of : ran_of.done ≡ driven.drives.done
+  unfolding ran_of
+  done_of = refl
 
 -- some of two counts
 some_of : (a b : ℕ) → 0 < a + b → (0 < a) ⊎ (0 < b)
@@ -80,37 +75,6 @@ asked_of basis book table number seat closed feds accepted how driven n there = 
     (flushed_later basis.owners number seat.know.seen book.history [] driven.drives.done driven.drives.rest n closed.seen
     (subst (λ (b : Basis). IsFlushed b.owners number seat.know.seen [] driven.drives.done n) driven.drives.does.later.basis_is flushed)))
     (driven.drives.does.asked n there)
-
-pub ran_of : {D V : Type 0} (basis : Basis) (book : Account D V) → book.terms ≡ basis.terms → (table : TableId) (number : ℕ) (seat : Place) → Closed basis book seat
-    → (feds : List Fed) (accepted : ℕ) (how : Ended) → HasDriven (new_seat table basis number) seat feds accepted how
-    → Ran basis.owners book number seat.know.seen feds (record { accepted = accepted; ended = how })
-ran_of basis book terms table number seat closed feds accepted Running driven = absurd driven.drives.ends
-ran_of basis book terms table number seat closed feds accepted Done driven = ran_all basis book terms table number seat closed feds accepted Done driven driven.drives.ends tt
-ran_of basis book terms table number seat closed feds accepted (SessionFull held size limit) driven =
-    ran_seen basis book terms table number seat closed feds accepted (SessionFull held size limit) driven driven.drives.ends.1
-    (subst (λ (t : Terms). IsOver t seat.know.seen driven.drives.rest held size limit)
-    (same_terms basis book terms table number seat closed feds accepted (SessionFull held size limit) driven) driven.drives.ends.0) refl
-ran_of basis book terms table number seat closed feds accepted (Stopped mark) driven =
-    ran_all basis book terms table number seat closed feds accepted (Stopped mark) driven
-    (closed.knows driven.drives.ends.1, (seat.know.kept, closed.kept, driven.drives.ends.0)) tt
-ran_of basis book terms table number seat closed feds accepted (DiskFault before after) driven =
-    ran_all basis book terms table number seat closed feds accepted (DiskFault before after) driven (closed.knows driven.drives.ends.1, driven.drives.ends.0) tt
-ran_of basis book terms table number seat closed feds accepted Memory driven =
-    ran_seen basis book terms table number seat closed feds accepted Memory driven driven.drives.ends.2
-    (subst (λ (t : Terms). HasRoomNext t seat.know.seen driven.drives.rest)
-    (same_terms basis book terms table number seat closed feds accepted Memory driven) driven.drives.ends.1) refl
-
--- what is said to be done of a source is what its work did
-pub done_of : {D V : Type 0} (basis : Basis) (book : Account D V) (terms : book.terms ≡ basis.terms) (table : TableId) (number : ℕ) (seat : Place) (closed : Closed basis book seat)
-    (feds : List Fed) (accepted : ℕ) (how : Ended) (driven : HasDriven (new_seat table basis number) seat feds accepted how)
-    → (ran_of basis book terms table number seat closed feds accepted how driven).done ≡ driven.drives.done
-unfolding ran_of ran_all ran_seen ran_with
-done_of basis book terms table number seat closed feds accepted Running driven = absurd driven.drives.ends
-done_of basis book terms table number seat closed feds accepted Done driven = refl
-done_of basis book terms table number seat closed feds accepted (SessionFull held size limit) driven = refl
-done_of basis book terms table number seat closed feds accepted (Stopped mark) driven = refl
-done_of basis book terms table number seat closed feds accepted (DiskFault before after) driven = refl
-done_of basis book terms table number seat closed feds accepted Memory driven = refl
 
 -- as many seats as sources
 pub seats_count : (table : TableId) (basis : Basis) (seats : List Place) (sources : ℕ) → seats ≡ new_seats table basis 0 sources → length seats ≡ sources
@@ -301,9 +265,12 @@ module _ {F L : Type 0} (left : F → List Fed) (table : TableId) (basis : Basis
     worked_numbers seats are n less =
         subst (HasNumber n) (sym (are ∙ ap seats_of worked.after_is)) (has_number 0 lent news worked.all n (omega arith) (omega (arith, less, worked.count)))
 
-    pub worked_count : (followers : List L) → followers ≡ followers_of after → length followers ≡ length feeds
-    worked_count followers are =
-        omega (arith, ap length are, length-map after (λ (w : Worker F L). w.follower), ap length worked.after_is, all_long 0 lent news worked.all, worked.count)
+    -- one for each feed, of what there is one for each worker
+    pub worked_count : {B : Type 0} (f : Worker F L → B) (made : List B) → made ≡ map f after → length made ≡ length feeds
+    worked_count f made are = omega (arith, ap length are, length-map after f, ap length worked.after_is, all_long 0 lent news worked.all, worked.count)
+
+    pub worked_seen : (seats : List Place) → seats ≡ seats_of after → length (seen_by seats) ≡ length feeds
+    worked_seen seats are = length-map seats (λ (seat : Place). seat.know.seen) ∙ worked_count (λ (w : Worker F L). w.seat) seats are
 
     pub worked_follow : (follows : L → ℕ → List Sample → Type 0)
         → ((l : L) (which : ℕ) (seen more : List Sample) → follows l which seen → IsPrefix seen more → follows l which more)

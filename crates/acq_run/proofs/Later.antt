@@ -1,7 +1,7 @@
 -- Sources that have worked, in a book that was flushed since.
 use Rattle.std.proofs.Common.{◌≡◌, ℕ, suc, List, [], ◌∷◌, sym, ◌∙◌, ap, subst, get_or, append-nil}
 use mathlib.Core.List.{IsPrefix}
-use Rattle.mdf_gate.proofs.Carrying.{prefix_trans}
+use Rattle.mdf_gate.proofs.Carrying.{prefix_self, prefix_trans}
 use Rattle.mdf_layout.specs.History.{source_samples}
 use Rattle.mdf_layout.specs.declared.sample.Sample.{Sample}
 use Rattle.book_owned.specs.Account.{Account, Steps, Terms}
@@ -17,14 +17,14 @@ module _ {D V : Type 0} (old new : Account D V) (steps : Steps old new []) where
   same : new.history ≡ old.history
   same = steps.history ∙ append-nil old.history
 
-  ends_later : (before : List Sample) (rest : List Fed) (how : Ended) → EndsIn old before rest how → EndsIn new before rest how
-  ends_later before rest Running ends = absurd ends
-  ends_later before rest Done ends = ends
-  ends_later before rest (SessionFull held size limit) ends = subst (λ (t : Terms). IsOver t before rest held size limit) (sym steps.terms) ends
-  ends_later before rest (Stopped mark) ends =
+  ends_later : (seen : List Sample) (rest : List Fed) (how : Ended) → EndsIn old seen rest how → EndsIn new seen rest how
+  ends_later seen rest Running ends = absurd ends
+  ends_later seen rest Done ends = ends
+  ends_later seen rest (SessionFull held size limit) ends = subst (λ (t : Terms). IsOver t seen rest held size limit) (sym steps.terms) ends
+  ends_later seen rest (Stopped mark) ends =
       (steps.stopped ends.0, (ends.1.0, prefix_trans ends.1.0 old.marks new.marks ends.1.1 steps.marks, ends.1.2))
-  ends_later before rest (DiskFault less more) ends = (steps.stopped ends.0, ends.1)
-  ends_later before rest Memory ends = subst (λ (t : Terms). HasRoomNext t before rest) (sym steps.terms) ends
+  ends_later seen rest (DiskFault less more) ends = (steps.stopped ends.0, ends.1)
+  ends_later seen rest Memory ends = subst (λ (t : Terms). HasRoomNext t seen rest) (sym steps.terms) ends
 
   ran_later : (owners : List ℕ) (source : ℕ) (seen : List Sample) (feds : List Fed) (driven : Driven) → Ran owners old source seen feds driven
       → Ran owners new source seen feds driven
@@ -33,13 +33,11 @@ module _ {D V : Type 0} (old new : Account D V) (steps : Steps old new []) where
     rest = ran.rest;
     parts = ran.parts;
     own = ap (λ h. source_samples owners h source) same ∙ ran.own;
-    marked = marked_later owners source old.history new.history old.marks new.marks [] ran.done ([], sym steps.history) steps.marks ran.marked;
     counted = ran.counted;
-    before = ran.before;
-    begins = subst (IsPrefix ran.before) (sym same) ran.begins;
-    all_own = ran.all_own ∙ ap (λ h. source_samples owners h source) (sym same);
-    ends = ends_later ran.before ran.rest driven.ended ran.ends;
-    behind = ran.behind;
+    begins = subst (IsPrefix seen) (sym same) ran.begins;
+    all_own = ran.all_own;
+    marked = marked_later owners source seen seen old.marks new.marks [] ran.done (prefix_self seen) steps.marks ran.marked;
+    ends = ends_later seen ran.rest driven.ended ran.ends;
   }
 
   pub all_later : (owners : List ℕ) (seen : List (List Sample)) (source : ℕ) (feeds : List (List Fed)) (all : List Driven) → AllRan owners old seen source feeds all

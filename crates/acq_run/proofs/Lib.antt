@@ -1,4 +1,4 @@
-mod Doing
+pub mod Doing
 pub mod Gathering
 mod Groups
 pub mod Later

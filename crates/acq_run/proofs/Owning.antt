@@ -55,13 +55,11 @@ module _ (table owners : List ℕ) (alike : (group : ℕ) → slice_index table 
     rest = ran.rest;
     parts = ran.parts;
     own = sym (source_same book.history) ∙ ran.own;
-    marked = marked_same book.history [] book.marks ran.done ran.marked;
     counted = ran.counted;
-    before = ran.before;
     begins = ran.begins;
-    all_own = sym (source_same ran.before) ∙ ran.all_own ∙ source_same book.history;
+    all_own = sym (source_same seen) ∙ ran.all_own;
+    marked = marked_same seen [] book.marks ran.done ran.marked;
     ends = ran.ends;
-    behind = ran.behind;
   }
 
   pub done_same : {D V : Type 0} (book : Account D V) (seen : List Sample) (feds : List Fed) (driven : Driven) (ran : Ran table book source seen feds driven)

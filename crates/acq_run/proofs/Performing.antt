@@ -19,7 +19,7 @@ use Rattle.book_shared.specs.Told.{Appends, AppendsBook, Asks, Flushes, FlushesB
 use Rattle.book_shared.specs.Turns.{Served}
 use Rattle.book_shared.specs.declared.view.View.{View}
 use Rattle.book_shared.proofs.Causing.{asked_one}
-use Rattle.acq_run.specs.Works.{CountsFaults, Does, Ends, IsFlushed, IsLater, appended}
+use Rattle.acq_run.specs.Works.{CountsFaults, Does, Ends, HasSeenOwn, IsFlushed, IsLater, appended}
 use Rattle.acq_run.specs.declared.tasks.Fed.{Fed}
 use Rattle.acq_run.specs.declared.tasks.Fed.TheVariants as fed
 use Rattle.acq_run.specs.declared.work.Ended.{Ended}
@@ -52,7 +52,7 @@ module _ (v u : View) (history added : List Sample) (served : Served v u history
       subst (λ (b : Basis). follows follower b.terms.which u.seen) (sym served.basis_is) (stays follower v.basis.terms.which v.seen u.seen now served_later.seen)
 
   -- all that the source has are its own samples in the history
-  own_seen : (number : ℕ) → IsSingle u number → source_samples u.basis.owners u.seen number ≡ own_part u.mine
+  own_seen : (number : ℕ) → IsSingle u number → HasSeenOwn u number
   own_seen number single = sym (subst (AreOwn u.basis.owners u.seen) single served.own).0
 
 -- what was asked for before
@@ -60,22 +60,24 @@ asked_before : (P : ℕ → Type 0) (v u : View) → u.asked ≡ v.asked → (n 
 asked_before P v u same n there = inl (subst (λ a. 0 < times_of n a) same there)
 
 -- nothing was accepted in it
-pub does_nothing : (v u : View) (history : List Sample) (source : ℕ) → Served v u history [] → u.asked ≡ v.asked → Does v u source [] 0
-does_nothing v u history source served same = record {
+pub does_nothing : (v u : View) (history : List Sample) (source : ℕ) → IsSingle u source → Served v u history [] → u.asked ≡ v.asked → Does v u source [] 0
+does_nothing v u history source single served same = record {
   later = served_later v u history [] served;
   mine = served.mine;
+  own = λ is. own_seen v u history [] served source single;
   marked = tt;
   counted = refl;
   asked = asked_before (IsFlushed u.basis.owners source u.seen (own_part v.mine) []) v u same;
 }
 
 -- an append
-module _ (v u : View) (source : ℕ) (sample : Sample) (same : u.asked ≡ v.asked) where
+module _ (v u : View) (source : ℕ) (single : IsSingle u source) (sample : Sample) (same : u.asked ≡ v.asked) where
   done_by : (answer : Append) → Appends v u sample answer → IfOk (appended answer) (λ accepted. Does v u source (fed.Sample sample ∷ []) accepted)
   done_by (append.Accepted place) (history, served, told) =
       record {
         later = served_later v u history (sample ∷ []) served;
         mine = served.mine;
+        own = λ is. own_seen v u history (sample ∷ []) served source single;
         marked = tt;
         counted = refl;
         asked = asked_before (IsFlushed u.basis.owners source u.seen (own_part v.mine) (fed.Sample sample ∷ [])) v u same;
@@ -85,12 +87,12 @@ module _ (v u : View) (source : ℕ) (sample : Sample) (same : u.asked ≡ v.ask
   done_by (append.DiskFault before after) appends = tt
   done_by append.Memory appends = tt
 
-  module _ {D V N : Type 0} (disk : DiskOf D) (view : ViewOf V N) (number : ℕ) (single : IsSingle u number) where
+  module _ {D V N : Type 0} (disk : DiskOf D) (view : ViewOf V N) (number : ℕ) (same_number : number ≡ source) where
     ended_by : (answer : Append) → Appends v u sample answer → AppendsBook disk view u sample answer
         → IfErr (appended answer) (λ ended. Does v u source [] 0 × ((rest : List Fed) → Ends u number (fed.Sample sample ∷ rest) ended))
     ended_by (append.Accepted place) appends book = tt
     ended_by (append.SessionFull held size limit) (history, served, told) book = (
-      does_nothing v u history source served same,
+      does_nothing v u history source single served same,
       λ rest. (
         record {
           sample = sample;
@@ -100,23 +102,23 @@ module _ (v u : View) (source : ℕ) (sample : Sample) (same : u.asked ≡ v.ask
           limit_is = told.2;
           over = told.3;
         },
-        own_seen v u history [] served number single,
+        own_seen v u history [] served number (subst (IsSingle u) (sym same_number) single),
       ),
     )
     ended_by (append.Stopped mark) (history, served, told) book = (
-      does_nothing v u history source served same,
+      does_nothing v u history source single served same,
       λ rest. (told.0, told.1, (book.old.history, book.old.marks, book.turned.found ∙ ap (holding book.old.history book.old.marks) book.answers.stopped)),
     )
     ended_by (append.DiskFault before after) (history, served, told) book = (
-      does_nothing v u history source served same,
+      does_nothing v u history source single served same,
       λ rest. (told.0, told.1, (book.old.history, book.old.marks, book.turned.found ∙ ap (holding book.old.history book.old.marks) book.answers.1.going)),
     )
     ended_by append.Memory (history, served, told) book = (
-      does_nothing v u history source served same,
+      does_nothing v u history source single served same,
       λ rest. (
         told.0,
         record { sample = sample; next = record { later = rest; rest_is = refl }; room = told.1 },
-        own_seen v u history [] served number single,
+        own_seen v u history [] served number (subst (IsSingle u) (sym same_number) single),
       ),
     )
 
@@ -144,12 +146,12 @@ module _ (v u : View) (source : ℕ) (sample : Sample) (same : u.asked ≡ v.ask
       (subst (λ t. IfOk (appended answer) (λ accepted. Does v u source (t ∷ []) accepted)) (sym is) (done_by answer appends))
 
 -- a flush
-module _ {D V N : Type 0} (disk : DiskOf D) (view : ViewOf V N) (v u : View) (source number : ℕ) (same : number ≡ source) (single : IsSingle u number) where
+module _ {D V N : Type 0} (disk : DiskOf D) (view : ViewOf V N) (v u : View) (source : ℕ) (single : IsSingle u source) where
   pub flush_done : (through shown : ℕ) (note : N) → Flushes {N = N} v u (flush.Done through shown note) → Asks {N = N} v u (flush.Done through shown note) → Does v u source (fed.Flush ∷ []) 0
   flush_done through shown note (history, served, told) asks =
       let own = served.mine ∙ append-nil (own_part v.mine) in
       let own_is : source_samples u.basis.owners (take through u.seen) source ≡ own_part v.mine =
-      sym (subst (AreOwn u.basis.owners (take through u.seen)) (subst (IsSingle u) same single) told.2).0 ∙ own in
+      sym (subst (AreOwn u.basis.owners (take through u.seen)) single told.2).0 ∙ own in
       let now : IsFlushed u.basis.owners source u.seen (own_part v.mine) (fed.Flush ∷ []) through = record {
         first = [];
         later = [];
@@ -160,6 +162,7 @@ module _ {D V N : Type 0} (disk : DiskOf D) (view : ViewOf V N) (v u : View) (so
       record {
         later = served_later v u history [] served;
         mine = served.mine;
+        own = λ is. own_seen v u history [] served source single;
         marked = (
           record {
             through = through;
@@ -177,15 +180,15 @@ module _ {D V N : Type 0} (disk : DiskOf D) (view : ViewOf V N) (v u : View) (so
       }
 
   pub flush_stopped : (mark : Mark) → Flushes {N = N} v u (flush.Stopped mark) → Asks {N = N} v u (flush.Stopped mark) → FlushesBook disk view u (flush.Stopped mark)
-      → Does v u source [] 0 × ((rest : List Fed) → Ends u number rest (Stopped mark))
+      → Does v u source [] 0 × ((rest : List Fed) → Ends u source rest (Stopped mark))
   flush_stopped mark (history, served, told) asks book = (
-    does_nothing v u history source served asks,
+    does_nothing v u history source single served asks,
     λ rest. (told.0, told.1, (book.old.history, book.old.marks, book.turned.found ∙ ap (holding book.old.history book.old.marks) book.answers.stopped)),
   )
 
   pub flush_failed : (before after : ℕ) → Flushes {N = N} v u (flush.DiskFault before after) → Asks {N = N} v u (flush.DiskFault before after) → FlushesBook disk view u (flush.DiskFault before after)
-      → Does v u source [] 0 × ((rest : List Fed) → Ends u number rest (DiskFault before after))
+      → Does v u source [] 0 × ((rest : List Fed) → Ends u source rest (DiskFault before after))
   flush_failed before after (history, served, told) asks book = (
-    does_nothing v u history source served asks,
+    does_nothing v u history source single served asks,
     λ rest. (told.0, told.1, (book.old.history, book.old.marks, book.turned.found ∙ ap (holding book.old.history book.old.marks) book.answers.0.going)),
   )

@@ -20,39 +20,32 @@ use Rattle.acq_run.specs.declared.work.Ended.TheVariants.{Running, Done, Session
 abbrev pub WasLast : List Mark → Mark → Type 0
 WasLast marks mark = (kept : List Mark) × IsPrefix kept marks × (mark ≡ last_mark kept)
 
--- why a source's work ended behind this history, by the book and what is left of the feed
+-- why a source's work ended that had seen this history, by the book and what is left of the feed
 abbrev pub EndsIn : {D V : Type 0} → Account D V → List Sample → List Fed → Ended → Type 0
-EndsIn book before rest Running = ⊥
-EndsIn book before rest Done = rest ≡ []
-EndsIn book before rest (SessionFull held size limit) = IsOver book.terms before rest held size limit
-EndsIn book before rest (Stopped mark) = (book.stopped ≡ true) × WasLast book.marks mark
-EndsIn book before rest (DiskFault less more) = (book.stopped ≡ true) × Rose less more
-EndsIn book before rest Memory = HasRoomNext book.terms before rest
+EndsIn book seen rest Running = ⊥
+EndsIn book seen rest Done = rest ≡ []
+EndsIn book seen rest (SessionFull held size limit) = IsOver book.terms seen rest held size limit
+EndsIn book seen rest (Stopped mark) = (book.stopped ≡ true) × WasLast book.marks mark
+EndsIn book seen rest (DiskFault less more) = (book.stopped ≡ true) × Rose less more
+EndsIn book seen rest Memory = HasRoomNext book.terms seen rest
 
 -- what each of these seats has seen of the history
 abbrev pub seen_by : List Place → List (List Sample)
 seen_by seats = map (λ seat. seat.know.seen) seats
 
--- a source that was refused its next sample was refused it behind just what it had then seen
-abbrev pub RefusedBehind : List Sample → List Sample → Ended → Type 0
-RefusedBehind seen before (SessionFull held size limit) = before ≡ seen
-RefusedBehind seen before Memory = before ≡ seen
-RefusedBehind seen before _ = Unit {0}
-
--- A source has worked: some of what its feed had was done, and just those samples are its own in the history. It ended behind
--- a beginning of the history that has all of them: where it was refused a sample, behind what it had seen at its last turn.
+-- A source has worked: some of what its feed had was done, and just those samples are its own in the history. What it had seen
+-- at its last turn is a beginning of the history that has all of them, and for each flush a mark that goes no further; its work
+-- ended behind just that.
 pub record Ran {D V : Type 0} (owners : List ℕ) (book : Account D V) (source : ℕ) (seen : List Sample) (feds : List Fed) (driven : Driven) : Type 0 where
   pub done : List Fed
   pub rest : List Fed
   pub parts : done ++ rest ≡ feds
   pub own : source_samples owners book.history source ≡ samples_of done
-  pub marked : AreMarked owners source book.history book.marks [] done
   pub counted : driven.accepted ≡ length (samples_of done)
-  pub before : List Sample
-  pub begins : IsPrefix before book.history
-  pub all_own : source_samples owners before source ≡ source_samples owners book.history source
-  pub ends : EndsIn book before rest driven.ended
-  pub behind : RefusedBehind seen before driven.ended
+  pub begins : IsPrefix seen book.history
+  pub all_own : source_samples owners seen source ≡ samples_of done
+  pub marked : AreMarked owners source seen book.marks [] done
+  pub ends : EndsIn book seen rest driven.ended
 
 -- So have all from this source on, with these feeds. What each source has seen of the history is listed by its number.
 abbrev pub AllRan : {D V : Type 0} → List ℕ → Account D V → List (List Sample) → ℕ → List (List Fed) → List Driven → Type 0

@@ -72,17 +72,21 @@ pub record HasRoomNext (terms : Terms) (history : List Sample) (rest : List Fed)
 abbrev pub Found : View → Bool → Type 0
 Found u stopped = (history : List Sample) × (marks : List Mark) × (u.last ≡ holding history marks stopped)
 
+-- the seat has seen all samples of its source
+abbrev pub HasSeenOwn : View → ℕ → Type 0
+HasSeenOwn u source = source_samples u.basis.owners u.seen source ≡ own_part u.mine
+
 -- why a source's work ended, by what its seat knows and what is left of its feed. All that was accepted of the source had
 -- been seen then.
 abbrev pub Ends : View → ℕ → List Fed → Ended → Type 0
 Ends u source rest Running = ⊥
 Ends u source rest Done = rest ≡ []
 Ends u source rest (SessionFull held size limit) =
-    IsOver u.basis.terms u.seen rest held size limit × (source_samples u.basis.owners u.seen source ≡ own_part u.mine)
+    IsOver u.basis.terms u.seen rest held size limit × HasSeenOwn u source
 Ends u source rest (Stopped mark) = (mark ≡ last_mark u.kept) × (u.knows ≡ true) × Found u true
 Ends u source rest (DiskFault before after) = Rose before after × (u.knows ≡ true) × Found u false
 Ends u source rest Memory =
-    (u.knows ≡ false) × HasRoomNext u.basis.terms u.seen rest × (source_samples u.basis.owners u.seen source ≡ own_part u.mine)
+    (u.knows ≡ false) × HasRoomNext u.basis.terms u.seen rest × HasSeenOwn u source
 
 -- Where a source's work ended by a fault of the disk, the two numbers say how often the disk had failed before the seat's
 -- last turn, and after it.
@@ -110,11 +114,12 @@ pub record IsLater (v u : View) : Type 0 where
   pub knows : v.knows ≡ true → u.knows ≡ true
   pub basis_is : u.basis ≡ v.basis
 
--- All of this was done, in order: the samples were accepted, so many, each flush has its mark, and the seat asked for no
--- other.
+-- All of this was done, in order: the samples were accepted, so many, and the seat has seen them; each flush has its mark in
+-- what it has seen, and the seat asked for no other.
 pub record Does (v u : View) (source : ℕ) (done : List Fed) (accepted : ℕ) : Type 0 where
   pub later : IsLater v u
   pub mine : own_part u.mine ≡ own_part v.mine ++ samples_of done
+  pub own : HasSeenOwn v source → HasSeenOwn u source
   pub marked : AreMarked u.basis.owners source u.seen u.kept (own_part v.mine) done
   pub counted : accepted ≡ length (samples_of done)
   pub asked : (n : ℕ) → 0 < times_of n u.asked → (0 < times_of n v.asked) ⊎ IsFlushed u.basis.owners source u.seen (own_part v.mine) done n

@@ -110,6 +110,7 @@ pub fn record_live<R: Threads + Wait + Sync, D: Disk + Send, F: Feed + Send + Dr
     requires followers { length watchers.items ≡ length feeds.items }
     requires follow { All (λ watcher. Watches watcher book.terms.which []) watchers.items }
     ensures ran { IfOk result (λ done. AllRan owners.now done.book done.seen 0 (map F.left feeds.items) done.all.items) }
+    ensures saw { IfOk result (λ done. length done.seen ≡ length feeds.items) }
     ensures owned { IfOk result (λ done. AreOwned owners.now (length book.terms.layouts) (vec_len feeds) done.book.history) }
     ensures terms { IfOk result (λ done. done.book.terms ≡ book.terms) }
     ensures marks { IfOk result (λ done. MarksCaused (AskedFor owners.now 0 (map F.left feeds.items) done.book.history)

@@ -111,7 +111,7 @@ pub works_run : {D N G : Type 0} (tells : DiskOf D) (shows : ViewOf Audience N) 
     → fed_by feeds ≡ map feds_of script.lists → Works tells owners begun (fed_by feeds) script.plan.live recorded
     → HasRun tells script file (outcome tells recorded.out recorded.history.items recorded.marks.items) recorded.end
 works_run tells shows script is_script file view begun owners feeds recorded which_is begins owners_are feeds_are (inl none) =
-    idle_run tells shows script file view begun none.accepted none.seen recorded begins
+    idle_run tells shows script file view begun none.accepted recorded begins
     (none.none ∙ ap (λ (n : ℕ). replicate n 0) (ap length feeds_are ∙ length-map script.lists feds_of)) none.closes
 works_run tells shows script is_script file view begun owners feeds recorded which_is begins owners_are feeds_are (inr worked) =
     let ran = ran_lists script.plan.owners owners worked.driven worked.seen feeds script.lists worked.all owners_are feeds_are worked.ran in
@@ -122,4 +122,4 @@ works_run tells shows script is_script file view begun owners feeds recorded whi
     (subst (λ fs. MarksCaused (AskedFor script.plan.owners 0 fs worked.driven.history) begun.terms.layouts begun.terms.block_limit worked.driven.history begun.marks worked.driven.marks) feeds_are
     (subst (λ os. MarksCaused (AskedFor os 0 (fed_by feeds) worked.driven.history) begun.terms.layouts begun.terms.block_limit worked.driven.history begun.marks worked.driven.marks) owners_are worked.marks))
     worked.last (ran_all script.plan.owners worked.driven worked.seen script.lists worked.accepted.items worked.ended worked.all ran worked.accepted_is worked.told)
-    worked.finishes worked.shown_is worked.closes
+    (worked.saw ∙ ap length feeds_are ∙ length-map script.lists feds_of) worked.finishes worked.shown_is worked.closes

@@ -21,7 +21,7 @@ use Rattle.acq_script.specs.declared.script.Script.{Script}
 use Rattle.mdf_command.specs.declared.fault.Fault.{Fault}
 use Rattle.mdf_command.specs.declared.fault.Fault.TheVariants.{Memory}
 use Rattle.mdf_record.specs.Finish.{IsAllDurable}
-use Rattle.mdf_record.specs.Record.{AreAccepted, IsRecorded, Outcome, live_of, outcome}
+use Rattle.mdf_record.specs.Record.{AreAccepted, IsIdle, IsRecorded, Outcome, live_of, outcome}
 use Rattle.mdf_record.specs.Recorded.{Closes, HasRun}
 use Rattle.mdf_record.specs.declared.record.Recorded.{Recorded}
 use Rattle.mdf_record.proofs.Recording.{closed_recorded, closed_run, closed_saved}
@@ -38,8 +38,8 @@ no_live true problem n = refl
 no_live false problem n = refl
 
 module _ {D N : Type 0} (tells : DiskOf D) (shows : ViewOf Audience N) (script : Script) (file : Gated D) (view : Audience) (begun : Account D Audience)
-    (accepted : Stock ℕ) (seen : List (List Sample)) (recorded : Recorded D) (begins : HasBegun tells shows file script.plan.shapes script.plan.block script.plan.session view begun)
-    (none : accepted.items ≡ replicate (length script.lists) 0) (closes : Closes tells begun accepted None (Some Memory) seen recorded) where
+    (accepted : Stock ℕ) (recorded : Recorded D) (begins : HasBegun tells shows file script.plan.shapes script.plan.block script.plan.session view begun)
+    (none : accepted.items ≡ replicate (length script.lists) 0) (closes : Closes tells begun accepted None (Some Memory) [] recorded) where
   abbrev left : Outcome
   left = outcome tells begun.disk begun.history begun.marks
 
@@ -47,7 +47,7 @@ module _ {D N : Type 0} (tells : DiskOf D) (shows : ViewOf Audience N) (script :
   all_durable = (begins.going, ap durable begins.marks ∙ ap length (sym begins.history))
 
   recorded_is : IsRecorded script (head_of (tells.story file.disk) file.first) file.start left
-  recorded_is = closed_recorded tells shows script file view begun accepted None (Some Memory) seen recorded begins.terms closes
+  recorded_is = closed_recorded tells shows script file view begun accepted None (Some Memory) [] recorded begins.terms closes
       (subst (AreOwned script.plan.owners (length script.plan.shapes) script.plan.sources) (sym begins.history) (λ k d within. absurd (omega (arith, within))))
       (λ s tasks there. subst (λ (h : List Sample). IsPrefix (source_samples script.plan.owners h s) (samples_of tasks)) (sym begins.history) (samples_of tasks, refl))
       (λ s tasks there. none_own script.plan.owners s begun.history begun.marks (length (source_samples script.plan.owners begun.history s)) [] tasks
@@ -62,11 +62,14 @@ module _ {D N : Type 0} (tells : DiskOf D) (shows : ViewOf Audience N) (script :
         ∙ ap (λ (h : List Sample). Some (length (source_samples script.plan.owners h s))) (sym begins.history);
   }
 
+  idle : IsIdle script left
+  idle = record {
+    none = begins.history;
+    one = ap length begins.marks;
+    saved = closed_saved tells shows script file view begun accepted None (Some Memory) [] recorded begins.terms closes all_durable;
+  }
+
   pub idle_run : HasRun tells script file (outcome tells recorded.out recorded.history.items recorded.marks.items) recorded.end
-  idle_run = closed_run tells shows script file view begun accepted None (Some Memory) seen recorded begins.terms closes recorded_is accepted_are
+  idle_run = closed_run tells shows script file view begun accepted None (Some Memory) [] recorded begins.terms closes recorded_is accepted_are
       (sym (no_live script.plan.live Memory (length begun.history)))
-      (inr (inr (record {
-        none = begins.history;
-        one = ap length begins.marks;
-        saved = closed_saved tells shows script file view begun accepted None (Some Memory) seen recorded begins.terms closes all_durable;
-      })))
+      (inr (idle, refl)) (inr (inr idle))

@@ -43,7 +43,7 @@ use Rattle.acq_run.specs.declared.work.Ended.TheVariants as work
 use Rattle.acq_run.proofs.Later.{all_later}
 use Rattle.mdf_record.specs.Sources.{AreOwnMarked, RanAll, ends_of, feds_of, told_of}
 use Rattle.mdf_record.specs.Finish.{FileFaultComes, Finishes, FinishEnds, IsAllDurable, IsMade, IsUnmade, MarksLast, NoteComes, WantsToShow}
-use Rattle.mdf_record.specs.Record.{AreAccepted, AreEnds, CloseComes, EndedAt, IsComplete, IsFull, IsIdle, IsNext, IsRecorded, IsSaved, IsShort, IsUnshown, OfSources, Outcome, SourceComes, live_of, outcome}
+use Rattle.mdf_record.specs.Record.{AreAccepted, AreEnds, CloseComes, EndedAt, HasSeen, HaveSeen, IsComplete, IsFull, IsIdle, IsNext, IsRecorded, IsSaved, IsShort, IsUnshown, OfSources, Outcome, SourceComes, WereSeen, live_of, outcome}
 use Rattle.mdf_record.specs.Head.{script_head}
 use Rattle.mdf_record.specs.Recorded.{Closes, HasRun, RunComes, RecordComes}
 use Rattle.mdf_record.specs.declared.sources.End.{End}
@@ -56,7 +56,7 @@ use Rattle.mdf_record.specs.declared.record.RecordEnd.TheVariants.{Refused, Clos
 use Rattle.mdf_record.specs.Causes.{HaveCauses}
 use Rattle.mdf_record.proofs.Causing.{have_causes}
 use Rattle.mdf_record.proofs.Feeding.{next_task, samples_of-append}
-use Rattle.mdf_record.proofs.Runs.{RanAt, RanTasks, accepted-length, all_room, each_done, first_full, hows-length, own_begins, own_flushes, ran_of, whole_ran, worst_err}
+use Rattle.mdf_record.proofs.Runs.{RanAt, RanTasks, accepted-length, all_room, each_done, first_full, hows-length, own_begins, own_flushes, ran_of, seen_flushes, whole_ran, worst_err}
 
 -- the element at a seam
 at_seam : {A : Type 0} (xs : List A) (y : A) (ys : List A) → slice_get (xs ++ y ∷ ys) (length xs) ≡ Some y
@@ -172,15 +172,16 @@ module _ {D N : Type 0} (tells : DiskOf D) (shows : ViewOf Audience N) (script :
       }
 
   pub closed_run : IsRecorded script head file.start closed → AreAccepted script closed accepted.items → live ≡ live_of script.plan.live problem (length book.history)
-      → CloseComes script file.faults closed seen problem
+      → WereSeen script closed seen → CloseComes script file.faults closed seen problem
       → HasRun tells script file (outcome tells recorded.out recorded.history.items recorded.marks.items) recorded.end
-  closed_run is accepted_are live_is comes = record {
+  closed_run is accepted_are live_is saw comes = record {
     comes = rw (closes.end_is) (record {
       recorded = rw (closes.disk, closes.history, closes.marks) is;
       accepted_is = rw (closes.disk, closes.history, closes.marks) accepted_are;
       samples_is = ap length (sym closes.history);
       durable_is = ap durable (sym closes.marks);
       live_is = live_is ∙ ap (λ (h : List Sample). live_of script.plan.live problem (length h)) (sym closes.history);
+      saw = rw (closes.disk, closes.history, closes.marks) saw;
       comes = rw (closes.disk, closes.history, closes.marks) comes;
     });
     asked_is = ap tells.asked closes.disk ∙ closes.asked_is ∙ ap (λ (t : Terms). t.asked) terms_are;
@@ -195,7 +196,7 @@ module _ {D N : Type 0} (tells : DiskOf D) (shows : ViewOf Audience N)
     (same : driven.terms ≡ begun.terms)
     (owned : AreOwned script.plan.owners (length script.plan.shapes) script.plan.sources driven.history)
     (caused : MarksCaused (AskedFor script.plan.owners 0 (map feds_of script.lists) driven.history) begun.terms.layouts begun.terms.block_limit driven.history begun.marks driven.marks)
-    (last : MarksLast driven flushed) (ran : RanAll script.plan.owners driven seen script.lists accepted.items result)
+    (last : MarksLast driven flushed) (ran : RanAll script.plan.owners driven seen script.lists accepted.items result) (seen_count : length seen ≡ length script.lists)
     (finishes : Finishes driven flushed script.plan.live result problem note) (live_is : live ≡ counted note) (closes : Closes tells flushed accepted live problem seen recorded) where
   abbrev owners : List ℕ
   owners = script.plan.owners
@@ -259,14 +260,27 @@ module _ {D N : Type 0} (tells : DiskOf D) (shows : ViewOf Audience N)
       (ap samples_of (sym r.parts) ∙ samples_of-append r.done r.rest ∙ ap (λ ts. samples_of r.done ++ samples_of ts) next_is.1)
       ∙ at_seam (samples_of r.done) sample (samples_of next_is.0)
 
+  -- what it had seen
+  has_seen : (s : ℕ) (saw : List Sample) (tasks : List Task) (driven : Driven) → RanTasks owners flushed s saw tasks driven → HasSeen script left s tasks saw
+  has_seen s saw tasks driven r = record {
+    begins = r.begins;
+    all_own = r.all_own ∙ sym r.own;
+    flush_lines = seen_flushes owners flushed s saw tasks driven r;
+  }
+
+  have_seen : HaveSeen script left seen
+  have_seen = record {
+    count = seen_count;
+    each = λ s tasks there. let at = at_source s tasks there in has_seen s (get_or seen s []) tasks at.driven at.ran;
+  }
+
   -- its work ended there
   ended_at : (s : ℕ) (saw : List Sample) (tasks : List Task) (driven : Driven) (r : RanTasks owners flushed s saw tasks driven) (sample : Sample)
-      → Fed.IsNext (feds_of r.rest) sample → r.before ≡ saw → EndedAt script left s tasks saw
-  ended_at s saw tasks driven r sample next behind = record {
+      → Fed.IsNext (feds_of r.rest) sample → EndedAt script left s tasks saw
+  ended_at s saw tasks driven r sample next = record {
     sample = sample;
     next = next_there s saw tasks driven r sample next;
-    begins = subst (λ (h : List Sample). IsPrefix h flushed.history) behind r.begins;
-    all_own = subst (λ (h : List Sample). source_samples owners h s ≡ source_samples owners flushed.history s) behind r.all_own;
+    saw = has_seen s saw tasks driven r;
   }
 
   source_comes : IsAllDurable flushed → (s : ℕ) (saw : List Sample) (tasks : List Task) (n : ℕ) (how : Ended)
@@ -276,8 +290,8 @@ module _ {D N : Type 0} (tells : DiskOf D) (shows : ViewOf Audience N)
   source_comes durable_all s saw tasks n work.Done r =
       let whole = whole_ran owners flushed s saw tasks (record { accepted = n; ended = work.Done }) tt r in record { history_is = whole.0; flush_lines = whole.1 }
   source_comes durable_all s saw tasks n (work.SessionFull held size limit) r = record {
-    at = ended_at s saw tasks (record { accepted = n; ended = work.SessionFull held size limit }) r r.ends.sample r.ends.next r.behind;
-    held_is = r.ends.held_is ∙ ap (λ (t : Terms). history_cost t.layouts r.before) terms_are ∙ ap (λ (h : List Sample). history_cost script.plan.shapes h) r.behind;
+    at = ended_at s saw tasks (record { accepted = n; ended = work.SessionFull held size limit }) r r.ends.sample r.ends.next;
+    held_is = r.ends.held_is ∙ ap (λ (t : Terms). history_cost t.layouts saw) terms_are;
     size_is = r.ends.size_is ∙ ap (λ (t : Terms). cost_of t.layouts r.ends.sample) terms_are;
     limit_is = r.ends.limit_is ∙ ap (λ (t : Terms). t.session_limit) terms_are;
     over = r.ends.over;
@@ -285,9 +299,8 @@ module _ {D N : Type 0} (tells : DiskOf D) (shows : ViewOf Audience N)
   source_comes durable_all s saw tasks n (work.Stopped mark) r = absurd (true≢false (sym r.ends.0 ∙ durable_all.0))
   source_comes durable_all s saw tasks n (work.DiskFault before after) r = absurd (true≢false (sym r.ends.0 ∙ durable_all.0))
   source_comes durable_all s saw tasks n work.Memory r = record {
-    at = ended_at s saw tasks (record { accepted = n; ended = work.Memory }) r r.ends.sample r.ends.next r.behind;
-    room = subst (λ (h : List Sample). history_cost script.plan.shapes h + cost_of script.plan.shapes r.ends.sample ≤ script.plan.session) r.behind
-        (subst (λ (t : Terms). history_cost t.layouts r.before + cost_of t.layouts r.ends.sample ≤ t.session_limit) terms_are r.ends.room);
+    at = ended_at s saw tasks (record { accepted = n; ended = work.Memory }) r r.ends.sample r.ends.next;
+    room = subst (λ (t : Terms). history_cost t.layouts saw + cost_of t.layouts r.ends.sample ≤ t.session_limit) terms_are r.ends.room;
   }
 
   ends_are : IsAllDurable flushed → AreEnds script left seen (ends_of ran.all)
@@ -328,7 +341,7 @@ module _ {D N : Type 0} (tells : DiskOf D) (shows : ViewOf Audience N)
   has_run = closed_run tells shows script file view flushed accepted live problem seen recorded terms_are closes recorded_is accepted_are
       (live_is ∙ live_comes script.plan.live problem (shows.which view) flushed.history note which_is
       (subst (λ (t : Terms). NoteComes problem script.plan.live t.which flushed.history note) terms_are finishes.noted))
-      (ended problem finishes.ends)
+      (inl have_seen) (ended problem finishes.ends)
 
 -- of a story that is not told nothing is known to be left
 none_left : (s : Option Story) (t : ℕ) (file : List ℕ) → s ≡ None → ¬ LeftSince s t file
@@ -394,6 +407,7 @@ record_comes tells Says Refuses name now out script file left end says is_script
     samples_is = comes.samples_is;
     durable_is = comes.durable_is;
     live_is = comes.live_is;
+    saw = comes.saw;
     comes = close_earlier script (tells.faults out) file.faults left seen problem later comes.comes;
     asked_is = run.asked_is ∙ asked_is;
   }
@@ -426,6 +440,7 @@ comes_as Says Says' Refuses Refuses' says refuses name now disk left (Closed acc
   samples_is = comes.samples_is;
   durable_is = comes.durable_is;
   live_is = comes.live_is;
+  saw = comes.saw;
   comes = comes.comes;
   asked_is = comes.asked_is;
 }

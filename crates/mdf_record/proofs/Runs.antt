@@ -4,16 +4,18 @@ use Rattle.std.specs.Prelude.{All, IfErr, slice_get}
 use Rattle.std.proofs.lemmas.List.{length-map}
 use Rattle.std.proofs.lemmas.Option.{same_Some}
 use mathlib.Core.List.{IsPrefix}
+use Rattle.mdf_gate.proofs.Carrying.{prefix_self}
 use Rattle.mdf_layout.specs.History.{source_samples}
 use Rattle.mdf_layout.specs.declared.sample.Sample.{Sample}
 use Rattle.book_owned.specs.Account.{Account}
 use Rattle.book_owned.specs.declared.mark.Mark.{Mark}
 use Rattle.acq_run.specs.Tasks.{samples_of as samples_fed}
 use Rattle.acq_run.specs.Works.{AreMarked}
-use Rattle.acq_run.specs.Ran.{AllRan, EndsIn, Ran, RefusedBehind}
+use Rattle.acq_run.specs.Ran.{AllRan, EndsIn, Ran}
 use Rattle.acq_run.specs.declared.work.Driven.{Driven}
 use Rattle.acq_run.specs.declared.work.Ended.{Ended}
 use Rattle.acq_run.specs.declared.work.Ended.TheVariants as ended
+use Rattle.acq_run.proofs.Doing.{marked_later}
 use Rattle.acq_script.specs.Tasks.{samples_of}
 use Rattle.acq_script.specs.declared.script.Task.{Task}
 use Rattle.acq_script.specs.declared.script.Task.TheVariants as task
@@ -28,13 +30,11 @@ pub record RanTasks {D V : Type 0} (owners : List ℕ) (book : Account D V) (sou
   pub rest : List Task
   pub parts : done ++ rest ≡ tasks
   pub own : source_samples owners book.history source ≡ samples_of done
-  pub marked : AreMarked owners source book.history book.marks [] (feds_of done)
   pub counted : driven.accepted ≡ length (samples_of done)
-  pub before : List Sample
-  pub begins : IsPrefix before book.history
-  pub all_own : source_samples owners before source ≡ source_samples owners book.history source
-  pub ends : EndsIn book before (feds_of rest) driven.ended
-  pub behind : RefusedBehind seen before driven.ended
+  pub begins : IsPrefix seen book.history
+  pub all_own : source_samples owners seen source ≡ samples_of done
+  pub marked : AreMarked owners source seen book.marks [] (feds_of done)
+  pub ends : EndsIn book seen (feds_of rest) driven.ended
 
 ran_tasks : {D V : Type 0} (owners : List ℕ) (book : Account D V) (source : ℕ) (seen : List Sample) (tasks : List Task) (driven : Driven)
     → Ran owners book source seen (feds_of tasks) driven → RanTasks owners book source seen tasks driven
@@ -46,14 +46,18 @@ ran_tasks owners book source seen tasks driven ran =
       rest = parts.back;
       parts = parts.parts;
       own = ran.own ∙ samples;
-      marked = subst (AreMarked owners source book.history book.marks []) parts.done_is ran.marked;
       counted = ran.counted ∙ ap length samples;
-      before = ran.before;
       begins = ran.begins;
-      all_own = ran.all_own;
-      ends = subst (λ rest. EndsIn book ran.before rest driven.ended) parts.rest_is ran.ends;
-      behind = ran.behind;
+      all_own = ran.all_own ∙ samples;
+      marked = subst (AreMarked owners source seen book.marks []) parts.done_is ran.marked;
+      ends = subst (λ rest. EndsIn book seen rest driven.ended) parts.rest_is ran.ends;
     }
+
+-- the marks of its flushes, in the whole history
+marked_in : {D V : Type 0} (owners : List ℕ) (book : Account D V) (source : ℕ) (seen : List Sample) (tasks : List Task) (driven : Driven)
+    → (ran : RanTasks owners book source seen tasks driven) → AreMarked owners source book.history book.marks [] (feds_of ran.done)
+marked_in owners book source seen tasks driven ran =
+    marked_later owners source seen book.history book.marks book.marks [] (feds_of ran.done) ran.begins (prefix_self book.marks) ran.marked
 
 -- what is known of one of the sources
 pub record RanAt {D V : Type 0} (owners : List ℕ) (book : Account D V) (seen : List (List Sample)) (source : ℕ) (tasks : List Task) (all : List Driven) (s : ℕ) : Type 0 where
@@ -184,9 +188,9 @@ pub whole_ran : {D V : Type 0} (owners : List ℕ) (book : Account D V) (source 
     → RanTasks owners book source seen tasks driven
     → (source_samples owners book.history source ≡ samples_of tasks) × AreOwnMarked owners source book.history book.marks (λ k. Unit {0}) [] tasks
 whole_ran owners book source seen tasks driven done ran =
-    let whole : ran.done ≡ tasks = sym (append-nil ran.done) ∙ ap (λ rest. ran.done ++ rest) (sym (all_done book ran.before ran.rest driven.ended done ran.ends)) ∙ ran.parts in (
+    let whole : ran.done ≡ tasks = sym (append-nil ran.done) ∙ ap (λ rest. ran.done ++ rest) (sym (all_done book seen ran.rest driven.ended done ran.ends)) ∙ ran.parts in (
       ran.own ∙ ap samples_of whole,
-      subst (AreOwnMarked owners source book.history book.marks (λ k. Unit {0}) []) whole (own_marked owners source book.history book.marks (λ k. Unit {0}) [] ran.done ran.marked),
+      subst (AreOwnMarked owners source book.history book.marks (λ k. Unit {0}) []) whole (own_marked owners source book.history book.marks (λ k. Unit {0}) [] ran.done (marked_in owners book source seen tasks driven ran)),
     )
 
 -- the first end for want of room is told, whatever memory was wanted
@@ -303,14 +307,22 @@ pub own_begins : {D V : Type 0} (owners : List ℕ) (book : Account D V) (source
 own_begins owners book source seen tasks driven ran =
     (samples_of ran.rest, ap (λ ss. ss ++ samples_of ran.rest) ran.own ∙ sym (samples_of-append ran.done ran.rest) ∙ ap samples_of ran.parts)
 
-pub own_flushes : {D V : Type 0} (owners : List ℕ) (book : Account D V) (source : ℕ) (seen : List Sample) (tasks : List Task) (driven : Driven) → RanTasks owners book source seen tasks driven
-    → AreOwnMarked owners source book.history book.marks (λ k. k < length (source_samples owners book.history source)) [] tasks
-own_flushes owners book source seen tasks driven ran =
-    let most = length (source_samples owners book.history source) in
-    let counts : ℕ → Type 0 = λ k. k < most in
-    subst (AreOwnMarked owners source book.history book.marks counts []) ran.parts
-    (own_more owners source book.history book.marks counts [] (samples_of ran.done) ran.done ran.rest refl
-    (own_marked owners source book.history book.marks counts [] ran.done ran.marked) (none_own owners source book.history book.marks most (samples_of ran.done) ran.rest (omega (arith, ap length ran.own))))
+module _ {D V : Type 0} (owners : List ℕ) (book : Account D V) (source : ℕ) (seen : List Sample) (tasks : List Task) (driven : Driven) (ran : RanTasks owners book source seen tasks driven) where
+  flushes_in : (history : List Sample) → AreMarked owners source history book.marks [] (feds_of ran.done)
+      → AreOwnMarked owners source history book.marks (λ k. k < length (source_samples owners book.history source)) [] tasks
+  flushes_in history marked =
+      let most = length (source_samples owners book.history source) in
+      let counts : ℕ → Type 0 = λ k. k < most in
+      subst (AreOwnMarked owners source history book.marks counts []) ran.parts
+      (own_more owners source history book.marks counts [] (samples_of ran.done) ran.done ran.rest refl
+      (own_marked owners source history book.marks counts [] ran.done marked) (none_own owners source history book.marks most (samples_of ran.done) ran.rest (omega (arith, ap length ran.own))))
+
+  pub own_flushes : AreOwnMarked owners source book.history book.marks (λ k. k < length (source_samples owners book.history source)) [] tasks
+  own_flushes = flushes_in book.history (marked_in owners book source seen tasks driven ran)
+
+  -- within what it had seen
+  pub seen_flushes : AreOwnMarked owners source seen book.marks (λ k. k < length (source_samples owners book.history source)) [] tasks
+  seen_flushes = flushes_in seen ran.marked
 
 -- a source was stopped only where the book is
 abbrev IsStop : Result Unit End → Type 0
@@ -336,7 +348,7 @@ stopped_told owners book seen lists accepted (Err e) ran = λ is.
     let there = has_list owners book seen 0 lists ran.all ran.each found.0 (Err e) found.1 in
     let at = ran_of owners book seen lists ran.all ran.each found.0 there.0 there.1 in
     let how_is : told_of at.driven.ended ≡ Err Stopped = same_Some (told_of at.driven.ended) (Err e) (sym at.how_is ∙ found.1) ∙ ap Err is in
-    was_stopped book at.ran.before at.ran.rest at.driven.ended (subst IsStop (sym how_is) tt) at.ran.ends
+    was_stopped book (get_or seen found.0 []) at.ran.rest at.driven.ended (subst IsStop (sym how_is) tt) at.ran.ends
 
 -- what all did, as it is told of them
 pub ran_all : {D V : Type 0} (owners : List ℕ) (book : Account D V) (seen : List (List Sample)) (lists : List (List Task)) (accepted : List ℕ) (result : Result Unit End) (all : List Driven)

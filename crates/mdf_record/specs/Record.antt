@@ -110,13 +110,24 @@ abbrev pub IsNext : Script → Outcome → ℕ → List Task → Sample → Type
 IsNext script left source tasks sample =
     slice_get (samples_of tasks) (length (source_samples script.plan.owners left.history source)) ≡ Some sample
 
--- The work of a source ended at its next sample, behind what the source had then seen: a beginning of the history that has all
--- of the source's own samples.
+-- A source has seen this at its last turn: a beginning of the history that has all of its own samples, and for each flush before
+-- the last of them a mark that goes no further.
+pub record HasSeen (script : Script) (left : Outcome) (source : ℕ) (tasks : List Task) (seen : List Sample) : Type 0 where
+  pub begins : IsPrefix seen left.history
+  pub all_own : source_samples script.plan.owners seen source ≡ source_samples script.plan.owners left.history source
+  pub flush_lines : AreOwnMarked script.plan.owners source seen left.marks
+      (λ n. n < length (source_samples script.plan.owners left.history source)) [] tasks
+
+-- This is what each source has seen, in the order of their numbers.
+pub record HaveSeen (script : Script) (left : Outcome) (seen : List (List Sample)) : Type 0 where
+  pub count : length seen ≡ length script.lists
+  pub each : OfSources script (λ source tasks. HasSeen script left source tasks (slice_index_or seen source []))
+
+-- The work of a source ended at its next sample, behind what the source had then seen.
 pub record EndedAt (script : Script) (left : Outcome) (source : ℕ) (tasks : List Task) (seen : List Sample) : Type 0 where
   pub sample : Sample
   pub next : IsNext script left source tasks sample
-  pub begins : IsPrefix seen left.history
-  pub all_own : source_samples script.plan.owners seen source ≡ source_samples script.plan.owners left.history source
+  pub saw : HasSeen script left source tasks seen
 
 -- that sample would have passed the session limit
 pub record LackedRoom (script : Script) (left : Outcome) (source : ℕ) (tasks : List Task) (seen : List Sample) (held size limit : ℕ) : Type 0 where
@@ -171,6 +182,10 @@ pub record IsIdle (script : Script) (left : Outcome) : Type 0 where
   pub none : left.history ≡ []
   pub one : length left.marks ≡ 1
   pub saved : IsSaved script.plan left
+
+-- This is what each source has seen, or none could work and there is nothing.
+abbrev pub WereSeen : Script → Outcome → List (List Sample) → Type 0
+WereSeen script left seen = HaveSeen script left seen ⊎ (IsIdle script left × (seen ≡ []))
 
 -- How a recording that was begun ends, where the disk's count of faults was `faults` before and each source has seen this of the
 -- history: all was done, the disk failed, the session is full, or memory was wanted for a sample, for a view or for the sources

@@ -23,7 +23,7 @@ use Rattle.mdf_record.specs.Head.{script_head}
 use Rattle.mdf_record.specs.Script.{SaysScript, ScriptFaultComes}
 use Rattle.mdf_record.specs.Finish.{FileFaultComes}
 use Rattle.mdf_command.specs.Texts.{Prints}
-use Rattle.mdf_record.specs.Record.{AreAccepted, CloseComes, IsRecorded, Outcome, live_of, record_status, record_text}
+use Rattle.mdf_record.specs.Record.{AreAccepted, CloseComes, IsRecorded, Outcome, WereSeen, live_of, record_status, record_text}
 use Rattle.mdf_command.specs.declared.fault.Fault.{Fault}
 use Rattle.mdf_command.specs.declared.fault.Fault.TheVariants.{Memory}
 use Rattle.mdf_record.specs.declared.record.Recorded.{Recorded}
@@ -62,6 +62,7 @@ pub record IsClosed (Says : Script → Type 0) (name : List ℕ) (now : ℕ) (di
   pub samples_is : samples ≡ length left.history
   pub durable_is : last ≡ durable left.marks
   pub live_is : live ≡ live_of script.plan.live fault (length left.history)
+  pub saw : WereSeen script left seen
   pub comes : CloseComes script disk.faults left seen fault
   pub asked_is : left.disk.asked ≡ Some (name, Create)
 
@@ -104,6 +105,7 @@ pub record HasTasks (script : Script) (head : List ℕ) (start faults : ℕ) (le
   pub samples_is : samples ≡ length left.history
   pub durable_is : last ≡ durable left.marks
   pub live_is : live ≡ live_of script.plan.live fault (length left.history)
+  pub saw : WereSeen script left seen
   pub comes : CloseComes script faults left seen fault
 
 -- or no book could be begun over it

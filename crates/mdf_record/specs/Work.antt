@@ -54,8 +54,7 @@ pub record MayWork {D G : Type 0} (owners : List ℕ) (book : Account D Audience
 pub record HasNotWorked {D : Type 0} (tells : DiskOf D) (sources : ℕ) (book : Account D Audience) (recorded : Recorded D) : Type 0 where
   pub accepted : Stock ℕ
   pub none : accepted.items ≡ replicate sources 0
-  pub seen : List (List Sample)
-  pub closes : Closes tells book accepted None (Some Memory) seen recorded
+  pub closes : Closes tells book accepted None (Some Memory) [] recorded
 
 -- they did: the book was driven by all, flushed and closed
 pub record HasWorked {D : Type 0} (tells : DiskOf D) (owners : List ℕ) (book : Account D Audience) (feeds : List (List Fed)) (live : Bool) (recorded : Recorded D) : Type 0 where
@@ -70,6 +69,7 @@ pub record HasWorked {D : Type 0} (tells : DiskOf D) (owners : List ℕ) (book :
   pub seen : List (List Sample)
   pub terms : driven.terms ≡ book.terms
   pub ran : AllRan owners driven seen 0 feeds all
+  pub saw : length seen ≡ length feeds
   pub owned : AreOwned owners (length book.terms.layouts) (length feeds) driven.history
   pub marks : MarksCaused (AskedFor owners 0 feeds driven.history) book.terms.layouts book.terms.block_limit driven.history book.marks driven.marks
   pub last : MarksLast driven flushed

@@ -1,4 +1,5 @@
 use Rattle.std.proofs.Common.{◌≡◌, ◌∷◌, [], List, length, ℕ, ap, arith, refl, subst, sym}
+use Rattle.book_shared.specs.Place.{IsSingle}
 use Rattle.acq_run.specs.Tasks.{flushes_of}
 use Rattle.acq_run.specs.Works.{Does}
 use Rattle.acq_run.proofs.Performing.{any_err, any_ok, append_counted, append_done, append_ended, flush_done, flush_failed, flush_stopped, follows_on}
@@ -16,12 +17,13 @@ returns-in-Sample g c =
     let result = c.appended.result in
     let seat = c.append.ensures.seat in
     let appends = c.append.ensures.appends in
+    let single = subst (IsSingle u) seat.1 seat.3 in
     record {
       seat = record { table_is = seat.0; number_is = seat.1 };
       turn = appends.1.turns;
-      done = append_done v u source sample c.append.ensures.asked c.args.task answer result c.in-Sample.is c.appended.ensures appends;
-      ended = append_ended v u source sample c.append.ensures.asked g.D.Disk g.V.Shown number seat.3 c.args.task answer result c.in-Sample.is c.appended.ensures appends c.append.ensures.book;
-      counted = append_counted v u source sample c.append.ensures.asked g.D.Disk g.V.Shown number seat.3 answer result c.appended.ensures c.append.ensures.book;
+      done = append_done v u source single sample c.append.ensures.asked c.args.task answer result c.in-Sample.is c.appended.ensures appends;
+      ended = append_ended v u source single sample c.append.ensures.asked g.D.Disk g.V.Shown number seat.1 c.args.task answer result c.in-Sample.is c.appended.ensures appends c.append.ensures.book;
+      counted = append_counted v u source single sample c.append.ensures.asked g.D.Disk g.V.Shown number seat.1 answer result c.appended.ensures c.append.ensures.book;
       follows = follows_on v u appends.0 _ appends.1 g.L.Follower.follows g.met.L.Follower.stays follower c.requires.follows;
       heard = any_ok ((shown : List ℕ) × (length shown ≡ flushes_of (c.args.task ∷ [])) × g.L.Follower.hears follower shown follower) result
           ([], ap (λ t. flushes_of (t ∷ [])) (sym c.in-Sample.is), g.met.L.Follower.hears_none follower);
@@ -51,7 +53,7 @@ returns-in-Done g c =
       seat = record { table_is = seat.0; number_is = seat.1 };
       turn = flushes.1.turns;
       done = subst (λ t. Does v u source (t ∷ []) 0) (sym c.in-Flush.is)
-          (flush_done g.D.Disk g.V.Shown v u source c.flush.new.seat.number seat.1 seat.3 c.in-Done.through c.in-Done.shown c.in-Done.note flushes c.in-Done.ensures.asked);
+          (flush_done g.D.Disk g.V.Shown v u source (subst (IsSingle u) seat.1 seat.3) c.in-Done.through c.in-Done.shown c.in-Done.note flushes c.in-Done.ensures.asked);
       ended = tt;
       counted = tt;
       follows = c.follow.ensures.follows u.basis.terms.which u.seen
@@ -67,7 +69,7 @@ returns-in-Stopped g c =
     let source = c.args.seat.now.number in
     let seat = c.in-Stopped.ensures.seat in
     let flushes = c.in-Stopped.ensures.flushes in
-    let stopped = flush_stopped g.D.Disk g.V.Shown v u source c.flush.new.seat.number seat.1 seat.3 c.in-Stopped.mark flushes c.in-Stopped.ensures.asked c.in-Stopped.ensures.book in
+    let stopped = flush_stopped g.D.Disk g.V.Shown v u source (subst (IsSingle u) seat.1 seat.3) c.in-Stopped.mark flushes c.in-Stopped.ensures.asked c.in-Stopped.ensures.book in
     record {
       seat = record { table_is = seat.0; number_is = seat.1 };
       turn = flushes.1.turns;
@@ -87,7 +89,7 @@ returns-in-DiskFault g c =
     let seat = c.in-DiskFault.ensures.seat in
     let flushes = c.in-DiskFault.ensures.flushes in
     let book = c.in-DiskFault.ensures.book in
-    let failed = flush_failed g.D.Disk g.V.Shown v u source c.flush.new.seat.number seat.1 seat.3 c.in-DiskFault.before c.in-DiskFault.after flushes c.in-DiskFault.ensures.asked book in
+    let failed = flush_failed g.D.Disk g.V.Shown v u source (subst (IsSingle u) seat.1 seat.3) c.in-DiskFault.before c.in-DiskFault.after flushes c.in-DiskFault.ensures.asked book in
     record {
       seat = record { table_is = seat.0; number_is = seat.1 };
       turn = flushes.1.turns;

@@ -1,4 +1,4 @@
-use Rattle.std.proofs.Common.{[], ◌++◌, length, map, take, drop, refl, sym, subst, arith}
+use Rattle.std.proofs.Common.{[], ◌++◌, ◌∙◌, length, map, take, drop, refl, sym, ap, subst, arith}
 use Rattle.std.proofs.lemmas.List.{length-map}
 use Rattle.std.specs.Prelude.{All}
 use Rattle.mdf_gate.proofs.Carrying.{prefix_self}
@@ -10,7 +10,7 @@ use Rattle.acq_run.specs.Ran.{AllHeard, AllMayFeed, AllRan, AskedFor}
 use Rattle.acq_run.specs.Workers.{IsReady}
 use Rattle.acq_run.proofs.Groups.{ran_owned}
 use Rattle.acq_run.proofs.Owning.{owned_same}
-use Rattle.acq_run.proofs.Gathering.{all_follow, all_ready, have_worked, seated, seats_count, worked_count, worked_follow, worked_asked, worked_numbers, worked_of_table, worked_ran, HaveWorked}
+use Rattle.acq_run.proofs.Gathering.{all_follow, all_ready, have_worked, seated, seats_count, worked_count, worked_follow, worked_asked, worked_numbers, worked_of_table, worked_ran, worked_seen, HaveWorked}
 use Rattle.acq_run.proofs.Telling.{worked_heard}
 use Rattle.acq_run.specs.Watching.{Hears, Watches}
 use Rattle.acq_run.specs.Stays.{watches_on}
@@ -113,7 +113,14 @@ returns-clause-followers g c =
     let lent = c.as_mut_slice.result.now in
     let news = c.drive_all.new.workers in
     let worked = all_worked g (goal.at.returns-clause-followers g c).After-drive_all in
-    worked_count left book.table book.basis lent news _ c.args.feeds.items worked c.part_all.new.followers.items c.part_all.ensures.followers
+    worked_count left book.table book.basis lent news _ c.args.feeds.items worked (λ w. w.follower) c.part_all.new.followers.items c.part_all.ensures.followers
+
+pub returns-clause-saw : goal.returns-clause-saw
+returns-clause-saw g c =
+    let book = c.in_ok-shared.shared in
+    let worked = all_worked g (goal.at.returns-clause-saw g c).After-drive_all in
+    ap length c.by-seen.ensures ∙ worked_seen g.F.Feed.left book.table book.basis c.as_mut_slice.result.now c.drive_all.new.workers _ c.args.feeds.items worked
+    c.part_all.new.seats.items c.part_all.ensures.seats
 
 pub returns-clause-follow : goal.returns-clause-follow
 returns-clause-follow g c =
@@ -153,7 +160,7 @@ part_all-requires-clause-room g c =
     let worked = all_worked g (goal.at.part_all-requires-clause-room g c).After-drive_all in
     let after = take c.seat_all.new.workers.len (news ++ drop (length news) c.seat_all.new.workers.items) in
     let followers = map (λ w. w.follower) after in
-    let count = worked_count left book.table book.basis lent news after c.args.feeds.items worked followers refl in
+    let count = worked_count left book.table book.basis lent news after c.args.feeds.items worked (λ w. w.follower) followers refl in
     let long = length-map after (λ w. w.follower) in (
       omega (arith, count, long, c.in-Ok.ensures.wide.0, c.len-count.ensures, c.args.feeds.ok.0),
       omega (arith, count, long, c.in-Ok.ensures.wide.1, c.len-count.ensures, c.args.feeds.ok.0),

@@ -1,4 +1,4 @@
-use Rattle.std.proofs.Common.{◌≡◌, ◌∙◌, ap, arith, inl, inr, length, refl, subst}
+use Rattle.std.proofs.Common.{◌≡◌, ◌∙◌, ap, arith, inl, inr, length, refl, subst, sym}
 use Rattle.std.specs.Prelude.{vec_len}
 use Rattle.acq_run.specs.Ran.{AreOwned}
 use Rattle.mdf_record.specs.Sources.{feds_of}
@@ -63,6 +63,7 @@ returns-in-Ok g c =
         seen = c.in-Ok.gathered.seen;
         terms = c.in-Ok.ensures.terms;
         ran = c.in-Ok.ensures.ran;
+        saw = c.in-Ok.ensures.saw ∙ sym (length-map feeds (λ feed. feds_of feed.tasks.rest.items));
         owned = subst (λ n. AreOwned c.args.owners.now (length c.args.book.terms.layouts) n c.in-Ok.gathered.book.history) count c.in-Ok.ensures.owned;
         marks = c.in-Ok.ensures.marks;
         last = c.finish-fault.ensures.last;
