@@ -1,20 +1,20 @@
 -- What caused a mark goes on to be its cause.
-use Rattle.std.proofs.Common.{◌≡◌, ℕ, ◌+◌, ◌<◌, ◌≤◌, ◌⊎◌, Bool, true, false, List, [], ◌∷◌, ◌++◌, length, map, drop, set, fold, refl, sym, ap, ◌∙◌, subst, inl, inr, ⊎_elim, arith, append_assoc, append-nil}
-use Rattle.std.specs.Prelude.{◌==◌, cond}
-use Rattle.std.proofs.lemmas.Bool.{cases_eq, cond-false, cond-true, eq-eqb, ne_eqb}
+use Rattle.std.proofs.Common.{◌≡◌, ℕ, ◌+◌, ◌<◌, ◌≤◌, ◌⊎◌, Bool, true, List, [], ◌∷◌, ◌++◌, length, map, drop, set, fold, refl, sym, ap, ◌∙◌, subst, inl, inr, ⊎_elim, arith, append_assoc, append-nil}
+use Rattle.std.specs.Prelude.{cond}
+use Rattle.std.proofs.lemmas.Bool.{cases_eq, cond-true, eq-eqb, ne_eqb}
 use Rattle.std.proofs.Math.Seq.{drop-append_seam}
 use mathlib.Core.Option.{some}
 use mathlib.Core.List.{IsPrefix}
 use lib.ListN.{get_elem?}
 use Rattle.mdf_layout.specs.Layout.{Layout}
 use Rattle.mdf_layout.specs.declared.sample.Sample.{Sample}
-use Rattle.book_owned.specs.Account.{Account}
+use Rattle.book_owned.specs.FrontHalf.{FrontAccount}
 use Rattle.book_owned.specs.Marks.{durable, last_mark}
 use Rattle.book_owned.specs.declared.mark.Mark.{Mark}
-use Rattle.book_shared.specs.Basis.{Basis, holding}
+use Rattle.book_shared.specs.Basis.{Basis, Held, holding}
 use Rattle.book_shared.specs.Causes.{times_of, AreCaused, HandsOver, MarksCaused}
-use Rattle.book_shared.specs.Plays.{asked_in, given, MakesMark}
-use Rattle.book_shared.specs.Rule.{asks, AskedOf, World}
+use Rattle.book_shared.specs.Plays.{marked_in, given, MakesMark}
+use Rattle.book_shared.specs.Rule.{asks, AskedOf}
 use Rattle.book_shared.specs.declared.view.View.{View}
 use Rattle.book_shared.proofs.Lists.{one_if}
 use Rattle.book_shared.proofs.Sums.{total-set, term_le}
@@ -42,9 +42,10 @@ hands_later layouts limit history longer from through (rest, is) hands = record 
   before = hands.before;
   next = hands.next;
   later = hands.later ++ rest;
-  history_is = sym is ∙ ap (λ h. h ++ rest) hands.history_is ∙ append_assoc hands.before (hands.next ∷ hands.later) rest;
+  history_is = sym is ∙ ap (λ h. h ++ rest) hands.history_is ∙ append_assoc hands.before hands.later rest;
   through_is = hands.through_is;
   passes = hands.passes;
+  small = hands.small;
 }
 
 -- where more is asked for, and the history goes on
@@ -77,6 +78,11 @@ durable_last begun more =
     let none : Mark = record { moment = 0; through = 0 } in
     ap (λ (m : Mark). m.through) (last_append none begun more) ∙ fold_last (last_mark begun) more
 
+-- as many samples are durable as the last mark goes through
+pub durable_last_of : (marks : List Mark) (mark : Mark) → durable (marks ++ mark ∷ []) ≡ mark.through
+durable_last_of marks mark =
+    let none : Mark = record { moment = 0; through = 0 } in ap (λ (m : Mark). m.through) (last_append none marks (mark ∷ []))
+
 -- one mark more
 module _ (asked : ℕ → Type 0) (layouts : List Layout) (limit : ℕ) (history : List Sample) where
   are_more : (from : ℕ) (marks : List Mark) (mark : Mark) → AreCaused asked layouts limit history from marks → asked mark.through ⊎ HandsOver layouts limit history (last_from from marks) mark.through
@@ -101,46 +107,43 @@ module _ (views : List View) (j : ℕ) (v u : View) (at : get_elem? views j ≡ 
   asked_here : (n : ℕ) → 0 < asks n u → AskedOf (set views j u) n
   asked_here n is = omega (arith, total-set (asks n) views j v u at, term_le (asks n) views j v at, is)
 
-both_none : (b : Bool) (xs : List ℕ) → xs ≡ [] → cond b xs [] ≡ []
-both_none true xs is = is
-both_none false xs is = refl
+-- a turn that found so many marks and made one more, or none
+module _ {V : Type 0} (held : Held) (front : FrontAccount V) where
+  pub marked_once : (mark : Mark) → front.marks ≡ held.marks ++ mark ∷ [] → marked_in (holding held) front ≡ mark.through ∷ []
+  marked_once mark made =
+      ap (λ (ms : List Mark). map (λ (m : Mark). m.through) (drop (length held.marks) ms)) made
+      ∙ ap (λ (ms : List Mark). map (λ (m : Mark). m.through) ms) (drop-append_seam held.marks (mark ∷ []))
 
-module _ {D V : Type 0} where
-  -- a turn that found this and gave back that asked for the mark that it made, where it accepted nothing
-  pub asked_once : (history : List Sample) (marks : List Mark) (stopped : Bool) (book : Account D V) (mark : Mark) → book.history ≡ history → book.marks ≡ marks ++ mark ∷ []
-      → asked_in (holding history marks stopped) book ≡ mark.through ∷ []
-  asked_once history marks stopped book mark same made =
-      cond-true (length book.history == length history) (map (λ (m : Mark). m.through) (drop (length marks) book.marks)) [] (eq-eqb (length book.history) (length history) (ap length same))
-      ∙ ap (λ (ms : List Mark). map (λ (m : Mark). m.through) (drop (length marks) ms)) made
-      ∙ ap (λ (ms : List Mark). map (λ (m : Mark). m.through) ms) (drop-append_seam marks (mark ∷ []))
+  pub marked_none : front.marks ≡ held.marks → marked_in (holding held) front ≡ []
+  marked_none same =
+      ap (λ (ms : List Mark). map (λ (m : Mark). m.through) (drop (length held.marks) ms)) (same ∙ sym (append-nil held.marks))
+      ∙ ap (λ (ms : List Mark). map (λ (m : Mark). m.through) ms) (drop-append_seam held.marks [])
 
-  -- and for none where it made none, or accepted a sample
-  pub asked_none : (history : List Sample) (marks : List Mark) (stopped : Bool) (book : Account D V) → (book.marks ≡ marks) ⊎ (length book.history ≡ length history → ⊥)
-      → asked_in (holding history marks stopped) book ≡ []
-  asked_none history marks stopped book quiet = ⊎_elim
-      (λ same. both_none (length book.history == length history) (map (λ (m : Mark). m.through) (drop (length marks) book.marks))
-      (ap (λ (ms : List Mark). map (λ (m : Mark). m.through) (drop (length marks) ms)) (same ∙ sym (append-nil marks)) ∙ ap (λ (ms : List Mark). map (λ (m : Mark). m.through) ms) (drop-append_seam marks [])))
-      (λ differs. cond-false (length book.history == length history) (map (λ (m : Mark). m.through) (drop (length marks) book.marks)) [] (ne_eqb (length book.history) (length history) differs)) quiet
+-- how often a flush asked for the mark that it made
+asks_made : {V : Type 0} (b : Bool) (v : View) (held : Held) (word : ℕ) (front : FrontAccount V) (mark : Mark) → b ≡ true → v.turn ≡ holding held
+    → front.marks ≡ held.marks ++ mark ∷ [] → 0 < asks mark.through (given b v word front)
+asks_made b v held word front mark asked turn_is made = omega (
+  arith,
+  times_of-append mark.through v.asked (cond b (marked_in v.turn front) []),
+  ap (times_of mark.through) (cond-true b (marked_in v.turn front) [] asked ∙ ap (λ t. marked_in t front) turn_is ∙ marked_once held front mark made),
+  counts_one mark.through,
+)
 
-  -- the marks when a seat has given the book back
-  pub given_marks : (basis : Basis) (w : World) (views : List View) (j : ℕ) (v : View) (word : ℕ) (book : Account D V) (added : List Sample) → get_elem? views j ≡ some v → v.basis ≡ basis
-      → v.turn ≡ holding w.history w.marks w.stopped → book.history ≡ w.history ++ added → MakesMark v.basis.terms w.history w.marks added book
-      → MarksCaused (AskedOf views) basis.terms.layouts basis.terms.block_limit w.history basis.begun w.marks
-      → MarksCaused (AskedOf (set views j (given v word book))) basis.terms.layouts basis.terms.block_limit book.history basis.begun book.marks
-  given_marks basis w views j v word book added at basis_is turn_is history_is makes before =
-      let u = given v word book in
+module _ {V : Type 0} where
+  -- the marks when a seat has given the front back
+  pub given_marks : (asked_for : Bool) (basis : Basis) (history : List Sample) (views : List View) (j : ℕ) (v : View) (held : Held) (word : ℕ) (front : FrontAccount V) (added : List Sample)
+      → get_elem? views j ≡ some v → v.basis ≡ basis → v.turn ≡ holding held → front.history ≡ history ++ added → MakesMark asked_for v.basis.terms held front
+      → MarksCaused (AskedOf views) basis.terms.layouts basis.terms.block_limit history basis.begun held.marks
+      → MarksCaused (AskedOf (set views j (given asked_for v word front))) basis.terms.layouts basis.terms.block_limit front.history basis.begun front.marks
+  given_marks asked_for basis history views j v held word front added at basis_is turn_is history_is makes before =
+      let u = given asked_for v word front in
       let asked = AskedOf (set views j u) in
-      let later = caused_later (AskedOf views) asked basis.terms.layouts basis.terms.block_limit w.history book.history
-      (asked_on views j v u at (λ n. omega (arith, times_of-append n v.asked (asked_in v.turn book)))) (added, sym history_is) basis.begun w.marks before in
+      let later = caused_later (AskedOf views) asked basis.terms.layouts basis.terms.block_limit history front.history
+      (asked_on views j v u at (λ n. omega (arith, times_of-append n v.asked (cond asked_for (marked_in v.turn front) [])))) (added, sym history_is) basis.begun held.marks before in
       ⊎_elim
-      (λ same. subst (λ ms. MarksCaused asked basis.terms.layouts basis.terms.block_limit book.history basis.begun ms) (sym same) later)
-      (λ made. subst (λ ms. MarksCaused asked basis.terms.layouts basis.terms.block_limit book.history basis.begun ms) (sym made.1)
-      (caused_more asked basis.terms.layouts basis.terms.block_limit book.history basis.begun w.marks made.0 later
+      (λ same. subst (λ ms. MarksCaused asked basis.terms.layouts basis.terms.block_limit front.history basis.begun ms) (sym same) later)
+      (λ made. subst (λ ms. MarksCaused asked basis.terms.layouts basis.terms.block_limit front.history basis.begun ms) (sym made.1)
+      (caused_more asked basis.terms.layouts basis.terms.block_limit front.history basis.begun held.marks made.0 later
       (⊎_elim
-      (λ none. inl (asked_here views j v u at made.0.through (omega (
-        arith,
-        times_of-append made.0.through v.asked (asked_in v.turn book),
-        ap (times_of made.0.through) (ap (λ t. asked_in t book) turn_is ∙ asked_once w.history w.marks w.stopped book made.0 (history_is ∙ ap (λ a. w.history ++ a) none ∙ append-nil w.history) made.1),
-        counts_one made.0.through,
-      ))))
-      (λ hands. inr (subst (λ (b : Basis). HandsOver b.terms.layouts b.terms.block_limit book.history (durable w.marks) made.0.through) basis_is hands)) made.2))) makes
+      (λ is. inl (asked_here views j v u at made.0.through (asks_made asked_for v held word front made.0 is turn_is made.1)))
+      (λ hands. inr (subst (λ (b : Basis). HandsOver b.terms.layouts b.terms.block_limit front.history (durable held.marks) made.0.through) basis_is hands)) made.2))) makes

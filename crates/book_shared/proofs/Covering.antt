@@ -1,18 +1,21 @@
--- Seats that are joined into one.
-use Rattle.std.proofs.Common.{◌≡◌, ℕ, ◌<◌, List, [], ◌∷◌, ◌++◌, length, sym, ap, ◌∙◌, subst, ⊎_elim, arith, append_assoc, length-append}
-use Rattle.std.specs.Prelude.{Option as Opt, Some}
+-- Seats that are joined into one, and the book that is one again.
+use Rattle.std.proofs.Common.{◌≡◌, ℕ, zero, suc, ◌<◌, Bool, false, List, [], ◌∷◌, ◌++◌, length, length-set, get_or-set_other, get_or-set_same, take, sym, ap, ◌∙◌, subst, ⊎_elim, arith, append_assoc, length-append}
+use Rattle.std.specs.Prelude.{slice_index_or, slice_set}
 use Rattle.std.proofs.lemmas.Bool.{or_left, or_right}
-use mathlib.Core.Option.{some, some-injective}
-use lib.ListN.{get_elem?}
-use Rattle.std.proofs.lemmas.Option.{same_Some}
+use Rattle.atomic_table.specs.Seated.{TableId}
 use Rattle.atomic_table.specs.Table.{Final, Seen}
 use Rattle.mdf_layout.specs.History.{source_samples}
 use Rattle.mdf_layout.specs.declared.sample.Sample.{Sample}
 use Rattle.book_owned.specs.Account.{Account}
+use Rattle.book_owned.specs.Members.{DiskOf}
+use Rattle.book_owned.specs.Marks.{durable}
+use Rattle.book_owned.specs.BackHalf.{BackKeeps, FileHolds, back_terms}
+use Rattle.book_owned.specs.FrontHalf.{FrontTerms}
+use Rattle.book_owned.specs.Split.{front_part, terms_of_parts, AreHalves, book_of_halves}
 use Rattle.book_owned.specs.declared.mark.Mark.{Mark}
-use Rattle.atomic_table.specs.Seated.{TableId}
-use Rattle.book_shared.specs.Basis.{Basis, idle}
+use Rattle.book_shared.specs.Basis.{Basis, idle, free}
 use Rattle.book_shared.specs.Rule.{asks, total, times_in, AreOwn, AreOld, Runs}
+use Rattle.book_shared.specs.Plays.{Slot}
 use Rattle.book_shared.specs.Parts.{joined}
 use Rattle.book_shared.specs.Ends.{Ended}
 use Rattle.book_shared.specs.Place.{Place, own_part, IsSingle}
@@ -20,7 +23,7 @@ use Rattle.book_shared.specs.Seats.{AreOf, HasNumber, Closes}
 use Rattle.book_shared.specs.Covers.{Covers, AreCovered}
 use Rattle.book_shared.specs.declared.view.View.{View}
 use Rattle.book_shared.proofs.Causing.{times_of-append}
-use Rattle.book_shared.proofs.Lists.{counts_first, old_later}
+use Rattle.book_shared.proofs.Lists.{counts_first, old_later, one_source}
 use Rattle.book_shared.proofs.Ends.{times-append, ends}
 
 -- where a source has a seat, there is one
@@ -97,6 +100,7 @@ of_last table (x ∷ xs) y both = of_last table xs y both.1
 -- so far the last seats are joined into one, and these are left
 pub record Gathered (table : TableId) (seats left : List Place) (whole : View) : Type 0 where
   pub calm : whole.turn ≡ idle
+  pub no_device : whole.device ≡ free
   pub some_source : 0 < length whole.mine
   pub of_table : AreOf table left
   pub behind : List Place
@@ -104,13 +108,11 @@ pub record Gathered (table : TableId) (seats left : List Place) (whole : View) :
   pub covered : AreCovered whole behind
   pub asked : (n : ℕ) → asks n whole ≡ total (λ (seat : Place). asks n seat.know) behind
 
-one_source : (number : ℕ) (parts : List (ℕ × List Sample)) (samples : List Sample) → parts ≡ (number, samples) ∷ [] → 0 < length parts
-one_source number parts samples is = omega (arith, ap length is)
-
-pub gathered_first : (table : TableId) (seats left : List Place) (seat : Place) → AreOf table seats → seats ≡ left ++ seat ∷ [] → seat.know.turn ≡ idle → IsSingle seat.know seat.number
-    → Gathered table seats left seat.know
-gathered_first table seats left seat of_table parts calm single = record {
+pub gathered_first : (table : TableId) (seats left : List Place) (seat : Place) → AreOf table seats → seats ≡ left ++ seat ∷ [] → seat.know.turn ≡ idle → seat.know.device ≡ free
+    → IsSingle seat.know seat.number → Gathered table seats left seat.know
+gathered_first table seats left seat of_table parts calm off single = record {
   calm = calm;
+  no_device = off;
   some_source = one_source seat.number seat.know.mine (own_part seat.know.mine) single;
   of_table = of_left table left (seat ∷ []) (subst (AreOf table) parts of_table);
   behind = seat ∷ [];
@@ -123,6 +125,7 @@ pub gathered_on : (table : TableId) (seats left left' : List Place) (whole : Vie
     → Gathered table seats left' (joined whole seat.know)
 gathered_on table seats left left' whole seat gathered parts single = record {
   calm = gathered.calm;
+  no_device = gathered.no_device;
   some_source = omega (arith, length-append whole.mine seat.know.mine, gathered.some_source);
   of_table = of_left table left' (seat ∷ []) (subst (AreOf table) parts gathered.of_table);
   behind = seat ∷ gathered.behind;
@@ -131,27 +134,46 @@ gathered_on table seats left left' whole seat gathered parts single = record {
   asked = λ n. omega (arith, times_of-append n whole.asked seat.know.asked, gathered.asked n);
 }
 
-module _ {D V : Type 0} where
-  pub closes : (basis : Basis) (whole : View) (slots : List (Opt (Account D V))) (ended : Ended basis whole slots) (seats : List Place) → AreCovered whole seats → Closes basis ended.book seats
-  closes basis whole slots ended [] covered = tt
-  closes basis whole slots ended (seat ∷ seats) covered =
-      let old = old_later whole.seen ended.book.history whole.kept ended.book.marks whole.olds ended.seen ended.kept ended.olds in
-      let reached = covered.0.reaches ended.book.history ended.book.marks ended.seen ended.kept old in (
+-- two places that were taken are not filled
+pub both_taken : (filled : List Bool) → 1 < length filled → (k : ℕ) → k < 2 → slice_index_or (slice_set (slice_set filled 0 false) 1 false) k false ≡ false
+both_taken filled long zero less = get_or-set_other (slice_set filled 0 false) 1 0 false false (λ is. omega (arith, is)) ∙ get_or-set_same filled 0 false false (omega (arith, long))
+both_taken filled long (suc zero) less = get_or-set_same (slice_set filled 0 false) 1 false false (omega (arith, length-set filled 0 false, long))
+both_taken filled long (suc (suc k)) less = absurd (omega (arith, less))
+
+-- The halves that lie in the slots at the end.
+module _ {D V : Type 0} (disk : DiskOf D) (basis : Basis) (whole : View) (slots : List (Slot D V)) (ended : Ended disk basis whole slots) where
+  pub are_halves : AreHalves disk ended.front ended.back
+  are_halves = record {
+    spare = ended.spare;
+    stop = ended.stop;
+    keeps = subst (λ (t : FrontTerms). BackKeeps disk t.layouts ended.back ended.front.history ended.front.marks) (sym ended.front_terms) ended.keeps;
+    holds = λ going. subst (λ (t : FrontTerms). FileHolds disk t.layouts t.block_limit ended.back (take (durable ended.front.marks) ended.front.history))
+        (sym ended.front_terms) (ended.holds going);
+  }
+
+  -- their book
+  abbrev pub ended_book : Account D V
+  ended_book = book_of_halves disk ended.front ended.back
+
+  pub ended_terms : ended_book.terms ≡ basis.terms
+  ended_terms = ap (λ t. terms_of_parts t (back_terms disk ended.back)) ended.front_terms ∙ ap (terms_of_parts (front_part basis.terms)) ended.file_terms
+
+  pub closes : (seats : List Place) → AreCovered whole seats → Closes basis ended_book seats
+  closes [] covered = tt
+  closes (seat ∷ seats) covered =
+      let old = old_later whole.seen ended.front.history whole.kept ended.front.marks whole.olds ended.seen ended.kept ended.olds in
+      let reached = covered.0.reaches ended.front.history ended.front.marks ended.seen ended.kept old in (
         record {
           seen = reached.0;
           kept = reached.1;
-          knows = λ is. ended.knows (covered.0.knew is);
-          mine = covered.0.owns basis.owners ended.book.history ended.mine;
+          knows = λ is. sym ended.stop ∙ ended.knows (covered.0.knew is);
+          mine = covered.0.owns basis.owners ended.front.history ended.mine;
         },
-        closes basis whole slots ended seats covered.1,
+        closes seats covered.1,
       )
 
-  -- where the seats have all sources
-  pub finished : (basis : Basis) (id : ℕ) (whole : View) (words : List ℕ) (slots : List (Opt (Account D V))) (seats : List Place) → whole.turn ≡ idle → AreCovered whole seats
-      → ((number : ℕ) → number < basis.sources → HasNumber number seats) → Final (Seen (Runs basis) id whole) words slots → Ended basis whole slots
-  finished basis id whole words slots seats calm covered all final =
-      ends basis id whole words slots calm (λ number less. numbered whole number seats covered (all number less)) final
-
-  -- one book lies in the slot
-  pub same_book : (slots : List (Opt (Account D V))) (a b : Account D V) → get_elem? slots 0 ≡ some (Some a) → get_elem? slots 0 ≡ some (Some b) → a ≡ b
-  same_book slots a b first second = same_Some a b (some-injective (Some a) (Some b) (sym first ∙ second))
+-- where the seats have all sources
+pub finished : {D V : Type 0} (disk : DiskOf D) (basis : Basis) (id : ℕ) (whole : View) (words : List ℕ) (slots : List (Slot D V)) (seats : List Place) → whole.turn ≡ idle → whole.device ≡ free
+    → AreCovered whole seats → ((number : ℕ) → number < basis.sources → HasNumber number seats) → Final (Seen (Runs disk basis) id whole) words slots → Ended disk basis whole slots
+finished disk basis id whole words slots seats calm off covered all final =
+    ends disk basis id whole words slots calm off (λ number less. numbered whole number seats covered (all number less)) final

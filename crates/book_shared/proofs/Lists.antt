@@ -1,5 +1,5 @@
 -- The lists of a seat, and a history that goes on.
-use Rattle.std.proofs.Common.{◌≡◌, ℕ, ◌<◌, List, [], ◌∷◌, ◌++◌, length, length-append, refl, sym, ap, ◌∙◌, subst, arith, append-nil}
+use Rattle.std.proofs.Common.{◌≡◌, ℕ, ◌<◌, ◌≤◌, List, [], ◌∷◌, ◌++◌, length, length-append, refl, sym, ap, ◌∙◌, subst, arith, append-nil}
 use Rattle.std.specs.Prelude.{◌==◌, slice_index, cond, Bool}
 use Rattle.std.proofs.lemmas.Bool.{cond-false, eq-eqb, ne_eqb}
 use Rattle.std.proofs.lemmas.List.Elements.{filter-append}
@@ -8,8 +8,8 @@ use Rattle.mdf_gate.proofs.Carrying.{prefix_trans}
 use Rattle.mdf_layout.specs.History.{source_samples}
 use Rattle.mdf_layout.specs.declared.sample.Sample.{Sample}
 use Rattle.book_owned.specs.declared.mark.Mark.{Mark}
-use Rattle.book_shared.specs.Basis.{Turn, idle, holding}
-use Rattle.book_shared.specs.Rule.{World, times_in, holds_turn, AreOwn, AreOld, Names}
+use Rattle.book_shared.specs.Basis.{Turn, idle, holding, Device, free, resting, handed, writing, written, settled}
+use Rattle.book_shared.specs.Rule.{World, times_in, holds_turn, holds_device, lends_block, has_back, AreOwn, AreOld, Names, Answers}
 use Rattle.book_shared.specs.Plays.{recount, AreFrom}
 use Rattle.book_shared.specs.declared.view.View.{View}
 
@@ -63,9 +63,39 @@ old_later seen seen' kept kept' (old ∷ olds) s k are =
 -- a seat with no turn names nothing, and one with a turn may meet the word again
 pub names_none : (w : World) (v : View) (t : Turn) → holds_turn t ≡ 0 → Names w v t
 names_none w v idle none = tt
-names_none w v (holding history marks stopped) none = absurd (omega (arith, none))
+names_none w v (holding held) none = absurd (omega (arith, none))
 
 -- a list of one without its last
 pub alone : {A : Type 0} (rest : List A) (last first : A) → first ∷ [] ≡ rest ++ last ∷ [] → (first ≡ last) × (rest ≡ [])
 alone [] last first is = (cc, refl)
 alone (x ∷ rest) last first is = absurd (omega (arith, ap length is, length-append rest (last ∷ [])))
+
+-- who lends a block or has the back out has the device
+pub lends_less : (d : Device) → lends_block d ≤ holds_device d
+lends_less free = omega arith
+lends_less resting = omega arith
+lends_less handed = omega arith
+lends_less writing = omega arith
+lends_less (written answer) = omega arith
+lends_less (settled answer) = omega arith
+
+pub back_held : (d : Device) → has_back d ≤ holds_device d
+back_held free = omega arith
+back_held resting = omega arith
+back_held handed = omega arith
+back_held writing = omega arith
+back_held (written answer) = omega arith
+back_held (settled answer) = omega arith
+
+-- no answer is owed by who lends no block
+pub answers_none : (from : ℕ) (d : Device) → lends_block d ≡ 0 → Answers from d
+answers_none from free none = tt
+answers_none from resting none = tt
+answers_none from handed none = tt
+answers_none from writing none = tt
+answers_none from (written answer) none = absurd (omega (arith, none))
+answers_none from (settled answer) none = absurd (omega (arith, none))
+
+-- a seat of one source has one
+pub one_source : (number : ℕ) (parts : List (ℕ × List Sample)) (samples : List Sample) → parts ≡ (number, samples) ∷ [] → 0 < length parts
+one_source number parts samples is = omega (arith, ap length is)

@@ -25,3 +25,14 @@ module _ {A : Type 0} (f : A → ℕ) where
   terms_le (x ∷ xs) zero (suc k) v u n e d = omega (arith, ap f (some-injective x v e), term_le xs k u d)
   terms_le (x ∷ xs) (suc j) zero v u n e d = omega (arith, ap f (some-injective x u d), term_le xs j v e)
   terms_le (x ∷ xs) (suc j) (suc k) v u n e d = omega (arith, terms_le xs j k v u (λ h. n (ap suc h)) e d)
+
+-- where f is nowhere more than g
+module _ {A : Type 0} (f g : A → ℕ) (less : (x : A) → f x ≤ g x) where
+  pub total_less : (l : List A) → total f l ≤ total g l
+  total_less [] = omega arith
+  total_less (x ∷ xs) = omega (arith, less x, total_less xs)
+
+  pub total_less_at : (l : List A) (j : ℕ) (v : A) → get_elem? l j ≡ some v → total f l + g v ≤ total g l + f v
+  total_less_at [] j v e = absurd (some-ne-none v (sym e))
+  total_less_at (x ∷ xs) zero v e = omega (arith, ap f (some-injective x v e), ap g (some-injective x v e), total_less xs)
+  total_less_at (x ∷ xs) (suc j) v e = omega (arith, less x, total_less_at xs j v e)

@@ -1,5 +1,5 @@
 -- Why each mark was made.
-use Rattle.std.specs.Prelude.{ℕ, ◌≡◌, ◌+◌, ◌<◌, ◌==◌, ◌⊎◌, cond, List, [], ◌∷◌, ◌++◌, length, drop}
+use Rattle.std.specs.Prelude.{ℕ, ◌≡◌, ◌+◌, ◌<◌, ◌≤◌, ◌==◌, ◌⊎◌, cond, List, [], ◌∷◌, ◌++◌, length, drop}
 use Rattle.mdf_layout.specs.Layout.{Layout}
 use Rattle.mdf_layout.specs.Record.{encoded_size, history_size}
 use Rattle.mdf_layout.specs.declared.sample.Sample.{Sample}
@@ -11,14 +11,16 @@ abbrev pub times_of : ℕ → List ℕ → ℕ
 times_of n [] = 0
 times_of n (m ∷ ms) = cond (m == n) 1 0 + times_of n ms
 
--- Between a mark through so many samples and one through more, the records and that of the next sample pass the block limit.
+-- Between a mark through so many samples and one through more, the records and that of a sample that a seat had to append
+-- pass the block limit, and its record alone does not. While they were written other seats may have appended theirs.
 pub record HandsOver (layouts : List Layout) (limit : ℕ) (history : List Sample) (from through : ℕ) : Type 0 where
   pub before : List Sample
   pub next : Sample
   pub later : List Sample
-  pub history_is : history ≡ before ++ next ∷ later
+  pub history_is : history ≡ before ++ later
   pub through_is : through ≡ length before
   pub passes : limit < history_size layouts (drop from before) + encoded_size layouts next
+  pub small : encoded_size layouts next ≤ limit
 
 -- each of these marks, which stand behind one through so many samples, was asked for or hands a full block over
 abbrev pub AreCaused : (ℕ → Type 0) → List Layout → ℕ → List Sample → ℕ → List Mark → Type 0

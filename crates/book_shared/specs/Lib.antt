@@ -10,3 +10,4 @@ pub mod Turns
 pub mod Told
 pub mod Seats
 pub mod Covers
+pub mod Rounds

@@ -35,11 +35,13 @@ joined v w = record {
   knows = v.knows || w.knows;
   seen = longer v.seen w.seen;
   kept = longer v.kept w.kept;
+  from = max v.from w.from;
   olds = (v.seen, v.kept) ∷ (w.seen, w.kept) ∷ (v.olds ++ w.olds);
   asked = v.asked ++ w.asked;
   mine = v.mine ++ w.mine;
   turn = v.turn;
   last = v.last;
+  device = v.device;
   basis = v.basis;
 }
 

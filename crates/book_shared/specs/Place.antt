@@ -2,7 +2,7 @@
 use Rattle.std.specs.Prelude.{ℕ, ◌≡◌, List, [], ◌∷◌, length}
 use Rattle.atomic_table.specs.Seated.{TableId}
 use Rattle.mdf_layout.specs.declared.sample.Sample.{Sample}
-use Rattle.book_shared.specs.Basis.{Basis, idle}
+use Rattle.book_shared.specs.Basis.{Basis, idle, free}
 use Rattle.book_shared.specs.Parts.{spent}
 use Rattle.book_shared.specs.declared.view.View.{View}
 
@@ -30,8 +30,8 @@ abbrev pub known : List View → View
 known [] = spent
 known (v ∷ vs) = v
 
--- a seat of one source, with no turn
+-- a seat of one source, with no turn and without the device
 abbrev pub IsSeat : List View → List ℕ → ℕ → Type 0
 IsSeat views owners number =
-    (views ≡ known views ∷ []) × ((known views).turn ≡ idle) × IsSingle (known views) number × (owners ≡ (known views).basis.owners)
+    (views ≡ known views ∷ []) × ((known views).turn ≡ idle) × ((known views).device ≡ free) × IsSingle (known views) number × (owners ≡ (known views).basis.owners)
     × (length owners ≡ 64)

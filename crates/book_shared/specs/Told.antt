@@ -1,19 +1,21 @@
 -- The answers of a shared book, in terms of what the seat knows after the call.
 use Rattle.std.specs.Prelude.{ℕ, ◌≡◌, ◌+◌, ◌<◌, ◌≤◌, ◌⊎◌, true, false, List, [], ◌∷◌, ◌++◌, length, take, drop}
 use Rattle.mdf_format.specs.Cause.{Rose}
-use Rattle.mdf_disk.specs.declared.disk.Disk.{Ghosts as DiskOf}
 use Rattle.mdf_layout.specs.Record.{cost_of, encoded_size, history_cost, history_size}
 use Rattle.mdf_layout.specs.declared.sample.Sample.{Sample}
-use Rattle.book_owned.specs.Marks.{last_mark, durable}
-use Rattle.book_owned.specs.Account.{Account}
-use Rattle.book_owned.specs.Answers.{AppendAnswers, FlushAnswers, HasRoom, PassesBlock, FitsBlock, accepted_by}
+use Rattle.mdf_disk.specs.declared.disk.Disk.{Ghosts as DiskOf}
 use Rattle.book_owned.specs.declared.view.Shown.{Ghosts as ViewOf}
+use Rattle.book_owned.specs.Marks.{last_mark}
+use Rattle.book_owned.specs.FrontHalf.{FrontAccount, FrontRoom, FrontPasses, FrontFits, PutTells, DoneTells, behind}
+use Rattle.book_owned.specs.Split.{front_part}
+use Rattle.book_owned.specs.Answers.{accepted_by}
 use Rattle.book_owned.specs.declared.mark.Mark.{Mark}
 use Rattle.book_owned.specs.declared.answer.Append.{Append}
 use Rattle.book_owned.specs.declared.answer.Append.TheVariants.{Accepted, SessionFull, Stopped, DiskFault, Memory}
 use Rattle.book_owned.specs.declared.answer.Flush.{Flush}
 use Rattle.book_owned.specs.declared.answer.Flush.TheVariants as flush
 use Rattle.book_shared.specs.Basis.{holding}
+use Rattle.book_shared.specs.Plays.{held_of}
 use Rattle.book_shared.specs.Rule.{AreOwn}
 use Rattle.book_shared.specs.Turns.{Served, IsBusy}
 use Rattle.book_shared.specs.declared.answer.Try.{Try}
@@ -32,20 +34,20 @@ Told u history sample Memory =
     (u.knows ≡ false)
     × (history_cost u.basis.terms.layouts u.seen + cost_of u.basis.terms.layouts sample ≤ u.basis.terms.session_limit)
 
--- an append: one turn, in which the sample was accepted just where the answer says so
+-- an append: turns, in the last of which the sample was accepted just where the answer says so
 abbrev pub Appends : View → View → Sample → Append → Type 0
 Appends v u sample answer = (history : List Sample) × Served v u history (accepted_by answer sample) × Told u history sample answer
 
--- the samples behind the last mark
-abbrev pub behind_marks : View → List Sample
-behind_marks u = drop (durable u.kept) u.seen
+-- the samples behind those that were handed out
+abbrev pub behind_handed : View → List Sample
+behind_handed u = drop u.from u.seen
 
--- one turn, in which nothing was accepted, since the pending records and that of the sample pass the block limit; the book is
+-- one turn, in which nothing was accepted, since the pending records and that of the sample pass the block limit; the front is
 -- not stopped, and the session has room
 pub record IsFull (v u : View) (sample : Sample) (held size limit : ℕ) : Type 0 where
   pub history : List Sample
   pub served : Served v u history []
-  pub held_is : held ≡ history_size u.basis.terms.layouts (behind_marks u)
+  pub held_is : held ≡ history_size u.basis.terms.layouts (behind_handed u)
   pub size_is : size ≡ encoded_size u.basis.terms.layouts sample
   pub limit_is : limit ≡ u.basis.terms.block_limit
   pub passes : limit < held + size
@@ -74,21 +76,20 @@ tried_by (Answered answer) sample = accepted_by answer sample
 
 -- an answer that no call of the disk led to: where the sample was accepted, or memory was wanted for it, its record and the
 -- pending ones are within the block limit
-abbrev pub NeedsNoDisk : {D V : Type 0} → Account D V → Sample → Append → Type 0
-NeedsNoDisk old sample (Accepted place) = FitsBlock old sample
+abbrev pub NeedsNoDisk : {V : Type 0} → FrontAccount V → Sample → Append → Type 0
+NeedsNoDisk old sample (Accepted place) = FrontFits old sample
 NeedsNoDisk old sample (SessionFull held size limit) = Unit {0}
 NeedsNoDisk old sample (Stopped mark) = Unit {0}
 NeedsNoDisk old sample (DiskFault before after) = ⊥
-NeedsNoDisk old sample Memory = FitsBlock old sample
+NeedsNoDisk old sample Memory = FrontFits old sample
 
--- what a try does to the book, once the seat has the turn
-abbrev pub Puts : {D V N : Type 0} → DiskOf D → ViewOf V N → Account D V → Account D V → Sample → Try → Type 0
-Puts disk view old new sample (Busy word back) = ⊥
-Puts disk view old new sample (NeedsFlush held size limit back) =
-    (old.stopped ≡ false) × HasRoom old sample × (new ≡ old)
-    × (held ≡ history_size old.terms.layouts (drop (durable old.marks) old.history))
-    × (size ≡ encoded_size old.terms.layouts sample) × (limit ≡ old.terms.block_limit) × PassesBlock old sample × (back ≡ sample)
-Puts disk view old new sample (Answered answer) = AppendAnswers disk view old new sample answer × NeedsNoDisk old sample answer
+-- what a try does to the front, once the seat has the turn
+abbrev pub Puts : {V : Type 0} → FrontAccount V → FrontAccount V → Sample → Try → Type 0
+Puts old new sample (Busy word back) = ⊥
+Puts old new sample (NeedsFlush held size limit back) =
+    (old.stopped ≡ false) × FrontRoom old sample × (new ≡ old) × (held ≡ history_size old.terms.layouts (behind old))
+    × (size ≡ encoded_size old.terms.layouts sample) × (limit ≡ old.terms.block_limit) × FrontPasses old sample × (back ≡ sample)
+Puts old new sample (Answered answer) = PutTells old new sample answer × NeedsNoDisk old sample answer
 
 -- these marks have one with so many samples
 pub record HasMark (marks : List Mark) (through : ℕ) : Type 0 where
@@ -105,15 +106,15 @@ FlushTold u (flush.Done through shown note) =
 FlushTold u (flush.DiskFault before after) = Rose before after × (u.knows ≡ true)
 FlushTold u (flush.Stopped mark) = (mark ≡ last_mark u.kept) × (u.knows ≡ true)
 
--- a flush: one turn, in which nothing was accepted
+-- a flush: turns, in which nothing was accepted
 abbrev pub Flushes : {N : Type 0} → View → View → Flush N → Type 0
 Flushes v u answer = (history : List Sample) × Served v u history [] × FlushTold u answer
 
--- it goes through all that the seat has then seen
-abbrev pub FlushesAll : {N : Type 0} → View → Flush N → Type 0
-FlushesAll u (flush.Done through shown note) = through ≡ length u.seen
-FlushesAll u (flush.DiskFault before after) = Unit {0}
-FlushesAll u (flush.Stopped mark) = Unit {0}
+-- it goes through no fewer samples than the seat had seen before
+abbrev pub FlushesSeen : {N : Type 0} → View → Flush N → Type 0
+FlushesSeen v (flush.Done through shown note) = length v.seen ≤ through
+FlushesSeen v (flush.DiskFault before after) = Unit {0}
+FlushesSeen v (flush.Stopped mark) = Unit {0}
 
 -- where it made a mark, the seat asked for that one
 abbrev pub Asks : {N : Type 0} → View → View → Flush N → Type 0
@@ -127,27 +128,70 @@ IsNoted view u (flush.Done through shown note) = view.tells note u.basis.terms.w
 IsNoted view u (flush.DiskFault before after) = Unit {0}
 IsNoted view u (flush.Stopped mark) = Unit {0}
 
--- the seat's last turn found the book so, and gave it back so
-pub record Turned {D V : Type 0} (u : View) (old new : Account D V) : Type 0 where
-  pub found : u.last ≡ holding old.history old.marks old.stopped
-  pub terms : old.terms ≡ u.basis.terms
+-- the seat's last turn found the front so, and gave it back so
+pub record Turned {V : Type 0} (u : View) (old new : FrontAccount V) : Type 0 where
+  pub found : u.last ≡ holding (held_of old)
+  pub terms : old.terms ≡ front_part u.basis.terms
   pub history : new.history ≡ u.seen
   pub marks : new.marks ≡ u.kept
   pub stopped : new.stopped ≡ u.knows
 
--- the turn was one append of the book, with the causes of that
-pub record AppendsBook {D V N : Type 0} (disk : DiskOf D) (view : ViewOf V N) (u : View) (sample : Sample) (answer : Append) : Type 0 where
-  pub old : Account D V
-  pub new : Account D V
-  pub turned : Turned u old new
-  pub answers : AppendAnswers disk view old new sample answer
+-- these numbers say how often a disk had failed before a call, and after it
+pub record AreCounts {D : Type 0} (disk : DiskOf D) (before after : ℕ) : Type 0 where
+  pub old : D
+  pub new : D
+  pub before_is : before ≡ disk.faults old
+  pub after_is : after ≡ disk.faults new
+  pub rose : Rose before after
 
--- the turn was one flush of the book, with the causes of that
-pub record FlushesBook {D V N : Type 0} (disk : DiskOf D) (view : ViewOf V N) (u : View) (answer : Flush N) : Type 0 where
-  pub old : Account D V
-  pub new : Account D V
+-- the front is told in the turn that the write met a fault of the disk: it is stopped since, and has its spare block again
+pub record MeetsFault {D V : Type 0} (disk : DiskOf D) (old new : FrontAccount V) (before after : ℕ) : Type 0 where
+  pub going : old.stopped ≡ false
+  pub stops : new ≡ record old { stopped = true; spare = true }
+  pub counts : AreCounts disk before after
+
+-- a front has the mark of what was written, and shows its durable samples
+pub record HasMarked {V N : Type 0} (view : ViewOf V N) (old new : FrontAccount V) : Type 0 where
+  pub mark : Mark
+  pub through : ℕ
+  pub shown : ℕ
+  pub note : N
+  pub tells : DoneTells view old new (old.marks ++ mark ∷ []) through shown note
+
+-- the sample was put into the front as the turn found it, or into that one with such a mark
+pub record PutsReady {V N : Type 0} (view : ViewOf V N) (old new : FrontAccount V) (sample : Sample) (answer : Append) : Type 0 where
+  pub met : FrontAccount V
+  pub ready : (met ≡ old) ⊎ HasMarked view old met
+  pub puts : PutTells met new sample answer
+  pub fits : NeedsNoDisk met sample answer
+
+-- what the last turn of an append did to the front that it found
+abbrev pub AppendDoes : {D V N : Type 0} → DiskOf D → ViewOf V N → FrontAccount V → FrontAccount V → Sample → Append → Type 0
+AppendDoes disk view old new sample (Accepted place) = PutsReady view old new sample (Accepted place)
+AppendDoes disk view old new sample (SessionFull held size limit) = PutsReady view old new sample (SessionFull held size limit)
+AppendDoes disk view old new sample (Stopped mark) = PutTells old new sample (Stopped mark)
+AppendDoes disk view old new sample (DiskFault before after) = MeetsFault disk old new before after
+AppendDoes disk view old new sample Memory = PutsReady view old new sample Memory
+
+-- and of a flush: it added a mark or none, and the durable samples are shown
+abbrev pub FlushDoes : {D V N : Type 0} → DiskOf D → ViewOf V N → FrontAccount V → FrontAccount V → Flush N → Type 0
+FlushDoes disk view old new (flush.Done through shown note) =
+    ((new.marks ≡ old.marks) ⊎ ((mark : Mark) × (new.marks ≡ old.marks ++ mark ∷ []))) × DoneTells view old new new.marks through shown note
+FlushDoes disk view old new (flush.DiskFault before after) = MeetsFault disk old new before after
+FlushDoes disk view old new (flush.Stopped mark) = (old.stopped ≡ true) × (new ≡ old) × (mark ≡ last_mark old.marks)
+
+-- the seat's last turn did so to the front, with the causes of that
+pub record AppendsFront {D V N : Type 0} (disk : DiskOf D) (view : ViewOf V N) (u : View) (sample : Sample) (answer : Append) : Type 0 where
+  pub old : FrontAccount V
+  pub new : FrontAccount V
   pub turned : Turned u old new
-  pub answers : FlushAnswers disk view old new answer
+  pub does : AppendDoes disk view old new sample answer
+
+pub record FlushesFront {D V N : Type 0} (disk : DiskOf D) (view : ViewOf V N) (u : View) (answer : Flush N) : Type 0 where
+  pub old : FrontAccount V
+  pub new : FrontAccount V
+  pub turned : Turned u old new
+  pub does : FlushDoes disk view old new answer
 
 -- the seat had a turn in the try
 abbrev pub HadTurn : Try → Type 0
@@ -155,6 +199,6 @@ HadTurn (Busy word back) = ⊥
 HadTurn (NeedsFlush held size limit back) = Unit {0}
 HadTurn (Answered answer) = Unit {0}
 
--- where the seat had a turn, it was one try of the book, with the causes of that
-pub record TriesBook {D V N : Type 0} (disk : DiskOf D) (view : ViewOf V N) (u : View) (sample : Sample) (answer : Try) : Type 0 where
-  pub tried : HadTurn answer → (old new : Account D V) × Turned u old new × Puts disk view old new sample answer
+-- where the seat had a turn, it was one try of the front, with the causes of that
+pub record TriesFront (V : Type 0) (u : View) (sample : Sample) (answer : Try) : Type 0 where
+  pub tried : HadTurn answer → (old new : FrontAccount V) × Turned u old new × Puts old new sample answer

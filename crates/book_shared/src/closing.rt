@@ -1,21 +1,26 @@
 //! How a shared book is closed.
-ghost use Rattle.std.specs.Prelude.{ℕ, ◌≡◌, ◌<◌, [], length, Some};
+ghost use Rattle.std.specs.Prelude.{ℕ, ◌≡◌, ◌<◌, [], length};
 ghost use mathlib.Core.Option.{some};
 ghost use lib.ListN.{get_elem?};
 ghost use Rattle.std.specs.Mem.Slots.{slots_items, slots_len, IsFull};
-ghost use Rattle.book_owned.specs.Account.{Account};
-ghost use Rattle.book_shared.specs.Basis.{idle};
+ghost use Rattle.mdf_gate.specs.Gated.{Gated};
+ghost use Rattle.book_owned.specs.FrontHalf.{FrontAccount};
+ghost use Rattle.book_owned.specs.Split.{AreHalves, book_of_halves};
+ghost use Rattle.book_shared.specs.Basis.{idle, free};
 ghost use Rattle.book_shared.specs.Covers.{AreCovered};
 ghost use Rattle.book_shared.specs.Place.{IsSingle};
 ghost use Rattle.book_shared.specs.Causes.{MarksCaused};
 ghost use Rattle.book_shared.specs.Rule.{AreOfSources, asks, total};
 ghost use Rattle.book_shared.specs.Seats.{AreOf, AskedBy, HasNumber, Closes};
+ghost use Rattle.book_shared.specs.declared.half.Half.TheVariants.{TheFront, TheBack};
 
+use crate::half::Half;
+use crate::halves::{back_of, front_of};
 use crate::rule::Both;
 use crate::seat::{Chair, SourceSeat};
 use crate::shared::SharedBook;
 use atomic_table::Closed;
-use book_owned::{Book, Shown};
+use book_owned::{Back, Book, Front, Shown};
 use mdf_disk::Disk;
 use std::alloc::Global;
 
@@ -24,6 +29,7 @@ fn chair_of<D: Disk, V: Shown>(seat: SourceSeat) -> Chair<D, V>
     ensures table { result.table_id ≡ seat.table }
     ensures know { result.me ≡ (seat.know, []) }
     ensures calm { seat.know.turn ≡ idle }
+    ensures no_device { seat.know.device ≡ free }
     ensures single { IsSingle seat.know seat.number }
 {
     let SourceSeat {
@@ -41,6 +47,7 @@ fn gather<D: Disk, V: Shown>(book: &SharedBook<D, V>, mut seats: Vec<SourceSeat>
     ensures table { result.table_id ≡ book.now.table }
     ensures free { result.me.1 ≡ [] }
     ensures calm { result.me.0.turn ≡ idle }
+    ensures no_device { result.me.0.device ≡ free }
     ensures covers { AreCovered result.me.0 seats.items }
     ensures asked { (n : ℕ) → asks n result.me.0 ≡ total (λ seat. asks n seat.know) seats.items }
 {
@@ -56,20 +63,19 @@ fn gather<D: Disk, V: Shown>(book: &SharedBook<D, V>, mut seats: Vec<SourceSeat>
     whole
 }
 
-/// The book out of its slot.
-fn book_of<D: Disk, V: Shown>(mut closed: Closed<Option<Book<D, V>>, Global>) -> Book<D, V>
-    requires count { slots_len closed.slots ≡ 1 }
+/// The book of the halves in the slots.
+fn book_of<D: Disk, V: Shown>(mut closed: Closed<Half<Front<V>, Back<D>>, Global>) -> Book<D, V>
+    requires count { slots_len closed.slots ≡ 2 }
     requires full { IsFull closed.slots }
-    requires book { (book : Account D V) × (get_elem? (slots_items closed.slots) 0 ≡ some (Some book)) }
-    ensures { get_elem? (slots_items closed.slots) 0 ≡ some (Some result) }
+    requires halves { (front : FrontAccount V) × (back : Gated D) × (get_elem? (slots_items closed.slots) 0 ≡ some (TheFront front))
+        × (get_elem? (slots_items closed.slots) 1 ≡ some (TheBack back)) × AreHalves D.Disk front back }
+    ensures { (front : FrontAccount V) (back : Gated D) → get_elem? (slots_items closed.slots) 0 ≡ some (TheFront front)
+        → get_elem? (slots_items closed.slots) 1 ≡ some (TheBack back) → result ≡ book_of_halves D.Disk front back }
 {
-    match closed.take(0) {
-        Some(book) => {
-            closed.free();
-            book
-        }
-        None => unreachable!(),
-    }
+    let front = front_of(closed.take(0));
+    let back = back_of(closed.take(1));
+    closed.free();
+    Book::join(front, back)
 }
 
 impl<D: Disk, V: Shown> SharedBook<D, V> {

@@ -1,18 +1,20 @@
 //! What the table of a shared book is told once.
 use std::snapshot::Snapshot;
 
-/// The book at its beginning, as contracts see it, the source that owns each group, and how many sources there are.
-pub struct Fixed<B> {
-    pub book: Snapshot<B>,
+/// The halves of the book at its beginning, as contracts see them, the source that owns each group, and how many sources there are.
+pub struct Fixed<F, B> {
+    pub front: Snapshot<F>,
+    pub back: Snapshot<B>,
     /// By the number of the group; 0 for a group that is not there.
     pub owners: [u8; 64],
     pub sources: u8,
 }
 
-impl<B> Drop for Fixed<B> {
+impl<F, B> Drop for Fixed<F, B> {
     fn drop(self) {
         let Self {
-            book: _,
+            front: _,
+            back: _,
             owners: _,
             sources: _,
         } = self;

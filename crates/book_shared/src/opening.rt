@@ -1,17 +1,23 @@
 //! How a shared book is begun.
-ghost use Rattle.std.specs.Prelude.{ℕ, ◌≡◌, ◌≤◌, ◌<◌, [], ◌∷◌, length, slice_index, Some, IfOk, IfErr};
+ghost use Rattle.std.specs.Prelude.{ℕ, ◌≡◌, ◌≤◌, ◌<◌, [], ◌∷◌, length, slice_index, IfOk, IfErr};
 ghost use Rattle.std.specs.Vec.{vec_capacity};
-ghost use Rattle.book_owned.specs.Account.{Account};
+ghost use Rattle.atomic_table.specs.Table.{opening};
+ghost use Rattle.mdf_gate.specs.Gated.{Gated};
+ghost use Rattle.book_owned.specs.FrontHalf.{FrontAccount};
 ghost use Rattle.book_shared.specs.Plays.{fresh};
-ghost use Rattle.book_shared.specs.Fixed.{sources_from};
+ghost use Rattle.book_shared.specs.Fixed.{basis_of, first_view, sources_from};
+ghost use Rattle.book_shared.specs.Rule.{Runs};
 ghost use Rattle.book_shared.specs.Seats.{new_seats, HasShared};
+ghost use Rattle.book_shared.specs.declared.half.Half.TheVariants.{TheFront, TheBack};
 
 use crate::fixed::Fixed;
+use crate::half::Half;
+use crate::halves::{back_of, front_of};
 use crate::rule::Part;
 use crate::seat::{Chair, SourceSeat};
 use crate::shared::SharedBook;
 use atomic_table::{Refused, Table};
-use book_owned::{Book, Shown};
+use book_owned::{Back, Book, Front, Shown};
 use mdf_disk::Disk;
 use mdf_num::Memory;
 use std::alloc::Global;
@@ -59,25 +65,60 @@ fn part<D: Disk, V: Shown>(
     }
 }
 
-/// The book out of the slots that a table was refused for.
-fn handed_back<D: Disk, V: Shown>(refused: Refused<Option<Book<D, V>>, Global>) -> Book<D, V>
-    requires { (book : Account D V) × (refused.slots.items ≡ Some book ∷ []) }
-    ensures { refused.slots.items ≡ Some result ∷ [] }
+/// The halves out of the slots that a table was refused for.
+fn halves_of<D: Disk, V: Shown>(mut slots: Vec<Half<Front<V>, Back<D>>>) -> (Front<V>, Back<D>)
+    requires halves { (front : FrontAccount V) × (back : Gated D) × (slots.items ≡ TheFront front ∷ TheBack back ∷ []) }
+    ensures { slots.items ≡ TheFront result.0 ∷ TheBack result.1 ∷ [] }
 {
-    let Refused { mut slots } = refused;
-    match slots.pop() {
-        Some(Some(book)) => {
-            slots.destroy_empty();
-            book
+    let Some(second) = slots.pop() else {
+        unreachable!()
+    };
+    let Some(first) = slots.pop() else {
+        unreachable!()
+    };
+    slots.destroy_empty();
+    (front_of(first), back_of(second))
+}
+
+/// A shared book with these halves, and the one seat that has all sources.
+///
+/// # Errors
+/// Want of memory, with the halves.
+fn shared_of<D: Disk, V: Shown>(
+    alloc: Global,
+    front: Front<V>,
+    back: Back<D>,
+    fixed: &Fixed<Front<V>, Back<D>>,
+) -> Result<(SharedBook<D, V>, Chair<D, V>), (Front<V>, Back<D>)>
+    requires some_source { 0 < fixed.now.sources }
+    requires runs { Runs D.Disk (basis_of D.Disk fixed.now) (opening (0 ∷ 0 ∷ []) (TheFront front ∷ TheBack back ∷ []) (first_view (basis_of D.Disk fixed.now))) }
+    ensures basis { IfOk result (λ shared. shared.0.basis ≡ basis_of D.Disk fixed.now) }
+    ensures seat { IfOk result (λ shared. (shared.1.table_id ≡ shared.0.table) × (shared.1.me ≡ (first_view (basis_of D.Disk fixed.now), []))) }
+    ensures handed_back { IfErr result (λ halves. (halves.0 ≡ front) × (halves.1 ≡ back)) }
+{
+    let Ok(mut slots) = Vec::with_capacity(alloc, 2) else {
+        return Err((front, back));
+    };
+    slots.push_reserved(Half::TheFront(front));
+    slots.push_reserved(Half::TheBack(back));
+    match Table::new(alloc, &[0, 0], slots, fixed) {
+        Ok((table, first)) => {
+            let shared = SharedBook {
+                table,
+                flushes: AtomicU64::new(0),
+            };
+            Ok((shared, first))
         }
-        Some(None) => unreachable!(),
-        None => unreachable!(),
+        Err(refused) => {
+            let Refused { slots } = refused;
+            Err(halves_of(slots))
+        }
     }
 }
 
 impl<D: Disk, V: Shown> SharedBook<D, V> {
     /// Shares a book that has no sample yet among so many sources. `owners` has the source that owns each group, by the number
-    /// of the group. The seats come in the order of the sources.
+    /// of the group. The seats come in the order of the sources. It reserves a second block.
     ///
     /// # Errors
     /// Want of memory, with the book as it was.
@@ -98,25 +139,19 @@ impl<D: Disk, V: Shown> SharedBook<D, V> {
         let Ok(mut seats) = Vec::with_capacity(alloc, sources as usize) else {
             return Err((Memory, book));
         };
-        let Ok(mut slots) = Vec::with_capacity(alloc, 1) else {
-            return Err((Memory, book));
-        };
+        let (front, back) = book.split(alloc)?;
         let fixed = Fixed {
-            book: Snapshot::of(&book),
+            front: Snapshot::of(&front),
+            back: Snapshot::of(&back),
             owners: table_of(owners),
             sources,
         };
-        slots.push_reserved(Some(book));
-        match Table::new(alloc, &[0], slots, &fixed) {
-            Ok((table, first)) => {
-                let shared = SharedBook {
-                    table,
-                    flushes: AtomicU64::new(0),
-                };
+        match shared_of(alloc, front, back, &fixed) {
+            Ok((shared, first)) => {
                 part(&shared, first, &mut seats, fixed.owners, sources);
                 Ok((shared, seats))
             }
-            Err(refused) => Err((Memory, handed_back(refused))),
+            Err((front, back)) => Err((Memory, Book::join(front, back))),
         }
     }
 }

@@ -1,11 +1,12 @@
 //! The seats of a shared book.
+use crate::half::Half;
 use crate::view::View;
 use atomic_table::{Badge, Seat};
-use book_owned::Book;
+use book_owned::{Back, Front};
 use std::marker::Model;
 
-/// A seat at the table, which can hold the book.
-pub(crate) type Chair<D, V> = Seat<Option<Book<D, V>>, View>;
+/// A seat at the table, which can hold the front and the back.
+pub(crate) type Chair<D, V> = Seat<Half<Front<V>, Back<D>>, View>;
 
 /// The seat of a source at a shared book: the right to append samples of the source's groups, and what the seat knows of the
 /// one history.

@@ -3,7 +3,7 @@ ghost use Rattle.std.specs.Prelude.{ℕ, Bool, List};
 ghost use base.Fml.{ftrue};
 ghost use Rattle.mdf_layout.specs.declared.sample.Sample.{Sample};
 ghost use Rattle.book_owned.specs.declared.mark.Mark.{Mark};
-ghost use Rattle.book_shared.specs.Basis.{Basis, Turn};
+ghost use Rattle.book_shared.specs.Basis.{Basis, Device, Turn};
 
 use std::marker::Model;
 
@@ -17,22 +17,26 @@ pub struct View {
     pub ghost steps: { ℕ },
     /// How many turns were taken.
     pub ghost turns: { ℕ },
-    /// Whether the book was stopped when the seat last gave it back.
+    /// Whether the front was stopped when the seat last gave it back.
     pub ghost knows: { Bool },
-    /// The history when the seat last gave the book back.
+    /// The history when the seat last gave the front back.
     pub ghost seen: { List Sample },
-    /// The marks when the seat last gave the book back.
+    /// The marks when the seat last gave the front back.
     pub ghost kept: { List Mark },
+    /// How many samples were handed out to be written when the seat last gave the front back.
+    pub ghost from: { ℕ },
     /// What the seats knew that were joined into this one: their histories and marks.
     pub ghost olds: { List (List Sample × List Mark) },
-    /// Through how many samples the marks go that its turns made which accepted no sample.
+    /// Through how many samples the marks go that its flushes made.
     pub ghost asked: { List ℕ },
     /// The numbers of the sources that are the seat's, each with the samples of that source that were accepted.
     pub ghost mine: { List (ℕ × List Sample) },
     /// What the seat holds.
     pub ghost turn: { Turn },
-    /// What the seat held in its last turn: the book as that turn found it.
+    /// What the seat held in its last turn: the front as that turn found it.
     pub ghost last: { Turn },
+    /// Whether the seat has the device, and how far it is with it.
+    pub ghost device: { Device },
     /// What no call changes.
     pub ghost basis: { Basis },
 }

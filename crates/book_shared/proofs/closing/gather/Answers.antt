@@ -2,8 +2,8 @@ use Rattle.std.proofs.Common.{sym, ap, subst, ◌∙◌, arith}
 use Rattle.book_shared.specs.Fixed.{basis_of}
 use Rattle.book_shared.specs.Parts.{joined}
 use Rattle.book_shared.specs.Place.{Common}
+use Rattle.book_shared.specs.Plays.{Here}
 use Rattle.book_shared.specs.Seats.{AreOf}
-use Rattle.book_shared.proofs.Keeps.{Here}
 use Rattle.book_shared.proofs.Ends.{joins}
 use Rattle.book_shared.proofs.Covering.{Gathered, gathered_first, gathered_on, of_last}
 use Rattle.book_shared.proofs.closing.gather.Goals as goal
@@ -18,7 +18,7 @@ loop-seat-init g c =
       chair.table ∙ of_last table left seat (subst (AreOf table) c.in-Some.ensures.items c.requires.table),
       ap (λ (x : Here g.row.D.Denot g.row.V.Denot). x.1) chair.know,
       subst (Gathered table seats left) (sym (ap (λ (x : Here g.row.D.Denot g.row.V.Denot). x.0) chair.know))
-          (gathered_first table seats left seat c.requires.table c.in-Some.ensures.items chair.calm chair.single),
+          (gathered_first table seats left seat c.requires.table c.in-Some.ensures.items chair.calm chair.no_device chair.single),
     )
 
 pub join_seat-requires : goal.join_seat-requires
@@ -33,8 +33,9 @@ join_seat-requires g c =
       chair.table ∙ of_last table left seat (subst (AreOf table) c.in-Some-pop.ensures.items gathered.of_table) ∙ sym view_is,
       ap (λ (x : Here g.row.D.Denot g.row.V.Denot). x.1) chair.know,
       omega (arith, c.book.invariant.0),
-      joins (basis_of c.book.inside.table.shared.key) c.loop-seat.whole.id c.loop-seat.whole.me.0 c.chair_of.result.id c.chair_of.result.me.0
-          gathered.calm (ap (λ (x : Here g.row.D.Denot g.row.V.Denot). x.0.turn) chair.know ∙ chair.calm) gathered.some_source,
+      joins g.D.Disk (basis_of g.D.Disk c.book.inside.table.shared.key) c.loop-seat.whole.id c.loop-seat.whole.me.0 c.chair_of.result.id c.chair_of.result.me.0
+          gathered.calm (ap (λ (x : Here g.row.D.Denot g.row.V.Denot). x.0.turn) chair.know ∙ chair.calm)
+          gathered.no_device (ap (λ (x : Here g.row.D.Denot g.row.V.Denot). x.0.device) chair.know ∙ chair.no_device) gathered.some_source,
     )
 
 pub loop-seat-preserved : goal.loop-seat-preserved

@@ -1,7 +1,8 @@
 use Rattle.std.proofs.Common.{[], sym, ap, ◌∙◌, arith, length}
 use Rattle.book_shared.specs.Fixed.{basis_of}
 use Rattle.book_shared.specs.Place.{Common, known}
-use Rattle.book_shared.proofs.Keeps.{Here, seat_of}
+use Rattle.book_shared.specs.Plays.{Here}
+use Rattle.book_shared.proofs.Keeps.{seat_of}
 use Rattle.book_shared.proofs.Ends.{splits}
 use Rattle.book_shared.proofs.Beginning.{new_seats-length, split_left, kept_left, pushed}
 use Rattle.book_shared.proofs.opening.part.Goals as goal
@@ -10,8 +11,9 @@ pub split_seat-others-requires : goal.split_seat-others-requires
 split_seat-others-requires g c = (
   c.loop-number.invariant.0 ∙ sym (ap (λ (b : Common). b.table) c.book.view_is),
   omega (arith, c.book.invariant.0),
-  splits (basis_of c.book.inside.table.shared.key) c.loop-number.whole.id c.loop-number.whole.me.0
-      (ap (λ (x : Here g.row.D.Denot g.row.V.Denot). x.0.turn) c.loop-number.invariant.1),
+  splits g.D.Disk (basis_of g.D.Disk c.book.inside.table.shared.key) c.loop-number.whole.id c.loop-number.whole.me.0
+      (ap (λ (x : Here g.row.D.Denot g.row.V.Denot). x.0.turn) c.loop-number.invariant.1)
+      (ap (λ (x : Here g.row.D.Denot g.row.V.Denot). x.0.device) c.loop-number.invariant.1),
 )
 
 pub push_reserved-requires : goal.push_reserved-requires

@@ -9,5 +9,5 @@ returns-then-group-ge64 c =
     let seat = c.self.inside in
     let group = c.args.group in
     subst (λ (place : Place). (seat.number == 0) ≡ (slice_index place.know.basis.owners group == place.number)) c.self.view_is
-    (subst (λ owners. (seat.number == 0) ≡ (slice_index owners group == seat.number)) c.self.invariant.3
-    (owner_past seat.owners group seat.number (omega (arith, c.self.invariant.4, c.if-group-ge64.true))))
+    (subst (λ owners. (seat.number == 0) ≡ (slice_index owners group == seat.number)) c.self.invariant.4
+    (owner_past seat.owners group seat.number (omega (arith, c.self.invariant.5, c.if-group-ge64.true))))

@@ -1,7 +1,13 @@
-use Rattle.std.proofs.Common.{rules}
-use Rattle.book_shared.specs.Fixed.{basis_of}
-use Rattle.book_shared.proofs.Keeps.{exchanges_free}
+use Rattle.std.proofs.Common.{◌+◌, sym, subst}
+use Rattle.atomic_table.specs.Table.{step}
+use Rattle.book_shared.specs.Plays.{Takes}
+use Rattle.book_shared.specs.Turns.{said_of}
 use Rattle.book_shared.proofs.shared.SharedBook.take.Goals as goal
 
-pub compare_exchange-requires : goal.compare_exchange-requires
-compare_exchange-requires g c = (search rules, search rules, exchanges_free (basis_of c.self.inside.table.shared.key) _ _ _ c.args.word c.requires.free c.requires.even c.requires.low c.requires.some_source)
+pub returns-in-None-clause-takes : goal.returns-in-None-clause-takes
+returns-in-None-clause-takes g c =
+    subst (λ t. Takes (step 2 0 c.args.word (c.args.word + 1) (said_of t)) c.args.seat.now.me c.take_calm.result c.take_calm.new.seat.me) (sym c.in-None.is) c.take_calm.ensures.takes
+
+pub returns-in-Some-clause-takes : goal.returns-in-Some-clause-takes
+returns-in-Some-clause-takes g c =
+    subst (λ t. Takes (step 2 0 c.args.word (c.args.word + 1) (said_of t)) c.args.seat.now.me c.take_told.result c.take_told.new.seat.me) (sym c.in-Some.is) c.take_told.ensures.takes

@@ -1,0 +1,57 @@
+use Rattle.std.proofs.Common.{◌∙◌, ap, sym, subst}
+use Rattle.book_owned.specs.FrontHalf.{HandTells}
+use Rattle.book_owned.specs.declared.handed.Handed.TheVariants as handed
+use Rattle.book_shared.specs.Turns.{Works}
+use Rattle.book_shared.specs.declared.view.View.{View}
+use Rattle.book_shared.proofs.Lists.{one_source}
+use Rattle.book_shared.proofs.Takings.{may_hand}
+use Rattle.book_shared.proofs.Flushes.{hand_of, turned_word, turned_sources}
+use Rattle.book_shared.proofs.Handing.{turned_full, both_full, tried_full}
+use Rattle.book_shared.proofs.shared.SharedBook.append_full.Goals as goal
+
+pub hand_out-requires-clause-front : goal.hand_out-requires-clause-front
+hand_out-requires-clause-front g c = may_hand c.requires.full.0 c.args.seat.now.me c.requires.full.1.seized
+
+pub write_block-word-requires-clause-word : goal.write_block-word-requires-clause-word
+write_block-word-requires-clause-word g c = c.requires.word ∙ ap (λ (y : View). y.met) (sym c.hand_out.ensures.view)
+
+pub write_block-word-requires-clause-low : goal.write_block-word-requires-clause-low
+write_block-word-requires-clause-low g c =
+    let works = subst (λ what. Works c.args.seat.now.me c.hand_out.new.seat.me (λ old new. HandTells old new what)) c.in-Given.is c.hand_out.ensures.works in
+    let turned = turned_full c.requires.full.0 c.args.seat.now.me c.hand_out.new.seat.me c.args.sample c.requires.full.1 c.in-Given.through c.in-Given.block c.hand_out.ensures.view works in
+    turned_word c.requires.full.0 c.hand_out.new.seat.me (handed.Given c.in-Given.through c.in-Given.block) c.args.word turned (c.requires.word ∙ ap (λ (y : View). y.met) (sym c.hand_out.ensures.view))
+
+pub write_block-word-requires-clause-some_source : goal.write_block-word-requires-clause-some_source
+write_block-word-requires-clause-some_source g c =
+    let works = subst (λ what. Works c.args.seat.now.me c.hand_out.new.seat.me (λ old new. HandTells old new what)) c.in-Given.is c.hand_out.ensures.works in
+    let turned = turned_full c.requires.full.0 c.args.seat.now.me c.hand_out.new.seat.me c.args.sample c.requires.full.1 c.in-Given.through c.in-Given.block c.hand_out.ensures.view works in
+    turned_sources c.requires.full.0 c.hand_out.new.seat.me (handed.Given c.in-Given.through c.in-Given.block) turned (one_source _ c.requires.full.0.mine _ c.requires.full.2)
+
+pub write_block-word-requires-clause-handed : goal.write_block-word-requires-clause-handed
+write_block-word-requires-clause-handed g c =
+    let works = subst (λ what. Works c.args.seat.now.me c.hand_out.new.seat.me (λ old new. HandTells old new what)) c.in-Given.is c.hand_out.ensures.works in
+    let turned = turned_full c.requires.full.0 c.args.seat.now.me c.hand_out.new.seat.me c.args.sample c.requires.full.1 c.in-Given.through c.in-Given.block c.hand_out.ensures.view works in
+    hand_of c.requires.full.0 c.hand_out.new.seat.me (handed.Given c.in-Given.through c.in-Given.block) turned
+
+pub append_written-requires-clause-word : goal.append_written-requires-clause-word
+append_written-requires-clause-word g c =
+    let works = subst (λ what. Works c.args.seat.now.me c.hand_out.new.seat.me (λ old new. HandTells old new what)) c.in-Given.is c.hand_out.ensures.works in
+    let turned = turned_full c.requires.full.0 c.args.seat.now.me c.hand_out.new.seat.me c.args.sample c.requires.full.1 c.in-Given.through c.in-Given.block c.hand_out.ensures.view works in
+    λ κs outlives. (c.write_block-word.ensures.written turned.new turned.out).met
+
+pub append_written-requires-clause-both : goal.append_written-requires-clause-both
+append_written-requires-clause-both g c =
+    let works = subst (λ what. Works c.args.seat.now.me c.hand_out.new.seat.me (λ old new. HandTells old new what)) c.in-Given.is c.hand_out.ensures.works in
+    let turned = turned_full c.requires.full.0 c.args.seat.now.me c.hand_out.new.seat.me c.args.sample c.requires.full.1 c.in-Given.through c.in-Given.block c.hand_out.ensures.view works in
+    λ κs outlives.
+    both_full c.requires.full.0 c.args.seat.now.me c.hand_out.new.seat.me c.args.sample c.requires.full.1 c.in-Given.through c.in-Given.block c.hand_out.ensures.view works g.D.Disk
+    c.args.word c.write_block-word.new.seat.me c.write_block-word.result.0 c.write_block-word.result.1 (c.write_block-word.ensures.written turned.new turned.out)
+    (c.requires.full.2, c.requires.full.3, c.requires.full.4)
+
+pub returns-clause-tried : goal.returns-clause-tried
+returns-clause-tried g c v full single =
+    let works = subst (λ what. Works c.args.seat.now.me c.hand_out.new.seat.me (λ old new. HandTells old new what)) c.in-Given.is c.hand_out.ensures.works in
+    let turned = turned_full v c.args.seat.now.me c.hand_out.new.seat.me c.args.sample full c.in-Given.through c.in-Given.block c.hand_out.ensures.view works in
+    tried_full v c.args.seat.now.me c.hand_out.new.seat.me c.args.sample full c.in-Given.through c.in-Given.block c.hand_out.ensures.view works g.D.Disk g.V.Shown
+    c.args.word c.write_block-word.new.seat.me c.write_block-word.result.0 c.write_block-word.result.1 c.append_written.new.seat.me.0 c.append_written.result
+    (c.write_block-word.ensures.written turned.new turned.out) single c.append_written.ensures.tried

@@ -1,0 +1,21 @@
+//! What lies in the slots of a shared book.
+use book_owned::Mark;
+
+/// What a write of the device led to.
+#[derive(Clone, Copy)]
+pub enum Answer {
+    /// The mark of the samples that were written.
+    Marked(Mark),
+    /// The count of the device's faults before and after it.
+    Faulted { before: u64, after: u64 },
+}
+
+/// A half of a book, in its slot.
+pub enum Half<F, B> {
+    TheFront(F),
+    TheBack(B),
+    /// What a seat announces when it takes the turn after a write. It lies in no slot.
+    Told(Answer),
+    /// Nothing.
+    Out,
+}
