@@ -13,6 +13,7 @@ use Rattle.mdf_inspect.specs.declared.answer.Question.TheVariants.{Verdict, Cont
 use Rattle.mdf_run.specs.Cut.{Cuts}
 use Rattle.mdf_run.specs.Concat.{AreNotJoined, Joins, two_inputs}
 use Rattle.mdf_run.specs.Finalize.{Finalizes, IsNoRecording}
+use Rattle.mdf_run.specs.Blamed.{only_blamed}
 use Rattle.mdf_run.specs.Making.{one_input}
 use Rattle.mdf_run.specs.Sort.{IsNotMeasured, Sorts}
 use Rattle.mdf_record.specs.Recovers.{AreRecovered}
@@ -35,7 +36,7 @@ use Rattle.mdf_run.proofs.Scripts.{if_none, of_generated, of_none, of_record}
 use Rattle.mdf_run.proofs.Causes.{export_caused, making_caused, opened_caused, reading_caused, widened}
 use Rattle.mdf_run.proofs.Joinable.{joinable_is_joined}
 use Rattle.mdf_run.proofs.Keeps.{was_status}
-use Rattle.mdf_run.proofs.Requests.{EndsAs, as_named, as_request, one_request, same_files}
+use Rattle.mdf_run.proofs.Requests.{BlamesAs, EndsAs, as_blamed, as_named, as_request, one_request, same_files}
 use Rattle.mdf_run.proofs.Sound.{finalizable_is_taken, group_is_exported, measured_is_taken, one_is_made, read_is_taken}
 
 -- the words ask for this, or for nothing
@@ -113,6 +114,23 @@ if_recovered said (Some (Show input view)) t ended asks P recovered =
 if_recovered said (Some (Make input output tool)) t ended asks P recovered =
     let nothing = records_nothing said (Make input output tool) tt asks in
     (λ name also. absurd (nothing.0 name also), λ samples name also. absurd (nothing.1 samples name also))
+
+-- the input that is blamed
+pub blames_as : (said : List (List ℕ)) (asked : Option Asked) (t : Told) → HasEnded asked t → Says said asked → (request : Request) → Asks said request → BlamesAs request t
+blames_as said None t ended none request asks = absurd (none request asks)
+blames_as said (Some a) t ended also request asks =
+    subst (λ r. BlamesAs r t) (one_request said (request_for a) request also asks) (as_blamed a t ended.blames)
+
+pub blames_one : (said : List (List ℕ)) (asked : Option Asked) (t : Told) → HasEnded asked t → Says said asked → ¬ AsksToJoin said → RecordsNothing said
+    → t.blamed ≡ only_blamed t.status
+blames_one said None t ended says alone nothing = ended.blames
+blames_one said (Some (Show input view)) t ended says alone nothing = ended.blames
+blames_one said (Some (Make input output Finalize)) t ended says alone nothing = ended.blames
+blames_one said (Some (Make input output Sort)) t ended says alone nothing = ended.blames
+blames_one said (Some (Make input output (Cut from to))) t ended says alone nothing = ended.blames
+blames_one said (Some (Make input output (Concat second))) t ended says alone nothing = absurd (alone (input.now, second.now, output.now, says))
+blames_one said (Some (Record output Source)) t ended says alone nothing = absurd (nothing.0 output.now says)
+blames_one said (Some (Record output (Generated samples))) t ended says alone nothing = absurd (nothing.1 samples output.now says)
 
 -- why a status comes of what was asked for
 abbrev Why : List (List ℕ) → Told → Type 0

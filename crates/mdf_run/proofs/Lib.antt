@@ -1,3 +1,4 @@
+mod Blaming
 mod Causes
 mod Ended
 mod Joinable

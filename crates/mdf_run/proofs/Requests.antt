@@ -20,7 +20,8 @@ use Rattle.mdf_command.specs.Words as words
 use Rattle.mdf_run.proofs.Scripts.{one_number}
 use Rattle.mdf_run.proofs.Words.{same_group, same_range}
 use Rattle.mdf_run.specs.Asked.{AsksOnly, input_asked, output_asked, request_for, second_asked}
-use Rattle.mdf_run.specs.Ends.{Ends, Leaves, Told}
+use Rattle.mdf_run.specs.Blamed.{BlamesJoined, only_blamed}
+use Rattle.mdf_run.specs.Ends.{Blames, Ends, Leaves, Told}
 use Rattle.mdf_run.specs.declared.asked.Asked.{Asked}
 use Rattle.mdf_run.specs.declared.asked.Asked.TheVariants.{Show, Make, Record}
 use Rattle.mdf_run.specs.declared.asked.View.TheVariants.{Opened, Reading, Table}
@@ -73,6 +74,25 @@ EndsAs (words.joined input second output) t =
     EndsConcat t.now t.first t.first' t.second t.second' t.out t.left.disk t.sink t.sink' t.status
     × LeavesOf (AreBothLoaded t.now t.first t.second) IsConcatImage t.out t.left.disk
 EndsAs (words.generated samples output) t = EndsGenerated samples output t.now t.out t.left t.sink t.sink' t.status
+
+-- which input is blamed
+abbrev pub BlamesAs : Request → Told → Type 0
+BlamesAs (words.joined input second output) t = BlamesJoined t.now t.first t.second t.sink t.sink' t.status t.blamed
+BlamesAs (words.recorded output) t = t.blamed ≡ None
+BlamesAs (words.generated samples output) t = t.blamed ≡ None
+BlamesAs request t = t.blamed ≡ only_blamed t.status
+
+pub as_blamed : (asked : Asked) (t : Told) → Blames (Some asked) t → BlamesAs (request_for asked) t
+as_blamed (Show input Opened) t blames = blames
+as_blamed (Show input (Reading Verdict)) t blames = blames
+as_blamed (Show input (Reading Contents)) t blames = blames
+as_blamed (Show input (Table group)) t blames = blames
+as_blamed (Make input output Finalize) t blames = blames
+as_blamed (Make input output Sort) t blames = blames
+as_blamed (Make input output (Cut from to)) t blames = blames
+as_blamed (Make input output (Concat second)) t blames = blames
+as_blamed (Record output Source) t blames = blames
+as_blamed (Record output (Generated samples)) t blames = blames
 
 pub as_request : (asked : Asked) (t : Told) → Ends (Some asked) t → EndsAs (request_for asked) t
 as_request (Show input Opened) t ends = ends

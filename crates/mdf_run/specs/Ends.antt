@@ -21,6 +21,8 @@ use Rattle.mdf_run.specs.Finalize.{EndsFinalize}
 use Rattle.mdf_run.specs.Sort.{EndsSort}
 use Rattle.mdf_run.specs.Cut.{EndsCut}
 use Rattle.mdf_run.specs.Concat.{AreBothLoaded, EndsConcat}
+use Rattle.mdf_run.specs.Blamed.{BlamesJoined, only_blamed}
+use Rattle.mdf_run.specs.declared.blamed.Input.{Input}
 use Rattle.mdf_record.specs.Record.{Outcome}
 use Rattle.mdf_record.specs.Recorded.{EndsGenerated, EndsRecord}
 use Rattle.mdf_record.specs.Recovers.{AreRecovered}
@@ -50,6 +52,11 @@ EndsMake (Cut from to) now first first' second second' out out' sink sink' statu
     EndsCut (record { from = from; to = to; now = now }) first first' out out' sink sink' status
 EndsMake (Concat other) now first first' second second' out out' sink sink' status =
     EndsConcat now first first' second second' out out' sink sink' status
+
+-- and this input is blamed: of `concat` that which the fault is of, and else the only one where it is refused or too long
+abbrev pub BlamesMake : Tool → ℕ → DiskState → DiskState → SinkState → SinkState → ℕ → Option Input → Type 0
+BlamesMake (Concat other) now first second sink sink' status blamed = BlamesJoined now first second sink sink' status blamed
+BlamesMake tool now first second sink sink' status blamed = blamed ≡ only_blamed status
 
 -- what may be left of the output at any moment
 abbrev pub Leaves : Tool → ℕ → DiskState → DiskState → DiskState → DiskState → Type 0
@@ -98,6 +105,7 @@ pub record Told : Type 0 where
   pub out : DiskState
   pub left : Outcome
   pub status : ℕ
+  pub blamed : Option Input
 
 -- How a run ends that was asked for this, or for nothing.
 abbrev pub Ends : Option Asked → Told → Type 0
@@ -108,8 +116,15 @@ Ends (Some (Make input output tool)) t =
     × Leaves tool t.now t.first t.second t.out t.left.disk
 Ends (Some (Record output origin)) t = EndsRecording origin output.now t.now t.source t.source' t.out t.left t.sink t.sink' t.status
 
--- It ends so, and only a recording has a history and marks.
+-- Which input is blamed: none of a recording, which has none.
+abbrev pub Blames : Option Asked → Told → Type 0
+Blames (Some (Make input output tool)) t = BlamesMake tool t.now t.first t.second t.sink t.sink' t.status t.blamed
+Blames (Some (Record output origin)) t = t.blamed ≡ None
+Blames asked t = t.blamed ≡ only_blamed t.status
+
+-- It ends so, that input is blamed, and only a recording has a history and marks.
 pub record HasEnded (asked : Option Asked) (t : Told) : Type 0 where
   pub ends : Ends asked t
+  pub blames : Blames asked t
   pub no_history : IsUnrecorded asked → t.left.history ≡ []
   pub no_marks : IsUnrecorded asked → t.left.marks ≡ []

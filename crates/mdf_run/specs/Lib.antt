@@ -7,3 +7,4 @@ pub mod Finalize
 pub mod Sort
 pub mod Cut
 pub mod Concat
+pub mod Blamed

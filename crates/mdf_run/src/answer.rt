@@ -8,6 +8,7 @@ ghost use Rattle.mdf_run.specs.Asked.{HasNumbers, IsOnlyMade, IsOnlyRead, TakesN
 ghost use Rattle.mdf_run.specs.Ends.{HasEnded};
 
 use crate::asked::Asked;
+use crate::blamed::of_one;
 use crate::finished::{Finished, without_recording};
 use crate::making::make;
 use crate::recording::record;
@@ -71,6 +72,7 @@ where
       out = state_of C.Disk out;
       left = outcome C.Disk result.out result.history.items result.marks.items;
       status = result.status;
+      blamed = result.blamed;
     }) }
     ensures input { IsOnlyRead A.Disk (input_asked asked.entry) first result.first }
     ensures second { IsOnlyRead B.Disk (second_asked asked.entry) second.old second.new }
@@ -81,7 +83,7 @@ where
         Some(Asked::Show(input, view)) => {
             let mut first = first;
             let status = show(alloc, view, input, sink, &mut first);
-            without_recording(alloc, status, first, out)
+            without_recording(alloc, of_one(status), first, out)
         }
         Some(
             Asked::Make {
@@ -92,17 +94,17 @@ where
         ) => {
             let mut first = first;
             let mut out = out;
-            let status = make(
+            let verdict = make(
                 alloc, tool, input, output, now_ns, sink, &mut first, second, &mut out,
             );
-            without_recording(alloc, status, first, out)
+            without_recording(alloc, verdict, first, out)
         }
         Some(Asked::Record(output, origin)) => record(
             rt, alloc, origin, output, now_ns, source, sink, first, out, gate,
         ),
         None => {
             let status = run_usage(sink);
-            without_recording(alloc, status, first, out)
+            without_recording(alloc, of_one(status), first, out)
         }
     }
 }

@@ -1,28 +1,31 @@
-ghost use Rattle.std.specs.Prelude.{◌≡◌, ◌⊎◌, Some, None};
+ghost use Rattle.std.specs.Prelude.{◌≡◌, ◌⊎◌, Some, None, IfErr};
+ghost use Rattle.mdf_disk.specs.Crash.{HoldsSince};
 ghost use Rattle.mdf_disk.specs.State.{state_of};
 ghost use Rattle.mdf_disk.specs.declared.role.Role.TheVariants.{Create, Read};
 ghost use Rattle.mdf_port.specs.State.{sink_state};
 ghost use Rattle.tool_concat.specs.Concat.{IsConcatImage};
+ghost use Rattle.mdf_command.specs.declared.fault.Fault.TheVariants as faults;
+ghost use Rattle.mdf_run.specs.Blamed.{BlamesJoined, IsOfEnd, IsOfJoining, concat_blamed, joining_blamed, joining_end, unread_blamed};
 ghost use Rattle.mdf_run.specs.Concat.{AreBothLoaded, AreNotJoined, EndsConcat, Joins, fault_of_concat, two_inputs};
-ghost use Rattle.mdf_run.specs.Making.{LeavesOf, MakingComes};
+ghost use Rattle.mdf_run.specs.Making.{LeavesOf, MakeComes, MakingComes};
 
-use crate::by_tool::{make, report};
-use crate::tool::Tool;
+use crate::blamed::{Input, Verdict};
+use crate::by_tool::report;
 use mdf_command::{Fault, load};
-use mdf_disk::Disk;
-use mdf_num::Bytes;
+use mdf_disk::{Disk, Role};
+use mdf_num::{Bytes, Failed, Memory};
 use mdf_port::Sink;
 use mdf_tool::Report;
 use std::alloc::Global;
 use tool_concat::{ConcatFault, concat};
 
-/// Makes one file of a finished one and of a second one.
-#[derive(Drop)]
-struct Concatenating {
-    /// The bytes of the second.
-    second: Bytes,
-    /// The time, in ns since 1970.
-    now_ns: u64,
+/// Why two files were not joined.
+#[derive(Clone, Copy)]
+struct Unjoined {
+    /// The fault that is printed.
+    fault: Fault,
+    /// The input that it is of.
+    blamed: Option<Input>,
 }
 
 /// The fault of the command. A fault of the second file is printed as one of the first.
@@ -38,17 +41,82 @@ fn fault_of(fault: ConcatFault) -> Fault
     }
 }
 
-impl Tool for Concatenating {
-    ghost makes = { λ tool file. Joins (record { first = file; second = tool.second; now = tool.now_ns }) };
+/// The input that such a fault is of.
+fn blamed_for(fault: ConcatFault) -> Option<Input>
+    ensures { result ≡ concat_blamed fault }
+{
+    match fault {
+        ConcatFault::First(_) => Some(Input::First),
+        ConcatFault::Second(_) => Some(Input::Second),
+        ConcatFault::Differs { .. } | ConcatFault::Wide { .. } => Some(Input::Both),
+        ConcatFault::Failed | ConcatFault::Memory => None,
+    }
+}
 
-    ghost refuses = { λ tool file. AreNotJoined (record { first = file; second = tool.second; now = tool.now_ns }) };
+impl From<ConcatFault> for Unjoined {
+    ghost from_gives = { λ problem unjoined. unjoined ≡ record { fault = fault_of_concat problem; blamed = concat_blamed problem } };
 
-    fn make<C: Disk>(self, alloc: Global, file: Bytes, out: &mut C) -> Result<Report, Fault> {
-        match concat(alloc, file, self.second, self.now_ns, out) {
-            Ok(report) => Ok(report),
-            Err(fault) => Err(fault_of(fault)),
+    fn from(fault: ConcatFault) -> Self {
+        Unjoined {
+            fault: fault_of(fault),
+            blamed: blamed_for(fault),
         }
     }
+}
+
+impl From<Failed> for Unjoined {
+    ghost from_gives = { λ _ unjoined. unjoined ≡ record { fault = faults.Device; blamed = None } };
+
+    fn from(_: Failed) -> Self {
+        Unjoined {
+            fault: Fault::Device,
+            blamed: None,
+        }
+    }
+}
+
+impl From<Memory> for Unjoined {
+    ghost from_gives = { λ _ unjoined. unjoined ≡ record { fault = faults.Memory; blamed = None } };
+
+    fn from(_: Memory) -> Self {
+        Unjoined {
+            fault: Fault::Memory,
+            blamed: None,
+        }
+    }
+}
+
+/// Why two files were not joined of which this one was not loaded. It is blamed where it is too long.
+fn unread(input: Input, fault: Fault) -> Unjoined
+    ensures fault { result.fault ≡ fault }
+    ensures blamed { result.blamed ≡ unread_blamed input fault }
+{
+    let blamed = match fault {
+        Fault::InputOver { .. } => Some(input),
+        _ => None,
+    };
+    Unjoined { fault, blamed }
+}
+
+/// Makes the file of this name of the bytes of two.
+fn make_joined<C: Disk>(
+    alloc: Global,
+    one: Bytes,
+    two: Bytes,
+    output: &Bytes,
+    now_ns: u64,
+    out: &mut C,
+) -> Result<Report, Unjoined>
+    requires { C.asked out.old ≡ None }
+    ensures comes { MakeComes (Joins (record { first = one; second = two; now = now_ns })) (AreNotJoined (record { first = one; second = two; now = now_ns }))
+        (state_of C.Disk out.old) (state_of C.Disk out.new) (joining_end result) }
+    ensures blames { IfErr result (λ unjoined. IsOfJoining (record { first = one; second = two; now = now_ns }) unjoined.blamed unjoined.fault) }
+    ensures any_moment { HoldsSince (C.story out.new) (C.moment out.old) (IsConcatImage (record { first = one; second = two; now = now_ns })) }
+    ensures asked { (C.asked out.new ≡ None) ⊎ (C.asked out.new ≡ Some (output.now, Create)) }
+    ensures untouched { C.asked out.new ≡ None → out.new ≡ out.old }
+{
+    out.attach(output.copy()?, Role::Create)?;
+    Ok(concat(alloc, one, two, now_ns, out)?)
 }
 
 /// Joins the files of these names, the second behind the first, into a file of the third name.
@@ -61,12 +129,13 @@ fn join<A: Disk, B: Disk, C: Disk>(
     first: &mut A,
     second: &mut B,
     out: &mut C,
-) -> Result<Report, Fault>
+) -> Result<Report, Unjoined>
     requires first { A.asked first.old ≡ None }
     requires second { B.asked second.old ≡ None }
     requires out { C.asked out.old ≡ None }
     ensures comes { MakingComes (two_inputs now_ns (state_of A.Disk first.old) (state_of A.Disk first.new) (state_of B.Disk second.old) (state_of B.Disk second.new))
-        Joins AreNotJoined (state_of C.Disk out.old) (state_of C.Disk out.new) result }
+        Joins AreNotJoined (state_of C.Disk out.old) (state_of C.Disk out.new) (joining_end result) }
+    ensures blames { IsOfEnd now_ns (state_of A.Disk first.old) (state_of B.Disk second.old) (joining_blamed result) (joining_end result) }
     ensures any_moment { LeavesOf (AreBothLoaded now_ns (state_of A.Disk first.old) (state_of B.Disk second.old)) IsConcatImage (state_of C.Disk out.old) (state_of C.Disk out.new) }
     ensures input { (A.asked first.new ≡ None) ⊎ (A.asked first.new ≡ Some (input.now, Read)) }
     ensures input_content { A.content first.new ≡ A.content first.old }
@@ -77,17 +146,39 @@ fn join<A: Disk, B: Disk, C: Disk>(
     ensures output { (C.asked out.new ≡ None) ⊎ (C.asked out.new ≡ Some (output.now, Create)) }
     ensures output_untouched { C.asked out.new ≡ None → out.new ≡ out.old }
 {
-    let one = load(alloc, input, first)?;
-    let two = load(alloc, other, second)?;
-    let tool = Concatenating {
-        second: two,
-        now_ns,
+    let one = match load(alloc, input, first) {
+        Ok(one) => one,
+        Err(fault) => return Err(unread(Input::First, fault)),
     };
-    make(alloc, tool, one, output, out)
+    let two = match load(alloc, other, second) {
+        Ok(two) => two,
+        Err(fault) => return Err(unread(Input::Second, fault)),
+    };
+    make_joined(alloc, one, two, output, now_ns, out)
+}
+
+/// How the command ends.
+fn end_of(joined: Result<Report, Unjoined>) -> Result<Report, Fault>
+    ensures { result ≡ joining_end joined }
+{
+    match joined {
+        Ok(report) => Ok(report),
+        Err(unjoined) => Err(unjoined.fault),
+    }
+}
+
+/// The input that it ends for.
+fn blamed_of(joined: Result<Report, Unjoined>) -> Option<Input>
+    ensures { result ≡ joining_blamed joined }
+{
+    match joined {
+        Ok(_) => None,
+        Err(unjoined) => unjoined.blamed,
+    }
 }
 
 /// `concat A B OUT`: makes the sorted file of two finished ones, each group with the records of the first and then those of the
-/// second, and prints what it holds, or why none was made. Answers the program's status.
+/// second, and prints what it holds, or why none was made. Answers the program's status, and the input that the fault is of.
 pub fn run_concat<K: Sink, A: Disk, B: Disk, C: Disk>(
     alloc: Global,
     input: &Bytes,
@@ -98,12 +189,14 @@ pub fn run_concat<K: Sink, A: Disk, B: Disk, C: Disk>(
     first: &mut A,
     second: &mut B,
     out: &mut C,
-) -> u8
+) -> Verdict
     requires first { A.asked first.old ≡ None }
     requires second { B.asked second.old ≡ None }
     requires out { C.asked out.old ≡ None }
     ensures ends { EndsConcat now_ns (state_of A.Disk first.old) (state_of A.Disk first.new) (state_of B.Disk second.old) (state_of B.Disk second.new)
-        (state_of C.Disk out.old) (state_of C.Disk out.new) (sink_state K.Sink sink.old) (sink_state K.Sink sink.new) result }
+        (state_of C.Disk out.old) (state_of C.Disk out.new) (sink_state K.Sink sink.old) (sink_state K.Sink sink.new) result.status }
+    ensures blames { BlamesJoined now_ns (state_of A.Disk first.old) (state_of B.Disk second.old)
+        (sink_state K.Sink sink.old) (sink_state K.Sink sink.new) result.status result.blamed }
     ensures any_moment { LeavesOf (AreBothLoaded now_ns (state_of A.Disk first.old) (state_of B.Disk second.old)) IsConcatImage (state_of C.Disk out.old) (state_of C.Disk out.new) }
     ensures input { (A.asked first.new ≡ None) ⊎ (A.asked first.new ≡ Some (input.now, Read)) }
     ensures input_content { A.content first.new ≡ A.content first.old }
@@ -114,6 +207,10 @@ pub fn run_concat<K: Sink, A: Disk, B: Disk, C: Disk>(
     ensures output { (C.asked out.new ≡ None) ⊎ (C.asked out.new ≡ Some (output.now, Create)) }
     ensures output_untouched { C.asked out.new ≡ None → out.new ≡ out.old }
 {
-    let end = join(alloc, input, other, output, now_ns, first, second, out);
-    report(sink, &end)
+    let joined = join(alloc, input, other, output, now_ns, first, second, out);
+    let status = report(sink, &end_of(joined));
+    Verdict {
+        status,
+        blamed: blamed_of(joined),
+    }
 }

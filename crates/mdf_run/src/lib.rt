@@ -8,6 +8,7 @@
 
 mod answer;
 mod asked;
+mod blamed;
 mod by_tool;
 mod cutting;
 mod finalize;
@@ -21,6 +22,7 @@ mod sort;
 mod tool;
 mod unread;
 
+pub use blamed::{Input, Verdict};
 pub use cutting::run_cut;
 pub use finalize::run_finalize;
 pub use finished::Finished;

@@ -18,6 +18,7 @@ ghost use Rattle.mdf_run.specs.Sort.{EndsSort};
 ghost use Rattle.tool_sort.specs.Sort.{IsSortImage};
 ghost use Rattle.mdf_run.specs.Cut.{EndsCut};
 ghost use Rattle.mdf_run.specs.Concat.{AreBothLoaded, EndsConcat};
+ghost use Rattle.mdf_run.specs.Blamed.{BlamesJoined, only_blamed};
 ghost use Rattle.tool_concat.specs.Concat.{IsConcatImage};
 ghost use Rattle.tool_cut.specs.Cut.{IsCutImage};
 ghost use Rattle.mdf_inspect.specs.Check.{EndsCheck};
@@ -190,6 +191,14 @@ where
     ensures device_fault { result.status ≡ 4 → Rose (A.faults first) (A.faults result.first)
         ⊎ (Rose (C.faults out) (C.faults result.out) ⊎ (AsksToJoin words.now × Rose (B.faults second.old) (B.faults second.new))) }
     ensures sink_fault { result.status ≡ 6 → Rose (K.faults sink.old) (K.faults sink.new) }
+
+    // The input that is blamed: of `concat` the one that the printed fault is of, or both, and none where a disk failed or memory was
+    // wanted; of another command its only one, where it is refused or too long; and none of a recording.
+    ensures blames_joined { (input other output : List ℕ) → AsksConcat words.now input other output
+        → BlamesJoined now_ns (state_of A.Disk first) (state_of B.Disk second.old)
+        (sink_state K.Sink sink.old) (sink_state K.Sink sink.new) result.status result.blamed }
+    ensures blames_one { (¬ AsksToJoin words.now) → RecordsNothing words.now → result.blamed ≡ only_blamed result.status }
+    ensures blames_none { IfRecorded words.now (result.blamed ≡ None) }
 
     // The disks: only the inputs and the output that the words name are asked for, those to be read and this one to be made;
     // no content of an input changes, and a disk that is asked for nothing is as before.

@@ -51,6 +51,7 @@ where
     ensures recovered { AreRecovered (C.moment out) (outcome C.Disk result.out result.history.items result.marks.items) }
     ensures durable { IsDurable result.status result.history.items result.marks.items }
     ensures untouched { C.asked result.out ≡ None → result.out ≡ out }
+    ensures blamed { result.blamed ≡ None }
     ensures first { result.first ≡ first }
     ensures usage { result.status ≢ 1 }
     ensures source_fault { result.status ≡ 2 → Rose (S.faults source.old) (S.faults source.new) }
@@ -88,6 +89,7 @@ where
     ensures recovered { AreRecovered (C.moment out) (outcome C.Disk result.out result.history.items result.marks.items) }
     ensures durable { IsDurable result.status result.history.items result.marks.items }
     ensures untouched { C.asked result.out ≡ None → result.out ≡ out }
+    ensures blamed { result.blamed ≡ None }
     ensures first { result.first ≡ first }
     ensures usage { result.status ≢ 1 }
     ensures source_fault { result.status ≢ 2 }
@@ -122,6 +124,7 @@ where
     ensures ends { EndsRecording origin output.now now_ns (source_state S.Source source.old) (source_state S.Source source.new) (state_of C.Disk out)
         (outcome C.Disk result.out result.history.items result.marks.items)
         (sink_state K.Sink sink.old) (sink_state K.Sink sink.new) result.status }
+    ensures blamed { result.blamed ≡ None }
     ensures first { result.first ≡ first }
     ensures output { IsOnlyMade C.Disk (Some output.now) out result.out }
     ensures source { TakesNone origin → source.new ≡ source.old }

@@ -1,6 +1,6 @@
 use Rattle.mdf_command.specs.Words.{opened, recorded, finalized, checked, described, sorted, cut, exported, joined, generated}
 use Rattle.mdf_run.proofs.Recovered.{all_is_recovered}
-use Rattle.mdf_run.proofs.Ended.{as_input, as_output, as_second, concats, cuts, disk_failed, ends_as, exports, finalizes, if_recovered, of_kept, out_alone, second_alone, sink_failed, sorts, source_failed, takes_nothing, unrecorded, usage_is, usage_printed}
+use Rattle.mdf_run.proofs.Ended.{as_input, as_output, as_second, blames_as, blames_one, concats, cuts, disk_failed, ends_as, exports, finalizes, if_recovered, of_kept, out_alone, second_alone, sink_failed, sorts, source_failed, takes_nothing, unrecorded, usage_is, usage_printed}
 use Rattle.mdf_run.proofs.program.run.Goals as goal
 
 pub returns-clause-usage : goal.returns-clause-usage
@@ -120,6 +120,18 @@ returns-clause-device_fault g c = disk_failed c.args.words.now _ _ c.answer.ensu
 
 pub returns-clause-sink_fault : goal.returns-clause-sink_fault
 returns-clause-sink_fault g c = sink_failed c.args.words.now _ _ c.answer.ensures.ended c.asked_of-asked.ensures.asked
+
+pub returns-clause-blames_joined : goal.returns-clause-blames_joined
+returns-clause-blames_joined g c = λ input other output asks. blames_as c.args.words.now _ _ c.answer.ensures.ended c.asked_of-asked.ensures.asked (joined input other output) asks
+
+pub returns-clause-blames_one : goal.returns-clause-blames_one
+returns-clause-blames_one g c = blames_one c.args.words.now _ _ c.answer.ensures.ended c.asked_of-asked.ensures.asked
+
+pub returns-clause-blames_none : goal.returns-clause-blames_none
+returns-clause-blames_none g c = (
+  λ name asks. blames_as c.args.words.now _ _ c.answer.ensures.ended c.asked_of-asked.ensures.asked (recorded name) asks,
+  λ samples name asks. blames_as c.args.words.now _ _ c.answer.ensures.ended c.asked_of-asked.ensures.asked (generated samples name) asks,
+)
 
 pub returns-clause-input : goal.returns-clause-input
 returns-clause-input g c = as_input c.args.words.now _ _ c.asked_of-asked.ensures.asked c.answer.ensures.input.asked
