@@ -51,8 +51,9 @@ show './mdf4rec opened examples/two_blocks.mf4'
 show './mdf4rec info examples/two_groups.mf4'
 show 'python3 examples/read_mdf.py drive.mf4'
 
-# A refusal is a line and a status.
+# A refusal is a line and a status; of two inputs standard error names the one that has the fault.
 show './mdf4rec check drive.mf4 2> /dev/null; echo $?'
+show './mdf4rec concat done.mf4 drive.mf4 joined.mf4; echo $?'
 show 'echo word | ./mdf4rec record none.mf4 2> /dev/null; echo $?'
 
 # A recording that the system kills when its file would grow past 1,024 bytes: what was flushed is all there.

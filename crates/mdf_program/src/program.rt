@@ -36,6 +36,7 @@ where
     let mut second = second;
     let Finished {
         status,
+        blamed,
         first,
         out,
         history,
@@ -56,7 +57,7 @@ where
     tell_file(rt, &first);
     tell_file(rt, &second);
     tell_file(rt, &out);
-    tell_refused(rt, status, &first, &second);
+    tell_refused(rt, blamed, &first, &second);
     tell(rt, "standard output", sink.last_error());
     // The memory of all samples goes with the process, at once and not sample by sample.
     forget(history);

@@ -1,6 +1,7 @@
 // What is said on standard error. Where that fails too, there is nobody left to be told.
 
 use mdf_hostfile::{FileCalls, FileDisk};
+use mdf_run::Input;
 use std::io::Error;
 use std::str;
 
@@ -40,14 +41,18 @@ pub(crate) fn tell_file<R: Eprint, F: Told>(rt: &R, file: &F) {
     tell(rt, name_of(file), file.error());
 }
 
-/// Says which input is refused, where the program ends with such a status and has asked for one. Of two inputs the second is asked for
-/// only once the first was read whole, so it is the second that is too long.
-pub(crate) fn tell_refused<R: Eprint, F: Told>(rt: &R, status: u8, first: &F, second: &F) {
+/// Says which input is refused, if the command ended for one, or that both are.
+pub(crate) fn tell_refused<R: Eprint, F: Told>(
+    rt: &R,
+    blamed: Option<Input>,
+    first: &F,
+    second: &F,
+) {
     let (one, other) = (name_of(first), name_of(second));
-    let _ = match (status, first.file(), second.file()) {
-        (3 | 5, Some(_), None) => eprintln!(rt; "{one}: refused"),
-        (3, Some(_), Some(_)) => eprintln!(rt; "{one} or {other}: refused"),
-        (5, Some(_), Some(_)) => eprintln!(rt; "{other}: refused"),
-        _ => Ok(()),
+    let _ = match blamed {
+        Some(Input::First) => eprintln!(rt; "{one}: refused"),
+        Some(Input::Second) => eprintln!(rt; "{other}: refused"),
+        Some(Input::Both) => eprintln!(rt; "{one} and {other}: refused"),
+        None => Ok(()),
     };
 }
