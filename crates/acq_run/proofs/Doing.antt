@@ -1,5 +1,5 @@
 -- What a source does, task by task.
-use Rattle.std.proofs.Common.{◌≡◌, ◌+◌, ◌≤◌, inl, inr, ⊎_elim, ℕ, suc, List, [], ◌∷◌, ◌++◌, length, take, refl, sym, ◌∙◌, ap, subst, arith, append_assoc, append-nil, length-append, All}
+use Rattle.std.proofs.Common.{◌≡◌, ◌+◌, ◌≤◌, ◌<◌, inl, inr, ⊎_elim, ℕ, suc, List, [], ◌∷◌, ◌++◌, length, take, refl, sym, ◌∙◌, ap, subst, arith, append_assoc, append-nil, length-append, All}
 use Rattle.std.proofs.lemmas.List.{take-append-le}
 use mathlib.Core.List.{IsPrefix}
 use Rattle.mdf_gate.proofs.Carrying.{prefix_self, prefix_trans}
@@ -135,7 +135,7 @@ pub record HasDone (old new : Place) (feds left : List Fed) (accepted : ℕ) : T
   pub done : List Fed
   pub parts : done ++ left ≡ feds
   pub does : Does old.know new.know old.number done accepted
-  pub turns : new.know.turns ≡ old.know.turns + length done
+  pub turns : old.know.turns + length done ≤ new.know.turns
   pub may : All (MayFeed new.know.basis.owners new.know.basis.terms new.number) left
 
 pub done_first : (seat : Place) (feds : List Fed) → All (MayFeed seat.know.basis.owners seat.know.basis.terms seat.number) feds → HasDone seat seat feds feds 0
@@ -193,7 +193,7 @@ module _ (old mid : Place) (feds left : List Fed) (n : ℕ) (has : HasDone old m
   pub next_may : (task : Fed) (later : List Fed) → Feeds left task later → IsTask task → MayFeed mid.know.basis.owners mid.know.basis.terms mid.number task
   next_may task later feeds is = first_may mid.know.basis mid.number left task later (took left task later feeds is) has.may
 
-  module _ (new : Place) (seat : IsSameSeat mid new) (turn : new.know.turns ≡ mid.know.turns + 1) where
+  module _ (new : Place) (seat : IsSameSeat mid new) (turn : mid.know.turns < new.know.turns) where
     same_seat : IsSameSeat old new
     same_seat = record { table_is = seat.table_is ∙ has.seat.table_is; number_is = seat.number_is ∙ has.seat.number_is }
 
@@ -277,7 +277,7 @@ told_first hears none follower seat feds may = record { done = done_first seat f
 
 module _ {L : Type 0} (hears : L → List ℕ → L → Type 0) (more : (first second third : L) (n m : List ℕ) → hears first n second → hears second m third → hears first (n ++ m) third)
     (old mid : Place) (feds left : List Fed) (n : ℕ) (first second : L) (has : HasTold hears old mid feds left n first second) where
-  module _ (new : Place) (seat : IsSameSeat mid new) (turn : new.know.turns ≡ mid.know.turns + 1) (third : L) where
+  module _ (new : Place) (seat : IsSameSeat mid new) (turn : mid.know.turns < new.know.turns) (third : L) where
     pub told_on : (task : Fed) (later : List Fed) (m : ℕ) → Feeds left task later → IsTask task → Does mid.know new.know mid.number (task ∷ []) m
         → (shown : List ℕ) × (length shown ≡ flushes_of (task ∷ [])) × hears second shown third → HasTold hears old new feds later (n + m) first third
     unfolding done_on

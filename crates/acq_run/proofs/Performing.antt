@@ -1,5 +1,5 @@
 -- What an append and a flush come to for the source that asked for them.
-use Rattle.std.proofs.Common.{◌≡◌, ◌<◌, ◌⊎◌, inl, inr, ⊎_elim, ℕ, List, [], ◌∷◌, take, Result, Ok, Err, refl, sym, ◌∙◌, ap, subst, append-nil}
+use Rattle.std.proofs.Common.{◌≡◌, ◌<◌, ◌⊎◌, inl, inr, ⊎_elim, ℕ, List, [], ◌∷◌, take, Result, Ok, Err, refl, sym, ◌∙◌, subst, append-nil}
 use Rattle.std.specs.Prelude.{IfOk, IfErr}
 use mathlib.Core.List.{IsPrefix}
 use Rattle.mdf_gate.proofs.Carrying.{prefix_trans}
@@ -11,11 +11,12 @@ use Rattle.book_owned.specs.declared.answer.Append.TheVariants as append
 use Rattle.book_owned.specs.declared.answer.Flush.TheVariants as flush
 use Rattle.book_owned.specs.declared.mark.Mark.{Mark}
 use Rattle.book_owned.specs.declared.view.Shown.{Ghosts as ViewOf}
-use Rattle.book_shared.specs.Basis.{Basis, holding}
+use Rattle.book_shared.specs.Basis.{Basis}
 use Rattle.book_shared.specs.Place.{IsSingle, own_part}
 use Rattle.book_shared.specs.Rule.{AreOwn}
 use Rattle.book_shared.specs.Causes.{times_of}
-use Rattle.book_shared.specs.Told.{Appends, AppendsBook, Asks, Flushes, FlushesBook}
+use Rattle.book_shared.specs.Plays.{held_of}
+use Rattle.book_shared.specs.Told.{Appends, AppendsFront, Asks, Flushes, FlushesFront}
 use Rattle.book_shared.specs.Turns.{Served}
 use Rattle.book_shared.specs.declared.view.View.{View}
 use Rattle.book_shared.proofs.Causing.{asked_one}
@@ -88,10 +89,10 @@ module _ (v u : View) (source : ℕ) (single : IsSingle u source) (sample : Samp
   done_by append.Memory appends = tt
 
   module _ {D V N : Type 0} (disk : DiskOf D) (view : ViewOf V N) (number : ℕ) (same_number : number ≡ source) where
-    ended_by : (answer : Append) → Appends v u sample answer → AppendsBook disk view u sample answer
+    ended_by : (answer : Append) → Appends v u sample answer → AppendsFront disk view u sample answer
         → IfErr (appended answer) (λ ended. Does v u source [] 0 × ((rest : List Fed) → Ends u number (fed.Sample sample ∷ rest) ended))
-    ended_by (append.Accepted place) appends book = tt
-    ended_by (append.SessionFull held size limit) (history, served, told) book = (
+    ended_by (append.Accepted place) appends front = tt
+    ended_by (append.SessionFull held size limit) (history, served, told) front = (
       does_nothing v u history source single served same,
       λ rest. (
         record {
@@ -105,15 +106,15 @@ module _ (v u : View) (source : ℕ) (single : IsSingle u source) (sample : Samp
         own_seen v u history [] served number (subst (IsSingle u) (sym same_number) single),
       ),
     )
-    ended_by (append.Stopped mark) (history, served, told) book = (
+    ended_by (append.Stopped mark) (history, served, told) front = (
       does_nothing v u history source single served same,
-      λ rest. (told.0, told.1, (book.old.history, book.old.marks, book.turned.found ∙ ap (holding book.old.history book.old.marks) book.answers.stopped)),
+      λ rest. (told.0, told.1, (held_of front.old, front.turned.found, front.does.0)),
     )
-    ended_by (append.DiskFault before after) (history, served, told) book = (
+    ended_by (append.DiskFault before after) (history, served, told) front = (
       does_nothing v u history source single served same,
-      λ rest. (told.0, told.1, (book.old.history, book.old.marks, book.turned.found ∙ ap (holding book.old.history book.old.marks) book.answers.1.going)),
+      λ rest. (told.0, told.1, (held_of front.old, front.turned.found, front.does.going)),
     )
-    ended_by append.Memory (history, served, told) book = (
+    ended_by append.Memory (history, served, told) front = (
       does_nothing v u history source single served same,
       λ rest. (
         told.0,
@@ -122,22 +123,22 @@ module _ (v u : View) (source : ℕ) (single : IsSingle u source) (sample : Samp
       ),
     )
 
-    counted_by : (answer : Append) → AppendsBook disk view u sample answer → IfErr (appended answer) (CountsFaults disk view u)
-    counted_by (append.Accepted place) book = tt
-    counted_by (append.SessionFull held size limit) book = tt
-    counted_by (append.Stopped mark) book = tt
-    counted_by (append.DiskFault before after) book = (book.old, book.new, book.turned, book.answers.1.before_is, book.answers.1.after_is)
-    counted_by append.Memory book = tt
+    counted_by : (answer : Append) → AppendsFront disk view u sample answer → IfErr (appended answer) (CountsFaults disk view u)
+    counted_by (append.Accepted place) front = tt
+    counted_by (append.SessionFull held size limit) front = tt
+    counted_by (append.Stopped mark) front = tt
+    counted_by (append.DiskFault before after) front = (front.old, front.new, front.turned, front.does)
+    counted_by append.Memory front = tt
 
     -- as the task and what came of it are given
     pub append_ended : (task : Fed) (answer : Append) (result : Result ℕ Ended) → task ≡ fed.Sample sample → result ≡ appended answer → Appends v u sample answer
-        → AppendsBook disk view u sample answer → IfErr result (λ ended. Does v u source [] 0 × ((rest : List Fed) → Ends u number (task ∷ rest) ended))
-    append_ended task answer result is same appends book =
+        → AppendsFront disk view u sample answer → IfErr result (λ ended. Does v u source [] 0 × ((rest : List Fed) → Ends u number (task ∷ rest) ended))
+    append_ended task answer result is same appends front =
         subst (λ r. IfErr r (λ ended. Does v u source [] 0 × ((rest : List Fed) → Ends u number (task ∷ rest) ended))) (sym same)
-        (subst (λ t. IfErr (appended answer) (λ ended. Does v u source [] 0 × ((rest : List Fed) → Ends u number (t ∷ rest) ended))) (sym is) (ended_by answer appends book))
+        (subst (λ t. IfErr (appended answer) (λ ended. Does v u source [] 0 × ((rest : List Fed) → Ends u number (t ∷ rest) ended))) (sym is) (ended_by answer appends front))
 
-    pub append_counted : (answer : Append) (result : Result ℕ Ended) → result ≡ appended answer → AppendsBook disk view u sample answer → IfErr result (CountsFaults disk view u)
-    append_counted answer result same book = subst (λ r. IfErr r (CountsFaults disk view u)) (sym same) (counted_by answer book)
+    pub append_counted : (answer : Append) (result : Result ℕ Ended) → result ≡ appended answer → AppendsFront disk view u sample answer → IfErr result (CountsFaults disk view u)
+    append_counted answer result same front = subst (λ r. IfErr r (CountsFaults disk view u)) (sym same) (counted_by answer front)
 
   pub append_done : (task : Fed) (answer : Append) (result : Result ℕ Ended) → task ≡ fed.Sample sample → result ≡ appended answer → Appends v u sample answer
       → IfOk result (λ accepted. Does v u source (task ∷ []) accepted)
@@ -179,16 +180,16 @@ module _ {D V N : Type 0} (disk : DiskOf D) (view : ViewOf V N) (v u : View) (so
             (asked_one n through v.asked (subst (λ a. 0 < times_of n a) more there))) asks;
       }
 
-  pub flush_stopped : (mark : Mark) → Flushes {N = N} v u (flush.Stopped mark) → Asks {N = N} v u (flush.Stopped mark) → FlushesBook disk view u (flush.Stopped mark)
+  pub flush_stopped : (mark : Mark) → Flushes {N = N} v u (flush.Stopped mark) → Asks {N = N} v u (flush.Stopped mark) → FlushesFront disk view u (flush.Stopped mark)
       → Does v u source [] 0 × ((rest : List Fed) → Ends u source rest (Stopped mark))
-  flush_stopped mark (history, served, told) asks book = (
+  flush_stopped mark (history, served, told) asks front = (
     does_nothing v u history source single served asks,
-    λ rest. (told.0, told.1, (book.old.history, book.old.marks, book.turned.found ∙ ap (holding book.old.history book.old.marks) book.answers.stopped)),
+    λ rest. (told.0, told.1, (held_of front.old, front.turned.found, front.does.0)),
   )
 
-  pub flush_failed : (before after : ℕ) → Flushes {N = N} v u (flush.DiskFault before after) → Asks {N = N} v u (flush.DiskFault before after) → FlushesBook disk view u (flush.DiskFault before after)
+  pub flush_failed : (before after : ℕ) → Flushes {N = N} v u (flush.DiskFault before after) → Asks {N = N} v u (flush.DiskFault before after) → FlushesFront disk view u (flush.DiskFault before after)
       → Does v u source [] 0 × ((rest : List Fed) → Ends u source rest (DiskFault before after))
-  flush_failed before after (history, served, told) asks book = (
+  flush_failed before after (history, served, told) asks front = (
     does_nothing v u history source single served asks,
-    λ rest. (told.0, told.1, (book.old.history, book.old.marks, book.turned.found ∙ ap (holding book.old.history book.old.marks) book.answers.0.going)),
+    λ rest. (told.0, told.1, (held_of front.old, front.turned.found, front.does.going)),
   )

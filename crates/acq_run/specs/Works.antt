@@ -6,15 +6,16 @@ use Rattle.mdf_disk.specs.declared.disk.Disk.{Ghosts as DiskOf}
 use Rattle.mdf_layout.specs.History.{source_samples}
 use Rattle.mdf_layout.specs.Record.{cost_of, history_cost}
 use Rattle.mdf_layout.specs.declared.sample.Sample.{Sample}
-use Rattle.book_owned.specs.Account.{Account, Terms}
+use Rattle.book_owned.specs.Account.{Terms}
+use Rattle.book_owned.specs.FrontHalf.{FrontAccount}
 use Rattle.book_owned.specs.Marks.{last_mark}
 use Rattle.book_owned.specs.declared.answer.Append.{Append}
 use Rattle.book_owned.specs.declared.answer.Append.TheVariants as append
 use Rattle.book_owned.specs.declared.mark.Mark.{Mark}
 use Rattle.book_owned.specs.declared.view.Shown.{Ghosts as ViewOf}
-use Rattle.book_shared.specs.Basis.{holding}
+use Rattle.book_shared.specs.Basis.{Held, holding}
 use Rattle.book_shared.specs.Causes.{times_of}
-use Rattle.book_shared.specs.Told.{HasMark, Turned}
+use Rattle.book_shared.specs.Told.{HasMark, MeetsFault, Turned}
 use Rattle.book_shared.specs.Place.{Place, own_part}
 use Rattle.book_shared.specs.declared.view.View.{View}
 use Rattle.acq_run.specs.Tasks.{flushes_of, samples_of}
@@ -70,7 +71,7 @@ pub record HasRoomNext (terms : Terms) (history : List Sample) (rest : List Fed)
 
 -- the seat's last turn found the book stopped, or not
 abbrev pub Found : View → Bool → Type 0
-Found u stopped = (history : List Sample) × (marks : List Mark) × (u.last ≡ holding history marks stopped)
+Found u stopped = (held : Held) × (u.last ≡ holding held) × (held.stopped ≡ stopped)
 
 -- the seat has seen all samples of its source
 abbrev pub HasSeenOwn : View → ℕ → Type 0
@@ -88,15 +89,15 @@ Ends u source rest (DiskFault before after) = Rose before after × (u.knows ≡ 
 Ends u source rest Memory =
     (u.knows ≡ false) × HasRoomNext u.basis.terms u.seen rest × HasSeenOwn u source
 
--- Where a source's work ended by a fault of the disk, the two numbers say how often the disk had failed before the seat's
--- last turn, and after it.
+-- Where a source's work ended by a fault of the disk, the seat's last turn stopped the book, and the two numbers say how often
+-- the disk had failed before the write that met the fault, and after it.
 abbrev pub CountsFaults : {D V N : Type 0} → DiskOf D → ViewOf V N → View → Ended → Type 0
 CountsFaults disk view u Running = Unit {0}
 CountsFaults disk view u Done = Unit {0}
 CountsFaults disk view u (SessionFull held size limit) = Unit {0}
 CountsFaults disk view u (Stopped mark) = Unit {0}
 CountsFaults {D} {V} disk view u (DiskFault before after) =
-    (old new : Account D V) × Turned u old new × (before ≡ disk.faults old.disk) × (after ≡ disk.faults new.disk)
+    (old new : FrontAccount V) × Turned u old new × MeetsFault disk old new before after
 CountsFaults disk view u Memory = Unit {0}
 
 -- what an append comes to for its source: how many samples were accepted, or how its work ended
@@ -133,13 +134,13 @@ turns_for (Stopped mark) = 1
 turns_for (DiskFault before after) = 1
 turns_for Memory = 1
 
--- Some of it was done, up to the first that was not, if there is one. The source took the turn once for each.
+-- Some of it was done, up to the first that was not, if there is one. The source took the turn for each, once or more often.
 pub record Drives (v u : View) (source : ℕ) (feds : List Fed) (accepted : ℕ) (how : Ended) : Type 0 where
   pub done : List Fed
   pub rest : List Fed
   pub parts : done ++ rest ≡ feds
   pub does : Does v u source done accepted
-  pub turns : u.turns ≡ v.turns + length done + turns_for how
+  pub turns : v.turns + length done + turns_for how ≤ u.turns
   pub ends : Ends u source rest how
 
 -- the same seat

@@ -1,5 +1,5 @@
 //! How a source works.
-ghost use Rattle.std.specs.Prelude.{ℕ, ◌≡◌, ◌+◌, length, List, [], ◌∷◌, IfOk, IfErr};
+ghost use Rattle.std.specs.Prelude.{ℕ, ◌≡◌, ◌<◌, length, List, [], ◌∷◌, IfOk, IfErr};
 ghost use Rattle.acq_run.specs.Tasks.{IsTask, MayFeed, flushes_of};
 ghost use Rattle.acq_run.specs.Works.{CountsFaults, Does, Ends, HasDriven, HasFed, HasHeard, IsSameSeat, appended};
 ghost use Rattle.acq_run.specs.Workers.{IsReady};
@@ -40,7 +40,7 @@ fn perform<R: Threads + Wait + Sync, D: Disk, V: Shown, L: Follower<V>>(
     requires fits { MayFeed seat.old.know.basis.owners seat.old.know.basis.terms seat.old.number task }
     requires follows { L.follows follower.old seat.old.know.basis.terms.which seat.old.know.seen }
     ensures seat { IsSameSeat seat.old seat.new }
-    ensures turn { seat.new.know.turns ≡ seat.old.know.turns + 1 }
+    ensures turn { seat.old.know.turns < seat.new.know.turns }
     ensures done { IfOk result (λ accepted. Does seat.old.know seat.new.know seat.old.number (task ∷ []) accepted) }
     ensures ended { IfErr result (λ ended. Does seat.old.know seat.new.know seat.old.number [] 0
         × ((later : List Fed) → Ends seat.new.know seat.new.number (task ∷ later) ended)) }

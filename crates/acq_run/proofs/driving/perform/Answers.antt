@@ -22,8 +22,8 @@ returns-in-Sample g c =
       seat = record { table_is = seat.0; number_is = seat.1 };
       turn = appends.1.turns;
       done = append_done v u source single sample c.append.ensures.asked c.args.task answer result c.in-Sample.is c.appended.ensures appends;
-      ended = append_ended v u source single sample c.append.ensures.asked g.D.Disk g.V.Shown number seat.1 c.args.task answer result c.in-Sample.is c.appended.ensures appends c.append.ensures.book;
-      counted = append_counted v u source single sample c.append.ensures.asked g.D.Disk g.V.Shown number seat.1 answer result c.appended.ensures c.append.ensures.book;
+      ended = append_ended v u source single sample c.append.ensures.asked g.D.Disk g.V.Shown number seat.1 c.args.task answer result c.in-Sample.is c.appended.ensures appends c.append.ensures.front;
+      counted = append_counted v u source single sample c.append.ensures.asked g.D.Disk g.V.Shown number seat.1 answer result c.appended.ensures c.append.ensures.front;
       follows = follows_on v u appends.0 _ appends.1 g.L.Follower.follows g.met.L.Follower.stays follower c.requires.follows;
       heard = any_ok ((shown : List ℕ) × (length shown ≡ flushes_of (c.args.task ∷ [])) × g.L.Follower.hears follower shown follower) result
           ([], ap (λ t. flushes_of (t ∷ [])) (sym c.in-Sample.is), g.met.L.Follower.hears_none follower);
@@ -69,7 +69,7 @@ returns-in-Stopped g c =
     let source = c.args.seat.now.number in
     let seat = c.in-Stopped.ensures.seat in
     let flushes = c.in-Stopped.ensures.flushes in
-    let stopped = flush_stopped g.D.Disk g.V.Shown v u source (subst (IsSingle u) seat.1 seat.3) c.in-Stopped.mark flushes c.in-Stopped.ensures.asked c.in-Stopped.ensures.book in
+    let stopped = flush_stopped g.D.Disk g.V.Shown v u source (subst (IsSingle u) seat.1 seat.3) c.in-Stopped.mark flushes c.in-Stopped.ensures.asked c.in-Stopped.ensures.front in
     record {
       seat = record { table_is = seat.0; number_is = seat.1 };
       turn = flushes.1.turns;
@@ -88,14 +88,14 @@ returns-in-DiskFault g c =
     let source = c.args.seat.now.number in
     let seat = c.in-DiskFault.ensures.seat in
     let flushes = c.in-DiskFault.ensures.flushes in
-    let book = c.in-DiskFault.ensures.book in
-    let failed = flush_failed g.D.Disk g.V.Shown v u source (subst (IsSingle u) seat.1 seat.3) c.in-DiskFault.before c.in-DiskFault.after flushes c.in-DiskFault.ensures.asked book in
+    let front = c.in-DiskFault.ensures.front in
+    let failed = flush_failed g.D.Disk g.V.Shown v u source (subst (IsSingle u) seat.1 seat.3) c.in-DiskFault.before c.in-DiskFault.after flushes c.in-DiskFault.ensures.asked front in
     record {
       seat = record { table_is = seat.0; number_is = seat.1 };
       turn = flushes.1.turns;
       done = tt;
       ended = (failed.0, λ later. failed.1 (c.args.task ∷ later));
-      counted = (book.old, book.new, book.turned, book.answers.0.before_is, book.answers.0.after_is);
+      counted = (front.old, front.new, front.turned, front.does);
       follows = follows_on v u flushes.0 [] flushes.1 g.L.Follower.follows g.met.L.Follower.stays c.args.follower.now c.requires.follows;
       heard = tt;
       unheard = refl;
