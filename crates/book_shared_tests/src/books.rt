@@ -7,7 +7,7 @@ ghost use Rattle.mdf_gate.specs.Gated.{IsRecordingHead};
 ghost use Rattle.book_owned.specs.Begun.{IsNewFile};
 ghost use Rattle.book_shared_tests.specs.Words.{word_layout, word_layouts, AreGroups};
 
-use crate::gates::{Gate, Slow};
+use crate::gates::{Gate, Slow, SlowView};
 use book_owned::{Book, NoView};
 use mdf_disk::{Disk, MemoryDisk, Role};
 use mdf_gate::{GatedFile, opened};
@@ -139,18 +139,25 @@ fn listed_twice<R: AllocGlobal + Abort>(rt: &R) -> Result<(Shapes, Shapes), Fail
     Ok((checked_by, shapes(rt, &rows)?))
 }
 
-/// The book of the tests.
-pub type TestBook = Book<TestDisk, NoView>;
+/// The view of the tests.
+pub type TestView = SlowView<NoView>;
 
-/// A book over a new file, on a disk whose syncs wait at the gate.
+/// The book of the tests.
+pub type TestBook = Book<TestDisk, TestView>;
+
+/// A book over a new file, on a disk whose syncs wait at the gate, and with a view whose publishings do.
 fn book<R: AllocGlobal + Abort>(rt: &R, shapes: Shapes, gate: Arc<Gate>) -> Result<TestBook, Fail>
     requires { AreGroups shapes }
     ensures layouts { IfOk result (λ book. book.terms.layouts ≡ shapes) }
     ensures limit { IfOk result (λ book. book.terms.block_limit ≡ 9) }
     ensures empty { IfOk result (λ book. book.history ≡ []) }
 {
-    let file = recording(rt, gate)?;
-    match Book::begin(rt.alloc(), file, shapes, 9, 4096, NoView::new()) {
+    let file = recording(rt, Arc::try_clone(&gate)?)?;
+    let view = SlowView {
+        view: NoView::new(),
+        gate,
+    };
+    match Book::begin(rt.alloc(), file, shapes, 9, 4096, view) {
         Ok(book) => Ok(book),
         Err((memory, file, _)) => {
             drop(file.into_disk());
@@ -159,7 +166,7 @@ fn book<R: AllocGlobal + Abort>(rt: &R, shapes: Shapes, gate: Arc<Gate>) -> Resu
     }
 }
 
-/// A book over a new file, on such a disk, and the layouts that its samples are checked by.
+/// A book over a new file, on such a disk and with such a view, and the layouts that its samples are checked by.
 pub fn checked_book<R: AllocGlobal + Abort>(
     rt: &R,
     gate: Arc<Gate>,

@@ -1,22 +1,35 @@
-//! A disk whose syncs wait at a gate.
+//! A gate, and a disk and a view that wait at it.
 
+use book_owned::Shown;
 use mdf_disk::{Disk, Role};
-use mdf_num::{Bytes, Failed};
+use mdf_layout::Sample;
+use mdf_num::{Bytes, Failed, Memory};
 use std::alloc::Global;
-use std::sync::Arc;
 use std::sync::atomic::AtomicBool;
 use std::sync::atomic::Ordering::SeqCst;
+use std::sync::{Arc, Wait};
 use std::test::Fail;
-use std::thread::yield_now;
+use std::thread::{Threads, yield_now};
 
-/// What two threads tell each other: that syncs are to wait, that one does, and that it may go on.
+/// What waits at a gate.
+#[derive(Clone, Copy)]
+pub enum Step {
+    /// A sync of the disk.
+    Sync,
+    /// A publishing of the view.
+    Publish,
+}
+
+/// What two threads tell each other: that a step is to wait, that one does, and that it may go on.
 #[derive(Drop)]
 pub struct Gate {
-    /// How often a sync looks whether it may go on before it does all the same.
+    step: Step,
+    /// How often it looks whether it may go on before it does all the same.
     looks: u64,
     shut: AtomicBool,
     entered: AtomicBool,
     answered: AtomicBool,
+    in_vain: AtomicBool,
 }
 
 /// How often a thread looks for what another is to do before it goes on all the same.
@@ -34,37 +47,60 @@ pub fn wait_for(told: &AtomicBool, looks: u64) -> bool {
 }
 
 impl Gate {
-    /// A gate at which no sync waits yet.
-    pub fn new(alloc: Global, looks: u64) -> Result<Arc<Gate>, Fail> {
+    /// A gate for this step, at which none waits yet.
+    pub fn new(alloc: Global, step: Step, looks: u64) -> Result<Arc<Gate>, Fail> {
         let gate = Gate {
+            step,
             looks,
             shut: AtomicBool::new(false),
             entered: AtomicBool::new(false),
             answered: AtomicBool::new(false),
+            in_vain: AtomicBool::new(false),
         };
         Ok(Arc::new(alloc, gate)?)
     }
 
-    /// Lets each later sync wait.
+    /// Lets each later step wait.
     pub fn shut(&self) {
         self.shut.store(true, SeqCst);
     }
 
-    /// Waits until a sync waits.
-    pub fn wait_for_sync(&self) {
+    /// Waits until one waits.
+    pub fn wait_for_step(&self) {
         let _entered = wait_for(&self.entered, LOOKS);
     }
 
-    /// Lets the syncs go on.
+    /// Lets them go on.
     pub fn answer(&self) {
         self.answered.store(true, SeqCst);
     }
 
-    /// A sync passes.
-    fn pass(&self) {
+    /// Whether one went on that nobody let go on.
+    pub fn waited_in_vain(&self) -> bool {
+        self.in_vain.load(SeqCst)
+    }
+
+    /// A step that is to wait while the gate is shut.
+    fn wait(&self) {
         if self.shut.load(SeqCst) {
             self.entered.store(true, SeqCst);
-            let _answered = wait_for(&self.answered, self.looks);
+            if !wait_for(&self.answered, self.looks) {
+                self.in_vain.store(true, SeqCst);
+            }
+        }
+    }
+
+    /// A sync passes.
+    fn pass_sync(&self) {
+        if let Step::Sync = self.step {
+            self.wait();
+        }
+    }
+
+    /// A publishing passes.
+    fn pass_publish(&self) {
+        if let Step::Publish = self.step {
+            self.wait();
         }
     }
 }
@@ -112,7 +148,7 @@ impl<D: Disk> Disk for Slow<D> {
     }
 
     fn sync(&mut self) -> Result<(), Failed> {
-        self.gate.pass();
+        self.gate.pass_sync();
         self.disk.sync()
     }
 
@@ -122,5 +158,45 @@ impl<D: Disk> Disk for Slow<D> {
 
     fn faults(&self) -> u64 {
         self.disk.faults()
+    }
+}
+
+/// The view under it, but a publishing waits at the gate.
+#[derive(Drop)]
+pub struct SlowView<V> {
+    pub view: V,
+    pub gate: Arc<Gate>,
+}
+
+impl<V: Shown> Shown for SlowView<V> {
+    type Note = V::Note;
+
+    ghost may_want = { V.may_want };
+
+    ghost shows = { λ slow. V.shows slow.view };
+
+    ghost hands = { λ slow. V.hands slow.view };
+
+    ghost count = { λ slow. V.count slow.view };
+
+    ghost which = { λ slow. V.which slow.view };
+
+    ghost tells = { V.tells };
+
+    fn publish<R: Threads + Wait + Sync>(
+        &mut self,
+        rt: &R,
+        samples: &[Sample],
+    ) -> Result<(), Memory> {
+        self.gate.pass_publish();
+        self.view.publish(rt, samples)
+    }
+
+    fn shown(&self) -> u64 {
+        self.view.shown()
+    }
+
+    fn told(&mut self) -> V::Note {
+        self.view.told()
     }
 }

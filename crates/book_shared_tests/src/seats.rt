@@ -4,9 +4,9 @@ ghost use Rattle.std.specs.Vec.{vec_capacity};
 ghost use Rattle.book_shared.specs.Seats.{new_seat, new_seats};
 ghost use Rattle.book_shared_tests.specs.Seated.{AreReady, AreSeated};
 
-use crate::books::{TestBook, TestDisk, checked_book};
+use crate::books::{TestBook, TestDisk, TestView, checked_book};
 use crate::gates::Gate;
-use book_owned::{Marks, NoView};
+use book_owned::Marks;
 use book_shared::{SharedBook, SourceSeat};
 use mdf_layout::Shapes;
 use mdf_num::Memory;
@@ -15,7 +15,7 @@ use std::process::Abort;
 use std::sync::Arc;
 use std::test::Fail;
 
-pub type Shared = SharedBook<TestDisk, NoView>;
+pub type Shared = SharedBook<TestDisk, TestView>;
 
 /// The seats of the two sources, and room to hand them back.
 #[derive(Drop)]
@@ -78,7 +78,7 @@ pub struct Begun {
     pub seats: Seats,
 }
 
-/// Shares a new book, over a disk whose syncs wait at the gate.
+/// Shares a new book, over a disk whose syncs wait at the gate, with a view whose publishings do.
 pub fn begin<R: AllocGlobal + Abort>(rt: &R, gate: Arc<Gate>) -> Result<Begun, Fail>
     ensures ready { IfOk result (λ begun. AreReady begun.checked_by begun.shared begun.seats.first begun.seats.second) }
     ensures room { IfOk result (λ begun. (begun.seats.back.items ≡ []) × (2 ≤ vec_capacity begun.seats.back)) }

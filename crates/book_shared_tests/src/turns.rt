@@ -1,4 +1,4 @@
-//! A full block, and a turn that another seat has.
+//! A full block, and what a seat does while another flushes.
 ghost use Rattle.std.specs.Prelude.{◌≡◌, ◌≤◌, [], slice_index};
 ghost use Rattle.std.specs.Thread.{IsSync};
 ghost use Rattle.std.specs.Vec.{vec_capacity};
@@ -6,11 +6,11 @@ ghost use Rattle.mdf_layout.specs.Record.{SampleFits, encoded_size};
 ghost use Rattle.book_shared_tests.specs.Seated.{AreReady, IsSameSeat};
 
 use crate::books::sample;
-use crate::gates::{Gate, LOOKS};
+use crate::gates::{Gate, LOOKS, Step};
 use crate::seats::{Begun, Seats, Shared, begin, close};
 use crate::tasks::{Task, assert_admitted, feed, step, tell_try};
 use crate::told::is_told;
-use book_owned::Flush;
+use book_owned::{Append, Flush};
 use book_shared::{SourceSeat, Try};
 use mdf_layout::Sample;
 use mdf_num::Memory;
@@ -45,7 +45,7 @@ fn alone<R>(rt: &R, tasks: &[Task]) -> Result<String, Fail>
 where
     R: AllocGlobal + Abort + Threads + Wait + Sync,
 {
-    let gate = Gate::new(rt.alloc(), LOOKS)?;
+    let gate = Gate::new(rt.alloc(), Step::Sync, LOOKS)?;
     let begun = begin(rt, gate)?;
     Ok(fed(rt, begun, tasks)?)
 }
@@ -82,7 +82,27 @@ where
     (seat, answer)
 }
 
-/// A try or an append while the other seat flushes. The flush's syncs may go on when it is answered.
+/// An append and then a flush of this seat while the other one flushes. Its step may go on when both are answered.
+fn put_and_flush<R>(
+    rt: &R,
+    shared: &Shared,
+    seat: &mut SourceSeat,
+    sample: Sample,
+) -> Append
+where
+    R: Threads + Wait + Sync,
+    requires table { seat.old.table ≡ shared.now.table }
+    requires owns { slice_index seat.old.know.basis.owners sample.group ≡ seat.old.number }
+    requires fits { SampleFits seat.old.know.basis.terms.layouts sample }
+    requires size { encoded_size seat.old.know.basis.terms.layouts sample ≤ seat.old.know.basis.terms.block_limit }
+    ensures { IsSameSeat seat.old seat.new }
+{
+    let answer = shared.append(rt, seat, sample);
+    let _flushed = shared.flush(rt, seat);
+    answer
+}
+
+/// A try, or an append and a flush, while the other seat flushes. The step of it that waits may go on when they are answered.
 fn put_meanwhile<R>(
     rt: &R,
     shared: &Shared,
@@ -99,9 +119,9 @@ where
     requires size { encoded_size seat.know.basis.terms.layouts sample ≤ seat.know.basis.terms.block_limit }
     ensures { IsSameSeat seat result.0 }
 {
-    gate.wait_for_sync();
+    gate.wait_for_step();
     let answer = if waits {
-        Try::Answered(shared.append(rt, &mut seat, sample))
+        Try::Answered(put_and_flush(rt, shared, &mut seat, sample))
     } else {
         shared.try_append(&mut seat, sample)
     };
@@ -117,7 +137,7 @@ struct AtOnce {
     tried: Try,
 }
 
-/// The second seat flushes, and in the middle of it the first one tries or appends. Answers both answers.
+/// The second seat flushes, and in the middle of it the first one tries, or appends and flushes. Answers both answers.
 fn at_once<R>(
     rt: &R,
     shared: &Shared,
@@ -160,7 +180,7 @@ fn tell_both(told: &mut String, flushed: &Flush<()>, tried: &Try) -> Result<(), 
     write!(told, "\n")
 }
 
-/// The first seat tries or appends this sample while the second flushes. Tells both answers.
+/// The first seat tries this sample, or appends it and flushes, while the second flushes. Tells both answers.
 fn put_at_once<R>(
     rt: &R,
     shared: &Shared,
@@ -202,8 +222,8 @@ where
     )
 }
 
-/// The first seat of a book appends a sample, tries or appends this one while the second flushes, and tries once more behind
-/// it. Closes the book, and tells the answers and the end.
+/// The first seat of a book appends a sample, tries this one or appends it and flushes while the second flushes, and tries once
+/// more behind it. Closes the book, and tells the answers, the end and whether the step waited in vain.
 fn put_thrice<R>(
     rt: &R,
     gate: &Gate,
@@ -246,37 +266,49 @@ where
     both?;
     after?;
     end?;
+    write!(told, " in vain {}", gate.waited_in_vain())?;
     Ok(told)
 }
 
-/// Shares a book. Its first seat appends a sample, and tries or appends another one while the second flushes, whose syncs
-/// look so often whether they may go on.
-fn together<R>(rt: &R, waits: bool, looks: u64) -> Result<String, Fail>
+/// Shares a book. Its first seat appends a sample, and tries another one, or appends it and flushes, while the second flushes,
+/// of which this step waits, and looks so often whether it may go on.
+fn together<R>(rt: &R, step: Step, waits: bool, looks: u64) -> Result<String, Fail>
 where
     R: AllocGlobal + Abort + Threads + Wait + Sync,
 {
-    let gate = Gate::new(rt.alloc(), looks)?;
+    let gate = Gate::new(rt.alloc(), step, looks)?;
     let next = sample(rt.alloc(), 0, 2)?;
     let begun = begin(rt, Arc::try_clone(&gate)?)?;
     Ok(put_thrice(rt, &gate, begun, next, waits)?)
 }
 
-// The word is 2 after the append and 3 while the flush has the turn, which it has until the try is answered.
+// The disk is written outside the turn: the try is answered while the sync waits for it, and the next one finds the block full.
 #[test]
-fn a_seat_is_busy_while_another_flushes(rt: HostRuntime) -> Result<(), Fail> {
+fn a_seat_goes_on_while_the_flush_of_another_is_in_a_sync(rt: HostRuntime) -> Result<(), Fail> {
     is_told(
         &rt,
-        together(&rt, false, LOOKS),
-        "Accepted { place: 0 }Done { through: 1, shown: 1, note: () }\nbusy 3\nAccepted { place: 1 }accepted 2 marks 0 1",
+        together(&rt, Step::Sync, false, LOOKS),
+        "Accepted { place: 0 }Done { through: 1, shown: 1, note: () }\nAccepted { place: 1 }\nflush 9 9 9accepted 2 marks 0 1 in vain false",
     )
 }
 
-// The append sleeps while the flush has the turn, and goes on when that is given back.
+// The view is published in the turn. The word is 2 after the append, 4 when the flush has handed over, and 5 while it publishes.
 #[test]
-fn an_append_waits_while_another_flushes(rt: HostRuntime) -> Result<(), Fail> {
+fn a_seat_is_busy_while_the_flush_of_another_publishes(rt: HostRuntime) -> Result<(), Fail> {
     is_told(
         &rt,
-        together(&rt, true, 20_000),
-        "Accepted { place: 0 }Done { through: 1, shown: 1, note: () }\nAccepted { place: 1 }\nflush 9 9 9accepted 2 marks 0 1",
+        together(&rt, Step::Publish, false, LOOKS),
+        "Accepted { place: 0 }Done { through: 1, shown: 1, note: () }\nbusy 5\nAccepted { place: 1 }accepted 2 marks 0 1 in vain false",
+    )
+}
+
+// The append goes on while the sync waits. The flush behind it waits for the disk until that sync has looked so often, and is
+// done then.
+#[test]
+fn a_flush_waits_while_the_flush_of_another_is_in_a_sync(rt: HostRuntime) -> Result<(), Fail> {
+    is_told(
+        &rt,
+        together(&rt, Step::Sync, true, 20_000),
+        "Accepted { place: 0 }Done { through: 1, shown: 1, note: () }\nAccepted { place: 1 }\nAccepted { place: 2 }accepted 3 marks 0 1 2 in vain true",
     )
 }

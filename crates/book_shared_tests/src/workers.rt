@@ -5,7 +5,7 @@ ghost use Rattle.book_shared_tests.specs.Lists.{IsOf};
 ghost use Rattle.book_shared_tests.specs.Words.{AreGroups};
 
 use crate::books::{TestDisk, fits, listed, recording, sample};
-use crate::gates::{Gate, LOOKS, wait_for};
+use crate::gates::{Gate, LOOKS, Step, wait_for};
 use crate::told::is_told;
 use acq_run::{Audience, Driven, Fed, Feed, Gathered, ScriptFeed, Watcher, record_live};
 use book_owned::Book;
@@ -169,7 +169,7 @@ fn watched_book<R: AllocGlobal + Abort + Wait>(
     ensures count { IfOk result (λ begun. length begun.1.items ≡ 2) }
     ensures watch { IfOk result (λ begun. All (λ watcher. Watches watcher begun.0.terms.which []) begun.1.items) }
 {
-    let file = recording(rt, Gate::new(rt.alloc(), LOOKS)?)?;
+    let file = recording(rt, Gate::new(rt.alloc(), Step::Sync, LOOKS)?)?;
     let (audience, watchers) = match Audience::begin(rt, rt.alloc(), false, 2) {
         Ok(begun) => begun,
         Err(memory) => {
