@@ -1,0 +1,43 @@
+-- The groups of a file whose records are found, and their samples.
+use Rattle.std.specs.Prelude.{ℕ, Bool, ◌&&◌, nat_eq, List, map, slice_get, Option, Some}
+use Rattle.std.specs.List.{flat_map, list_all}
+use Rattle.std.specs.Option.{option_and_then, option_map}
+use Rattle.mdf_layout.specs.declared.sample.Entry.{Entry}
+use Rattle.mdf_content.specs.declared.contents.Contents.{Contents}
+use Rattle.mdf_content.specs.declared.found.DataFound.{DataFound}
+use Rattle.mdf_content.specs.declared.found.Found.{Found}
+use Rattle.mdf_content.specs.Found.{fetched}
+use Rattle.mdf_content.specs.Samples.{sample_at}
+use Rattle.mdf_model.specs.declared.whole.WholeFound.{WholeFound}
+use Rattle.mdf_paged.specs.declared.index.GroupNumber.{GroupNumber}
+
+-- a group with the data group that it is one of
+pub record Located : Type 0 where
+  pub parent : DataFound
+  pub group : Found
+
+abbrev pub located : DataFound → Found → Located
+located parent group = record { parent = parent; group = group }
+
+-- the groups of a data group, and those of all data groups, in order
+abbrev pub groups_in : DataFound → List Located
+groups_in parent = map (located parent) parent.groups
+
+abbrev pub groups_of : WholeFound → List Located
+groups_of all = flat_map groups_in all.found
+
+-- no flag of an unfinalized file is set, and each data group is as the standard has it
+abbrev pub is_strict : WholeFound → Bool
+is_strict all =
+    nat_eq all.ident.std_flags 0 && (nat_eq all.ident.custom_flags 0 && list_all (λ (one : DataFound). one.strict) all.found)
+
+-- the group with these numbers
+abbrev pub group_at : List DataFound → GroupNumber → Option Located
+group_at found number = option_and_then (λ parent. option_map (located parent) (slice_get parent.groups number.group)) (slice_get found number.parent)
+
+-- what a group holds, with the bytes of the file there, and the sample of record i of it
+abbrev pub held_at : List ℕ → Located → Contents
+held_at file place = fetched file place.parent.view place.parent.lists place.group
+
+abbrev pub sample_in : List ℕ → Located → ℕ → Option (List Entry)
+sample_in file place i = sample_at (held_at file place).shape (held_at file place).content (held_at file place).streams i

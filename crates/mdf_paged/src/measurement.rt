@@ -1,0 +1,180 @@
+ghost use Rattle.std.specs.Prelude.{◌≡◌, ◌<◌, ℕ, List, Some, Ok, true, length, slice_get, slice_index_or, IfOk, IfErr};
+ghost use Rattle.std.specs.List.{AllByRecursion, list_all};
+ghost use Rattle.mdf_num.specs.Halt.{HaltCause, StopCause};
+ghost use Rattle.mdf_block.specs.Refusal.{Gives, IsPlain};
+ghost use Rattle.mdf_content.specs.Fault.{read_refusal};
+ghost use Rattle.mdf_content.specs.Found.{IsFoundInside, IsGroupInside};
+ghost use Rattle.mdf_stream.specs.Parts.{ArePartsInside};
+ghost use Rattle.mdf_content.specs.declared.found.DataFound.{DataFound};
+ghost use Rattle.mdf_model.specs.declared.part.Measure.{Measure};
+ghost use Rattle.mdf_model.specs.Found.{GivesSeen, measured_from, whole_found};
+ghost use Rattle.mdf_model.specs.Measurement.{measurement, sample_of};
+ghost use Rattle.mdf_paged.specs.Groups.{Located, groups_of, is_strict, located};
+
+use crate::index::{GroupNumber, numbers_of};
+use crate::sample::sample_of;
+use mdf_content::{DataFound, Found, ReadFault};
+use mdf_group::DataRow;
+use mdf_layout::Entries;
+use mdf_model::{WholeFound, whole_found_in};
+use mdf_num::{Halt, Rows, Span, Stop};
+use std::alloc::Global;
+use std::marker::Model;
+
+/// The measurement of a finalized file that need not be in memory. Contracts see it as what is found of the file.
+#[derive(Drop)]
+pub struct PagedMeasurement {
+    all: WholeFound,
+    index: Vec<GroupNumber>,
+}
+
+impl Model for PagedMeasurement {
+    ghost use Rattle.std.specs.Prelude.{◌≡◌, ◌<◌, ◌^◌, length, map, Some};
+    ghost use Rattle.std.specs.Coded.{codes};
+    ghost use Rattle.mdf_conv.specs.contracts.row.Ref as refs;
+    ghost use Rattle.mdf_model.specs.declared.whole.WholeFound.{WholeFound};
+    ghost use Rattle.mdf_paged.specs.Groups.{group_at, groups_of};
+
+    ghost Value = { WholeFound };
+
+    ghost coded = { Prim.hlevel (codes, refs.the_row.coded) };
+
+    ghost view = { λ m. m.all };
+
+    ghost invariant = { λ m. (length m.index.items < 2 ^ 32) × (map (group_at m.all.found) m.index.items ≡ map Some (groups_of m.all)) };
+}
+
+/// Item `k` of a list.
+fn item<T>(items: &[T], k: usize) -> &T
+    requires { k < length items.now }
+    ensures { slice_get items.now k ≡ Some result.now }
+{
+    &items[k]
+}
+
+/// Whether each data group is as the standard has it.
+fn are_strict(found: &[DataFound]) -> bool
+    ensures { result ≡ list_all (λ (one : DataFound). one.strict) found.now }
+{
+    let mut strict = true;
+    for one in found {
+        if !one.strict {
+            strict = false;
+        }
+    }
+    strict
+}
+
+/// Whether no flag of an unfinalized file is set, and each data group is as the standard has it.
+fn is_strict(all: &WholeFound) -> bool
+    ensures { result ≡ is_strict all.now }
+{
+    let ident = all.ident;
+    ident.std_flags == 0 && ident.custom_flags == 0 && are_strict(all.found.as_slice())
+}
+
+impl PagedMeasurement {
+    /// The measurement of a finalized file, as `read_measurement` of mdf_model has it of a file in memory, with the same faults
+    /// in the same order. Places are kept in place of bytes: none for records that stand at equal steps, 4 or 8 bytes for
+    /// each other record, and 24 for each data block and for each value of a group of values. No record is read for its own
+    /// sake: of data groups without record ids it is computed how many there are, and of channels of variable length the
+    /// offsets are looked at.
+    ///
+    /// # Errors
+    /// As `whole_found_in`. 2^32 groups and more count as want of memory.
+    pub fn read<P: Span>(alloc: Global, span: &mut P) -> Result<PagedMeasurement, Halt<ReadFault>>
+        ensures found { (f : List ℕ) → P.bytes span.old ≡ Some f → Gives read_refusal result (whole_found f) }
+        ensures measured { (f : List ℕ) → P.bytes span.old ≡ Some f → GivesSeen read_refusal (measured_from f) result (measurement f) }
+        ensures inside { IfOk result (λ m. AllByRecursion (IsFoundInside (P.size span.old)) m.found) }
+        ensures plain { IfErr result (IsPlain read_refusal) }
+        ensures same { P.bytes span.new ≡ P.bytes span.old }
+        ensures size { P.size span.new ≡ P.size span.old }
+        ensures cause { HaltCause true (P.faults span.old) (P.faults span.new) result }
+    {
+        let all = whole_found_in(alloc, span)?;
+        let index = numbers_of(alloc, all.found.as_slice())?;
+        if index.len() > u32::MAX as usize {
+            return Err(Halt::Memory);
+        }
+        Ok(PagedMeasurement { all, index })
+    }
+
+    /// The data groups as they were read, in the order of the links.
+    pub fn rows(&self) -> &Rows<DataRow>
+        ensures { result.now ≡ self.now.tree.rows }
+    {
+        &self.all.tree.rows
+    }
+
+    /// How many links that name something were passed over.
+    pub fn dropped(&self) -> u64
+        ensures dropped { result ≡ self.now.tree.dropped }
+        ensures measured { (f : List ℕ) → result ≡ (measured_from f self.now).dropped }
+    {
+        self.all.tree.dropped
+    }
+
+    /// Whether the file is as the standard has a finalized one.
+    pub fn strict(&self) -> bool
+        ensures strict { result ≡ is_strict self.now }
+        ensures measured { (f : List ℕ) → result ≡ (measured_from f self.now).strict }
+    {
+        is_strict(&self.all)
+    }
+
+    /// How many groups have samples.
+    pub fn groups(&self) -> u32
+        ensures groups { result ≡ length (groups_of self.now) }
+        ensures measured { (f : List ℕ) → whole_found f ≡ Ok self.now → result ≡ length (measured_from f self.now).groups }
+    {
+        self.index.len() as u32
+    }
+
+    /// A group, with its data group.
+    fn place(&self, group: u32) -> (&DataFound, &Found)
+        requires { group < length (groups_of self.now) }
+        ensures place { slice_get (groups_of self.now) group ≡ Some (located result.0.now result.1.now) }
+        ensures inside { (size : ℕ) → AllByRecursion (IsFoundInside size) self.now.found
+            → ArePartsInside size result.0.now.view × IsGroupInside size result.0.now.view result.0.now.lists result.1.now }
+    {
+        let number = item(self.index.as_slice(), group as usize);
+        let parent = item(self.all.found.as_slice(), number.parent);
+        let found = item(parent.groups.as_slice(), number.group);
+        (parent, found)
+    }
+
+    /// How many samples a group has.
+    pub fn samples(&self, group: u32) -> u64
+        requires { group < length (groups_of self.now) }
+        ensures count { (d : Located) → result ≡ (slice_index_or (groups_of self.now) group d).group.count }
+        ensures measured { (f : List ℕ) (d : Measure) → whole_found f ≡ Ok self.now → result ≡ (slice_index_or (measured_from f self.now).groups group d).count }
+    {
+        let (_, found) = self.place(group);
+        found.count
+    }
+
+    /// Sample `i` of a group, counted from 0, read out of a span of the same bytes: an entry for each of its channels. A
+    /// virtual channel's value is `i`. One record is read, and the values that its offsets name.
+    ///
+    /// # Errors
+    /// The span's own; and want of memory, as which it counts too where an offset meets no value, in a span of other bytes.
+    pub fn sample_in<P: Span>(
+        &self,
+        alloc: Global,
+        span: &mut P,
+        group: u32,
+        i: u64,
+    ) -> Result<Entries, Stop>
+        requires inside { AllByRecursion (IsFoundInside (P.size span.old)) self.now.found }
+        requires group { group < length (groups_of self.now) }
+        requires index { (d : Located) → i < (slice_index_or (groups_of self.now) group d).group.count }
+        ensures sample { (f : List ℕ) (d : Measure) → P.bytes span.old ≡ Some f → whole_found f ≡ Ok self.now
+            → IfOk result (λ entries. sample_of (slice_index_or (measured_from f self.now).groups group d) i ≡ Some entries) }
+        ensures same { P.bytes span.new ≡ P.bytes span.old }
+        ensures size { P.size span.new ≡ P.size span.old }
+        ensures cause { StopCause true (P.faults span.old) (P.faults span.new) result }
+    {
+        let (parent, found) = self.place(group);
+        sample_of(alloc, span, parent, found, i)
+    }
+}
