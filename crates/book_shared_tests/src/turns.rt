@@ -83,12 +83,7 @@ where
 }
 
 /// An append and then a flush of this seat while the other one flushes. Its step may go on when both are answered.
-fn put_and_flush<R>(
-    rt: &R,
-    shared: &Shared,
-    seat: &mut SourceSeat,
-    sample: Sample,
-) -> Append
+fn put_and_flush<R>(rt: &R, shared: &Shared, seat: &mut SourceSeat, sample: Sample) -> Append
 where
     R: Threads + Wait + Sync,
     requires table { seat.old.table ≡ shared.now.table }
