@@ -11,6 +11,7 @@ recording  a recording of the groups of `unsorted`, as `record` leaves it behind
 wide       such a recording of one channel group: a time and 99 numbers of 64 bits
 offsets    a finalized file of one channel group without records: a channel of variable length for each 200 bytes, whose offsets
            lie in no order
+hole       as `sorted`, but all records lie in one data block and are a hole of the file, which reads as zeros
 
 The records of a finalized file lie in data blocks (DTBLOCK) of 4,000,000 bytes, the last a shorter one, which a chain of lists
 (DLBLOCK) of at most 50 names, so some records lie across two blocks. Those of a recording lie in blocks of whole records of at
@@ -107,7 +108,7 @@ comment = place(b"MD", [], b"<FHcomment><TX>example</TX></FHcomment>\0")
 entry = place(b"FH", [0, comment], bytes(16))
 
 # The groups, and the bytes of their records.
-if shape == "sorted":
+if shape in ("sorted", "hole"):
     id_size, count = 0, size // 16
     first = group(0, timed(numbers()), "numbers", 0, count, 0, 16)
     total, records = 16 * count, map(plain, range(count))
@@ -151,6 +152,10 @@ def data(length):
     return block(b"DT", [], taken(length)) + bytes(-length % 8)
 
 
+if shape == "hole":
+    out.write(b"##DT" + struct.pack("<4xQQ", 24 + total, 0))
+    out.truncate(len(head) + 24 + total)
+    sys.exit()
 at = len(head)
 lengths = [min(PART, total - place) for place in range(0, total, PART)]
 if is_recording:

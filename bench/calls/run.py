@@ -5,7 +5,8 @@ usage: bench/calls/run.py     (the program must be built: MDF4REC_PROVE=1 ./mdf4
 
 What is said: a recording is made under a new name, whose folder is synced once; its head is four writes and three syncs, and each block
 two writes and two syncs, wherever the samples of it came from. A finalized file is made in the same way, by three writes and three syncs, and its
-input is opened, asked for its size and read, once each. Of a refused input the output is made and stays empty; a taken name is tried once;
+input is opened, asked for its size and read, once each. `check`, `info` and `export` read page by page: a file that fits into one is opened
+once, asked for its size twice and read once. Of a refused input the output is made and stays empty; a taken name is tried once;
 and of a wrong script no file is asked. It ends with status 1 where one of these commands makes other calls, or ends with another status."""
 import collections
 import os
@@ -79,6 +80,8 @@ def rows(folder):
     for blocks in (0, 1, 2, 50):
         yield (["record", f"{blocks}.mf4"], script(blocks), 0, made(f"{blocks}.mf4", 4 + 2 * blocks, 3 + 2 * blocks))
     yield (["finalize", "50.mf4", "done.mf4"], b"", 0, {**loaded("50.mf4"), **made("done.mf4", 3, 3)})
+    for words in (["check"], ["info"], ["export", "0"]):
+        yield ([words[0], "done.mf4", *words[1:]], b"", 0, {("done.mf4", "open"): 1, ("done.mf4", "size"): 2, ("done.mf4", "read"): 1})
     yield (["record", "50.mf4"], script(1), 4, {("50.mf4", "make"): 1})
     yield (["record", "wrong.mf4"], b"channel t u64 master\n", 8, {})
     yield (["opened", "none.mf4"], b"", 4, {("none.mf4", "open"): 1})

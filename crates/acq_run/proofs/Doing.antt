@@ -1,5 +1,5 @@
 -- What a source does, task by task.
-use Rattle.std.proofs.Common.{◌≡◌, ◌+◌, ◌≤◌, ◌<◌, inl, inr, ⊎_elim, ℕ, suc, List, [], ◌∷◌, ◌++◌, length, take, refl, sym, ◌∙◌, ap, subst, arith, append_assoc, append-nil, length-append, All}
+use Rattle.std.proofs.Common.{◌≡◌, ◌+◌, ◌*◌, ◌≤◌, inl, inr, ⊎_elim, ℕ, suc, List, [], ◌∷◌, ◌++◌, length, take, refl, sym, ◌∙◌, ap, subst, arith, append_assoc, append-nil, length-append, All}
 use Rattle.std.proofs.lemmas.List.{take-append-le}
 use mathlib.Core.List.{IsPrefix}
 use Rattle.mdf_gate.proofs.Carrying.{prefix_self, prefix_trans}
@@ -7,11 +7,13 @@ use Rattle.mdf_layout.specs.History.{source_samples}
 use Rattle.mdf_layout.specs.declared.sample.Sample.{Sample}
 use Rattle.book_owned.specs.declared.mark.Mark.{Mark}
 use Rattle.book_shared.specs.Basis.{Basis}
+use Rattle.book_shared.specs.Causes.{IsAmong}
 use Rattle.book_shared.specs.Place.{Place, own_part}
 use Rattle.book_shared.specs.Told.{HasMark}
+use Rattle.book_shared.specs.Turns.{HasTurnsFor}
 use Rattle.book_shared.specs.declared.view.View.{View}
 use Rattle.acq_run.specs.Tasks.{flushes_of, samples_of, Feeds, IsTask, MayFeed}
-use Rattle.acq_run.specs.Works.{AreMarked, IsFlushed, IsMarkedAt, IsLater, turns_for, Does, Ends, HasDriven, HasFed, HasHeard, IsSameSeat}
+use Rattle.acq_run.specs.Works.{AreMarked, IsFlushed, IsMarkedAt, IsLater, turns_for, Does, Ends, HasDriven, HasFed, HasHeard, HasTurns, IsSameSeat, OnlyDueOf}
 use Rattle.acq_run.specs.declared.tasks.Fed.{Fed}
 use Rattle.acq_run.specs.declared.tasks.Fed.TheVariants as fed
 use Rattle.acq_run.specs.declared.work.Ended.{Ended}
@@ -28,6 +30,22 @@ flushes_of-append [] ys = omega arith
 flushes_of-append (fed.Sample sample ∷ xs) ys = flushes_of-append xs ys
 flushes_of-append (fed.Flush ∷ xs) ys = omega (arith, flushes_of-append xs ys)
 flushes_of-append (fed.End ∷ xs) ys = flushes_of-append xs ys
+
+-- a task's sample stands among those of its feed
+task_among : (done : List Fed) (task : Fed) (later : List Fed) (sample : Sample) → IsAmong (samples_of (task ∷ [])) sample → IsAmong (samples_of (done ++ task ∷ later)) sample
+task_among [] (fed.Sample one) later sample is = ⊎_elim (λ here. inl here) (λ none. absurd none) is
+task_among [] fed.Flush later sample is = absurd is
+task_among [] fed.End later sample is = absurd is
+task_among (fed.Sample one ∷ done) task later sample is = inr (task_among done task later sample is)
+task_among (fed.Flush ∷ done) task later sample is = task_among done task later sample is
+task_among (fed.End ∷ done) task later sample is = task_among done task later sample is
+
+-- the seat had to append none but those of the feed, nor since but that of the next task
+due_more : (v u w : View) (done : List Fed) (task : Fed) (later feds : List Fed) → done ++ task ∷ later ≡ feds → OnlyDueOf v u feds → OnlyDueOf u w (task ∷ []) → OnlyDueOf v w feds
+due_more v u w done task later feds are before since sample there = ⊎_elim
+    (λ first. before sample first)
+    (λ next. inr (subst (λ fs. IsAmong (samples_of fs) sample) are (task_among done task later sample next)))
+    (since sample there)
 
 -- marks stay where samples and marks come behind
 mark_stays : (marks more : List Mark) (through : ℕ) → IsPrefix marks more → HasMark marks through → HasMark more through
@@ -136,6 +154,8 @@ pub record HasDone (old new : Place) (feds left : List Fed) (accepted : ℕ) : T
   pub parts : done ++ left ≡ feds
   pub does : Does old.know new.know old.number done accepted
   pub turns : old.know.turns + length done ≤ new.know.turns
+  pub few_turns : HasTurnsFor (3 * length done) old.know new.know
+  pub due : OnlyDueOf old.know new.know feds
   pub may : All (MayFeed new.know.basis.owners new.know.basis.terms new.number) left
 
 pub done_first : (seat : Place) (feds : List Fed) → All (MayFeed seat.know.basis.owners seat.know.basis.terms seat.number) feds → HasDone seat seat feds feds 0
@@ -145,6 +165,8 @@ done_first seat feds may = record {
   parts = refl;
   does = does_none seat.know seat.number;
   turns = omega arith;
+  few_turns = omega arith;
+  due = λ sample there. inl there;
   may = may;
 }
 
@@ -193,37 +215,45 @@ module _ (old mid : Place) (feds left : List Fed) (n : ℕ) (has : HasDone old m
   pub next_may : (task : Fed) (later : List Fed) → Feeds left task later → IsTask task → MayFeed mid.know.basis.owners mid.know.basis.terms mid.number task
   next_may task later feeds is = first_may mid.know.basis mid.number left task later (took left task later feeds is) has.may
 
-  module _ (new : Place) (seat : IsSameSeat mid new) (turn : mid.know.turns < new.know.turns) where
+  module _ (new : Place) (seat : IsSameSeat mid new) (task : Fed) (turn : HasTurns mid.know new.know) (due : OnlyDueOf mid.know new.know (task ∷ [])) where
     same_seat : IsSameSeat old new
     same_seat = record { table_is = seat.table_is ∙ has.seat.table_is; number_is = seat.number_is ∙ has.seat.number_is }
 
+    parts_on : (later : List Fed) → Feeds left task later → IsTask task → has.done ++ task ∷ later ≡ feds
+    parts_on later feeds is = ap (λ l. has.done ++ l) (sym (took left task later feeds is)) ∙ has.parts
+
+    due_now : (later : List Fed) → Feeds left task later → IsTask task → OnlyDueOf old.know new.know feds
+    due_now later feeds is = due_more old.know mid.know new.know has.done task later feds (parts_on later feeds is) has.due due
+
     -- was done
-    pub done_on : (task : Fed) (later : List Fed) (m : ℕ) → Feeds left task later → IsTask task → Does mid.know new.know mid.number (task ∷ []) m
+    pub done_on : (later : List Fed) (m : ℕ) → Feeds left task later → IsTask task → Does mid.know new.know mid.number (task ∷ []) m
         → HasDone old new feds later (n + m)
-    done_on task later m feeds is does =
+    done_on later m feeds is does =
         let first = took left task later feeds is in
         record {
           seat = same_seat;
           done = has.done ++ task ∷ [];
-          parts = append_assoc has.done (task ∷ []) later ∙ ap (λ l. has.done ++ l) (sym first) ∙ has.parts;
+          parts = append_assoc has.done (task ∷ []) later ∙ parts_on later feeds is;
           does = does_more old.know mid.know new.know old.number has.done (task ∷ []) n m has.does
               (subst (λ k. Does mid.know new.know k (task ∷ []) m) has.seat.number_is does);
-          turns = omega (arith, turn, has.turns, length-append has.done (task ∷ []));
+          turns = omega (arith, turn.some, has.turns, length-append has.done (task ∷ []));
+          few_turns = omega (arith, turn.few, has.few_turns, length-append has.done (task ∷ []));
+          due = due_now later feeds is;
           may = subst (λ (b : Basis). All (MayFeed b.owners b.terms new.number) later) (sym does.later.basis_is)
               (subst (λ k. All (MayFeed mid.know.basis.owners mid.know.basis.terms k) later) (sym seat.number_is) (later_may mid.know.basis mid.number left task later first has.may));
         }
 
     -- so many samples are no more than the feed had
-    pub few_more : (task : Fed) (later : List Fed) (m : ℕ) → Feeds left task later → IsTask task → Does mid.know new.know mid.number (task ∷ []) m
+    pub few_more : (later : List Fed) (m : ℕ) → Feeds left task later → IsTask task → Does mid.know new.know mid.number (task ∷ []) m
         → n + m ≤ length feds
-    few_more task later m feeds is does =
-        let all = done_on task later m feeds is does in
+    few_more later m feeds is does =
+        let all = done_on later m feeds is does in
         omega (arith, all.does.counted, few_samples all.done, ap length all.parts, length-append all.done later)
 
     -- or was not, and the work ends
-    pub stopped_at : (task : Fed) (later : List Fed) (how : Ended) → Feeds left task later → IsTask task → Does mid.know new.know mid.number [] 0
+    pub stopped_at : (later : List Fed) (how : Ended) → Feeds left task later → IsTask task → Does mid.know new.know mid.number [] 0
         → ((rest : List Fed) → Ends new.know new.number (task ∷ rest) how) → HasDriven old new feds n how
-    stopped_at task later how feeds is does ends =
+    stopped_at later how feeds is does ends =
         let more = does_more old.know mid.know new.know old.number has.done [] n 0 has.does
         (subst (λ k. Does mid.know new.know k [] 0) has.seat.number_is does) in
         record {
@@ -231,18 +261,20 @@ module _ (old mid : Place) (feds left : List Fed) (n : ℕ) (has : HasDone old m
           drives = record {
             done = has.done ++ [];
             rest = task ∷ later;
-            parts = ap (λ d. d ++ (task ∷ later)) (append-nil has.done) ∙ ap (λ l. has.done ++ l) (sym (took left task later feeds is)) ∙ has.parts;
+            parts = ap (λ d. d ++ (task ∷ later)) (append-nil has.done) ∙ parts_on later feeds is;
             does = subst (λ k. Does old.know new.know old.number (has.done ++ []) k) (omega arith) more;
-            turns = omega (arith, turn, has.turns, ends_last new.know new.number task later how (ends later), length-append has.done []);
+            turns = omega (arith, turn.some, has.turns, ends_last new.know new.number task later how (ends later), length-append has.done []);
+            few_turns = omega (arith, turn.few, has.few_turns, ends_last new.know new.number task later how (ends later), length-append has.done []);
+            due = due_now later feeds is;
             ends = subst (λ k. Ends new.know k (task ∷ later) how) same_seat.number_is (ends later);
           };
         }
 
     -- what is behind it is left of the feed
-    pub fed_stopped : (task : Fed) (later : List Fed) (how : Ended) → Feeds left task later → IsTask task → Does mid.know new.know mid.number [] 0
+    pub fed_stopped : (later : List Fed) (how : Ended) → Feeds left task later → IsTask task → Does mid.know new.know mid.number [] 0
         → ((rest : List Fed) → Ends new.know new.number (task ∷ rest) how) → HasFed old new feds n how later
     unfolding stopped_at
-    fed_stopped task later how feeds is does ends = record { driven = stopped_at task later how feeds is does ends; left_is = refl }
+    fed_stopped later how feeds is does ends = record { driven = stopped_at later how feeds is does ends; left_is = refl }
 
   -- the feed has ended
   pub all_done : (later : List Fed) → Feeds left fed.End later → HasDriven old mid feds n Done
@@ -254,6 +286,8 @@ module _ (old mid : Place) (feds left : List Fed) (n : ℕ) (has : HasDone old m
       parts = ap (λ l. has.done ++ l) (sym (nothing_left left later feeds)) ∙ has.parts;
       does = has.does;
       turns = omega (arith, has.turns);
+      few_turns = omega (arith, has.few_turns);
+      due = has.due;
       ends = refl;
     };
   }
@@ -277,22 +311,22 @@ told_first hears none follower seat feds may = record { done = done_first seat f
 
 module _ {L : Type 0} (hears : L → List ℕ → L → Type 0) (more : (first second third : L) (n m : List ℕ) → hears first n second → hears second m third → hears first (n ++ m) third)
     (old mid : Place) (feds left : List Fed) (n : ℕ) (first second : L) (has : HasTold hears old mid feds left n first second) where
-  module _ (new : Place) (seat : IsSameSeat mid new) (turn : mid.know.turns < new.know.turns) (third : L) where
-    pub told_on : (task : Fed) (later : List Fed) (m : ℕ) → Feeds left task later → IsTask task → Does mid.know new.know mid.number (task ∷ []) m
+  module _ (new : Place) (seat : IsSameSeat mid new) (task : Fed) (turn : HasTurns mid.know new.know) (due : OnlyDueOf mid.know new.know (task ∷ [])) (third : L) where
+    pub told_on : (later : List Fed) (m : ℕ) → Feeds left task later → IsTask task → Does mid.know new.know mid.number (task ∷ []) m
         → (shown : List ℕ) × (length shown ≡ flushes_of (task ∷ [])) × hears second shown third → HasTold hears old new feds later (n + m) first third
     unfolding done_on
-    told_on task later m feeds is does told = record {
-      done = done_on old mid feds left n has.done new seat turn task later m feeds is does;
+    told_on later m feeds is does told = record {
+      done = done_on old mid feds left n has.done new seat task turn due later m feeds is does;
       shown = has.shown ++ told.0;
       count = omega (arith, length-append has.shown told.0, has.count, told.1, flushes_of-append has.done.done (task ∷ []));
       heard = more first second third has.shown told.0 has.heard told.2;
     }
 
-    pub heard_stopped : (task : Fed) (later : List Fed) (how : Ended) → Feeds left task later → IsTask task → Does mid.know new.know mid.number [] 0
+    pub heard_stopped : (later : List Fed) (how : Ended) → Feeds left task later → IsTask task → Does mid.know new.know mid.number [] 0
         → ((rest : List Fed) → Ends new.know new.number (task ∷ rest) how) → third ≡ second → HasHeard hears old new feds n how first third
     unfolding stopped_at
-    heard_stopped task later how feeds is does ends same = record {
-      driven = stopped_at old mid feds left n has.done new seat turn task later how feeds is does ends;
+    heard_stopped later how feeds is does ends same = record {
+      driven = stopped_at old mid feds left n has.done new seat task turn due later how feeds is does ends;
       shown = has.shown;
       count = has.count ∙ ap flushes_of (sym (append-nil has.done.done));
       heard = subst (hears first has.shown) (sym same) has.heard;

@@ -10,14 +10,15 @@ use Rattle.mdf_layout.specs.History.{source_samples}
 use Rattle.mdf_layout.specs.declared.sample.Sample.{Sample}
 use Rattle.book_owned.specs.Account.{Account, Terms}
 use Rattle.book_shared.specs.Basis.{Basis}
+use Rattle.book_shared.specs.Causes.{IsAmong}
 use Rattle.book_shared.specs.Rule.{asks}
 use Rattle.book_shared.specs.Place.{Place}
-use Rattle.book_shared.specs.Seats.{new_seat, new_seats, AreOf, AskedBy, HasNumber, Closed, Closes}
+use Rattle.book_shared.specs.Seats.{new_seat, new_seats, AreOf, AskedBy, DueBy, HasNumber, Closed, Closes}
 use Rattle.book_shared.proofs.Beginning.{new_seats-length}
-use Rattle.acq_run.specs.Tasks.{MayFeed}
+use Rattle.acq_run.specs.Tasks.{MayFeed, samples_of}
 use Rattle.acq_run.specs.Works.{AreMarked, Ends, HasDriven, HasRoomNext, IsFlushed, IsOver}
 use Rattle.acq_run.specs.Workers.{IsReady, driven_of}
-use Rattle.acq_run.specs.Ran.{AllMayFeed, AllRan, AskedFor, EndsIn, Ran, seen_by}
+use Rattle.acq_run.specs.Ran.{AllMayFeed, AllRan, AskedFor, DueFor, EndsIn, Ran, seen_by}
 use Rattle.acq_run.specs.declared.tasks.Fed.{Fed}
 use Rattle.acq_run.specs.declared.work.Driven.{Driven}
 use Rattle.acq_run.specs.declared.work.Ended.{Ended}
@@ -75,6 +76,11 @@ asked_of basis book table number seat closed feds accepted how driven n there = 
     (flushed_later basis.owners number seat.know.seen book.history [] driven.drives.done driven.drives.rest n closed.seen
     (subst (λ (b : Basis). IsFlushed b.owners number seat.know.seen [] driven.drives.done n) driven.drives.does.later.basis_is flushed)))
     (driven.drives.does.asked n there)
+
+-- and what it had to append is of its feed
+due_of : (table : TableId) (basis : Basis) (number : ℕ) (seat : Place) (feds : List Fed) (accepted : ℕ) (how : Ended) → HasDriven (new_seat table basis number) seat feds accepted how
+    → (sample : Sample) → IsAmong seat.know.due sample → IsAmong (samples_of feds) sample
+due_of table basis number seat feds accepted how driven sample there = ⊎_elim (λ before. absurd before) (λ its. its) (driven.drives.due sample there)
 
 -- as many seats as sources
 pub seats_count : (table : TableId) (basis : Basis) (seats : List Place) (sources : ℕ) → seats ≡ new_seats table basis 0 sources → length seats ≡ sources
@@ -170,6 +176,15 @@ module _ {F L : Type 0} (left : F → List Fed) (table : TableId) (basis : Basis
       (λ differs. inr (has_number (suc first) olds news all.1 n (above first n low differs) (omega (arith, high)))) (cases_eq n first) where
         above : (a b : ℕ) → a ≤ b → (b ≡ a → ⊥) → suc a ≤ b
         above a b low differs = ⊎_elim (λ less. omega (arith, less)) (λ more. absurd (differs (omega (arith, low, more)))) (cases_lt a b)
+
+  -- what the seats had to append is of the feeds
+  all_due : (first : ℕ) (olds news : List (Worker F L)) → AllDriven first olds news → (sample : Sample) → DueBy (seats_of news) sample → DueFor (map left (feeds_of olds)) sample
+  all_due first [] [] all sample there = absurd there
+  all_due first [] (new ∷ news) all sample there = absurd all
+  all_due first (old ∷ olds) [] all sample there = absurd all
+  all_due first (old ∷ olds) (new ∷ news) all sample there = ⊎_elim
+      (λ here. inl (due_of table basis first new.seat (left old.feed) new.accepted new.ended all.0 sample here))
+      (λ later. inr (all_due (suc first) olds news all.1 sample later)) there
 
   module _ {D V : Type 0} (owners : List ℕ) (alike : (group : ℕ) → slice_index basis.owners group ≡ slice_index owners group) (book : Account D V) (terms : book.terms ≡ basis.terms) where
     pub all_ran : (seen : List (List Sample)) (first : ℕ) (olds news : List (Worker F L)) → AllSaw seen first news → AllDriven first olds news → Closes basis book (seats_of news)
@@ -268,6 +283,11 @@ module _ {F L : Type 0} (left : F → List Fed) (table : TableId) (basis : Basis
     -- one for each feed, of what there is one for each worker
     pub worked_count : {B : Type 0} (f : Worker F L → B) (made : List B) → made ≡ map f after → length made ≡ length feeds
     worked_count f made are = omega (arith, ap length are, length-map after f, ap length worked.after_is, all_long 0 lent news worked.all, worked.count)
+
+    pub worked_due : (seats : List Place) → seats ≡ seats_of after → (sample : Sample) → DueBy seats sample → DueFor (map left feeds) sample
+    worked_due seats are sample there =
+        subst (λ fs. DueFor (map left fs) sample) worked.feeds_are
+        (all_due 0 lent news worked.all sample (subst (λ ss. DueBy ss sample) (are ∙ ap seats_of worked.after_is) there))
 
     pub worked_seen : (seats : List Place) → seats ≡ seats_of after → length (seen_by seats) ≡ length feeds
     worked_seen seats are = length-map seats (λ (seat : Place). seat.know.seen) ∙ worked_count (λ (w : Worker F L). w.seat) seats are

@@ -1,5 +1,5 @@
 -- What an append and a flush come to for the source that asked for them.
-use Rattle.std.proofs.Common.{◌≡◌, ◌<◌, ◌⊎◌, inl, inr, ⊎_elim, ℕ, List, [], ◌∷◌, take, Result, Ok, Err, refl, sym, ◌∙◌, subst, append-nil}
+use Rattle.std.proofs.Common.{◌≡◌, ◌+◌, ◌<◌, ◌≤◌, ◌⊎◌, inl, inr, ⊎_elim, ℕ, List, [], ◌∷◌, length, length-append, take, Result, Ok, Err, refl, sym, ◌∙◌, ap, subst, arith, append-nil}
 use Rattle.std.specs.Prelude.{IfOk, IfErr}
 use mathlib.Core.List.{IsPrefix}
 use Rattle.mdf_gate.proofs.Carrying.{prefix_trans}
@@ -14,13 +14,13 @@ use Rattle.book_owned.specs.declared.view.Shown.{Ghosts as ViewOf}
 use Rattle.book_shared.specs.Basis.{Basis}
 use Rattle.book_shared.specs.Place.{IsSingle, own_part}
 use Rattle.book_shared.specs.Rule.{AreOwn}
-use Rattle.book_shared.specs.Causes.{times_of}
+use Rattle.book_shared.specs.Causes.{IsAmong, times_of}
 use Rattle.book_shared.specs.Plays.{held_of}
 use Rattle.book_shared.specs.Told.{Appends, AppendsFront, Asks, Flushes, FlushesFront}
-use Rattle.book_shared.specs.Turns.{Served}
+use Rattle.book_shared.specs.Turns.{OnlyDue, Served}
 use Rattle.book_shared.specs.declared.view.View.{View}
 use Rattle.book_shared.proofs.Causing.{asked_one}
-use Rattle.acq_run.specs.Works.{CountsFaults, Does, Ends, HasSeenOwn, IsFlushed, IsLater, appended}
+use Rattle.acq_run.specs.Works.{CountsFaults, Does, Ends, HasSeenOwn, HasTurns, IsFlushed, IsLater, OnlyDueOf, appended}
 use Rattle.acq_run.specs.declared.tasks.Fed.{Fed}
 use Rattle.acq_run.specs.declared.tasks.Fed.TheVariants as fed
 use Rattle.acq_run.specs.declared.work.Ended.{Ended}
@@ -70,6 +70,18 @@ does_nothing v u history source single served same = record {
   counted = refl;
   asked = asked_before (IsFlushed u.basis.owners source u.seen (own_part v.mine) []) v u same;
 }
+
+-- the turns of a flush
+pub flush_turns : (v u : View) → v.turns < u.turns → u.turns ≤ v.turns + 3 → IsPrefix v.kept u.kept → HasTurns v u
+flush_turns v u some few kept = record { some = some; few = omega (arith, few, ap length kept.1, length-append v.kept kept.0) }
+
+-- none but its own sample was to be appended, and none in a flush
+pub append_due : (v u : View) (task : Fed) (sample : Sample) → task ≡ fed.Sample sample → OnlyDue v u sample → OnlyDueOf v u (task ∷ [])
+append_due v u task sample is only =
+    subst (λ t. OnlyDueOf v u (t ∷ [])) (sym is) (λ other there. ⊎_elim (λ before. inl before) (λ same. inr (inl same)) (only other there))
+
+pub flush_due : (v u : View) (task : Fed) → u.due ≡ v.due → OnlyDueOf v u (task ∷ [])
+flush_due v u task same other there = inl (subst (λ due. IsAmong due other) same there)
 
 -- an append
 module _ (v u : View) (source : ℕ) (single : IsSingle u source) (sample : Sample) (same : u.asked ≡ v.asked) where

@@ -8,6 +8,7 @@ use Rattle.mdf_layout.specs.declared.sample.Sample.{Sample}
 use Rattle.book_owned.specs.Account.{Account, Terms}
 use Rattle.book_owned.specs.Marks.{last_mark}
 use Rattle.book_owned.specs.declared.mark.Mark.{Mark}
+use Rattle.book_shared.specs.Causes.{AnyOf, IsAmong}
 use Rattle.book_shared.specs.Place.{Place}
 use Rattle.acq_run.specs.Tasks.{flushes_of, samples_of, MayFeed}
 use Rattle.acq_run.specs.Works.{AreMarked, HasRoomNext, IsFlushed, IsOver}
@@ -68,6 +69,10 @@ abbrev pub AskedFor : List ℕ → ℕ → List (List Fed) → List Sample → �
 AskedFor owners source [] history through = ⊥
 AskedFor owners source (feds ∷ feeds) history through =
     IsFlushed owners source history [] feds through ⊎ AskedFor owners (suc source) feeds history through
+
+-- one of the sources, with these feeds, has this sample
+abbrev pub DueFor : List (List Fed) → Sample → Type 0
+DueFor feeds sample = AnyOf (λ feds. IsAmong (samples_of feds) sample) feeds
 
 -- the sources from this one on may hand in all that these feeds have
 abbrev pub AllMayFeed : List ℕ → Terms → ℕ → List (List Fed) → Type 0

@@ -1,5 +1,5 @@
 -- What the work of a source does to its seat.
-use Rattle.std.specs.Prelude.{ℕ, ◌≡◌, ◌+◌, ◌≤◌, ◌<◌, ◌⊎◌, Bool, true, false, List, [], ◌∷◌, ◌++◌, length, take, drop, Result, Ok, Err}
+use Rattle.std.specs.Prelude.{ℕ, ◌≡◌, ◌+◌, ◌*◌, ◌≤◌, ◌<◌, ◌⊎◌, Bool, true, false, List, [], ◌∷◌, ◌++◌, length, take, drop, Result, Ok, Err}
 use mathlib.Core.List.{IsPrefix}
 use Rattle.mdf_format.specs.Cause.{Rose}
 use Rattle.mdf_disk.specs.declared.disk.Disk.{Ghosts as DiskOf}
@@ -14,9 +14,10 @@ use Rattle.book_owned.specs.declared.answer.Append.TheVariants as append
 use Rattle.book_owned.specs.declared.mark.Mark.{Mark}
 use Rattle.book_owned.specs.declared.view.Shown.{Ghosts as ViewOf}
 use Rattle.book_shared.specs.Basis.{Held, holding}
-use Rattle.book_shared.specs.Causes.{times_of}
+use Rattle.book_shared.specs.Causes.{IsAmong, times_of}
 use Rattle.book_shared.specs.Told.{HasMark, MeetsFault, Turned}
 use Rattle.book_shared.specs.Place.{Place, own_part}
+use Rattle.book_shared.specs.Turns.{HasTurnsFor}
 use Rattle.book_shared.specs.declared.view.View.{View}
 use Rattle.acq_run.specs.Tasks.{flushes_of, samples_of}
 use Rattle.acq_run.specs.declared.tasks.Fed.{Fed}
@@ -134,13 +135,25 @@ turns_for (Stopped mark) = 1
 turns_for (DiskFault before after) = 1
 turns_for Memory = 1
 
--- Some of it was done, up to the first that was not, if there is one. The source took the turn for each, once or more often.
+-- the seat had to append no sample but those of these
+abbrev pub OnlyDueOf : View → View → List Fed → Type 0
+OnlyDueOf v u feds = (sample : Sample) → IsAmong u.due sample → IsAmong v.due sample ⊎ IsAmong (samples_of feds) sample
+
+-- a source had a turn for one item, and at most three, and three more for each mark that was made since
+pub record HasTurns (v u : View) : Type 0 where
+  pub some : v.turns < u.turns
+  pub few : HasTurnsFor 3 v u
+
+-- Some of it was done, up to the first that was not, if there is one. For each the source had a turn, and at most three, and
+-- three more for each mark that was made since.
 pub record Drives (v u : View) (source : ℕ) (feds : List Fed) (accepted : ℕ) (how : Ended) : Type 0 where
   pub done : List Fed
   pub rest : List Fed
   pub parts : done ++ rest ≡ feds
   pub does : Does v u source done accepted
   pub turns : v.turns + length done + turns_for how ≤ u.turns
+  pub few_turns : HasTurnsFor (3 * (length done + turns_for how)) v u
+  pub due : OnlyDueOf v u feds
   pub ends : Ends u source rest how
 
 -- the same seat

@@ -1,7 +1,7 @@
 //! How a source works.
 ghost use Rattle.std.specs.Prelude.{ℕ, ◌≡◌, ◌<◌, length, List, [], ◌∷◌, IfOk, IfErr};
 ghost use Rattle.acq_run.specs.Tasks.{IsTask, MayFeed, flushes_of};
-ghost use Rattle.acq_run.specs.Works.{CountsFaults, Does, Ends, HasDriven, HasFed, HasHeard, IsSameSeat, appended};
+ghost use Rattle.acq_run.specs.Works.{CountsFaults, Does, Ends, HasDriven, HasFed, HasHeard, HasTurns, IsSameSeat, OnlyDueOf, appended};
 ghost use Rattle.acq_run.specs.Workers.{IsReady};
 ghost use Rattle.acq_run.specs.declared.tasks.Fed.{Fed};
 
@@ -40,7 +40,8 @@ fn perform<R: Threads + Wait + Sync, D: Disk, V: Shown, L: Follower<V>>(
     requires fits { MayFeed seat.old.know.basis.owners seat.old.know.basis.terms seat.old.number task }
     requires follows { L.follows follower.old seat.old.know.basis.terms.which seat.old.know.seen }
     ensures seat { IsSameSeat seat.old seat.new }
-    ensures turn { seat.old.know.turns < seat.new.know.turns }
+    ensures turns { HasTurns seat.old.know seat.new.know }
+    ensures due { OnlyDueOf seat.old.know seat.new.know (task ∷ []) }
     ensures done { IfOk result (λ accepted. Does seat.old.know seat.new.know seat.old.number (task ∷ []) accepted) }
     ensures ended { IfErr result (λ ended. Does seat.old.know seat.new.know seat.old.number [] 0
         × ((later : List Fed) → Ends seat.new.know seat.new.number (task ∷ later) ended)) }

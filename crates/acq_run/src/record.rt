@@ -2,7 +2,7 @@
 ghost use Rattle.std.specs.Prelude.{ℕ, ◌≡◌, ◌≤◌, ◌<◌, [], length, map, vec_capacity, vec_len, All, IfOk, IfErr};
 ghost use Rattle.std.specs.List.{slice_index_or};
 ghost use Rattle.book_shared.specs.Causes.{MarksCaused};
-ghost use Rattle.acq_run.specs.Ran.{AllHeard, AllRan, AllMayFeed, AreOwned, AskedFor};
+ghost use Rattle.acq_run.specs.Ran.{AllHeard, AllRan, AllMayFeed, AreOwned, AskedFor, DueFor};
 ghost use Rattle.acq_run.specs.Works.{HasDriven, HasHeard};
 ghost use Rattle.acq_run.specs.Workers.{IsReady};
 ghost use Rattle.acq_run.specs.Watching.{Hears, Watches};
@@ -113,7 +113,7 @@ pub fn record_live<R: Threads + Wait + Sync, D: Disk + Send, F: Feed + Send + Dr
     ensures saw { IfOk result (λ done. length done.seen ≡ length feeds.items) }
     ensures owned { IfOk result (λ done. AreOwned owners.now (length book.terms.layouts) (vec_len feeds) done.book.history) }
     ensures terms { IfOk result (λ done. done.book.terms ≡ book.terms) }
-    ensures marks { IfOk result (λ done. MarksCaused (AskedFor owners.now 0 (map F.left feeds.items) done.book.history)
+    ensures marks { IfOk result (λ done. MarksCaused (AskedFor owners.now 0 (map F.left feeds.items) done.book.history) (DueFor (map F.left feeds.items))
         book.terms.layouts book.terms.block_limit done.book.history book.marks done.book.marks) }
     ensures followers { IfOk result (λ done. length done.watchers.items ≡ length feeds.items) }
     ensures heard { IfOk result (λ done. AllHeard Hears owners.now done.book done.seen 0 (map F.left feeds.items) done.all.items watchers.items done.watchers.items) }

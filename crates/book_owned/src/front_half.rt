@@ -39,6 +39,7 @@ impl<V: Shown> Front<V> {
     ghost use Rattle.book_owned.specs.FrontHalf.{AreThroughs, FrontRoom, FrontFits, FrontPasses, PutTells, HandTells, IsAwaited, FinishTells, FrontPutEvents, FinishEvents, behind};
 
     /// Accepts a sample whose records have room in the block. It never answers `DiskFault`.
+    #[inline(always)]
     pub fn put(&mut self, sample: Sample) -> Append
         requires fits { SampleFits self.old.terms.layouts sample }
         requires size { encoded_size self.old.terms.layouts sample ≤ self.old.terms.block_limit }

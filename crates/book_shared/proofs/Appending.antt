@@ -1,5 +1,5 @@
 -- What a seat knows after an append that wrote.
-use Rattle.std.proofs.Common.{◌≡◌, ℕ, ◌+◌, ◌<◌, ◌≤◌, true, false, List, [], ◌∷◌, ◌++◌, length, drop, refl, sym, ap, ◌∙◌, subst, inl, inr, ◌⊎◌, ⊎_elim, arith, append-nil}
+use Rattle.std.proofs.Common.{◌≡◌, ℕ, ◌+◌, ◌<◌, ◌≤◌, true, false, List, [], ◌∷◌, ◌++◌, length, length-append, drop, refl, sym, ap, ◌∙◌, subst, inl, inr, ◌⊎◌, ⊎_elim, arith, append-nil}
 use Rattle.std.specs.Prelude.{slice_index}
 use mathlib.Core.List.{IsPrefix}
 use Rattle.std.proofs.lemmas.Bool.{false≢true}
@@ -23,6 +23,7 @@ use Rattle.book_owned.specs.declared.answer.Append.TheVariants as append
 use Rattle.book_owned.specs.declared.answer.Flush.{Flush}
 use Rattle.book_owned.specs.declared.answer.Flush.TheVariants as flush
 use Rattle.book_shared.specs.Basis.{Device, free, resting, written, settled}
+use Rattle.book_shared.specs.Causes.{IsAmong}
 use Rattle.book_shared.specs.Rule.{lends_block, KeepsAll, IsWrittenBy}
 use Rattle.book_shared.specs.Plays.{Here, at_device, held_of, settled_by, given, given_device, MakesMark, Finishes, Holds}
 use Rattle.book_shared.specs.Place.{IsSingle}
@@ -56,10 +57,10 @@ module _ {V : Type 0} (old first then : FrontAccount V) (added : List Sample) (d
   finishes_on (Faulted before after) is = (left.from ∙ is.0, left.spare ∙ is.1, left.marks ∙ is.2, left.stopped ∙ is.3)
 
 -- the mark hands a full block over
-makes_full : {V : Type 0} (terms : Terms) (old then : FrontAccount V) (sample : Sample) (seen : List Sample) (answer : Answer) → Finishes (held_of old) answer then
+makes_full : {V : Type 0} (due : List Sample) (terms : Terms) (old then : FrontAccount V) (sample : Sample) (seen : List Sample) (answer : Answer) → Finishes (held_of old) answer then
     → IsPrefix seen then.history → terms.block_limit < history_size terms.layouts (drop (durable old.marks) seen) + encoded_size terms.layouts sample
-    → encoded_size terms.layouts sample ≤ terms.block_limit → ((mark : Mark) → answer ≡ Marked mark → mark.through ≡ length seen) → MakesMark false terms (held_of old) then
-makes_full terms old then sample seen (Marked mark) is longer full small through = inr (
+    → encoded_size terms.layouts sample ≤ terms.block_limit → ((mark : Mark) → answer ≡ Marked mark → mark.through ≡ length seen) → IsAmong due sample → MakesMark false due terms (held_of old) then
+makes_full due terms old then sample seen (Marked mark) is longer full small through wanted = inr (
   mark,
   is.2,
   inr (record {
@@ -68,11 +69,12 @@ makes_full terms old then sample seen (Marked mark) is longer full small through
     later = longer.0;
     history_is = sym longer.1;
     through_is = through mark refl;
+    is_due = wanted;
     passes = full;
     small = small;
   }),
 )
-makes_full terms old then sample seen (Faulted before after) is longer full small through = inl is.2
+makes_full due terms old then sample seen (Faulted before after) is longer full small through wanted = inl is.2
 
 -- a front that is stopped accepts nothing and stays so
 stopped_puts : {V : Type 0} (old new : FrontAccount V) (sample : Sample) (answer : Try) → old.stopped ≡ true → Puts old new sample answer → tried_by answer sample ≡ []
@@ -112,13 +114,24 @@ told_at x d history sample (append.Stopped mark) is = is
 told_at x d history sample (append.DiskFault before after) is = is
 told_at x d history sample append.Memory is = is
 
+-- where the block is full again, a mark was made
+abbrev pub HasMore : View → View → Try → Type 0
+HasMore v x (Busy word back) = Unit {0}
+HasMore v x (NeedsFlush held size limit back) = length v.kept < length x.kept
+HasMore v x (Answered answer) = Unit {0}
+
+has_more : (v x : View) (answer : Try) → length v.kept < length x.kept → HasMore v x answer
+has_more v x (Busy word back) more = tt
+has_more v x (NeedsFlush held size limit back) more = more
+has_more v x (Answered answer) more = tt
+
 -- a round whose put was answered so
 round_holds : {D V N : Type 0} (disk : DiskOf D) (view : ViewOf V N) (v x : View) (old first then : FrontAccount V) (history : List Sample) (sample : Sample) (answer : Try)
     → (first ≡ old) ⊎ HasMarked view old first → Puts first then sample answer → Turned x old then
-    → Served v x history (tried_by answer sample) → ((a : Append) → PutTells first then sample a → Told x history sample a) → IsRound disk view v x sample answer
-round_holds disk view v x old first then history sample (Busy word back) ready puts turned served told = absurd puts
-round_holds disk view v x old first then history sample (NeedsFlush held size limit back) ready puts turned served told = ((history, served), puts.7)
-round_holds disk view v x old first then history sample (Answered a) ready puts turned served told = (
+    → Served v x history (tried_by answer sample) → ((a : Append) → PutTells first then sample a → Told x history sample a) → HasMore v x answer → IsRound disk view v x sample answer
+round_holds disk view v x old first then history sample (Busy word back) ready puts turned served told more = absurd puts
+round_holds disk view v x old first then history sample (NeedsFlush held size limit back) ready puts turned served told more = ((history, served), puts.7, more)
+round_holds disk view v x old first then history sample (Answered a) ready puts turned served told more = (
   (history, served, told a puts.0),
   record { old = old; new = then; turned = turned; does = append_does disk view old first then sample a ready puts.0 puts.1 },
 )
@@ -146,12 +159,22 @@ module _ {D V N : Type 0} (disk : DiskOf D) (view : ViewOf V N) (y u : View) (de
   turned_seat = record { found = refl; terms = took.meets.terms; history = refl; marks = refl; stopped = refl }
 
   -- after a write that made a mark, or none
-  pub tried_on : (first ≡ old) ⊎ HasMarked view old first → HasTried disk view y now_seat sample answer
-  tried_on ready = record {
-    round = round_holds disk view y now_seat old first then old.history sample answer ready puts turned_seat served_now told_now;
+  pub tried_on : (first ≡ old) ⊎ HasMarked view old first → HasMore y now_seat answer → HasTried disk view y now_seat sample answer
+  tried_on ready more = record {
+    round = round_holds disk view y now_seat old first then old.history sample answer ready puts turned_seat served_now told_now more;
     rests = rests_ended y u device old then false word;
     asked = append-nil y.asked;
   }
+
+  -- one made a mark
+  marked_more : HasMarked view old first → length y.kept < length now_seat.kept
+  marked_more marked = omega (
+    arith,
+    ap length took.meets.kept.1,
+    length-append y.kept took.meets.kept.0,
+    ap length (left_now.marks ∙ ap (λ (f : FrontAccount V). f.marks) marked.tells.1),
+    length-append old.marks (marked.mark ∷ []),
+  )
 
   -- and after one that met a fault
   tried_fault : (before after : ℕ) → MeetsFault disk old first before after → HasTried disk view y now_seat sample (Answered (append.DiskFault before after))
@@ -176,7 +199,9 @@ module _ {D V N : Type 0} (disk : DiskOf D) (view : ViewOf V N) (y u : View) (de
 
   pub tried_written : (back : Gated D) (wrote : Written) (result : Flush N) → IsWrittenAs disk y.basis back y.seen y.kept wrote
       → FinishTells view old first wrote result → HasTried disk view y now_seat sample (round_answer (answered wrote) answer)
-  tried_written back (Done mark block) (flush.Done through shown note) by is = tried_on (inr (record { mark = mark; through = through; shown = shown; note = note; tells = is }))
+  tried_written back (Done mark block) (flush.Done through shown note) by is =
+      let marked : HasMarked view old first = record { mark = mark; through = through; shown = shown; note = note; tells = is } in
+      tried_on (inr marked) (has_more y now_seat answer (marked_more marked))
   tried_written back (Done mark block) (flush.DiskFault before after) by is = absurd is
   tried_written back (Done mark block) (flush.Stopped last) by is = absurd is
   tried_written back (DiskFault before after block) (flush.Done through shown note) by is = absurd is
@@ -251,9 +276,9 @@ module _ {D V N : Type 0} (disk : DiskOf D) (view : ViewOf V N) (y : View) (n p 
             ap (λ (x : Here D V). x.1) came_in,
             holds_now y q.0 (settled (answer_in wrote)) both.front then_now.0 took_then false (tried_by answer sample) (slice_index y.basis.owners sample.group)
                 (steps_on both.front first_now.0 then_now.0 (tried_by answer sample) done_first left_then) (adds_try y.basis.owners y.mine sample answer single) owed
-                (makes_full y.basis.terms both.front then_now.0 sample y.seen (answer_in wrote) owed longer_then
+                (makes_full y.due y.basis.terms both.front then_now.0 sample y.seen (answer_in wrote) owed longer_then
                 (subst (λ ms. y.basis.terms.block_limit < history_size y.basis.terms.layouts (drop (durable ms) y.seen) + encoded_size y.basis.terms.layouts sample)
-                (sym (both.took.meets.awaits (ap lends_block both.was)).2) full) size (through_of disk y both.back wrote both.by)),
+                (sym (both.took.meets.awaits (ap lends_block both.was)).2) full.0) size (through_of disk y both.back wrote both.by) full.1),
             ap (λ (v : View). given_device v.device then_now.0.spare) took_then.rest,
           )
 

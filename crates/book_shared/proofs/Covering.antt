@@ -1,5 +1,5 @@
 -- Seats that are joined into one, and the book that is one again.
-use Rattle.std.proofs.Common.{◌≡◌, ℕ, zero, suc, ◌<◌, Bool, false, List, [], ◌∷◌, ◌++◌, length, length-set, get_or-set_other, get_or-set_same, take, sym, ap, ◌∙◌, subst, ⊎_elim, arith, append_assoc, length-append}
+use Rattle.std.proofs.Common.{◌≡◌, ℕ, zero, suc, ◌<◌, Bool, false, List, [], ◌∷◌, ◌++◌, length, length-set, get_or-set_other, get_or-set_same, take, sym, ap, ◌∙◌, subst, inl, inr, ⊎_elim, arith, append_assoc, length-append}
 use Rattle.std.specs.Prelude.{slice_index_or, slice_set}
 use Rattle.std.proofs.lemmas.Bool.{or_left, or_right}
 use Rattle.atomic_table.specs.Seated.{TableId}
@@ -19,9 +19,11 @@ use Rattle.book_shared.specs.Plays.{Slot}
 use Rattle.book_shared.specs.Parts.{joined}
 use Rattle.book_shared.specs.Ends.{Ended}
 use Rattle.book_shared.specs.Place.{Place, own_part, IsSingle}
-use Rattle.book_shared.specs.Seats.{AreOf, HasNumber, Closes}
+use Rattle.book_shared.specs.Seats.{DueBy, AreOf, HasNumber, Closes}
 use Rattle.book_shared.specs.Covers.{Covers, AreCovered}
 use Rattle.book_shared.specs.declared.view.View.{View}
+use Rattle.book_shared.specs.Causes.{IsAmong}
+use Rattle.book_shared.proofs.Anys.{any_parts}
 use Rattle.book_shared.proofs.Causing.{times_of-append}
 use Rattle.book_shared.proofs.Lists.{counts_first, old_later, one_source}
 use Rattle.book_shared.proofs.Ends.{times-append, ends}
@@ -107,6 +109,7 @@ pub record Gathered (table : TableId) (seats left : List Place) (whole : View) :
   pub parts : seats ≡ left ++ behind
   pub covered : AreCovered whole behind
   pub asked : (n : ℕ) → asks n whole ≡ total (λ (seat : Place). asks n seat.know) behind
+  pub due : (sample : Sample) → IsAmong whole.due sample → DueBy behind sample
 
 pub gathered_first : (table : TableId) (seats left : List Place) (seat : Place) → AreOf table seats → seats ≡ left ++ seat ∷ [] → seat.know.turn ≡ idle → seat.know.device ≡ free
     → IsSingle seat.know seat.number → Gathered table seats left seat.know
@@ -119,6 +122,7 @@ gathered_first table seats left seat of_table parts calm off single = record {
   parts = parts;
   covered = (covers_self seat single, tt);
   asked = λ n. omega arith;
+  due = λ sample is. inl is;
 }
 
 pub gathered_on : (table : TableId) (seats left left' : List Place) (whole : View) (seat : Place) → Gathered table seats left whole → left ≡ left' ++ seat ∷ [] → IsSingle seat.know seat.number
@@ -132,6 +136,7 @@ gathered_on table seats left left' whole seat gathered parts single = record {
   parts = gathered.parts ∙ ap (λ ls. ls ++ gathered.behind) parts ∙ append_assoc left' (seat ∷ []) gathered.behind;
   covered = (covers_new whole seat single, all_covered whole seat.know gathered.behind gathered.covered);
   asked = λ n. omega (arith, times_of-append n whole.asked seat.know.asked, gathered.asked n);
+  due = λ sample is. ⊎_elim (λ before. inr (gathered.due sample before)) (λ here. inl here) (any_parts (λ x. x ≡ sample) whole.due seat.know.due is);
 }
 
 -- two places that were taken are not filled

@@ -1,6 +1,6 @@
 -- The steps on the device's word keep the rule.
-use Rattle.std.proofs.Common.{◌≡◌, ℕ, ◌+◌, ◌<◌, ◌≤◌, ◌≢◌, List, [], ◌∷◌, length, take, set, length-set, refl, sym, ap, ◌∙◌, subst, arith}
-use Rattle.std.specs.Prelude.{◌==◌, slice_index, slice_set, nat_lt, MatchBool}
+use Rattle.std.proofs.Common.{◌≡◌, ℕ, ◌+◌, ◌<◌, ◌≤◌, ◌≢◌, true, List, [], ◌∷◌, length, take, set, length-set, set-set, refl, sym, ap, ◌∙◌, subst, arith}
+use Rattle.std.specs.Prelude.{Option as Opt, Some, None, ◌==◌, slice_index, slice_set, nat_lt, MatchBool}
 use mathlib.Core.Option.{Option as Home, some, none}
 use lib.ListN.{get_elem?}
 use prog.Atomic.{either}
@@ -17,15 +17,17 @@ use Rattle.book_owned.specs.FrontHalf.{FrontAccount}
 use Rattle.book_owned.specs.Split.{back_part}
 use Rattle.book_owned.specs.declared.mark.Mark.{Mark}
 use Rattle.book_shared.specs.Basis.{Basis, Turn, idle, holding, Device, free, resting, handed, writing, written, settled}
-use Rattle.book_shared.specs.Rule.{World, asks, AskedOf, holds_device, lends_block, has_back, has_answer, backs_out, Names, Answers, KnowsDevice, Knows, KeepsAll, HoldsAll, IsWrittenBy, Stands, BackHome, Runs}
-use Rattle.book_shared.specs.Plays.{Slot, Here, at_device, settled_by, TakesDevice, BringsOut, BringsIn, GivesDevice}
+use Rattle.book_shared.specs.Rule.{World, asks, AskedOf, DueOf, holds_device, lends_block, has_back, has_answer, backs_out, Names, Answers, KnowsDevice, Knows, KeepsAll, HoldsAll, IsWrittenBy, Stands, BackHome, Runs}
+use Rattle.book_shared.specs.Plays.{wanting, Slot, Here, at_device, settled_by, TakesDevice, BringsOut, BringsIn, GivesDevice}
 use Rattle.book_shared.specs.declared.half.Answer.{Answer}
 use Rattle.book_shared.specs.declared.half.Half.TheVariants.{TheFront, TheBack}
 use Rattle.book_shared.specs.declared.view.View.{View}
 use Rattle.book_shared.proofs.Sums.{total-set, term_le, total_less, total_less_at}
-use Rattle.book_shared.proofs.Causing.{asked_on, caused_later}
+use Rattle.book_shared.specs.Rounds.{wanted, TakesFor}
+use Rattle.book_shared.proofs.Anys.{any_first, at_here}
+use Rattle.book_shared.proofs.Causing.{asked_on, caused_later, due_on}
 use Rattle.book_shared.proofs.Lists.{back_held}
-use Rattle.book_shared.proofs.Keeps.{turns_moved, seats_moved, awaits_on, device_calm, least, same_total, alone_stands, stand_on, back_on, seat_of, slot_front, slot_back}
+use Rattle.book_shared.proofs.Keeps.{turns_moved, seats_moved, slots_on, awaits_on, device_calm, least, same_total, alone_stands, stand_on, back_on, seat_of, slot_front, slot_back}
 
 names_at : (w : World) (v : View) (d : Device) (t : Turn) → Names w v t → Names w (at_device v d) t
 names_at w v d idle names = tt
@@ -45,6 +47,7 @@ knows_at basis w v d know device = record {
   device = device;
   basis_is = know.basis_is;
   asked = know.asked;
+  due = know.due;
 }
 
 -- and still has its block out
@@ -82,8 +85,8 @@ module _ {D V : Type 0} (disk : DiskOf D) (basis : Basis) (s : State (Slot D V) 
           back_here = back_here;
           back_away = back_away;
         };
-        marks = caused_later (AskedOf s.views) (AskedOf (set s.views id u)) basis.terms.layouts basis.terms.block_limit w.history w.history
-            (asked_on s.views id v u at (λ k. least (asks k v))) (prefix_self w.history) basis.begun w.marks run.marks;
+        marks = caused_later (AskedOf s.views) (AskedOf (set s.views id u)) (DueOf s.views) (DueOf (set s.views id u)) basis.terms.layouts basis.terms.block_limit w.history w.history
+            (asked_on s.views id v u at (λ k. least (asks k v))) (due_on s.views id v u at (λ sample is. is)) (prefix_self w.history) basis.begun w.marks run.marks;
       }
 
   -- after one that leaves the slots too, and no back out
@@ -128,31 +131,103 @@ module _ {D V : Type 0} (disk : DiskOf D) (basis : Basis) (s : State (Slot D V) 
     inside,
   )
 
-module _ {D V : Type 0} (disk : DiskOf D) (basis : Basis) (slots id : ℕ) (me : Here D V) where
+-- what a seat knows that has one sample more to append
+names_due : (w : World) (v : View) (sample : Sample) (t : Turn) → Names w v t → Names w (wanted v (Some sample)) t
+names_due w v sample idle names = tt
+names_due w v sample (holding held) names = (names.0, names.1, names.2, names.3, names.4, names.5, names.6)
+
+knows_due : (basis : Basis) (w : World) (v : View) (sample : Sample) → 0 < length v.mine → Knows basis w v → Knows basis w (wanted v (Some sample))
+knows_due basis w v sample some_mine know = record {
+  met = know.met;
+  seen = know.seen;
+  kept = know.kept;
+  from = know.from;
+  knows = know.knows;
+  mine = know.mine;
+  olds = know.olds;
+  turn = names_due w v sample v.turn know.turn;
+  device = record {
+    some_source = know.device.some_source;
+    awaits = λ out. awaits_on w w v (wanted v (Some sample)) refl refl refl refl refl (know.device.awaits out);
+    turn = know.device.turn;
+    answers = know.device.answers;
+  };
+  basis_is = know.basis_is;
+  asked = know.asked;
+  due = λ _. some_mine;
+}
+
+-- the table when a seat has one sample more to append
+due_runs : {D V : Type 0} (disk : DiskOf D) (basis : Basis) (s : State (Slot D V) View) (run : Runs disk basis s) (id : ℕ) (v : View) (due : Opt Sample) → get_elem? s.views id ≡ some v → 0 < length v.mine
+    → Runs disk basis record { words = s.words; homes = s.homes; views = set s.views id (wanted v due) }
+due_runs disk basis s run id v None at some_mine = subst (λ vs. Runs disk basis record { words = s.words; homes = s.homes; views = vs }) (sym (set_again s.views id v at)) run
+due_runs disk basis s run id v (Some sample) at some_mine =
+    let w = run.shared in
+    let u = wanted v (Some sample) in
+    record {
+      shared = w;
+      device = run.device;
+      words = run.words;
+      turns = turns_moved w.word w.word run.device run.device s.views id v u run.turns at run.turns.few refl refl refl run.turns.one_device;
+      seats = seats_moved basis w w s.views id v u run.seats at (λ k. refl) (knows_due basis w v sample some_mine (run.seats.each id v at))
+          (λ k x apart there. run.seats.each k x there) run.seats.only run.seats.low run.seats.within;
+      slots = slots_on disk basis w s.views (set s.views id u) s.homes
+          (same_total (λ (y : View). lends_block y.device) s.views id v u at refl) (same_total (λ (y : View). has_back y.device) s.views id v u at refl)
+          (stand_on disk basis s.views id v u at (λ samples marks back stands. stands)) run.slots;
+      marks = caused_later (AskedOf s.views) (AskedOf (set s.views id u)) (DueOf s.views) (DueOf (set s.views id u)) basis.terms.layouts basis.terms.block_limit w.history w.history
+          (asked_on s.views id v u at (λ k. least (asks k v))) (due_on s.views id v u at (λ other is. any_first (λ y. y ≡ other) v.due (sample ∷ []) is)) (prefix_self w.history)
+          basis.begun w.marks run.marks;
+    }
+
+wanted_device : (v : View) (due : Opt Sample) → (wanted v due).device ≡ v.device
+wanted_device v None = refl
+wanted_device v (Some sample) = refl
+
+pub wanted_mine : (v : View) (due : Opt Sample) → (wanted v due).mine ≡ v.mine
+wanted_mine v None = refl
+wanted_mine v (Some sample) = refl
+
+-- an exchange of the device's word that announced this
+pub takes_as : {D V : Type 0} (slots : ℕ) (m n : Here D V) (found : ℕ) (said : Home (Slot D V)) (due : Opt Sample) → wanting m.0 said ≡ wanted m.0 due
+    → TakesDevice (step slots 1 0 1 said) m found n → TakesFor due m found n
+takes_as slots m n found said due same told = subst (λ v. MatchBool (found == 0) (n ≡ seat_of (at_device v resting) m.1) (n ≡ m)) same told
+
+-- won where it met 0
+pub device_taken : {D V : Type 0} (due : Opt Sample) (m n : Here D V) (found : ℕ) → TakesFor due m found n → (found == 0) ≡ true → n ≡ seat_of (at_device (wanted m.0 due) resting) m.1
+device_taken due m n found told won = subst (λ b. MatchBool b (n ≡ seat_of (at_device (wanted m.0 due) resting) m.1) (n ≡ m)) won told
+
+-- where a seat announces a sample, or none
+module _ {D V : Type 0} (disk : DiskOf D) (basis : Basis) (slots id : ℕ) (me : Here D V) (said : Home (Slot D V)) (due : Opt Sample) (same : wanting me.0 said ≡ wanted me.0 due) where
   -- what an exchange of the device's word owes, by the word that it finds
   abbrev Goes : State (Slot D V) View → ℕ → Type 0
   Goes s k = (u : View) × (a : Act (Slot D V)) × Valid s.homes me.1 a × Runs disk basis (stepped s 1 k id me.1 u a)
-      × TakesDevice (step slots 1 0 1 none) me (slice_index s.words 1) (seat_of u (carried_after me.1 a))
+      × TakesDevice (step slots 1 0 1 said) me (slice_index s.words 1) (seat_of u (carried_after me.1 a))
 
   device_won : (s : State (Slot D V) View) (run : Runs disk basis s) → get_elem? s.views id ≡ some me.0 → me.0.device ≡ free → 0 < length me.0.mine
       → slice_index s.words 1 ≡ 0 → Goes s 1
   device_won s run at is some_mine found =
       let n = slice_index s.words 1 in
-      let none_there : run.device ≡ 0 = sym (ap (λ ws. slice_index ws 1) run.words) ∙ found in
-      let u = at_device me.0 resting in
-      let met : MatchBool (n == 0) (seat_of u me.1 ≡ (u, me.1)) (seat_of u me.1 ≡ me) =
-      subst (λ b. MatchBool b (seat_of u me.1 ≡ (u, me.1)) (seat_of u me.1 ≡ me)) (sym (eq-eqb n 0 found)) refl in (
+      let v = wanted me.0 due in
+      let u = at_device v resting in
+      let now : State (Slot D V) View = record { words = s.words; homes = s.homes; views = set s.views id v } in
+      let run' = due_runs disk basis s run id me.0 due at some_mine in
+      let none_there : run'.device ≡ 0 = sym (ap (λ ws. slice_index ws 1) run'.words) ∙ found in
+      let calm = wanted_device me.0 due ∙ is in
+      let kept = device_kept disk basis now run' id v (at_here s.views id me.0 v at) resting 1 (omega (arith, ap holds_device calm, none_there)) (omega arith) refl (ap lends_block calm)
+      (sym (ap has_back calm)) (λ _. subst (λ parts. 0 < length parts) (sym (wanted_mine me.0 due)) some_mine) (λ samples marks back. tt) in
+      let met : MatchBool (n == 0) (seat_of u me.1 ≡ seat_of u me.1) (seat_of u me.1 ≡ me) =
+      subst (λ b. MatchBool b (seat_of u me.1 ≡ seat_of u me.1) (seat_of u me.1 ≡ me)) (sym (eq-eqb n 0 found)) refl in (
         u,
         keeps,
         tt,
-        device_kept disk basis s run id me.0 at resting 1 (omega (arith, ap holds_device is, none_there)) (omega arith) refl (ap lends_block is) (sym (ap has_back is)) (λ _. some_mine) (λ samples marks back. tt),
-        met,
+        subst (λ vs. Runs disk basis record { words = slice_set s.words 1 1; homes = s.homes; views = vs }) (set-set s.views id v u) kept,
+        subst (λ y. MatchBool (n == 0) (seat_of u me.1 ≡ seat_of (at_device y resting) me.1) (seat_of u me.1 ≡ me)) (sym same) met,
       )
 
   device_lost : (s : State (Slot D V) View) (run : Runs disk basis s) → get_elem? s.views id ≡ some me.0 → slice_index s.words 1 ≢ 0 → Goes s (slice_index s.words 1)
   device_lost s run at differs =
       let n = slice_index s.words 1 in
-      let u = at_device me.0 resting in
+      let u = at_device (wanting me.0 said) resting in
       let met : MatchBool (n == 0) (seat_of me.0 me.1 ≡ seat_of u me.1) (seat_of me.0 me.1 ≡ me) =
       subst (λ b. MatchBool b (seat_of me.0 me.1 ≡ seat_of u me.1) (seat_of me.0 me.1 ≡ me)) (sym (ne_eqb n 0 differs)) refl in (
         me.0,
@@ -162,10 +237,11 @@ module _ {D V : Type 0} (disk : DiskOf D) (basis : Basis) (slots id : ℕ) (me :
         met,
       )
 
-  pub device_exchanges : me.0.device ≡ free → 0 < length me.0.mine → Allows (Runs disk basis) slots id me 1 (λ n. either (n == 0) 1 n) (TakesDevice (step slots 1 0 1 none) me)
+  pub device_exchanges : me.0.device ≡ free → 0 < length me.0.mine → Allows (Runs disk basis) slots id me 1 (λ n. either (n == 0) 1 n) (TakesDevice (step slots 1 0 1 said) me)
   device_exchanges is some_mine s run wide at few =
       exchanged (slice_index s.words 1) 0 1 (Goes s) (λ found. device_won s run at is some_mine found) (λ differs. device_lost s run at differs)
 
+module _ {D V : Type 0} (disk : DiskOf D) (basis : Basis) (slots id : ℕ) (me : Here D V) where
   pub device_gives : me.0.device ≡ resting → Allows (Runs disk basis) slots id me 1 (λ _. 0) (λ _. GivesDevice (step slots 1 0 0 none) me 0)
   device_gives is s run wide at few = (
     at_device me.0 free,

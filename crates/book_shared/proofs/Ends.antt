@@ -18,15 +18,16 @@ use Rattle.book_owned.specs.FrontHalf.{FrontAccount}
 use Rattle.book_owned.specs.Split.{front_part, back_part}
 use Rattle.book_owned.specs.declared.mark.Mark.{Mark}
 use Rattle.book_shared.specs.Basis.{Basis, Turn, idle, holding, Device, free, resting, handed, writing, written, settled}
-use Rattle.book_shared.specs.Rule.{World, total, times_in, asks, has, AskedOf, holds_turn, holds_device, lends_block, has_back, blocks_out, AreOwn, AreOld, AreOfSources, Names, Knows, SeatsKnow, KeepsAll, HoldsAll, IsResting, Stands, Runs}
+use Rattle.book_shared.specs.Rule.{World, total, times_in, asks, has, AskedOf, DueOf, holds_turn, holds_device, lends_block, has_back, blocks_out, AreOwn, AreOld, AreOfSources, Names, Knows, SeatsKnow, KeepsAll, HoldsAll, IsResting, Stands, Runs}
 use Rattle.book_shared.specs.Plays.{Slot}
-use Rattle.book_shared.specs.Causes.{MarksCaused}
+use Rattle.book_shared.specs.Causes.{IsAmong, MarksCaused}
 use Rattle.book_shared.specs.Parts.{first_part, other_parts, kept_part, split_part, longer, joined, spent}
 use Rattle.book_shared.specs.Fixed.{sources_from, first_view}
 use Rattle.book_shared.specs.Ends.{Ended}
 use Rattle.book_shared.specs.declared.half.Half.TheVariants.{TheFront, TheBack}
 use Rattle.book_shared.specs.declared.view.View.{View}
 use Rattle.book_shared.proofs.Sums.{total-append, total-set, total_less, terms_le}
+use Rattle.book_shared.proofs.Anys.{any_first, any_last, any_set, any_joined, any_only, some_among}
 use Rattle.book_shared.proofs.Causing.{caused_later, none_asked, times_of-append}
 use Rattle.book_shared.proofs.Lists.{counts_first, old_later, names_none, one_if, lends_less, back_held}
 use Rattle.book_shared.proofs.Lasting.{keeps_on}
@@ -71,6 +72,7 @@ kept_knows basis w v none_held off know = record {
   device = device_off w (kept_part v) (ap holds_device off);
   basis_is = λ some_part. know.basis_is (some_first v.mine some_part);
   asked = λ some_mark. first_some v.mine (know.asked some_mark);
+  due = λ some_due. first_some v.mine (know.due some_due);
 }
 
 split_knows : (basis : Basis) (w : World) (v : View) → v.turn ≡ idle → v.device ≡ free → Knows basis w v → Knows basis w (split_part v)
@@ -86,6 +88,7 @@ split_knows basis w v none_held off know = record {
   device = device_off w (split_part v) (ap holds_device off);
   basis_is = λ some_part. know.basis_is (some_others v.mine some_part);
   asked = λ some_mark. absurd (omega (arith, some_mark));
+  due = λ some_due. absurd (omega (arith, some_due));
 }
 
 -- the sum over the seats after a cut
@@ -149,8 +152,9 @@ module _ {D V : Type 0} where
           within = run.seats.within;
         };
         slots = slots_on disk basis w s.views (set s.views id a ++ b ∷ []) s.homes (same lends_block refl) (same has_back refl) (split_stand disk basis s.views id v off) run.slots;
-        marks = caused_later (AskedOf s.views) (AskedOf (set s.views id a ++ b ∷ [])) basis.terms.layouts basis.terms.block_limit w.history w.history
-            (λ n is. omega (arith, split_total (asks n) s.views id v a b at (omega arith), is)) (prefix_self w.history) basis.begun w.marks run.marks;
+        marks = caused_later (AskedOf s.views) (AskedOf (set s.views id a ++ b ∷ [])) (DueOf s.views) (DueOf (set s.views id a ++ b ∷ [])) basis.terms.layouts basis.terms.block_limit w.history w.history
+            (λ n is. omega (arith, split_total (asks n) s.views id v a b at (omega arith), is))
+            (λ sample is. any_first (λ (x : View). IsAmong x.due sample) (set s.views id a) (b ∷ []) (any_set (λ (x : View). IsAmong x.due sample) s.views id v a at (λ it. it) is)) (prefix_self w.history) basis.begun w.marks run.marks;
       }
 
 -- of two beginnings of one list the shorter begins the longer
@@ -212,6 +216,7 @@ joined_knows basis w v x none_held off some_mine know other = record {
   device = device_off w (joined v x) (ap holds_device off);
   basis_is = λ _. know.basis_is some_mine;
   asked = λ _. omega (arith, length-append v.mine x.mine, some_mine);
+  due = λ _. omega (arith, length-append v.mine x.mine, some_mine);
 }
 
 -- what is left knows nothing
@@ -228,6 +233,7 @@ spent_knows basis w = record {
   device = device_off w spent refl;
   basis_is = λ some_part. absurd (omega (arith, some_part));
   asked = λ some_mark. absurd (omega (arith, some_mark));
+  due = λ some_due. absurd (omega (arith, some_due));
 }
 
 module _ {D V : Type 0} where
@@ -262,8 +268,10 @@ module _ {D V : Type 0} where
           within = run.seats.within;
         };
         slots = slots_on disk basis w s.views (set (set s.views id u) other spent) s.homes (same lends_block refl) (same has_back refl) (joined_stand disk basis s.views id other v x off) run.slots;
-        marks = caused_later (AskedOf s.views) (AskedOf (set (set s.views id u) other spent)) basis.terms.layouts basis.terms.block_limit w.history w.history
+        marks = caused_later (AskedOf s.views) (AskedOf (set (set s.views id u) other spent)) (DueOf s.views) (DueOf (set (set s.views id u) other spent)) basis.terms.layouts basis.terms.block_limit w.history w.history
             (λ n is. omega (arith, joined_total (asks n) s.views id other v x u spent at there (omega (arith, times_of-append n v.asked x.asked)), is))
+            (λ sample is. any_joined (λ (y : View). IsAmong y.due sample) s.views id other v x u spent apart at x_at
+            (any_first (λ y. y ≡ sample) v.due x.due) (any_last (λ y. y ≡ sample) v.due x.due) is)
             (prefix_self w.history) basis.begun w.marks run.marks;
       }
 
@@ -307,6 +315,7 @@ first_knows basis w none_yet = record {
   device = device_off w (first_view basis) refl;
   basis_is = λ _. refl;
   asked = λ some_mark. absurd (omega (arith, some_mark));
+  due = λ some_due. absurd (omega (arith, some_due));
 }
 
 only_one : (P : View → Type 0) (v : View) → P v → (k : ℕ) (x : View) → get_elem? (v ∷ []) k ≡ some x → P x
@@ -464,14 +473,16 @@ module _ {D V : Type 0} where
         mine = subst (λ h. AreOwn basis.owners h v.mine) (sym has_it.history) know.mine;
         olds = know.olds;
         only = subst (AreOfSources basis) (sym has_it.history) run.seats.only;
-        marks = subst (λ h. MarksCaused (λ n. 0 < asks n v) basis.terms.layouts basis.terms.block_limit h basis.begun front.marks) (sym has_it.history)
-            (subst (λ m. MarksCaused (λ n. 0 < asks n v) basis.terms.layouts basis.terms.block_limit w.history basis.begun m) (sym has_it.marks)
-            (caused_later (AskedOf s.views) (λ n. 0 < asks n v) basis.terms.layouts basis.terms.block_limit w.history w.history
+        marks = subst (λ h. MarksCaused (λ n. 0 < asks n v) (IsAmong v.due) basis.terms.layouts basis.terms.block_limit h basis.begun front.marks) (sym has_it.history)
+            (subst (λ m. MarksCaused (λ n. 0 < asks n v) (IsAmong v.due) basis.terms.layouts basis.terms.block_limit w.history basis.begun m) (sym has_it.marks)
+            (caused_later (AskedOf s.views) (λ n. 0 < asks n v) (DueOf s.views) (IsAmong v.due) basis.terms.layouts basis.terms.block_limit w.history w.history
             (λ n is. omega (
               arith,
               is,
               total_one (asks n) s.views id v at (λ k x apart there. none_asked n x.asked
                   (λ some_mark. others_none basis w s.views run.seats id k v x apart at there all ((run.seats.each k x there).asked some_mark))),
             ))
+            (λ sample is. any_only (λ (x : View). IsAmong x.due sample) s.views id v at (λ k x apart there due.
+            others_none basis w s.views run.seats id k v x apart at there all ((run.seats.each k x there).due (some_among x.due sample due))) is)
             (prefix_self w.history) basis.begun w.marks run.marks));
       }

@@ -168,16 +168,16 @@ module _ {V N : Type 0} (view : ViewOf V N) (old new : FrontAccount V) where
   finishes disk basis back samples marks Nothing result by is = absurd by
 
   -- the mark was asked for, where there is one
-  pub makes_asked : (terms : Terms) (answer : Written) (result : Flush N) → FinishTells view old new answer result → MakesMark true terms (held_of old) new
-  makes_asked terms (Done mark block) (flush.Done through shown note) is = inr (mark, ap (λ (f : FrontAccount V). f.marks) is.1, inl refl)
-  makes_asked terms (Done mark block) (flush.DiskFault before after) is = absurd is
-  makes_asked terms (Done mark block) (flush.Stopped last) is = absurd is
-  makes_asked terms (DiskFault before after block) (flush.Done through shown note) is = absurd is
-  makes_asked terms (DiskFault before after block) (flush.DiskFault before' after') is = inl (ap (λ (f : FrontAccount V). f.marks) is.1)
-  makes_asked terms (DiskFault before after block) (flush.Stopped last) is = absurd is
-  makes_asked terms Nothing (flush.Done through shown note) is = inl (ap (λ (f : FrontAccount V). f.marks) is.1)
-  makes_asked terms Nothing (flush.DiskFault before after) is = absurd is
-  makes_asked terms Nothing (flush.Stopped last) is = absurd is
+  pub makes_asked : (due : List Sample) (terms : Terms) (answer : Written) (result : Flush N) → FinishTells view old new answer result → MakesMark true due terms (held_of old) new
+  makes_asked due terms (Done mark block) (flush.Done through shown note) is = inr (mark, ap (λ (f : FrontAccount V). f.marks) is.1, inl refl)
+  makes_asked due terms (Done mark block) (flush.DiskFault before after) is = absurd is
+  makes_asked due terms (Done mark block) (flush.Stopped last) is = absurd is
+  makes_asked due terms (DiskFault before after block) (flush.Done through shown note) is = absurd is
+  makes_asked due terms (DiskFault before after block) (flush.DiskFault before' after') is = inl (ap (λ (f : FrontAccount V). f.marks) is.1)
+  makes_asked due terms (DiskFault before after block) (flush.Stopped last) is = absurd is
+  makes_asked due terms Nothing (flush.Done through shown note) is = inl (ap (λ (f : FrontAccount V). f.marks) is.1)
+  makes_asked due terms Nothing (flush.DiskFault before after) is = absurd is
+  makes_asked due terms Nothing (flush.Stopped last) is = absurd is
 
 -- a seat that gives the device back too knows no less
 pub served_at : (v x : View) (d : Device) (history added : List Sample) → Served v x history added → Served v (at_device x d) history added

@@ -1,16 +1,17 @@
 -- What a seat knows after a flush.
-use Rattle.std.proofs.Common.{◌≡◌, ℕ, ◌+◌, ◌<◌, ◌≤◌, Bool, true, false, List, [], ◌∷◌, ◌++◌, length, length-append, take, slice_get, refl, sym, ap, ◌∙◌, subst, inl, inr, arith, append-nil}
-use Rattle.std.specs.Prelude.{IsSomeAnd}
+use Rattle.std.proofs.Common.{◌≡◌, ℕ, ◌+◌, ◌<◌, ◌≤◌, Bool, true, false, List, [], ◌∷◌, ◌++◌, length, length-append, take, slice_get, refl, sym, ap, ◌∙◌, subst, inl, inr, ⊎_elim, arith, append-nil}
+use Rattle.std.specs.Prelude.{IsSomeAnd, Result, Ok, Err, IfOk, IfErr}
 use mathlib.Core.List.{IsPrefix}
-use Rattle.std.proofs.Math.Seq.{take-length}
 use Rattle.std.proofs.lemmas.List.{take_at}
 use Rattle.atomic_table.specs.Table.{rest}
 use Rattle.mdf_disk.specs.declared.disk.Disk.{Ghosts as DiskOf}
+use Rattle.mdf_gate.proofs.Carrying.{prefix_self, prefix_take}
 use Rattle.mdf_gate.specs.Gated.{Gated, Buffered}
+use Rattle.mdf_layout.specs.declared.sample.Sample.{Sample}
 use Rattle.book_owned.specs.Marks.{last_mark, durable}
 use Rattle.book_owned.specs.BackHalf.{back_terms}
 use Rattle.book_owned.specs.Split.{front_part, back_part}
-use Rattle.book_owned.specs.FrontHalf.{FrontTerms, FrontAccount, AreThroughs, IsAwaited, DoneTells, FinishTells}
+use Rattle.book_owned.specs.FrontHalf.{FrontTerms, FrontAccount, AreThroughs, DoneTells, FinishTells}
 use Rattle.book_owned.specs.declared.mark.Mark.{Mark}
 use Rattle.book_owned.specs.declared.view.Shown.{Ghosts as ViewOf}
 use Rattle.book_owned.specs.declared.handed.Handed.{Handed}
@@ -24,16 +25,16 @@ use Rattle.book_shared.specs.Rule.{AreOwn, KeepsAll, IsWrittenBy}
 use Rattle.book_shared.specs.Plays.{Here, recount, at_device, held_of, settled_by, given, given_device, Stays, Does, Holds}
 use Rattle.book_shared.specs.Place.{IsSingle}
 use Rattle.book_shared.specs.Turns.{Took, Served, Rests, Works}
-use Rattle.book_shared.specs.Told.{HasMark, FlushDoes, FlushesFront, Asks, AreCounts, MeetsFault}
-use Rattle.book_shared.specs.Rounds.{HasTurned, HasHanded, HasWritten, HasBoth, HasFlushed, IsWrittenAs}
+use Rattle.book_shared.specs.Told.{HasMark, FlushesNow, FlushDoes, FlushesFront, Asks, AreCounts, MeetsFault}
+use Rattle.book_shared.specs.Rounds.{HasTaken, HasSeized, HasPending, HasTurned, HasHanded, HasWritten, HasBoth, HasSeen, HasFlushed, IsWrittenAs}
 use Rattle.book_shared.specs.declared.half.Half.TheVariants.{TheFront, TheBack}
 use Rattle.book_shared.specs.declared.half.Answer.{Answer}
 use Rattle.book_shared.specs.declared.view.View.{View}
 use Rattle.book_shared.proofs.Causing.{marked_once, marked_none, durable_last_of}
-use Rattle.book_shared.proofs.Lists.{own_recount}
+use Rattle.book_shared.proofs.Lists.{own_recount, own_between, prefix_within}
 use Rattle.book_shared.proofs.Keeps.{seat_of, slot_front, slot_back}
 use Rattle.book_shared.proofs.Takings.{carries}
-use Rattle.book_shared.proofs.Given.{FrontSteps, LeavesAll, leaves_same, left_steps, left_stays, adds_none, turning, holds_now, served_given, single_again}
+use Rattle.book_shared.proofs.Given.{FrontSteps, leaves_same, left_steps, left_stays, worked, gave_now, adds_none, turning, holds_now, served_given, single_again}
 use Rattle.book_shared.proofs.Finishing.{bring_ready, settled_took, answer_in, HasFinished, finished_so, finishes, makes_asked, served_at, recount_same}
 use Rattle.book_shared.proofs.Following.{Follows, follows_device, follows_handed, flushed_later}
 
@@ -82,16 +83,16 @@ module _ {D V N : Type 0} (disk : DiskOf D) (view : ViewOf V N) (v u : View) (de
   }
 
   -- a flush that was done
-  flushed_done : (done : HasFinished old new) (number : ℕ) → IsSingle v number → (through shown : ℕ) (note : N) → through ≤ length new.history → HasMark new.marks through
+  flushed_done : (asks : Bool) (done : HasFinished old new) (number : ℕ) → IsSingle v number → (through shown : ℕ) (note : N) → through ≤ length new.history → HasMark new.marks through
       → AreOwn v.basis.owners (take through new.history) (recount v.basis.owners new.history v.mine) → FlushDoes disk view old new (flush.Done through shown note)
-      → length v.seen ≤ through → Asks {N = N} v (then_seat true) (flush.Done through shown note) → HasFlushed disk view v (then_seat true) (flush.Done through shown note)
-  flushed_done done number single through shown note less mark own does seen asked = record {
-    flushes = (old.history, served_then true number done.steps single, (less, mark, own, does.1.4, ap (λ (f : FrontAccount V). f.stopped) does.1.1 ∙ does.1.0));
+      → length v.seen ≤ through → Asks {N = N} v (then_seat asks) (flush.Done through shown note) → HasFlushed disk view v (then_seat asks) (flush.Done through shown note)
+  flushed_done asks done number single through shown note less mark own does seen asked = record {
+    flushes = (old.history, served_then asks number done.steps single, (less, mark, own, does.1.4, ap (λ (f : FrontAccount V). f.stopped) does.1.1 ∙ does.1.0));
     noted = subst (λ h. view.tells note v.basis.terms.which (take shown h)) (sym done.history) (subst (λ (t : FrontTerms). view.tells note t.which (take shown old.history)) took.meets.terms does.1.6);
     seen = seen;
     asked = asked;
-    rests = rests_ended v u device old new true word;
-    front = front_then true (flush.Done through shown note) does;
+    rests = rests_ended v u device old new asks word;
+    front = front_then asks (flush.Done through shown note) does;
   }
 
   -- one that met a fault, or a stopped front
@@ -132,7 +133,7 @@ module _ {D V N : Type 0} (disk : DiskOf D) (view : ViewOf V N) (v u : View) (de
       let longer : IsPrefix v.seen new.history = subst (λ h. IsPrefix v.seen h) (sym done.history) took.meets.seen in
       let taken : take through new.history ≡ v.seen = ap (take through) (sym longer.1) ∙ take_at v.seen longer.0 through (sym goes) in
       let counted : recount v.basis.owners new.history v.mine ≡ v.mine = ap (λ h. recount v.basis.owners h v.mine) done.history ∙ recount_same v.basis.owners old.history v.mine took.meets.mine in
-      flushed_done done number single through shown note (omega (arith, goes, ap length longer.1, length-append v.seen longer.0))
+      flushed_done true done number single through shown note (omega (arith, goes, ap length longer.1, length-append v.seen longer.0))
       record { before = old.marks; mark = mark; after = []; marks_are = made; through_is = by.2 ∙ sym goes }
       (subst (λ h. AreOwn v.basis.owners h (recount v.basis.owners new.history v.mine)) (sym taken) (subst (λ ps. AreOwn v.basis.owners v.seen ps) (sym counted) own))
       (inr (mark, made), subst (λ ms. DoneTells view old new ms through shown note) (sym made) is) (omega (arith, goes))
@@ -146,20 +147,47 @@ module _ {D V N : Type 0} (disk : DiskOf D) (view : ViewOf V N) (v u : View) (de
   flushed_written back (DiskFault before after block) (flush.Stopped last) number single by own is = absurd is
   flushed_written back Nothing result number single by own is = absurd by
 
-  -- and where nothing was handed out
-  pub flushed_nothing : (result : Flush N) (number : ℕ) → IsSingle v number → old.from ≡ length old.history → old.from ≡ durable old.marks → AreThroughs new.marks
-      → FinishTells view old new Nothing result → HasFlushed disk view v (then_seat true) result
-  flushed_nothing (flush.Done through shown note) number single all from rising is =
-      let done = finished_so view old new Nothing (flush.Done through shown note) is in
-      let same : new.marks ≡ old.marks = ap (λ (f : FrontAccount V). f.marks) is.1 in
-      let goes : through ≡ length new.history = is.2 ∙ sym from ∙ all ∙ sym (ap length done.history) in
-      let longer : IsPrefix v.seen new.history = subst (λ h. IsPrefix v.seen h) (sym done.history) took.meets.seen in
-      flushed_done done number single through shown note (omega (arith, goes)) (subst (HasMark new.marks) (ap durable same ∙ sym is.2) (has_last new.marks rising))
-      (subst (λ h. AreOwn v.basis.owners h (recount v.basis.owners new.history v.mine)) (sym (ap (λ k. take k new.history) goes ∙ take-length new.history)) (own_recount v.basis.owners new.history v.mine))
-      (inl same, subst (λ ms. DoneTells view old new ms through shown note) (sym same) is) (omega (arith, goes, ap length longer.1, length-append v.seen longer.0))
-      (inl (ap (λ ms. v.asked ++ ms) (marked_none (held_of old) new same) ∙ append-nil v.asked))
-  flushed_nothing (flush.DiskFault before after) number single all from rising is = absurd is
-  flushed_nothing (flush.Stopped last) number single all from rising is = absurd is
+  -- and in a turn that needed no write, where all of the seat's source stand in what was seen, of which so many or more samples were asked for
+  module _ (number : ℕ) (single : IsSingle v number) (wanted : ℕ) (seen : List Sample) (later : IsPrefix v.seen seen) (begins : IsPrefix seen old.history) (all : length seen ≤ wanted)
+      (own : AreOwn v.basis.owners seen v.mine) where
+    flushed_shown : (result : Flush N) → wanted ≤ durable old.marks → FinishTells view old new Nothing result → AreThroughs new.marks → HasFlushed disk view v (then_seat false) result
+    flushed_shown (flush.Done through shown note) reached is rising =
+        let done = finished_so view old new Nothing (flush.Done through shown note) is in
+        let same : new.marks ≡ old.marks = ap (λ (f : FrontAccount V). f.marks) is.1 in
+        let counted : recount v.basis.owners new.history v.mine ≡ v.mine = ap (λ h. recount v.basis.owners h v.mine) done.history ∙ recount_same v.basis.owners old.history v.mine took.meets.mine in
+        let enough : length seen ≤ through = omega (arith, all, reached, is.2) in
+        flushed_done false done number single through shown note (omega (arith, is.2, took.meets.within, ap length done.history))
+        (subst (HasMark new.marks) (ap durable same ∙ sym is.2) (has_last new.marks rising))
+        (subst (λ h. AreOwn v.basis.owners (take through h) (recount v.basis.owners new.history v.mine)) (sym done.history) (subst (λ ps. AreOwn v.basis.owners (take through old.history) ps) (sym counted)
+        (own_between v.basis.owners seen (take through old.history) old.history v.mine (prefix_within seen old.history through begins enough) (prefix_take through old.history) own took.meets.mine)))
+        (inl same, subst (λ ms. DoneTells view old new ms through shown note) (sym same) is) (omega (arith, enough, ap length later.1, length-append v.seen later.0))
+        (inl (append-nil v.asked))
+    flushed_shown (flush.DiskFault before after) reached is rising = absurd is
+    flushed_shown (flush.Stopped last) reached is rising = absurd is
+
+    pub flushed_now : (result : Flush N) → FlushesNow view old new wanted (Ok result) → HasFlushed disk view v (then_seat false) result
+    flushed_now result now =
+        ⊎_elim
+        (λ stop. subst (λ answer. HasFlushed disk view v (then_seat false) answer) (sym stop.2)
+        (flushed_stopped number single (last_mark old.marks) (left_steps old new [] (leaves_same old new stop.1)) stop.0 stop.1 refl))
+        (λ shown. flushed_shown result shown.1 shown.2 shown.3) now
+
+  -- the first turn of a flush
+  pub first_flushed : (number : ℕ) → IsSingle v number → (result : Result (Flush N) ℕ) → FlushesNow view old new (length old.history) result
+      → IfOk result (λ answer. HasFlushed disk view v (then_seat false) answer)
+  first_flushed number single (Ok answer) now = flushed_now number single (length old.history) old.history took.meets.seen (prefix_self old.history) (omega arith) took.meets.mine answer now
+  first_flushed number single (Err accepted) now = tt
+
+  pub first_seen : (number : ℕ) → IsSingle v number → (result : Result (Flush N) ℕ) → FlushesNow view old new (length old.history) result
+      → IfErr result (λ accepted. HasSeen v (then_seat false) accepted)
+  first_seen number single (Ok answer) now = tt
+  first_seen number single (Err accepted) now = record {
+    history = old.history;
+    served = served_then false number (left_steps old new [] (leaves_same old new now.1)) single;
+    rests = rests_ended v u device old new false word;
+    asked = append-nil v.asked;
+    accepted_is = now.2 ∙ ap (λ (f : FrontAccount V). length f.history) (sym now.1);
+  }
 
 -- a flush after a write, from the finish to the end
 module _ {D V N : Type 0} (disk : DiskOf D) (view : ViewOf V N) (y : View) (n p : Here D V) (answer : Written) (result : Flush N) (both : HasBoth disk y n answer) (same : p.0 ≡ n.0)
@@ -185,7 +213,7 @@ module _ {D V N : Type 0} (disk : DiskOf D) (view : ViewOf V N) (y : View) (n p 
       ap (λ (x : Here D V). x.1) brought,
       holds_now y q.0 (settled (answer_in answer)) both.front finished_now.0 took_settled true [] 0 (finished_so view both.front finished_now.0 answer result finished_now.2.0).steps
           (adds_none y.basis.owners y.mine 0) (finishes view both.front finished_now.0 disk y.basis both.back y.seen y.kept answer result both.by finished_now.2.0)
-          (makes_asked view both.front finished_now.0 y.basis.terms answer result finished_now.2.0),
+          (makes_asked view both.front finished_now.0 y.due y.basis.terms answer result finished_now.2.0),
       ap (λ (v : View). given_device v.device finished_now.0.spare) took_settled.rest,
     )
 
@@ -199,6 +227,9 @@ module _ {D V N : Type 0} (disk : DiskOf D) (view : ViewOf V N) (y : View) (n p 
         subst (λ v. HasFlushed disk view y v result)
         (sym (ended_so y q.0 (settled (answer_in answer)) both.front finished_now.0 took_settled true word q x refl (ends finished_now.0 (ap (λ (z : Here D V). z.1) brought))))
         (flushed_written disk view y q.0 (settled (answer_in answer)) both.front finished_now.0 took_settled word both.back answer result number single both.by both.own finished_now.2.0)
+
+same_leaves : {V : Type 0} (old new : FrontAccount V) → new ≡ old → FrontSteps old new [] × Stays (held_of old) new
+same_leaves old new same = let left = leaves_same old new same in (left_steps old new [] left, left_stays old new [] left)
 
 -- what a turn owes that did nothing with the device, which the seat has
 pub stays_resting : {V : Type 0} (old new : FrontAccount V) → Stays (held_of old) new → new.spare ≡ true → Does resting (held_of old) new
@@ -214,7 +245,100 @@ stays_shown view old new (flush.Done through shown note) spare is = (
 stays_shown view old new (flush.DiskFault before after) spare is = absurd is
 stays_shown view old new (flush.Stopped last) spare is = absurd is
 
--- a flush that met a stopped front, or one with nothing to hand out
+-- what a turn of a flush leaves that needs no write, or that does not write
+now_leaves : {V N : Type 0} (view : ViewOf V N) (old new : FrontAccount V) (wanted : ℕ) (result : Result (Flush N) ℕ) → FlushesNow view old new wanted result
+    → FrontSteps old new [] × Stays (held_of old) new
+now_leaves view old new wanted (Ok answer) now =
+    ⊎_elim (λ stop. same_leaves old new stop.1) (λ shown. ((finished_so view old new Nothing answer shown.2).steps, stays_shown view old new answer shown.0 shown.2)) now
+now_leaves view old new wanted (Err accepted) now = same_leaves old new now.1
+
+-- the first turn of a flush
+module _ {D V N : Type 0} (view : ViewOf V N) (v : View) (m n : Here D V) (taken : HasTaken v m) (result : Result (Flush N) ℕ) (same : n.0 ≡ m.0)
+    (works : Works m n (λ old new. FlushesNow view old new (length old.history) result)) where
+  abbrev first_now : (new : FrontAccount V) × (n.1 ≡ (0, TheFront new) ∷ rest m.1) × FlushesNow view taken.front new (length taken.front.history) result
+  first_now = works taken.front (carries m.1 (0, slot_front taken.front) [] taken.out)
+
+  out_first : n.1 ≡ (0, TheFront first_now.0) ∷ []
+  out_first = worked m n taken.front first_now.0 [] taken.out refl first_now.1
+
+  pub give_first : (front : FrontAccount V) × (n.1 ≡ (0, TheFront front) ∷ []) × Holds false n.0 front
+  give_first =
+      let left = now_leaves view taken.front first_now.0 (length taken.front.history) result first_now.2 in (
+        first_now.0,
+        out_first,
+        subst (λ u. Holds false u first_now.0) (sym same)
+            (holds_now v m.0 free taken.front first_now.0 taken.took false [] 0 left.0 (adds_none v.basis.owners v.mine 0) left.1 (inl left.1.0)),
+      )
+
+  module _ (word : ℕ) (x : Here D V) (gives : (front : FrontAccount V) → n.1 ≡ (0, TheFront front) ∷ [] → x ≡ seat_of (given false n.0 word front) []) where
+    pub seat_first : x.0 ≡ given false (turning v m.0 free taken.front) word first_now.0
+    seat_first = gave_now v m.0 n.0 free taken.front first_now.0 false word x taken.took same (gives first_now.0 out_first)
+
+    pub flushed_first : (disk : DiskOf D) (number : ℕ) → IsSingle v number → IfOk result (λ answer. HasFlushed disk view v x.0 answer)
+    flushed_first disk number single =
+        subst (λ y. IfOk result (λ answer. HasFlushed disk view v y answer)) (sym seat_first)
+        (first_flushed disk view v m.0 free taken.front first_now.0 taken.took word number single result first_now.2)
+
+    pub seen_first : (disk : DiskOf D) (number : ℕ) → IsSingle v number → IfErr result (λ accepted. HasSeen v x.0 accepted)
+    seen_first disk number single =
+        subst (λ y. IfErr result (λ accepted. HasSeen v y accepted)) (sym seat_first)
+        (first_seen disk view v m.0 free taken.front first_now.0 taken.took word number single result first_now.2)
+
+-- the turn with the device of one that has seen so many samples before
+module _ {D V N : Type 0} (view : ViewOf V N) (v : View) (m n : Here D V) (seized : HasSeized v m) (accepted : ℕ) (same : n.0 ≡ m.0) where
+  -- where it needs no write
+  module _ (answer : Flush N) (works : Works m n (λ old new. FlushesNow view old new accepted (Ok answer))) where
+    abbrev shown_now : (new : FrontAccount V) × (n.1 ≡ (0, TheFront new) ∷ rest m.1) × FlushesNow view seized.front new accepted (Ok answer)
+    shown_now = works seized.front (carries m.1 (0, slot_front seized.front) [] seized.out)
+
+    out_shown : n.1 ≡ (0, TheFront shown_now.0) ∷ []
+    out_shown = worked m n seized.front shown_now.0 [] seized.out refl shown_now.1
+
+    took_shown : Took (at_device v resting) n.0 resting seized.front
+    took_shown = subst (λ u. Took (at_device v resting) u resting seized.front) (sym same) seized.took
+
+    left_shown : FrontSteps seized.front shown_now.0 [] × Stays (held_of seized.front) shown_now.0
+    left_shown = now_leaves view seized.front shown_now.0 accepted (Ok answer) shown_now.2
+
+    spare_shown : shown_now.0.spare ≡ true
+    spare_shown = left_shown.1.3 ∙ seized.took.meets.spare refl refl
+
+    pub end_shown : (front : FrontAccount V) × (n.1 ≡ (0, TheFront front) ∷ []) × Holds false n.0 front × (given_device n.0.device front.spare ≡ resting)
+    end_shown = (
+      shown_now.0,
+      out_shown,
+      holds_now (at_device v resting) n.0 resting seized.front shown_now.0 took_shown false [] 0 left_shown.0 (adds_none v.basis.owners v.mine 0)
+          (stays_resting seized.front shown_now.0 left_shown.1 spare_shown) (inl left_shown.1.0),
+      ap (λ (x : View). given_device x.device shown_now.0.spare) took_shown.rest ∙ ap (given_device resting) spare_shown,
+    )
+
+    pub shown_end : (disk : DiskOf D) (word : ℕ) (x : Here D V)
+        → ((front : FrontAccount V) → n.1 ≡ (0, TheFront front) ∷ [] → x ≡ seat_of (at_device (given false n.0 word front) free) [])
+        → (number : ℕ) → IsSingle v number → accepted ≡ length v.seen → AreOwn v.basis.owners v.seen v.mine → HasFlushed disk view v x.0 answer
+    shown_end disk word x ends number single counts own =
+        flushed_later v (at_device v resting) x.0 (follows_device v resting) disk view answer
+        (subst (λ y. HasFlushed disk view (at_device v resting) y answer)
+        (sym (ended_so (at_device v resting) n.0 resting seized.front shown_now.0 took_shown false word n x refl (ends shown_now.0 out_shown)))
+        (flushed_now disk view (at_device v resting) n.0 resting seized.front shown_now.0 took_shown word number single accepted v.seen (prefix_self v.seen) seized.took.meets.seen
+        (omega (arith, counts)) own answer shown_now.2))
+
+  -- and where it needs one
+  pub pending_now : (all : ℕ) → Works m n (λ old new. FlushesNow view old new accepted (Err all)) → accepted ≡ length v.seen → HasPending v n
+  pending_now all works counts =
+      let now = works seized.front (carries m.1 (0, slot_front seized.front) [] seized.out) in
+      let met = seized.took.meets in
+      record {
+        seized = record {
+          front = now.0;
+          out = worked m n seized.front now.0 [] seized.out refl now.1;
+          took = subst (λ (f : FrontAccount V). Took (at_device v resting) n.0 resting f) (sym now.2.1) (subst (λ u. Took (at_device v resting) u resting seized.front) (sym same) seized.took);
+        };
+        going = ap (λ (f : FrontAccount V). f.stopped) now.2.1 ∙ now.2.0;
+        pending = subst (λ (f : FrontAccount V). durable f.marks < length f.history) (sym now.2.1)
+            (omega (arith, now.2.3 (met.spare refl refl), counts, ap length met.seen.1, length-append v.seen met.seen.0));
+      }
+
+-- a flush that handed the pending records out
 module _ {D V : Type 0} (v : View) (m : Here D V) where
   pub hand_of : (what : Handed) → HasTurned v m what → HasHanded m what
   hand_of what turned = record {
@@ -227,77 +351,7 @@ module _ {D V : Type 0} (v : View) (m : Here D V) where
     tells = turned.tells;
   }
 
-  module _ (mark : Mark) (turned : HasTurned v m (handed.Stopped mark)) where
-    spare_stopped : turned.new.spare ≡ true
-    spare_stopped = ap (λ (f : FrontAccount V). f.spare) turned.tells.1 ∙ turned.took.meets.spare refl refl
-
-    left_stopped : LeavesAll turned.old turned.new []
-    left_stopped = leaves_same turned.old turned.new turned.tells.1
-
-    pub end_stopped : (front : FrontAccount V) × (m.1 ≡ (0, TheFront front) ∷ []) × Holds false m.0 front × (given_device m.0.device front.spare ≡ resting)
-    end_stopped = (
-      turned.new,
-      turned.out,
-      holds_now (at_device v resting) m.0 resting turned.old turned.new turned.took false [] 0 (left_steps turned.old turned.new [] left_stopped) (adds_none v.basis.owners v.mine 0)
-          (stays_resting turned.old turned.new (left_stays turned.old turned.new [] left_stopped) spare_stopped) (inl left_stopped.marks),
-      ap (λ (x : View). given_device x.device turned.new.spare) turned.took.rest ∙ ap (given_device resting) spare_stopped,
-    )
-
-    pub stopped_end : {N : Type 0} (disk : DiskOf D) (view : ViewOf V N) (word : ℕ) (x : Here D V)
-        → ((front : FrontAccount V) → m.1 ≡ (0, TheFront front) ∷ [] → x ≡ seat_of (at_device (given false m.0 word front) free) [])
-        → (number : ℕ) → IsSingle v number → HasFlushed disk view v x.0 (flush.Stopped mark)
-    stopped_end {N} disk view word x ends number single =
-        flushed_later v (at_device v resting) x.0 (follows_device v resting) disk view (flush.Stopped mark)
-        (subst (λ y. HasFlushed {N = N} disk view (at_device v resting) y (flush.Stopped mark))
-        (sym (ended_so (at_device v resting) m.0 resting turned.old turned.new turned.took false word m x refl (ends turned.new turned.out)))
-        (flushed_stopped disk view (at_device v resting) m.0 resting turned.old turned.new turned.took word number single mark (left_steps turned.old turned.new [] left_stopped)
-        turned.tells.0 turned.tells.1 turned.tells.2))
-
-  module _ (turned : HasTurned v m handed.Nothing) where
-    spare_nothing : turned.new.spare ≡ true
-    spare_nothing = ap (λ (f : FrontAccount V). f.spare) turned.tells.1 ∙ turned.took.meets.spare refl refl
-
-    pub awaited_nothing : (front : FrontAccount V) × (m.1 ≡ (0, TheFront front) ∷ rest m.1) × IsAwaited front Nothing
-    awaited_nothing = (turned.new, carries m.1 (0, slot_front turned.new) [] turned.out, (spare_nothing, ap (λ (f : FrontAccount V). f.stopped) turned.tells.1 ∙ turned.tells.0))
-
-    module _ {N : Type 0} (disk : DiskOf D) (view : ViewOf V N) (p : Here D V) (result : Flush N) (same : p.0 ≡ m.0)
-        (works : Works m p (λ old new. FinishTells view old new Nothing result × AreThroughs new.marks)) where
-      abbrev shown_now : (new : FrontAccount V) × (p.1 ≡ (0, TheFront new) ∷ rest m.1) × (FinishTells view turned.new new Nothing result × AreThroughs new.marks)
-      shown_now = works turned.new (carries m.1 (0, slot_front turned.new) [] turned.out)
-
-      took_shown : Took (at_device v resting) p.0 resting turned.new
-      took_shown = subst (λ x. Took (at_device v resting) x resting turned.new) (sym same) (subst (λ f. Took (at_device v resting) m.0 resting f) (sym turned.tells.1) turned.took)
-
-      out_shown : p.1 ≡ (0, TheFront shown_now.0) ∷ []
-      out_shown = shown_now.1 ∙ ap (λ b. (0, slot_front shown_now.0) ∷ b) (ap rest turned.out)
-
-      finished_shown : HasFinished turned.new shown_now.0
-      finished_shown = finished_so view turned.new shown_now.0 Nothing result shown_now.2.0
-
-      pub end_nothing : (front : FrontAccount V) × (p.1 ≡ (0, TheFront front) ∷ []) × Holds true p.0 front × (given_device p.0.device front.spare ≡ resting)
-      end_nothing = (
-        shown_now.0,
-        out_shown,
-        holds_now (at_device v resting) p.0 resting turned.new shown_now.0 took_shown true [] 0 finished_shown.steps (adds_none v.basis.owners v.mine 0)
-            (stays_resting turned.new shown_now.0 (stays_shown view turned.new shown_now.0 result spare_nothing shown_now.2.0) finished_shown.spare)
-            (makes_asked view turned.new shown_now.0 v.basis.terms Nothing result shown_now.2.0),
-        ap (λ (x : View). given_device x.device shown_now.0.spare) took_shown.rest ∙ ap (given_device resting) finished_shown.spare,
-      )
-
-      pub word_shown : (word : ℕ) → word ≡ m.0.met → (word ≡ p.0.met) × (word ≤ 18446744073709551613)
-      word_shown word is = (is ∙ ap (λ (x : View). x.met) (sym same), omega (arith, is, turned.took.low))
-
-      pub nothing_end : (word : ℕ) (x : Here D V)
-          → ((front : FrontAccount V) → p.1 ≡ (0, TheFront front) ∷ [] → x ≡ seat_of (at_device (given true p.0 word front) free) [])
-          → (number : ℕ) → IsSingle v number → HasFlushed disk view v x.0 result
-      nothing_end word x ends number single =
-          flushed_later v (at_device v resting) x.0 (follows_device v resting) disk view result (subst (λ y. HasFlushed disk view (at_device v resting) y result)
-          (sym (ended_so (at_device v resting) p.0 resting turned.new shown_now.0 took_shown true word p x refl (ends shown_now.0 out_shown)))
-          (flushed_nothing disk view (at_device v resting) p.0 resting turned.new shown_now.0 took_shown word result number single
-          (ap (λ (f : FrontAccount V). f.from) turned.tells.1 ∙ turned.tells.2 ∙ sym (ap (λ (f : FrontAccount V). length f.history) turned.tells.1))
-          (ap (λ (f : FrontAccount V). f.from) turned.tells.1 ∙ turned.tells.3 ∙ sym (ap (λ (f : FrontAccount V). durable f.marks) turned.tells.1)) shown_now.2.1 shown_now.2.0))
-
-  -- and one that wrote
+  -- and wrote them
   module _ (through : ℕ) (block : Buffered) (turned : HasTurned v m (handed.Given through block)) (word : ℕ) where
     pub both_of : (disk : DiskOf D) (n : Here D V) (word' : ℕ) (answer : Written) → HasWritten disk m word turned.new n word' answer
         → HasBoth disk (at_device (given false m.0 (word + 1) turned.new) writing) n answer

@@ -76,6 +76,15 @@ follows_handed {V} v u old new word took history marks stopped =
       single = λ number single. single_again v.basis.owners new.history v.mine number single;
     })
 
+-- what a seat had seen, and what it has seen after turns
+pub served_seen : (v u : View) (history added : List Sample) → Served v u history added → IsPrefix v.seen u.seen
+served_seen v u history added served = prefix_trans v.seen history u.seen served.later (added, sym served.seen)
+
+pub round_seen : {D V N : Type 0} (disk : DiskOf D) (view : ViewOf V N) (v x : View) (sample : Sample) (answer : Try) → IsRound disk view v x sample answer → IsPrefix v.seen x.seen
+round_seen disk view v x sample (Busy word back) round = absurd round
+round_seen disk view v x sample (NeedsFlush held size limit back) round = served_seen v x round.0.0 [] round.0.1
+round_seen disk view v x sample (Answered answer) round = served_seen v x round.0.0 (accepted_by answer sample) round.0.1
+
 -- and one that had turns in which nothing was accepted
 pub follows_served : (v u : View) (history : List Sample) → Served v u history [] → Rests v u → u.asked ≡ v.asked → Follows v u
 follows_served v u history served rests asked = record {
@@ -149,7 +158,8 @@ module _ (v y x : View) (on : Follows v y) where
 
     round_later : (sample : Sample) (answer : Try) → IsRound disk view y x sample answer → IsRound disk view v x sample answer
     round_later sample (Busy word back) round = absurd round
-    round_later sample (NeedsFlush held size limit back) round = ((round.0.0, served_later round.0.0 [] round.0.1), round.1)
+    round_later sample (NeedsFlush held size limit back) round =
+        ((round.0.0, served_later round.0.0 [] round.0.1), round.1, omega (arith, round.2, ap length on.kept.1, length-append v.kept on.kept.0))
     round_later sample (Answered answer) round = ((round.0.0, served_later round.0.0 (accepted_by answer sample) round.0.1, round.0.2), round.1)
 
     -- and so is a round of an append

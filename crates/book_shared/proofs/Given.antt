@@ -170,7 +170,7 @@ turning v u device front = record v {
 module _ {V : Type 0} (v u : View) (device : Device) (old new : FrontAccount V) (took : Took v u device old) where
   -- the front may go back
   pub holds_now : (asks : Bool) (added : List Sample) (number : ℕ) → FrontSteps old new added → Adds v.basis.owners v.mine number added → Does device (held_of old) new
-      → MakesMark asks v.basis.terms (held_of old) new → Holds asks u new
+      → MakesMark asks v.due v.basis.terms (held_of old) new → Holds asks u new
   holds_now asks added number steps adds does makes = record {
     held = held_of old;
     turn_is = ap (λ (y : View). y.turn) took.rest;
@@ -180,7 +180,7 @@ module _ {V : Type 0} (v u : View) (device : Device) (old new : FrontAccount V) 
       one = adds.one;
       own = subst (λ (y : View). AreFrom y.basis.owners y.mine added) (sym took.rest) adds.from;
       does = subst (λ (y : View). Does y.device (held_of old) new) (sym took.rest) does;
-      makes = subst (λ (y : View). MakesMark asks y.basis.terms (held_of old) new) (sym took.rest) makes;
+      makes = subst (λ (y : View). MakesMark asks y.due y.basis.terms (held_of old) new) (sym took.rest) makes;
       terms = steps.terms ∙ took.meets.terms ∙ ap (λ (y : View). front_part y.basis.terms) (sym took.rest);
     };
   }
@@ -308,6 +308,7 @@ pub tried_now : {D V : Type 0} (v u w : View) (device : Device) (old new : Front
 tried_now {D} {V} v u w device old new word x sample answer took single off puts same is =
     subst (λ y. IsTried V v y sample answer) (sym (gave_now v u w device old new false word x took same is)) (record {
       tries = tries_given v u device old new took false word sample single answer puts;
+      from = omega (arith, took.meets.from, (try_leaves old new sample answer puts).from);
       rests = rests_given v u device old new took false word (ap (λ d. given_device d new.spare) off);
       asked = append-nil v.asked;
       front = record { tried = λ _. (old, new, turned_given v u device old new took false word, puts) };

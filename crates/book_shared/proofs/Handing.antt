@@ -1,8 +1,10 @@
 -- A round of an append: the sample is put, or a full block is handed over.
-use Rattle.std.proofs.Common.{◌≡◌, ℕ, ◌+◌, ◌<◌, ◌≤◌, true, false, [], ◌∷◌, drop, refl, sym, ap, ◌∙◌, subst, inl}
-use Rattle.std.specs.Prelude.{slice_index}
+use Rattle.std.proofs.Common.{◌≡◌, ℕ, ◌+◌, ◌<◌, ◌≤◌, ◌⊎◌, true, false, [], ◌∷◌, ◌++◌, drop, refl, sym, ap, ◌∙◌, subst, inl, inr, ⊎_elim, arith}
+use Rattle.std.specs.Prelude.{slice_index, Some}
+use mathlib.Core.List.{IsPrefix}
 use Rattle.atomic_table.specs.Table.{rest}
 use Rattle.mdf_disk.specs.declared.disk.Disk.{Ghosts as DiskOf}
+use Rattle.mdf_gate.proofs.Carrying.{prefix_self, prefix_trans}
 use Rattle.mdf_gate.specs.Gated.{Buffered}
 use Rattle.mdf_layout.specs.Record.{SampleFits, encoded_size, history_size}
 use Rattle.mdf_layout.specs.declared.sample.Sample.{Sample}
@@ -16,18 +18,20 @@ use Rattle.book_owned.specs.declared.written.Written.{Written}
 use Rattle.book_shared.specs.Basis.{Basis, free, resting, writing}
 use Rattle.book_shared.specs.Plays.{Here, at_device, given, given_device, Holds}
 use Rattle.book_shared.specs.Place.{IsSingle}
-use Rattle.book_shared.specs.Turns.{Took, Works}
-use Rattle.book_shared.specs.Told.{Puts}
-use Rattle.book_shared.specs.Rounds.{HasSeized, HasTurned, HasFull, HasWritten, HasBoth, HasTried, IsTried, WasFull}
+use Rattle.book_shared.specs.Turns.{OnlyDue, Took, Works}
+use Rattle.book_shared.specs.Told.{Puts, WasBlocked, IsOneTurn}
+use Rattle.book_shared.specs.Causes.{IsAmong}
+use Rattle.book_shared.specs.Rounds.{wanted, HasSeized, HasTurned, HasFull, HasWritten, HasBoth, HasTried, IsOneRound, IsTried, WasFull}
 use Rattle.book_shared.specs.declared.answer.Try.{Try}
-use Rattle.book_shared.specs.declared.answer.Try.TheVariants.{NeedsFlush, Answered}
+use Rattle.book_shared.specs.declared.answer.Try.TheVariants.{Busy, NeedsFlush, Answered}
 use Rattle.book_shared.specs.declared.half.Half.TheVariants.{TheFront}
 use Rattle.book_shared.specs.declared.view.View.{View}
+use Rattle.book_shared.proofs.Anys.{any_last, any_parts}
 use Rattle.book_shared.proofs.Keeps.{seat_of, slot_front}
 use Rattle.book_shared.proofs.Takings.{carries, turned_now}
 use Rattle.book_shared.proofs.Given.{LeavesAll, leaves_same, left_steps, left_stays, put_leaves, adds_by, holds_now}
 use Rattle.book_shared.proofs.Finishing.{HasFinished}
-use Rattle.book_shared.proofs.Following.{Follows, follows_self, follows_device, follows_served, tried_later}
+use Rattle.book_shared.proofs.Following.{Follows, follows_self, follows_device, follows_served, served_seen, round_seen, tried_later}
 use Rattle.book_shared.proofs.Flushes.{ended_so, stays_resting, both_of, follows_wrote}
 use Rattle.book_shared.proofs.Appending.{append_does, tried_on}
 
@@ -62,10 +66,12 @@ module _ {D V : Type 0} (v : View) (m n : Here D V) (sample : Sample) (full : Ha
         let front = full.seized.front in
         let new = turned_full.new in
         let pending : drop (durable new.marks) new.history ≡ drop front.from front.history =
-        ap (λ (f : FrontAccount V). drop (durable f.marks) f.history) turned_full.tells.8 ∙ ap (λ k. drop k front.history) (sym turned_full.tells.2) in
-        subst (λ (b : Basis). b.terms.block_limit < history_size b.terms.layouts (drop (durable new.marks) new.history) + encoded_size b.terms.layouts sample) (sym basis_full)
-        (subst (λ ss. v.basis.terms.block_limit < history_size v.basis.terms.layouts ss + encoded_size v.basis.terms.layouts sample) (sym pending)
-        (subst (λ (t : FrontTerms). t.block_limit < history_size t.layouts (drop front.from front.history) + encoded_size t.layouts sample) full.seized.took.meets.terms full.passes))
+        ap (λ (f : FrontAccount V). drop (durable f.marks) f.history) turned_full.tells.8 ∙ ap (λ k. drop k front.history) (sym turned_full.tells.2) in (
+          subst (λ (b : Basis). b.terms.block_limit < history_size b.terms.layouts (drop (durable new.marks) new.history) + encoded_size b.terms.layouts sample) (sym basis_full)
+              (subst (λ ss. v.basis.terms.block_limit < history_size v.basis.terms.layouts ss + encoded_size v.basis.terms.layouts sample) (sym pending)
+              (subst (λ (t : FrontTerms). t.block_limit < history_size t.layouts (drop front.from front.history) + encoded_size t.layouts sample) full.seized.took.meets.terms full.passes)),
+          subst (λ ss. IsAmong ss sample) (sym (ap (λ (x : View). x.due) turned_full.took.rest)) full.is_due,
+        )
 
     pub both_full : (disk : DiskOf D) (word : ℕ) (p : Here D V) (word' : ℕ) (answer : Written) → HasWritten disk n word turned_full.new p word' answer → MayAppend v sample
         → (y : View) × HasBoth disk y p answer × IsSingle y (slice_index y.basis.owners sample.group) × SampleFits y.basis.terms.layouts sample
@@ -84,10 +90,39 @@ module _ {D V : Type 0} (v : View) (m n : Here D V) (sample : Sample) (full : Ha
         (tried (writes_full word) (both_of v n through block turned_full word disk p word' answer wrote)
         (subst (λ (b : Basis). IsSingle (writes_full word) (slice_index b.owners sample.group)) (sym on.basis_is) (on.single (slice_index v.basis.owners sample.group) single)))
 
+-- what a seat knew that has announced a sample
+pub follows_due : (v : View) (sample : Sample) → Follows v (wanted v (Some sample))
+follows_due v sample = record {
+  seen = prefix_self v.seen;
+  kept = prefix_self v.kept;
+  knows = λ stop. stop;
+  mine = refl;
+  olds = refl;
+  basis_is = refl;
+  turns = omega arith;
+  asked = refl;
+  single = λ number is. is;
+}
+
+pub wants_it : (v : View) (sample : Sample) → IsAmong (wanted v (Some sample)).due sample
+wants_it v sample = any_last (λ x. x ≡ sample) v.due (sample ∷ []) (inl refl)
+
+-- one sample more is due, or none
+pub only_same : (v u : View) (sample : Sample) → u.due ≡ v.due → OnlyDue v u sample
+only_same v u sample same other is = inl (subst (λ ss. IsAmong ss other) same is)
+
+pub only_new : (v u : View) (sample : Sample) → u.due ≡ v.due ++ sample ∷ [] → OnlyDue v u sample
+only_new v u sample more other is =
+    ⊎_elim (λ before. inl before) (λ one. ⊎_elim (λ it. inr it) (λ none. absurd none) one) (any_parts (λ x. x ≡ other) v.due (sample ∷ []) (subst (λ ss. IsAmong ss other) more is))
+
+pub only_on : (v y x : View) (sample : Sample) → OnlyDue v y sample → OnlyDue y x sample → OnlyDue v x sample
+only_on v y x sample first second other is = ⊎_elim (λ before. first other before) (λ it. inr it) (second other is)
+
 -- a try in the turn with the device
 module _ {D V : Type 0} (v : View) (m n : Here D V) (sample : Sample) (seized : HasSeized v m) (same : n.0 ≡ m.0) where
   -- met a full block
-  module _ (held size limit : ℕ) (back : Sample) (works : Works m n (λ old new. Puts old new sample (NeedsFlush held size limit back))) where
+  module _ (held size limit : ℕ) (back : Sample) (works : Works m n (λ old new. Puts old new sample (NeedsFlush held size limit back)))
+      (wants : IsAmong v.due sample) where
     abbrev met_full : (new : FrontAccount V) × (n.1 ≡ (0, TheFront new) ∷ rest m.1) × Puts seized.front new sample (NeedsFlush held size limit back)
     met_full = works seized.front (carries m.1 (0, slot_front seized.front) [] seized.out)
 
@@ -103,6 +138,7 @@ module _ {D V : Type 0} (v : View) (m n : Here D V) (sample : Sample) (seized : 
       };
       going = ap (λ (f : FrontAccount V). f.stopped) met_full.2.2 ∙ met_full.2.0;
       passes = subst (λ (f : FrontAccount V). FrontPasses f sample) (sym met_full.2.2) met_full.2.6;
+      is_due = wants;
     })
 
     abbrev pub full_may : MayAppend v sample
@@ -153,7 +189,7 @@ module _ {D V : Type 0} (v : View) (m n : Here D V) (sample : Sample) (seized : 
         tried_later v (at_device v resting) x.0 (follows_device v resting) disk view sample (Answered answer)
         (subst (λ y. HasTried disk view (at_device v resting) y sample (Answered answer))
         (sym (ended_so (at_device v resting) n.0 resting seized.front put_now.0 took_put false word n x refl (ends put_now.0 out_put)))
-        (tried_on disk view (at_device v resting) n.0 resting seized.front seized.front put_now.0 took_put word sample (Answered answer) single rests_same put_now.2 (inl refl)))
+        (tried_on disk view (at_device v resting) n.0 resting seized.front seized.front put_now.0 took_put word sample (Answered answer) single rests_same put_now.2 (inl refl) tt))
 
 -- a try of one turn, of which an append is made
 module _ {D V N : Type 0} (disk : DiskOf D) (view : ViewOf V N) (v x : View) (sample : Sample) where
@@ -181,3 +217,46 @@ module _ {D V N : Type 0} (disk : DiskOf D) (view : ViewOf V N) (v x : View) (sa
 -- the seat after a try that met a full block
 pub full_once : {V : Type 0} (v x : View) (sample : Sample) (held size limit : ℕ) (back : Sample) → IsTried V v x sample (NeedsFlush held size limit back) → Follows v x
 full_once v x sample held size limit back is = follows_served v x is.tries.0.history is.tries.0.served is.rests is.asked
+
+-- its sample did not fit
+pub blocked_once : {V : Type 0} (v x : View) (sample : Sample) (held size limit : ℕ) (back : Sample) → IsTried V v x sample (NeedsFlush held size limit back) → WasBlocked v x sample
+blocked_once v x sample held size limit back is =
+    let full = is.tries.0 in
+    record {
+      history = x.seen;
+      from = x.from;
+      later = served_seen v x full.history [] full.served;
+      seen = prefix_self x.seen;
+      handed = is.from;
+      passes = omega (arith, full.passes, full.held_is, full.size_is, full.limit_is);
+    }
+
+-- and so it is of a seat that goes on
+blocked_later : (v x u : View) (sample : Sample) → IsPrefix x.seen u.seen → u.basis ≡ x.basis → WasBlocked v x sample → WasBlocked v u sample
+blocked_later v x u sample more same is = record {
+  history = is.history;
+  from = is.from;
+  later = is.later;
+  seen = prefix_trans is.history x.seen u.seen is.seen more;
+  handed = is.handed;
+  passes = subst (λ (b : Basis). b.terms.block_limit < history_size b.terms.layouts (drop is.from is.history) + encoded_size b.terms.layouts sample) (sym same) is.passes;
+}
+
+one_round : (v x : View) (sample : Sample) (answer : Try) → WasBlocked v x sample → IsOneRound v x sample answer
+one_round v x sample (Busy word back) blocked = tt
+one_round v x sample (NeedsFlush held size limit back) blocked = blocked
+one_round v x sample (Answered answer) blocked = inr blocked
+
+-- a round that took the device
+pub round_blocked : {D V N : Type 0} (disk : DiskOf D) (view : ViewOf V N) (v x u : View) (sample : Sample) (held size limit : ℕ) (back : Sample) (answer : Try)
+    → IsTried V v x sample (NeedsFlush held size limit back) → HasTried disk view x u back answer → IsOneRound v u sample answer
+round_blocked disk view v x u sample held size limit back answer first then =
+    one_round v u sample answer (blocked_later v x u sample (round_seen disk view x u back answer then.round) then.rests.basis_is (blocked_once v x sample held size limit back first))
+
+-- after rounds, if there were any, in the first of which the sample did not fit
+module _ (v y x : View) (sample left : Sample) (same : left ≡ sample) (before : (y ≡ v) ⊎ WasBlocked v y sample) (more : IsPrefix y.seen x.seen) (basis : x.basis ≡ y.basis) where
+  pub blocked_on : WasBlocked y x left → WasBlocked v x sample
+  blocked_on now = ⊎_elim (λ is. subst (λ w. WasBlocked w x sample) is (subst (WasBlocked y x) same now)) (λ was. blocked_later v y x sample more basis was) before
+
+  pub one_on : IsOneTurn y x left → IsOneTurn v x sample
+  one_on now = ⊎_elim (λ is. subst (λ w. IsOneTurn w x sample) is (subst (IsOneTurn y x) same now)) (λ was. inr (blocked_later v y x sample more basis was)) before

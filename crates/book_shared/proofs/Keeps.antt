@@ -19,13 +19,13 @@ use Rattle.book_owned.specs.FrontHalf.{FrontAccount}
 use Rattle.book_owned.specs.Split.{front_part}
 use Rattle.book_owned.specs.declared.mark.Mark.{Mark}
 use Rattle.book_shared.specs.Basis.{Basis, Turn, idle, holding, Device, free, resting, handed, writing, written, settled}
-use Rattle.book_shared.specs.Rule.{World, total, asks, has, AskedOf, holds_turn, holds_device, lends_block, has_back, has_answer, blocks_out, backs_out, AreOwn, AreOfSources, Names, IsAnswer, Answers, Awaits, KnowsDevice, Knows, TurnsCount, SeatsKnow, Has, KeepsAll, HoldsAll, IsResting, Stands, FrontHome, BackHome, SlotsHold, Runs}
+use Rattle.book_shared.specs.Rule.{World, total, asks, has, AskedOf, DueOf, holds_turn, holds_device, lends_block, has_back, has_answer, blocks_out, backs_out, AreOwn, AreOfSources, Names, IsAnswer, Answers, Awaits, KnowsDevice, Knows, TurnsCount, SeatsKnow, Has, KeepsAll, HoldsAll, IsResting, Stands, FrontHome, BackHome, SlotsHold, Runs}
 use Rattle.book_shared.specs.Plays.{Slot, Here, looked, taking, told_device, Meets, AreFrom, Looks, Wins, Takes, Tells}
 use Rattle.book_shared.specs.declared.half.Answer.{Answer}
-use Rattle.book_shared.specs.declared.half.Half.TheVariants.{TheFront, TheBack, Told, Out}
+use Rattle.book_shared.specs.declared.half.Half.TheVariants.{TheFront, TheBack, Told, Due, Out}
 use Rattle.book_shared.specs.declared.view.View.{View}
 use Rattle.book_shared.proofs.Sums.{total-set, term_le, terms_le, total_less_at}
-use Rattle.book_shared.proofs.Causing.{asked_on, caused_later}
+use Rattle.book_shared.proofs.Causing.{asked_on, caused_later, due_on}
 use Rattle.book_shared.proofs.Lists.{own_same, none_of, names_none, one_if, lends_less, answers_none}
 
 -- the turns and the device after a step of one seat
@@ -113,6 +113,7 @@ looked_knows basis w v n is know = record {
   device = device_looked w v n know.device;
   basis_is = know.basis_is;
   asked = know.asked;
+  due = know.due;
 }
 
 -- what a seat with no turn knows is so of a later world with the same history
@@ -131,6 +132,7 @@ knows_on basis w w' x know later history marks from stops own calm device = reco
   device = device;
   basis_is = know.basis_is;
   asked = know.asked;
+  due = know.due;
 }
 
 -- no number is less than itself
@@ -278,6 +280,7 @@ tells_well : {D V : Type 0} (disk : DiskOf D) (basis : Basis) (w : World) (v : V
 tells_well disk basis w v know within none tells =
     ⊎_elim (tells_calm disk basis w v know free refl (λ samples marks back. tt)) (tells_calm disk basis w v know resting refl (λ samples marks back. tt)) tells
 tells_well disk basis w v know within (some (Told answer)) tells = tells_answer disk basis w v know answer within tells.0 tells.1
+tells_well disk basis w v know within (some (Due sample)) tells = absurd tells
 tells_well disk basis w v know within (some (TheFront front)) tells = absurd tells
 tells_well disk basis w v know within (some (TheBack back)) tells = absurd tells
 tells_well disk basis w v know within (some Out) tells = absurd tells
@@ -302,6 +305,7 @@ taking_knows disk basis w v device front has_it some_mine know well = record {
   };
   basis_is = know.basis_is;
   asked = know.asked;
+  due = know.due;
 }
 
 -- what a seat knows is so of the front at home
@@ -315,6 +319,7 @@ meets_home basis w device views id v front has_it some_mine at count seats spare
       knows = λ is. has_it.stopped ∙ know.knows is;
       mine = subst (λ (b : Basis). AreOwn b.owners front.history v.mine) (sym (know.basis_is some_mine))
           (subst (λ h. AreOwn basis.owners h v.mine) (sym has_it.history) know.mine);
+      within = omega (arith, ap durable has_it.marks, seats.low, seats.within, ap length has_it.history);
       spare = λ one calm. has_it.spare ∙ spare_is ∙ lt-ltb (blocks_out views) 1 (omega (arith, none_out w.word device views count id v at one calm));
       awaits = λ out. (
         has_it.spare ∙ spare_is ∙ le-ltb (blocks_out views) 1 (omega (arith, out, term_le (λ (y : View). lends_block y.device) views id v at)),
@@ -349,8 +354,8 @@ module _ {D V : Type 0} where
     slots = slots_on disk basis run.shared s.views (set s.views id (looked v n)) s.homes
         (same_total (λ (y : View). lends_block y.device) s.views id v (looked v n) at refl) (same_total (λ (y : View). has_back y.device) s.views id v (looked v n) at refl)
         (stand_on disk basis s.views id v (looked v n) at (λ samples marks back stands. stands)) run.slots;
-    marks = caused_later (AskedOf s.views) (AskedOf (set s.views id (looked v n))) basis.terms.layouts basis.terms.block_limit run.shared.history run.shared.history
-        (asked_on s.views id v (looked v n) at (λ k. least (asks k v))) (prefix_self run.shared.history) basis.begun run.shared.marks run.marks;
+    marks = caused_later (AskedOf s.views) (AskedOf (set s.views id (looked v n))) (DueOf s.views) (DueOf (set s.views id (looked v n))) basis.terms.layouts basis.terms.block_limit run.shared.history run.shared.history
+        (asked_on s.views id v (looked v n) at (λ k. least (asks k v))) (due_on s.views id v (looked v n) at (λ sample is. is)) (prefix_self run.shared.history) basis.begun run.shared.marks run.marks;
   }
 
   pub looks : (disk : DiskOf D) (basis : Basis) (slots id : ℕ) (me : Here D V) → Allows (Runs disk basis) slots id me 0 (λ n. n) (Looks (step slots 0 0 0 none) me)
@@ -396,8 +401,8 @@ module _ {D V : Type 0} where
               (stand_on disk basis s.views id v u at (λ samples marks back stands. well.stands samples marks back)) (run.slots.back_here (sym backs ∙ none_there));
           back_away = λ one. else_where ∙ run.slots.back_away (sym backs ∙ one);
         };
-        marks = caused_later (AskedOf s.views) (AskedOf (set s.views id u)) basis.terms.layouts basis.terms.block_limit w.history w.history
-            (asked_on s.views id v u at (λ k. least (asks k v))) (prefix_self w.history) basis.begun w.marks run.marks;
+        marks = caused_later (AskedOf s.views) (AskedOf (set s.views id u)) (DueOf s.views) (DueOf (set s.views id u)) basis.terms.layouts basis.terms.block_limit w.history w.history
+            (asked_on s.views id v u at (λ k. least (asks k v))) (due_on s.views id v u at (λ sample is. is)) (prefix_self w.history) basis.begun w.marks run.marks;
       }
 
   -- what an exchange with an even word owes: what it does to a table, by the word that it finds

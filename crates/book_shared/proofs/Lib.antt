@@ -1,4 +1,5 @@
 mod Sums
+mod Anys
 mod Lists
 pub mod Causing
 mod Lasting

@@ -1,5 +1,5 @@
 -- The lists of a seat, and a history that goes on.
-use Rattle.std.proofs.Common.{◌≡◌, ℕ, ◌<◌, ◌≤◌, List, [], ◌∷◌, ◌++◌, length, length-append, refl, sym, ap, ◌∙◌, subst, arith, append-nil}
+use Rattle.std.proofs.Common.{◌≡◌, ℕ, zero, suc, ◌<◌, ◌≤◌, List, [], ◌∷◌, ◌++◌, length, length-append, take, refl, sym, ap, ◌∙◌, subst, arith, append-nil}
 use Rattle.std.specs.Prelude.{◌==◌, slice_index, cond, Bool}
 use Rattle.std.proofs.lemmas.Bool.{cond-false, eq-eqb, ne_eqb}
 use Rattle.std.proofs.lemmas.List.Elements.{filter-append}
@@ -43,6 +43,33 @@ own_same owners history added (part ∷ parts) none own = (
       ∙ append-nil (source_samples owners history part.0)),
   own_same owners history added parts (λ n some. none n (omega (arith, some))) own.1,
 )
+
+-- where a list is all of two others behind it, those have nothing
+nothing_between : (own a b : List Sample) → own ≡ (own ++ a) ++ b → a ≡ []
+nothing_between own [] b is = refl
+nothing_between own (x ∷ a) b is = absurd (omega (arith, ap length is, length-append (own ++ x ∷ a) b, length-append own (x ∷ a)))
+
+-- lists that are all that a history and a later one have of their sources are that of each history between them
+pub own_between : (owners : List ℕ) (seen between history : List Sample) (parts : List (ℕ × List Sample)) → IsPrefix seen between → IsPrefix between history
+    → AreOwn owners seen parts → AreOwn owners history parts → AreOwn owners between parts
+own_between owners seen between history [] begins goes first last = tt
+own_between owners seen between history (part ∷ parts) begins goes first last =
+    let more = source_samples owners begins.0 part.0 in
+    let here : source_samples owners between part.0 ≡ part.1 ++ more =
+    ap (λ h. source_samples owners h part.0) (sym begins.1) ∙ source_more owners seen begins.0 part.0 ∙ ap (λ ss. ss ++ more) (sym first.0) in
+    let all : part.1 ≡ (part.1 ++ more) ++ source_samples owners goes.0 part.0 =
+    last.0 ∙ ap (λ h. source_samples owners h part.0) (sym goes.1) ∙ source_more owners between goes.0 part.0 ∙ ap (λ ss. ss ++ source_samples owners goes.0 part.0) here in (
+      sym (here ∙ ap (λ ss. part.1 ++ ss) (nothing_between part.1 more (source_samples owners goes.0 part.0) all) ∙ append-nil part.1),
+      own_between owners seen between history parts begins goes first.1 last.1,
+    )
+
+-- a beginning of a list is one of each longer beginning
+pub prefix_within : {A : Type 0} (xs ys : List A) (n : ℕ) → IsPrefix xs ys → length xs ≤ n → IsPrefix xs (take n ys)
+prefix_within xs ys n begins less = subst (λ zs. IsPrefix xs (take n zs)) begins.1 (within xs n less) where
+  within : (zs : List _) (k : ℕ) → length zs ≤ k → IsPrefix zs (take k (zs ++ begins.0))
+  within [] k few = (take k begins.0, refl)
+  within (z ∷ zs) zero few = absurd (omega (arith, few))
+  within (z ∷ zs) (suc k) few = let more = within zs k (omega (arith, few)) in (more.0, ap (λ ws. z ∷ ws) more.1)
 
 -- lists that are counted anew
 pub own_recount : (owners : List ℕ) (history : List Sample) (mine : List (ℕ × List Sample)) → AreOwn owners history (recount owners history mine)

@@ -19,11 +19,11 @@ use Rattle.book_owned.specs.FrontHalf.{FrontAccount}
 use Rattle.book_owned.specs.Split.{front_part}
 use Rattle.book_shared.specs.Basis.{Basis, Held, Turn, holding, Device, free, resting, handed, writing, written, settled}
 use Rattle.book_shared.specs.Causes.{MarksCaused}
-use Rattle.book_shared.specs.Rule.{World, AskedOf, holds_turn, holds_device, lends_block, has_back, has_answer, blocks_out, AreOwn, AreOfSources, Names, Answers, KnowsDevice, Knows, TurnsCount, SeatsKnow, KeepsAll, HoldsAll, IsResting, Stands, BackHome, SlotsHold, Runs}
+use Rattle.book_shared.specs.Rule.{World, AskedOf, DueOf, holds_turn, holds_device, lends_block, has_back, has_answer, blocks_out, AreOwn, AreOfSources, Names, Answers, KnowsDevice, Knows, TurnsCount, SeatsKnow, KeepsAll, HoldsAll, IsResting, Stands, BackHome, SlotsHold, Runs}
 use Rattle.book_shared.specs.Plays.{Slot, Here, recount, given_device, given, AreFrom, Stays, Hands, Finishes, Does, Returns, Holds, Gives}
 use Rattle.book_shared.specs.declared.half.Answer.{Answer}
 use Rattle.book_shared.specs.declared.half.Answer.TheVariants.{Marked, Faulted}
-use Rattle.book_shared.specs.declared.half.Half.TheVariants.{TheFront, TheBack, Told, Out}
+use Rattle.book_shared.specs.declared.half.Half.TheVariants.{TheFront, TheBack, Told, Due, Out}
 use Rattle.book_shared.specs.declared.view.View.{View}
 use Rattle.book_shared.proofs.Sums.{total-set, term_le, terms_le, total_less}
 use Rattle.book_shared.proofs.Causing.{given_marks, durable_last_of}
@@ -233,6 +233,7 @@ module _ {D V : Type 0} (disk : DiskOf D) (basis : Basis) (w : World) (device : 
         device = stored.mine;
         basis_is = λ _. basis_is;
         asked = λ _. some_mine;
+        due = λ _. some_mine;
       }
 
 -- the table after the store
@@ -280,7 +281,7 @@ given_runs disk basis s run asks id v held front at turn_is names low back_is =
         back_away = λ one. else_where ∙ run.slots.back_away (sym backs ∙ one);
       };
       marks = given_marks asks basis w.history s.views id v held (w.word + 1) front added at basis_is turn_is history back_is.makes
-          (subst (λ ms. MarksCaused (AskedOf s.views) basis.terms.layouts basis.terms.block_limit w.history basis.begun ms) (sym names.2) run.marks);
+          (subst (λ ms. MarksCaused (AskedOf s.views) (DueOf s.views) basis.terms.layouts basis.terms.block_limit w.history basis.begun ms) (sym names.2) run.marks);
     }
 
 -- the names of a turn
@@ -293,6 +294,7 @@ module _ {D V : Type 0} where
   front_of (TheFront front) other = front
   front_of (TheBack back) other = other
   front_of (Told answer) other = other
+  front_of (Due sample) other = other
   front_of Out other = other
 
   abbrev pub front_in : List (ℕ × Slot D V) → FrontAccount V → FrontAccount V

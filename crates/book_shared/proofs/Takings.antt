@@ -12,7 +12,7 @@ use Rattle.book_shared.specs.Plays.{Slot, Here, looked, at_device, taking, told_
 use Rattle.book_shared.specs.Turns.{TellsBy, said_of, told_by, Took, Waited, Works, Writes}
 use Rattle.book_shared.specs.Rounds.{HasSeized, HasTurned}
 use Rattle.book_shared.specs.declared.half.Answer.{Answer}
-use Rattle.book_shared.specs.declared.half.Half.TheVariants.{TheFront, TheBack, Told, Out}
+use Rattle.book_shared.specs.declared.half.Half.TheVariants.{TheFront, TheBack, Told, Due, Out}
 use Rattle.book_shared.specs.declared.view.View.{View}
 use Rattle.book_shared.proofs.Keeps.{seat_of, slot_front, slot_back}
 use Rattle.book_shared.proofs.Stores.{front_in}
@@ -25,6 +25,7 @@ meets_before v word front meets = record {
   from = meets.from;
   knows = meets.knows;
   mine = meets.mine;
+  within = meets.within;
   spare = meets.spare;
   awaits = meets.awaits;
   terms = meets.terms;
@@ -41,6 +42,7 @@ took_later v u w device front waited took =
         from = now.meets.from;
         knows = now.meets.knows;
         mine = now.meets.mine;
+        within = now.meets.within;
         spare = now.meets.spare;
         awaits = now.meets.awaits;
         terms = now.meets.terms;
@@ -105,6 +107,7 @@ module _ {D V : Type 0} where
   back_of (TheFront front) other = other
   back_of (TheBack back) other = back
   back_of (Told answer) other = other
+  back_of (Due sample) other = other
   back_of Out other = other
 
   abbrev pub back_at : List (ℕ × Slot D V) → Gated D → Gated D
@@ -132,9 +135,9 @@ module _ {D V : Type 0} where
   carries carried x behind is = is ∙ ap (λ b. x ∷ b) (sym (ap rest is))
 
   -- the device was taken, and then the turn
-  pub seized_now : (m at_rest n : Here D V) → at_rest ≡ seat_of (at_device m.0 resting) m.1 → m.1 ≡ []
-      → (front : FrontAccount V) × (n.1 ≡ (0, TheFront front) ∷ at_rest.1) × Took at_rest.0 n.0 at_rest.0.device front → HasSeized m.0 n
-  seized_now m at_rest n is alone took =
+  pub seized_now : (v : View) (m at_rest n : Here D V) → at_rest ≡ seat_of (at_device v resting) m.1 → m.1 ≡ []
+      → (front : FrontAccount V) × (n.1 ≡ (0, TheFront front) ∷ at_rest.1) × Took at_rest.0 n.0 at_rest.0.device front → HasSeized v n
+  seized_now v m at_rest n is alone took =
       let now = subst (λ (x : Here D V). (front : FrontAccount V) × (n.1 ≡ (0, slot_front front) ∷ x.1) × Took x.0 n.0 x.0.device front) is took in
       record { front = now.0; out = now.1 ∙ ap (λ b. (0, slot_front now.0) ∷ b) alone; took = now.2 }
 

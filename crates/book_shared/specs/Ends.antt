@@ -10,7 +10,7 @@ use Rattle.book_owned.specs.FrontHalf.{FrontAccount}
 use Rattle.book_owned.specs.Marks.{durable}
 use Rattle.book_owned.specs.Split.{front_part, back_part}
 use Rattle.book_shared.specs.Basis.{Basis}
-use Rattle.book_shared.specs.Causes.{MarksCaused}
+use Rattle.book_shared.specs.Causes.{IsAmong, MarksCaused}
 use Rattle.book_shared.specs.Plays.{Slot}
 use Rattle.book_shared.specs.Rule.{asks, AreOwn, AreOld, AreOfSources, KeepsAll, HoldsAll}
 use Rattle.book_shared.specs.declared.half.Half.TheVariants.{TheFront, TheBack}
@@ -34,4 +34,4 @@ pub record Ended {D V : Type 0} (disk : DiskOf D) (basis : Basis) (v : View) (sl
   pub mine : AreOwn basis.owners front.history v.mine
   pub olds : AreOld v.seen v.kept v.olds
   pub only : AreOfSources basis front.history
-  pub marks : MarksCaused (λ n. 0 < asks n v) basis.terms.layouts basis.terms.block_limit front.history basis.begun front.marks
+  pub marks : MarksCaused (λ n. 0 < asks n v) (IsAmong v.due) basis.terms.layouts basis.terms.block_limit front.history basis.begun front.marks

@@ -19,7 +19,7 @@ abbrev pub kept_part : View → View
 kept_part v = record v { mine = first_part v.mine }
 
 abbrev pub split_part : View → View
-split_part v = record v { steps = 0; turns = 0; olds = []; asked = []; mine = other_parts v.mine }
+split_part v = record v { steps = 0; turns = 0; olds = []; asked = []; due = []; mine = other_parts v.mine }
 
 -- the longer of two lists
 abbrev pub longer : {A : Type 0} → List A → List A → List A
@@ -38,6 +38,7 @@ joined v w = record {
   from = max v.from w.from;
   olds = (v.seen, v.kept) ∷ (w.seen, w.kept) ∷ (v.olds ++ w.olds);
   asked = v.asked ++ w.asked;
+  due = v.due ++ w.due;
   mine = v.mine ++ w.mine;
   turn = v.turn;
   last = v.last;

@@ -14,12 +14,12 @@ use Rattle.book_owned.specs.FrontHalf.{FrontAccount}
 use Rattle.book_owned.specs.Split.{front_part, back_part}
 use Rattle.book_owned.specs.declared.mark.Mark.{Mark}
 use Rattle.book_shared.specs.Basis.{Basis, Held, Turn, idle, holding, Device, free, resting, handed, writing, written, settled}
-use Rattle.book_shared.specs.Causes.{HandsOver}
+use Rattle.book_shared.specs.Causes.{HandsOver, IsAmong}
 use Rattle.book_shared.specs.Rule.{AreOwn, AreOld, times_in, holds_device, lends_block, IsAnswer, KeepsAll, HoldsAll}
 use Rattle.book_shared.specs.declared.half.Answer.{Answer}
 use Rattle.book_shared.specs.declared.half.Answer.TheVariants.{Marked, Faulted}
 use Rattle.book_shared.specs.declared.half.Half.{Half}
-use Rattle.book_shared.specs.declared.half.Half.TheVariants.{TheFront, TheBack, Told, Out}
+use Rattle.book_shared.specs.declared.half.Half.TheVariants.{TheFront, TheBack, Told, Due, Out}
 use Rattle.book_shared.specs.declared.view.View.{View}
 
 -- what a slot has, and a seat's view with the slots that are out with it
@@ -41,6 +41,15 @@ looked v word = record v { met = word; prior = v.met; steps = v.steps + 1 }
 abbrev pub at_device : View → Device → View
 at_device v device = record v { device = device }
 
+-- after one that announced a sample, which the seat has to append
+abbrev pub wanting : {F B : Type 0} → View → Home (Half F B) → View
+wanting v none = v
+wanting v (some (Told answer)) = v
+wanting v (some (Due sample)) = record v { due = v.due ++ sample.value ∷ [] }
+wanting v (some (TheFront front)) = v
+wanting v (some (TheBack back)) = v
+wanting v (some Out) = v
+
 -- what a turn names of the front
 abbrev pub held_of : {V : Type 0} → FrontAccount V → Held
 held_of front = record { history = front.history; marks = front.marks; from = front.from; stopped = front.stopped; spare = front.spare }
@@ -61,6 +70,7 @@ taking v device word front = record v {
 abbrev pub told_device : {F B : Type 0} → Device → Home (Half F B) → Device
 told_device device none = device
 told_device device (some (Told answer)) = written answer
+told_device device (some (Due sample)) = device
 told_device device (some (TheFront front)) = device
 told_device device (some (TheBack back)) = device
 told_device device (some Out) = device
@@ -104,13 +114,14 @@ given asks v word front = record v {
 }
 
 -- What a seat knew is so of a front. Who has the device and no block out meets a spare block; and who has one out meets no
--- spare block, just the samples that were handed out with it, its marks, and no stop.
+-- spare block, just the samples that were handed out with it, its marks, and no stop. The marks go through no more samples than there are.
 pub record Meets {V : Type 0} (v : View) (front : FrontAccount V) : Type 0 where
   pub seen : IsPrefix v.seen front.history
   pub kept : IsPrefix v.kept front.marks
   pub from : v.from ≤ front.from
   pub knows : v.knows ≡ true → front.stopped ≡ true
   pub mine : AreOwn v.basis.owners front.history v.mine
+  pub within : durable front.marks ≤ length front.history
   pub spare : holds_device v.device ≡ 1 → lends_block v.device ≡ 0 → front.spare ≡ true
   pub awaits : lends_block v.device ≡ 1
       → (front.spare ≡ false) × (front.from ≡ length v.seen) × (front.marks ≡ v.kept) × (front.stopped ≡ false)
@@ -121,12 +132,12 @@ abbrev pub AreFrom : List ℕ → List (ℕ × List Sample) → List Sample → 
 AreFrom owners mine [] = Unit {0}
 AreFrom owners mine (sample ∷ samples) = (0 < times_in (slice_index owners sample.group) mine) × AreFrom owners mine samples
 
--- a turn made no mark, or one that was asked for, or that hands a full block over
-abbrev pub MakesMark : {V : Type 0} → Bool → Terms → Held → FrontAccount V → Type 0
-MakesMark asks terms held front =
+-- a turn made no mark, or one that was asked for, or that hands a full block over for one of these samples
+abbrev pub MakesMark : {V : Type 0} → Bool → List Sample → Terms → Held → FrontAccount V → Type 0
+MakesMark asks due terms held front =
     (front.marks ≡ held.marks)
     ⊎ ((mark : Mark) × (front.marks ≡ held.marks ++ mark ∷ [])
-    × ((asks ≡ true) ⊎ HandsOver terms.layouts terms.block_limit front.history (durable held.marks) mark.through))
+    × ((asks ≡ true) ⊎ HandsOver (IsAmong due) terms.layouts terms.block_limit front.history (durable held.marks) mark.through))
 
 -- the front comes back with the same marks, the same samples handed out, the same stop, and its spare block as it was
 abbrev pub Stays : {V : Type 0} → Held → FrontAccount V → Type 0
@@ -162,7 +173,7 @@ pub record Returns {V : Type 0} (asks : Bool) (v : View) (held : Held) (front : 
   pub one : length added ≤ 1
   pub own : AreFrom v.basis.owners v.mine added
   pub does : Does v.device held front
-  pub makes : MakesMark asks v.basis.terms held front
+  pub makes : MakesMark asks v.due v.basis.terms held front
   pub terms : front.terms ≡ front_part v.basis.terms
 
 -- a seat holds the turn, and may give this front back
@@ -175,6 +186,7 @@ pub record Holds {V : Type 0} (asks : Bool) (v : View) (front : FrontAccount V) 
 abbrev pub Tells : {F B : Type 0} → View → Home (Half F B) → Type 0
 Tells v none = (v.device ≡ free) ⊎ (v.device ≡ resting)
 Tells v (some (Told answer)) = (v.device ≡ writing) × IsAnswer (length v.seen) answer
+Tells v (some (Due sample)) = ⊥
 Tells v (some (TheFront front)) = ⊥
 Tells v (some (TheBack back)) = ⊥
 Tells v (some Out) = ⊥
@@ -197,9 +209,9 @@ module _ {D V : Type 0} where
   abbrev pub Gives : Bool → Step (Slot D V) → Here D V → ℕ → Here D V → Type 0
   Gives asks st m r n = (front : FrontAccount V) → m.1 ≡ (0, TheFront front) ∷ [] → n ≡ (given asks m.0 r front, [])
 
-  -- an exchange of the device's word
+  -- an exchange of the device's word: where it won, the seat has the device, and the sample that it announced is one that it has to append
   abbrev pub TakesDevice : Step (Slot D V) → Here D V → ℕ → Here D V → Type 0
-  TakesDevice st m r n = MatchBool (r == st.first) (n ≡ (at_device m.0 resting, m.1)) (n ≡ m)
+  TakesDevice st m r n = MatchBool (r == st.first) (n ≡ (at_device (wanting m.0 st.said) resting, m.1)) (n ≡ m)
 
   -- a load of it, by which the back goes out: it keeps what was handed out, and its file holds what stood before
   abbrev pub BringsOut : DiskOf D → Step (Slot D V) → Here D V → ℕ → Here D V → Type 0
@@ -231,6 +243,7 @@ fresh basis mine = record {
   from = 0;
   olds = [];
   asked = [];
+  due = [];
   mine = mine;
   turn = idle;
   last = idle;

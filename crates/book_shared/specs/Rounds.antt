@@ -1,5 +1,5 @@
 -- How a call goes on from one of its turns to the next.
-use Rattle.std.specs.Prelude.{ℕ, ◌≡◌, ◌+◌, ◌<◌, false, List, [], ◌∷◌, length, drop, Option as Opt, Some, None}
+use Rattle.std.specs.Prelude.{ℕ, ◌≡◌, ◌==◌, MatchBool, ◌++◌, ◌+◌, ◌<◌, ◌≤◌, false, List, [], ◌∷◌, length, drop, Option as Opt, Some, None}
 use Rattle.mdf_gate.specs.Gated.{Gated}
 use Rattle.mdf_layout.specs.Record.{encoded_size, history_size}
 use Rattle.mdf_layout.specs.declared.sample.Sample.{Sample}
@@ -15,13 +15,14 @@ use Rattle.book_owned.specs.declared.written.Written.{Written}
 use Rattle.book_owned.specs.declared.written.Written.TheVariants.{Done, DiskFault, Nothing}
 use Rattle.book_owned.specs.declared.answer.Flush.{Flush}
 use Rattle.book_shared.specs.Basis.{Basis, holding, free, resting, writing}
+use Rattle.book_shared.specs.Causes.{IsAmong}
 use Rattle.book_shared.specs.Rule.{AreOwn, KeepsAll, IsWrittenBy}
 use Rattle.book_shared.specs.Plays.{Here, at_device, given, held_of}
 use Rattle.book_shared.specs.Turns.{Took, Served, Rests, told_by}
 use Rattle.book_owned.specs.declared.answer.Append.TheVariants as append
 use Rattle.book_shared.specs.declared.answer.Try.{Try}
 use Rattle.book_shared.specs.declared.answer.Try.TheVariants.{Busy, NeedsFlush, Answered}
-use Rattle.book_shared.specs.Told.{AreCounts, Appends, AppendsFront, Tries, TriesFront, Flushes, FlushesSeen, FlushesFront, Asks, IsNoted}
+use Rattle.book_shared.specs.Told.{AreCounts, Appends, AppendsFront, Tries, TriesFront, Flushes, FlushesSeen, FlushesFront, Asks, IsNoted, WasBlocked, IsOneTurn}
 use Rattle.book_shared.specs.declared.half.Answer.{Answer}
 use Rattle.book_shared.specs.declared.half.Answer.TheVariants.{Marked, Faulted}
 use Rattle.book_shared.specs.declared.half.Half.TheVariants.{TheFront, TheBack}
@@ -33,17 +34,34 @@ pub record HasTaken {D V : Type 0} (v : View) (m : Here D V) : Type 0 where
   pub out : m.1 ≡ (0, TheFront front) ∷ []
   pub took : Took v m.0 free front
 
--- the device and the turn were taken, and this is the front
+-- what a seat knows that takes the device, for a sample or for none
+abbrev pub wanted : View → Opt Sample → View
+wanted v None = v
+wanted v (Some sample) = record v { due = v.due ++ sample ∷ [] }
+
+-- an exchange of the device's word for this sample, or for none: it won where it met 0
+abbrev pub TakesFor : {D V : Type 0} → Opt Sample → Here D V → ℕ → Here D V → Type 0
+TakesFor due m r n = MatchBool (r == 0) (n ≡ (at_device (wanted m.0 due) resting, m.1)) (n ≡ m)
+
+-- The device and the turn were taken, and this is the front. A seat that has to append a sample has announced it by then; `v` is what it
+-- knew when it had.
 pub record HasSeized {D V : Type 0} (v : View) (m : Here D V) : Type 0 where
   pub front : FrontAccount V
   pub out : m.1 ≡ (0, TheFront front) ∷ []
   pub took : Took (at_device v resting) m.0 resting front
 
--- that one is not stopped, and its pending records and that of a sample pass the block limit
+-- that one is not stopped, and has samples that are not durable
+pub record HasPending {D V : Type 0} (v : View) (m : Here D V) : Type 0 where
+  pub seized : HasSeized v m
+  pub going : seized.front.stopped ≡ false
+  pub pending : durable seized.front.marks < length seized.front.history
+
+-- it is not stopped, and its pending records and that of a sample pass the block limit
 pub record HasFull {D V : Type 0} (v : View) (m : Here D V) (sample : Sample) : Type 0 where
   pub seized : HasSeized v m
   pub going : seized.front.stopped ≡ false
   pub passes : FrontPasses seized.front sample
+  pub is_due : IsAmong v.due sample
 
 -- the pending records of the front were handed out after the device and the turn were taken
 pub record HasTurned {D V : Type 0} (v : View) (m : Here D V) (what : Handed) : Type 0 where
@@ -100,6 +118,14 @@ pub record HasBoth {D V : Type 0} (disk : DiskOf D) (y : View) (n : Here D V) (a
   pub terms : back_terms disk back ≡ back_part y.basis.terms
   pub own : AreOwn y.basis.owners y.seen y.mine
 
+-- the first turn of a flush that needs a write: nothing changed, and the seat has seen so many samples
+pub record HasSeen (v y : View) (accepted : ℕ) : Type 0 where
+  pub history : List Sample
+  pub served : Served v y history []
+  pub rests : Rests v y
+  pub asked : y.asked ≡ v.asked
+  pub accepted_is : accepted ≡ length y.seen
+
 -- a flush went on to its end
 pub record HasFlushed {D V N : Type 0} (disk : DiskOf D) (view : ViewOf V N) (v x : View) (answer : Flush N) : Type 0 where
   pub flushes : Flushes v x answer
@@ -112,24 +138,33 @@ pub record HasFlushed {D V N : Type 0} (disk : DiskOf D) (view : ViewOf V N) (v 
 -- a try of one turn
 pub record IsTried (V : Type 0) (v x : View) (sample : Sample) (answer : Try) : Type 0 where
   pub tries : Tries v x sample answer
+  pub from : v.from ≤ x.from
   pub rests : Rests v x
   pub asked : x.asked ≡ v.asked
   pub front : TriesFront V x sample answer
 
--- the records that a seat handed out and that of a sample pass the block limit
+-- the records that a seat handed out and that of a sample, which the seat had to append, pass the block limit
 abbrev pub WasFull : View → Sample → Type 0
-WasFull y sample = y.basis.terms.block_limit < history_size y.basis.terms.layouts (drop (durable y.kept) y.seen) + encoded_size y.basis.terms.layouts sample
+WasFull y sample =
+    (y.basis.terms.block_limit < history_size y.basis.terms.layouts (drop (durable y.kept) y.seen) + encoded_size y.basis.terms.layouts sample) × IsAmong y.due sample
 
--- what a round of an append comes to: nothing was accepted and the block is full again, or the sample has its answer
+-- what a round of an append comes to: nothing was accepted and the block is full again behind a mark that was made, or the sample
+-- has its answer
 abbrev pub IsRound : {D V N : Type 0} → DiskOf D → ViewOf V N → View → View → Sample → Try → Type 0
 IsRound disk view v x sample (Busy word back) = ⊥
-IsRound disk view v x sample (NeedsFlush held size limit back) = ((history : List Sample) × Served v x history []) × (back ≡ sample)
+IsRound disk view v x sample (NeedsFlush held size limit back) = ((history : List Sample) × Served v x history []) × (back ≡ sample) × (length v.kept < length x.kept)
 IsRound disk view v x sample (Answered answer) = Appends v x sample answer × AppendsFront disk view x sample answer
 
 pub record HasTried {D V N : Type 0} (disk : DiskOf D) (view : ViewOf V N) (v x : View) (sample : Sample) (answer : Try) : Type 0 where
   pub round : IsRound disk view v x sample answer
   pub rests : Rests v x
   pub asked : x.asked ≡ v.asked
+
+-- a round has one turn, but where the sample did not fit
+abbrev pub IsOneRound : View → View → Sample → Try → Type 0
+IsOneRound v x sample (Busy word back) = Unit {0}
+IsOneRound v x sample (NeedsFlush held size limit back) = WasBlocked v x sample
+IsOneRound v x sample (Answered answer) = IsOneTurn v x sample
 
 -- the answer of a round: that of its write where it met a fault, and else that of its put
 abbrev pub round_answer : Opt Answer → Try → Try

@@ -16,7 +16,7 @@ use Rattle.book_owned.specs.FrontHalf.{FrontAccount}
 use Rattle.book_owned.specs.Split.{front_part, back_part}
 use Rattle.book_owned.specs.declared.mark.Mark.{Mark}
 use Rattle.book_shared.specs.Basis.{Basis, Turn, idle, holding, Device, free, resting, handed, writing, written, settled}
-use Rattle.book_shared.specs.Causes.{MarksCaused, times_of}
+use Rattle.book_shared.specs.Causes.{AnyOf, IsAmong, MarksCaused, times_of}
 use Rattle.book_shared.specs.declared.half.Answer.{Answer}
 use Rattle.book_shared.specs.declared.half.Answer.TheVariants.{Marked, Faulted}
 use Rattle.book_shared.specs.declared.half.Half.{Half}
@@ -152,6 +152,7 @@ pub record Knows (basis : Basis) (w : World) (v : View) : Type 0 where
   pub device : KnowsDevice w v
   pub basis_is : 0 < length v.mine → v.basis ≡ basis
   pub asked : 0 < length v.asked → 0 < length v.mine
+  pub due : 0 < length v.due → 0 < length v.mine
 
 -- Of the words: the first counts the takings and the givings, so it is odd just while one seat holds the front; the second is
 -- 1 just while one seat has the device.
@@ -178,6 +179,10 @@ pub record SeatsKnow (basis : Basis) (w : World) (views : List View) : Type 0 wh
 -- one of the seats asked for a mark through so many samples
 abbrev pub AskedOf : List View → ℕ → Type 0
 AskedOf views n = 0 < total (asks n) views
+
+-- one of the seats had to append this sample
+abbrev pub DueOf : List View → Sample → Type 0
+DueOf views sample = AnyOf (λ v. IsAmong v.due sample) views
 
 -- the front is as the seats share it, and its terms are those
 pub record Has {V : Type 0} (basis : Basis) (w : World) (front : FrontAccount V) : Type 0 where
@@ -249,4 +254,4 @@ pub record Runs {D V : Type 0} (disk : DiskOf D) (basis : Basis) (s : State (Hal
   pub turns : TurnsCount shared.word device s.views
   pub seats : SeatsKnow basis shared s.views
   pub slots : SlotsHold disk basis shared s.views s.homes
-  pub marks : MarksCaused (AskedOf s.views) basis.terms.layouts basis.terms.block_limit shared.history basis.begun shared.marks
+  pub marks : MarksCaused (AskedOf s.views) (DueOf s.views) basis.terms.layouts basis.terms.block_limit shared.history basis.begun shared.marks

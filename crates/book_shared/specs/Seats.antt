@@ -4,7 +4,9 @@ use mathlib.Core.List.{IsPrefix}
 use Rattle.atomic_table.specs.Seated.{TableId}
 use Rattle.mdf_layout.specs.History.{source_samples}
 use Rattle.book_owned.specs.Account.{Account, Terms}
+use Rattle.mdf_layout.specs.declared.sample.Sample.{Sample}
 use Rattle.book_shared.specs.Basis.{Basis}
+use Rattle.book_shared.specs.Causes.{AnyOf, IsAmong}
 use Rattle.book_shared.specs.Plays.{fresh}
 use Rattle.book_shared.specs.Place.{Common, Place, own_part}
 use Rattle.book_shared.specs.Rule.{asks, total}
@@ -37,6 +39,10 @@ HasNumber number (seat ∷ seats) = (seat.number ≡ number) ⊎ HasNumber numbe
 -- one of the seats asked for a mark through so many samples
 abbrev pub AskedBy : List Place → ℕ → Type 0
 AskedBy seats n = 0 < total (λ seat. asks n seat.know) seats
+
+-- one of the seats had to append this sample
+abbrev pub DueBy : List Place → Sample → Type 0
+DueBy seats sample = AnyOf (λ seat. IsAmong seat.know.due sample) seats
 
 -- The one history begins with what the seat had seen, and the marks with those that it had kept; the book is stopped where
 -- the seat knows so; and the seat's samples are all that the history has of its source.

@@ -1,12 +1,13 @@
 -- The answers of a shared book, in terms of what the seat knows after the call.
-use Rattle.std.specs.Prelude.{ℕ, ◌≡◌, ◌+◌, ◌<◌, ◌≤◌, ◌⊎◌, true, false, List, [], ◌∷◌, ◌++◌, length, take, drop}
+use Rattle.std.specs.Prelude.{ℕ, ◌≡◌, ◌+◌, ◌<◌, ◌≤◌, ◌⊎◌, true, false, List, [], ◌∷◌, ◌++◌, length, take, drop, Result, Ok, Err}
+use mathlib.Core.List.{IsPrefix}
 use Rattle.mdf_format.specs.Cause.{Rose}
 use Rattle.mdf_layout.specs.Record.{cost_of, encoded_size, history_cost, history_size}
 use Rattle.mdf_layout.specs.declared.sample.Sample.{Sample}
 use Rattle.mdf_disk.specs.declared.disk.Disk.{Ghosts as DiskOf}
 use Rattle.book_owned.specs.declared.view.Shown.{Ghosts as ViewOf}
-use Rattle.book_owned.specs.Marks.{last_mark}
-use Rattle.book_owned.specs.FrontHalf.{FrontAccount, FrontRoom, FrontPasses, FrontFits, PutTells, DoneTells, behind}
+use Rattle.book_owned.specs.Marks.{last_mark, durable}
+use Rattle.book_owned.specs.FrontHalf.{FrontAccount, AreThroughs, FrontRoom, FrontPasses, FrontFits, PutTells, FinishTells, DoneTells, behind}
 use Rattle.book_owned.specs.Split.{front_part}
 use Rattle.book_owned.specs.Answers.{accepted_by}
 use Rattle.book_owned.specs.declared.mark.Mark.{Mark}
@@ -14,6 +15,7 @@ use Rattle.book_owned.specs.declared.answer.Append.{Append}
 use Rattle.book_owned.specs.declared.answer.Append.TheVariants.{Accepted, SessionFull, Stopped, DiskFault, Memory}
 use Rattle.book_owned.specs.declared.answer.Flush.{Flush}
 use Rattle.book_owned.specs.declared.answer.Flush.TheVariants as flush
+use Rattle.book_owned.specs.declared.written.Written.TheVariants.{Nothing}
 use Rattle.book_shared.specs.Basis.{holding}
 use Rattle.book_shared.specs.Plays.{held_of}
 use Rattle.book_shared.specs.Rule.{AreOwn}
@@ -54,6 +56,20 @@ pub record IsFull (v u : View) (sample : Sample) (held size limit : ℕ) : Type 
   pub room : history_cost u.basis.terms.layouts u.seen + cost_of u.basis.terms.layouts sample ≤ u.basis.terms.session_limit
   pub going : u.knows ≡ false
 
+-- The pending records and that of the sample passed the block limit, as the seat met them in a turn of this call: it had a beginning
+-- of the history that goes on from what the seat had seen, and no fewer samples were handed out than the seat knew of.
+pub record WasBlocked (v u : View) (sample : Sample) : Type 0 where
+  pub history : List Sample
+  pub from : ℕ
+  pub later : IsPrefix v.seen history
+  pub seen : IsPrefix history u.seen
+  pub handed : v.from ≤ from
+  pub passes : u.basis.terms.block_limit < history_size u.basis.terms.layouts (drop from history) + encoded_size u.basis.terms.layouts sample
+
+-- an append has one turn, but where its sample did not fit
+abbrev pub IsOneTurn : View → View → Sample → Type 0
+IsOneTurn v u sample = (u.turns ≡ v.turns + 1) ⊎ WasBlocked v u sample
+
 -- an answer that no call of the disk led to
 abbrev pub IsNoFault : Append → Type 0
 IsNoFault (Accepted place) = Unit {0}
@@ -90,6 +106,15 @@ Puts old new sample (NeedsFlush held size limit back) =
     (old.stopped ≡ false) × FrontRoom old sample × (new ≡ old) × (held ≡ history_size old.terms.layouts (behind old))
     × (size ≡ encoded_size old.terms.layouts sample) × (limit ≡ old.terms.block_limit) × FrontPasses old sample × (back ≡ sample)
 Puts old new sample (Answered answer) = PutTells old new sample answer × NeedsNoDisk old sample answer
+
+-- A flush of so many samples that needs no write: the front is stopped; or they are durable and the spare block is there, and the
+-- durable samples are shown. One that needs a write leaves the front, and its answer says how many samples there are.
+abbrev pub FlushesNow : {V N : Type 0} → ViewOf V N → FrontAccount V → FrontAccount V → ℕ → Result (Flush N) ℕ → Type 0
+FlushesNow view old new wanted (Ok answer) =
+    ((old.stopped ≡ true) × (new ≡ old) × (answer ≡ flush.Stopped (last_mark old.marks)))
+    ⊎ ((old.spare ≡ true) × (wanted ≤ durable old.marks) × FinishTells view old new Nothing answer × AreThroughs new.marks)
+FlushesNow view old new wanted (Err accepted) =
+    (old.stopped ≡ false) × (new ≡ old) × (accepted ≡ length old.history) × (old.spare ≡ true → durable old.marks < wanted)
 
 -- these marks have one with so many samples
 pub record HasMark (marks : List Mark) (through : ℕ) : Type 0 where

@@ -1,5 +1,5 @@
 -- What a seat knows after a turn, and after none.
-use Rattle.std.specs.Prelude.{ℕ, ◌≡◌, ◌+◌, ◌%◌, ◌<◌, ◌≤◌, ◌⊎◌, true, List, ◌∷◌, ◌++◌, length, take, All, Option as Opt, Some, None}
+use Rattle.std.specs.Prelude.{ℕ, ◌≡◌, ◌+◌, ◌*◌, ◌%◌, ◌<◌, ◌≤◌, ◌⊎◌, true, List, ◌∷◌, ◌++◌, length, take, All, Option as Opt, Some, None}
 use mathlib.Core.Option.{Option as Home, some, none}
 use mathlib.Core.List.{IsPrefix}
 use Rattle.atomic_table.specs.Table.{rest}
@@ -13,6 +13,7 @@ use Rattle.book_owned.specs.FrontHalf.{FrontAccount}
 use Rattle.book_owned.specs.declared.mark.Mark.{Mark}
 use Rattle.book_owned.specs.declared.written.Written.{Written}
 use Rattle.book_shared.specs.Basis.{Device, free, resting, writing, written, idle, holding}
+use Rattle.book_shared.specs.Causes.{IsAmong}
 use Rattle.book_shared.specs.Rule.{AreOwn, IsAnswer}
 use Rattle.book_shared.specs.Plays.{Here, Slot, Meets, held_of}
 use Rattle.book_shared.specs.Place.{own_part, IsSingle}
@@ -66,6 +67,14 @@ pub record Served (v u : View) (history added : List Sample) : Type 0 where
   pub olds : u.olds ≡ v.olds
   pub basis_is : u.basis ≡ v.basis
   pub turns : v.turns < u.turns
+
+-- There were at most so many turns, and three more for each mark that was made since the seat had last given the front back.
+abbrev pub HasTurnsFor : ℕ → View → View → Type 0
+HasTurnsFor most v u = u.turns + 3 * length v.kept ≤ v.turns + most + 3 * length u.kept
+
+-- the seat had to append this sample, and no other since
+abbrev pub OnlyDue : View → View → Sample → Type 0
+OnlyDue v u sample = (other : Sample) → IsAmong u.due other → IsAmong v.due other ⊎ (sample ≡ other)
 
 -- No turn was taken, since the word is this one: it was odd, or at its end, or it rose between the load and the exchange.
 pub record IsBusy (v u : View) (word : ℕ) : Type 0 where

@@ -1,11 +1,11 @@
 //! An append of a shared book over the seat at the table, round by round.
-ghost use Rattle.std.specs.Prelude.{ℕ, ◌≡◌, ◌+◌, ◌<◌, ◌≤◌, [], ◌∷◌, slice_index};
+ghost use Rattle.std.specs.Prelude.{◌≡◌, ◌+◌, ◌<◌, ◌≤◌, [], slice_index};
 ghost use Rattle.mdf_layout.specs.Record.{SampleFits, encoded_size};
 ghost use Rattle.book_shared.specs.Basis.{free};
 ghost use Rattle.book_shared.specs.Place.{IsSingle};
-ghost use Rattle.book_shared.specs.Rounds.{HasBoth, HasFull, HasTried, round_answer, WasFull};
-ghost use Rattle.book_shared.specs.Told.{Appends, AppendsFront};
-ghost use Rattle.book_shared.specs.Turns.{Rests};
+ghost use Rattle.book_shared.specs.Rounds.{HasBoth, HasFull, HasTried, IsOneRound, round_answer, WasFull};
+ghost use Rattle.book_shared.specs.Told.{Appends, AppendsFront, IsOneTurn};
+ghost use Rattle.book_shared.specs.Turns.{HasTurnsFor, OnlyDue, Rests};
 ghost use Rattle.book_shared.specs.declared.view.View.{View};
 
 use crate::Try;
@@ -49,6 +49,8 @@ impl<D: Disk, V: Shown> SharedBook<D, V> {
             × SampleFits y.basis.terms.layouts sample × (encoded_size y.basis.terms.layouts sample ≤ y.basis.terms.block_limit) × WasFull y sample }
         ensures table { seat.new.table_id ≡ seat.old.table_id }
         ensures no_turn { seat.new.me.1 ≡ [] }
+        ensures turns { seat.new.me.0.turns ≡ seat.old.me.0.turns }
+        ensures due { seat.new.me.0.due ≡ seat.old.me.0.due }
         ensures tried { (y : View) → HasBoth D.Disk y seat.old.me written → IsSingle y (slice_index y.basis.owners sample.group) → HasTried D.Disk V.Shown y seat.new.me.0 sample result }
     {
         let told = answer_of(&written);
@@ -72,6 +74,8 @@ impl<D: Disk, V: Shown> SharedBook<D, V> {
             × SampleFits v.basis.terms.layouts sample × (encoded_size v.basis.terms.layouts sample ≤ v.basis.terms.block_limit) }
         ensures table { seat.new.table_id ≡ seat.old.table_id }
         ensures no_turn { seat.new.me.1 ≡ [] }
+        ensures turns { seat.new.me.0.turns ≡ seat.old.me.0.turns + 1 }
+        ensures due { seat.new.me.0.due ≡ seat.old.me.0.due }
         ensures tried { (v : View) → HasFull v seat.old.me sample → IsSingle v (slice_index v.basis.owners sample.group) → HasTried D.Disk V.Shown v seat.new.me.0 sample result }
     {
         match self.hand_out(seat) {
@@ -99,9 +103,11 @@ impl<D: Disk, V: Shown> SharedBook<D, V> {
         requires size { encoded_size seat.old.me.0.basis.terms.layouts sample ≤ seat.old.me.0.basis.terms.block_limit }
         ensures table { seat.new.table_id ≡ seat.old.table_id }
         ensures no_turn { seat.new.me.1 ≡ [] }
+        ensures turns { seat.new.me.0.turns ≤ seat.old.me.0.turns + 2 }
+        ensures due { OnlyDue seat.old.me.0 seat.new.me.0 sample }
         ensures tried { HasTried D.Disk V.Shown seat.old.me.0 seat.new.me.0 sample result }
     {
-        let word = self.device_turn(rt, seat);
+        let word = self.device_turn(rt, seat, Some(&sample));
         match self.try_out(seat, sample) {
             Try::NeedsFlush {
                 held: _,
@@ -132,6 +138,9 @@ impl<D: Disk, V: Shown> SharedBook<D, V> {
         requires size { encoded_size seat.old.me.0.basis.terms.layouts sample ≤ seat.old.me.0.basis.terms.block_limit }
         ensures table { seat.new.table_id ≡ seat.old.table_id }
         ensures no_turn { seat.new.me.1 ≡ [] }
+        ensures turns { seat.new.me.0.turns ≤ seat.old.me.0.turns + 3 }
+        ensures due { OnlyDue seat.old.me.0 seat.new.me.0 sample }
+        ensures one { IsOneRound seat.old.me.0 seat.new.me.0 sample result }
         ensures tried { HasTried D.Disk V.Shown seat.old.me.0 seat.new.me.0 sample result }
     {
         let word = self.seize(rt, seat, None);
@@ -162,6 +171,9 @@ impl<D: Disk, V: Shown> SharedBook<D, V> {
         requires size { encoded_size seat.old.me.0.basis.terms.layouts sample ≤ seat.old.me.0.basis.terms.block_limit }
         ensures table { seat.new.table_id ≡ seat.old.table_id }
         ensures no_turn { seat.new.me.1 ≡ [] }
+        ensures turns { HasTurnsFor 3 seat.old.me.0 seat.new.me.0 }
+        ensures due { OnlyDue seat.old.me.0 seat.new.me.0 sample }
+        ensures one { IsOneTurn seat.old.me.0 seat.new.me.0 sample }
         ensures rests { Rests seat.old.me.0 seat.new.me.0 }
         ensures appends { Appends seat.old.me.0 seat.new.me.0 sample result }
         ensures asked { seat.new.me.0.asked ≡ seat.old.me.0.asked }

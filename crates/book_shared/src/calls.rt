@@ -1,5 +1,6 @@
 //! The calls of a shared book that make one step at its table each, and those that work on what is out with a seat.
-ghost use Rattle.std.specs.Prelude.{ℕ, ◌≡◌, ◌+◌, ◌%◌, ◌<◌, ◌≤◌, ◌⊎◌, [], ◌∷◌, true, false, length, take, All, List, Option, IfOk, IfErr};
+ghost use Rattle.std.specs.Prelude.{ℕ, ◌≡◌, ◌+◌, ◌%◌, ◌<◌, ◌≤◌, ◌⊎◌, [], ◌∷◌, true, false, length, take, None, Some, unwrap_or, IfOk, IfErr};
+ghost use Rattle.std.specs.Option.{option_copied};
 ghost use mathlib.Core.Option.{none, some};
 ghost use Rattle.atomic_table.specs.Table.{step, rest};
 ghost use Rattle.mdf_gate.specs.Gated.{Gated};
@@ -8,12 +9,12 @@ ghost use Rattle.mdf_layout.specs.declared.sample.Sample.{Sample};
 ghost use Rattle.book_owned.specs.BackHalf.{back_terms};
 ghost use Rattle.book_owned.specs.FrontHalf.{FrontAccount, AreThroughs, HandTells, IsAwaited, FinishTells};
 ghost use Rattle.book_owned.specs.Split.{back_part};
-ghost use Rattle.book_owned.specs.declared.mark.Mark.{Mark};
 ghost use Rattle.book_shared.specs.Basis.{free, resting, handed, writing, written};
 ghost use Rattle.book_shared.specs.Plays.{looked, at_device, given, settled_by, Holds, Takes, BringsOut};
+ghost use Rattle.book_shared.specs.Rounds.{wanted, TakesFor};
 ghost use Rattle.book_shared.specs.Rule.{IsAnswer, KeepsAll, IsWrittenBy};
 ghost use Rattle.book_shared.specs.Turns.{Took, IsBusy, MayTake, Works, Writes, WritesOut, TellsBy, said_of, told_by};
-ghost use Rattle.book_shared.specs.Told.{Puts};
+ghost use Rattle.book_shared.specs.Told.{Puts, FlushesNow};
 ghost use Rattle.book_shared.specs.declared.half.Answer.{Answer};
 ghost use Rattle.book_shared.specs.declared.half.Half.TheVariants.{TheFront, TheBack, Told};
 
@@ -26,6 +27,7 @@ use book_owned::{Flush, Front, Handed, Shown, Written};
 use mdf_disk::Disk;
 use mdf_gate::Block;
 use mdf_layout::Sample;
+use std::snapshot::Snapshot;
 use std::sync::Wait;
 use std::sync::atomic::Ordering::SeqCst;
 use std::thread::Threads;
@@ -36,27 +38,52 @@ use std::time::Duration;
 /// made for each sample.
 const NAP: u64 = 100;
 
+/// How many sleeps a seat that wants to flush makes at most before those who wait for the device: no more seats than that wait.
+const NAPS: u64 = 16;
+
 /// The greatest even turn word. From it no turn is taken any more.
 const LAST: u64 = 18446744073709551614;
 
 /// Puts a sample into the front where that needs no call of the disk.
+#[inline(always)]
 fn put_in<V: Shown>(front: &mut Front<V>, sample: Sample) -> Try
     requires fits { SampleFits front.old.terms.layouts sample }
     requires size { encoded_size front.old.terms.layouts sample ≤ front.old.terms.block_limit }
     ensures puts { Puts front.old front.new sample result }
 {
+    if !front.passes_block(&sample) {
+        return Try::Answered(front.put(sample));
+    }
     if let Some(answer) = front.refusal(&sample) {
         return Try::Answered(answer);
     }
-    if front.passes_block(&sample) {
-        return Try::NeedsFlush {
-            held: front.pending(),
-            size: front.size_of(&sample),
-            limit: front.block_limit(),
-            sample,
-        };
+    Try::NeedsFlush {
+        held: front.pending(),
+        size: front.size_of(&sample),
+        limit: front.block_limit(),
+        sample,
     }
-    Try::Answered(front.put(sample))
+}
+
+/// Answers a flush of the first samples, so many or all, where that needs no write: the front is stopped, or they are durable. At
+/// `Err` it needs one, and this is how many were accepted.
+fn flush_in<V: Shown, R: Threads + Wait + Sync>(
+    front: &mut Front<V>,
+    rt: &R,
+    through: Option<u64>,
+) -> Result<Flush<V::Note>, u64>
+    ensures flushes { FlushesNow V.Shown front.old front.new (unwrap_or through (length front.old.history)) result }
+{
+    if front.stopped() {
+        return Ok(Flush::Stopped {
+            mark: front.last_mark(),
+        });
+    }
+    let accepted = front.history_len();
+    if front.spare() && front.last_mark().through >= through.unwrap_or(accepted) {
+        return Ok(front.finish(rt, Written::Nothing));
+    }
+    Err(accepted)
 }
 
 impl<D: Disk, V: Shown> SharedBook<D, V> {
@@ -105,6 +132,7 @@ impl<D: Disk, V: Shown> SharedBook<D, V> {
             .compare_exchange_with::<Take>(seat, 0, word, word + 1, &said);
         match said {
             Half::Told(_answer) => found,
+            Half::Due(_sample) => unreachable!(),
             Half::Out => found,
             Half::TheFront(_front) => unreachable!(),
             Half::TheBack(_back) => unreachable!(),
@@ -201,33 +229,85 @@ impl<D: Disk, V: Shown> SharedBook<D, V> {
         }
     }
 
-    /// An exchange of the device's word. True where the seat has the device then.
-    fn take_device(&self, seat: &mut Chair<D, V>) -> bool
+    /// An exchange of the device's word, for a flush.
+    fn take_free(&self, seat: &mut Chair<D, V>) -> u64
         requires table { seat.old.table_id ≡ self.now.table }
         requires no_turn { seat.old.me.1 ≡ [] }
         requires no_device { seat.old.me.0.device ≡ free }
         requires some_source { 0 < length seat.old.me.0.mine }
         ensures table { seat.new.table_id ≡ seat.old.table_id }
-        ensures took { result ≡ true → seat.new.me ≡ (at_device seat.old.me.0 resting, seat.old.me.1) }
-        ensures kept { result ≡ false → seat.new.me ≡ seat.old.me }
+        ensures takes { TakesFor None seat.old.me result seat.new.me }
     {
         self.table
             .shared
             .compare_exchange::<TakeDevice>(seat, 1, 0, 1)
-            == 0
     }
 
-    /// Takes the device, and waits for it where another seat has it.
-    pub(crate) fn seize_device<R: Wait>(&self, rt: &R, seat: &mut Chair<D, V>)
+    /// The same for a sample that the seat has to append, and announces.
+    fn take_due(&self, seat: &mut Chair<D, V>, sample: &Sample) -> u64
         requires table { seat.old.table_id ≡ self.now.table }
         requires no_turn { seat.old.me.1 ≡ [] }
         requires no_device { seat.old.me.0.device ≡ free }
         requires some_source { 0 < length seat.old.me.0.mine }
         ensures table { seat.new.table_id ≡ seat.old.table_id }
-        ensures seized { seat.new.me ≡ (at_device seat.old.me.0 resting, seat.old.me.1) }
+        ensures takes { TakesFor (Some sample.now) seat.old.me result seat.new.me }
     {
+        let said = Half::Due(Snapshot::of(sample));
+        let found = self
+            .table
+            .shared
+            .compare_exchange_with::<TakeDevice>(seat, 1, 0, 1, &said);
+        match said {
+            Half::Due(_sample) => found,
+            Half::TheFront(_front) => unreachable!(),
+            Half::TheBack(_back) => unreachable!(),
+            Half::Told(_answer) => unreachable!(),
+            Half::Out => unreachable!(),
+        }
+    }
+
+    /// Either of them. True where the seat has the device then.
+    fn take_device(&self, seat: &mut Chair<D, V>, due: Option<&Sample>) -> bool
+        requires table { seat.old.table_id ≡ self.now.table }
+        requires no_turn { seat.old.me.1 ≡ [] }
+        requires no_device { seat.old.me.0.device ≡ free }
+        requires some_source { 0 < length seat.old.me.0.mine }
+        ensures table { seat.new.table_id ≡ seat.old.table_id }
+        ensures took { result ≡ true → seat.new.me ≡ (at_device (wanted seat.old.me.0 (option_copied due.entry)) resting, seat.old.me.1) }
+        ensures kept { result ≡ false → seat.new.me ≡ seat.old.me }
+    {
+        match due {
+            None => self.take_free(seat) == 0,
+            Some(sample) => self.take_due(seat, sample) == 0,
+        }
+    }
+
+    /// Sleeps while others wait for the device, until it was given back some times. A seat that has just written finds the device
+    /// free again before any of those wakes who waited for it, whose samples it may have written: without this it would take the
+    /// device once more, for its next samples alone, and they would wait for that write too. So they go first, need no write, and their
+    /// next samples are written with its own.
+    pub(crate) fn let_pass<R: Wait>(&self, rt: &R) {
+        for _ in 0..NAPS {
+            if self.waiting.load(SeqCst) == 0 {
+                return;
+            }
+            self.sleep(rt);
+        }
+    }
+
+    /// Takes the device, and waits for it where another seat has it.
+    pub(crate) fn seize_device<R: Wait>(&self, rt: &R, seat: &mut Chair<D, V>, due: Option<&Sample>)
+        requires table { seat.old.table_id ≡ self.now.table }
+        requires no_turn { seat.old.me.1 ≡ [] }
+        requires no_device { seat.old.me.0.device ≡ free }
+        requires some_source { 0 < length seat.old.me.0.mine }
+        ensures table { seat.new.table_id ≡ seat.old.table_id }
+        ensures seized { seat.new.me ≡ (at_device (wanted seat.old.me.0 (option_copied due.entry)) resting, seat.old.me.1) }
+    {
+        self.waiting.fetch_add(1, SeqCst);
         for _ in rt.forever() {
-            if self.take_device(seat) {
+            if self.take_device(seat, due) {
+                self.waiting.fetch_sub(1, SeqCst);
                 return;
             }
             self.sleep(rt);
@@ -265,6 +345,8 @@ impl<D: Disk, V: Shown> SharedBook<D, V> {
             × IsWrittenBy D.Disk seat.old.me.0.basis back seat.old.me.0.seen seat.old.me.0.kept answer
             × (back_terms D.Disk back ≡ back_part seat.old.me.0.basis.terms) }
         ensures table { seat.new.table_id ≡ seat.old.table_id }
+        ensures turns { seat.new.me.0.turns ≡ seat.old.me.0.turns }
+        ensures due { seat.new.me.0.due ≡ seat.old.me.0.due }
         ensures back_in { (back : Gated D) (front : FrontAccount V) → seat.old.me.1 ≡ (0, TheFront front) ∷ (1, TheBack back) ∷ []
             → seat.new.me ≡ (at_device seat.old.me.0 (settled_by seat.old.me.0.device), (0, TheFront front) ∷ []) }
     {
@@ -273,6 +355,7 @@ impl<D: Disk, V: Shown> SharedBook<D, V> {
     }
 
     /// Tries to put a sample into the front that is out with the seat, where it lies.
+    #[inline(always)]
     pub(crate) fn try_out(&self, seat: &mut Chair<D, V>, sample: Sample) -> Try
         requires table { seat.old.table_id ≡ self.now.table }
         requires front { (front : FrontAccount V) × (seat.old.me.1 ≡ (0, TheFront front) ∷ rest seat.old.me.1) × MayTake front sample }
@@ -284,6 +367,29 @@ impl<D: Disk, V: Shown> SharedBook<D, V> {
             Half::TheFront(front) => put_in(front, sample),
             Half::TheBack(_back) => unreachable!(),
             Half::Told(_answer) => unreachable!(),
+            Half::Due(_sample) => unreachable!(),
+            Half::Out => unreachable!(),
+        }
+    }
+
+    /// Answers a flush by the front that is out with the seat, where that needs no write.
+    pub(crate) fn flush_out<R: Threads + Wait + Sync>(
+        &self,
+        rt: &R,
+        seat: &mut Chair<D, V>,
+        through: Option<u64>,
+    ) -> Result<Flush<V::Note>, u64>
+        requires table { seat.old.table_id ≡ self.now.table }
+        requires front { (front : FrontAccount V) × (seat.old.me.1 ≡ (0, TheFront front) ∷ rest seat.old.me.1) }
+        ensures table { seat.new.table_id ≡ seat.old.table_id }
+        ensures view { seat.new.me.0 ≡ seat.old.me.0 }
+        ensures works { Works seat.old.me seat.new.me (λ old new. FlushesNow V.Shown old new (unwrap_or through (length old.history)) result) }
+    {
+        match seat.slot_mut(&self.table.shared, 0) {
+            Half::TheFront(front) => flush_in(front, rt, through),
+            Half::TheBack(_back) => unreachable!(),
+            Half::Told(_answer) => unreachable!(),
+            Half::Due(_sample) => unreachable!(),
             Half::Out => unreachable!(),
         }
     }
@@ -300,6 +406,7 @@ impl<D: Disk, V: Shown> SharedBook<D, V> {
             Half::TheFront(front) => front.hand_over(),
             Half::TheBack(_back) => unreachable!(),
             Half::Told(_answer) => unreachable!(),
+            Half::Due(_sample) => unreachable!(),
             Half::Out => unreachable!(),
         }
     }
@@ -321,6 +428,7 @@ impl<D: Disk, V: Shown> SharedBook<D, V> {
             Half::TheFront(front) => front.finish(rt, written),
             Half::TheBack(_back) => unreachable!(),
             Half::Told(_answer) => unreachable!(),
+            Half::Due(_sample) => unreachable!(),
             Half::Out => unreachable!(),
         }
     }
@@ -338,6 +446,7 @@ impl<D: Disk, V: Shown> SharedBook<D, V> {
             Half::TheBack(back) => back.write(through, block),
             Half::TheFront(_front) => unreachable!(),
             Half::Told(_answer) => unreachable!(),
+            Half::Due(_sample) => unreachable!(),
             Half::Out => unreachable!(),
         }
     }

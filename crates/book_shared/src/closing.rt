@@ -4,14 +4,15 @@ ghost use mathlib.Core.Option.{some};
 ghost use lib.ListN.{get_elem?};
 ghost use Rattle.std.specs.Mem.Slots.{slots_items, slots_len, IsFull};
 ghost use Rattle.mdf_gate.specs.Gated.{Gated};
+ghost use Rattle.mdf_layout.specs.declared.sample.Sample.{Sample};
 ghost use Rattle.book_owned.specs.FrontHalf.{FrontAccount};
 ghost use Rattle.book_owned.specs.Split.{AreHalves, book_of_halves};
 ghost use Rattle.book_shared.specs.Basis.{idle, free};
 ghost use Rattle.book_shared.specs.Covers.{AreCovered};
 ghost use Rattle.book_shared.specs.Place.{IsSingle};
-ghost use Rattle.book_shared.specs.Causes.{MarksCaused};
+ghost use Rattle.book_shared.specs.Causes.{IsAmong, MarksCaused};
 ghost use Rattle.book_shared.specs.Rule.{AreOfSources, asks, total};
-ghost use Rattle.book_shared.specs.Seats.{AreOf, AskedBy, HasNumber, Closes};
+ghost use Rattle.book_shared.specs.Seats.{AreOf, AskedBy, DueBy, HasNumber, Closes};
 ghost use Rattle.book_shared.specs.declared.half.Half.TheVariants.{TheFront, TheBack};
 
 use crate::half::Half;
@@ -50,6 +51,7 @@ fn gather<D: Disk, V: Shown>(book: &SharedBook<D, V>, mut seats: Vec<SourceSeat>
     ensures no_device { result.me.0.device ≡ free }
     ensures covers { AreCovered result.me.0 seats.items }
     ensures asked { (n : ℕ) → asks n result.me.0 ≡ total (λ seat. asks n seat.know) seats.items }
+    ensures due { (sample : Sample) → IsAmong result.me.0.due sample → DueBy seats.items sample }
 {
     let mut whole = match seats.pop() {
         Some(seat) => chair_of(seat),
@@ -86,10 +88,14 @@ impl<D: Disk, V: Shown> SharedBook<D, V> {
         ensures terms { result.terms ≡ self.basis.terms }
         ensures seats { Closes self.basis result seats.items }
         ensures sources { AreOfSources self.basis result.history }
-        ensures marks { MarksCaused (AskedBy seats.items) self.basis.terms.layouts self.basis.terms.block_limit result.history self.basis.begun result.marks }
+        ensures marks { MarksCaused (AskedBy seats.items) (DueBy seats.items) self.basis.terms.layouts self.basis.terms.block_limit result.history self.basis.begun result.marks }
     {
         let whole = gather(&self, seats);
-        let SharedBook { table, flushes: _ } = self;
+        let SharedBook {
+            table,
+            flushes: _,
+            waiting: _,
+        } = self;
         book_of(table.close_with(whole))
     }
 }

@@ -1,5 +1,7 @@
 //! What lies in the slots of a shared book.
 use book_owned::Mark;
+use mdf_layout::Sample;
+use std::snapshot::Snapshot;
 
 /// What a write of the device led to.
 #[derive(Clone, Copy)]
@@ -16,6 +18,8 @@ pub enum Half<F, B> {
     TheBack(B),
     /// What a seat announces when it takes the turn after a write. It lies in no slot.
     Told(Answer),
+    /// What a seat announces that takes the device for it: the sample that it has to append. It has no bytes, and lies in no slot.
+    Due(Snapshot<Sample>),
     /// Nothing.
     Out,
 }

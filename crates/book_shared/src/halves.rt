@@ -13,6 +13,7 @@ pub(crate) fn front_of<F, B>(half: Half<F, B>) -> F
         Half::TheFront(front) => front,
         Half::TheBack(_back) => unreachable!(),
         Half::Told(_answer) => unreachable!(),
+        Half::Due(_sample) => unreachable!(),
         Half::Out => unreachable!(),
     }
 }
@@ -26,6 +27,7 @@ pub(crate) fn back_of<F, B>(half: Half<F, B>) -> B
         Half::TheBack(back) => back,
         Half::TheFront(_front) => unreachable!(),
         Half::Told(_answer) => unreachable!(),
+        Half::Due(_sample) => unreachable!(),
         Half::Out => unreachable!(),
     }
 }

@@ -106,6 +106,7 @@ fn shared_of<D: Disk, V: Shown>(
             let shared = SharedBook {
                 table,
                 flushes: AtomicU64::new(0),
+                waiting: AtomicU64::new(0),
             };
             Ok((shared, first))
         }

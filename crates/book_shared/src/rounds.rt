@@ -1,12 +1,14 @@
 //! The calls of a shared book over the seat at the table, turn by turn.
-ghost use Rattle.std.specs.Prelude.{ℕ, ◌≡◌, ◌+◌, ◌<◌, ◌≤◌, [], ◌∷◌, true, false, length, slice_index};
+ghost use Rattle.std.specs.Prelude.{ℕ, ◌≡◌, ◌+◌, ◌<◌, ◌≤◌, [], ◌∷◌, true, false, length, slice_index, IfOk, IfErr};
+ghost use Rattle.std.specs.Option.{option_copied};
 ghost use Rattle.mdf_layout.specs.Record.{SampleFits, encoded_size};
 ghost use Rattle.book_owned.specs.FrontHalf.{FrontAccount};
 ghost use Rattle.book_owned.specs.declared.handed.Handed.TheVariants as given_out;
 ghost use Rattle.book_shared.specs.Basis.{idle, free, resting};
 ghost use Rattle.book_shared.specs.Place.{IsSingle};
 ghost use Rattle.book_shared.specs.Plays.{at_device, given, given_device, Holds};
-ghost use Rattle.book_shared.specs.Rounds.{HasTaken, HasSeized, HasTurned, HasHanded, HasWritten, HasBoth, HasFlushed, IsTried, answered};
+ghost use Rattle.book_shared.specs.Rounds.{wanted, HasTaken, HasSeized, HasPending, HasHanded, HasWritten, HasBoth, HasSeen, HasFlushed, IsTried, answered};
+ghost use Rattle.book_shared.specs.Rule.{AreOwn};
 ghost use Rattle.book_shared.specs.Told.{HadTurn, Tries, TriesFront};
 ghost use Rattle.book_shared.specs.Turns.{Rests};
 ghost use Rattle.book_shared.specs.declared.half.Half.TheVariants.{TheFront};
@@ -52,6 +54,8 @@ impl<D: Disk, V: Shown> SharedBook<D, V> {
         ensures no_turn { seat.new.me.1 ≡ [] }
         ensures had { HadTurn result }
         ensures steps { seat.new.me.0.steps ≡ seat.old.me.0.steps }
+        ensures turns { seat.new.me.0.turns ≡ seat.old.me.0.turns }
+        ensures due { seat.new.me.0.due ≡ seat.old.me.0.due }
         ensures tried { (v : View) → HasTaken v seat.old.me → IsSingle v (slice_index v.basis.owners sample.group) → IsTried V v seat.new.me.0 sample result }
     {
         let answer = self.try_out(seat, sample);
@@ -73,6 +77,8 @@ impl<D: Disk, V: Shown> SharedBook<D, V> {
         ensures rests { Rests seat.old.me.0 seat.new.me.0 }
         ensures tries { Tries seat.old.me.0 seat.new.me.0 sample result }
         ensures steps { HadTurn result → seat.new.me.0.steps ≡ seat.old.me.0.steps + 2 }
+        ensures turns { HadTurn result → seat.new.me.0.turns ≡ seat.old.me.0.turns + 1 }
+        ensures due { seat.new.me.0.due ≡ seat.old.me.0.due }
         ensures asked { seat.new.me.0.asked ≡ seat.old.me.0.asked }
         ensures front { TriesFront V seat.new.me.0 sample result }
     {
@@ -90,6 +96,8 @@ impl<D: Disk, V: Shown> SharedBook<D, V> {
         requires returns { (front : FrontAccount V) × (seat.old.me.1 ≡ (0, TheFront front) ∷ []) × Holds asked seat.old.me.0 front
             × (given_device seat.old.me.0.device front.spare ≡ resting) }
         ensures table { seat.new.table_id ≡ seat.old.table_id }
+        ensures turns { seat.new.me.0.turns ≡ seat.old.me.0.turns }
+        ensures due { seat.new.me.0.due ≡ seat.old.me.0.due }
         ensures ended { (front : FrontAccount V) → seat.old.me.1 ≡ (0, TheFront front) ∷ []
             → seat.new.me ≡ (at_device (given asked seat.old.me.0 (word + 1) front) free, []) }
     {
@@ -99,31 +107,22 @@ impl<D: Disk, V: Shown> SharedBook<D, V> {
     }
 
     /// Takes the device, and then the turn.
-    pub(crate) fn device_turn<R: Wait>(&self, rt: &R, seat: &mut Chair<D, V>) -> u64
+    pub(crate) fn device_turn<R: Wait>(
+        &self,
+        rt: &R,
+        seat: &mut Chair<D, V>,
+        due: Option<&Sample>,
+    ) -> u64
         requires table { seat.old.table_id ≡ self.now.table }
         requires no_turn { seat.old.me.1 ≡ [] }
         requires no_device { seat.old.me.0.device ≡ free }
         requires some_source { 0 < length seat.old.me.0.mine }
         ensures table { seat.new.table_id ≡ seat.old.table_id }
         ensures word { result ≡ seat.new.me.0.met }
-        ensures seized { HasSeized seat.old.me.0 seat.new.me }
+        ensures seized { HasSeized (wanted seat.old.me.0 (option_copied due.entry)) seat.new.me }
     {
-        self.seize_device(rt, seat);
+        self.seize_device(rt, seat, due);
         self.seize(rt, seat, None)
-    }
-
-    /// The same, and hands the pending records out.
-    fn first_turn<R: Wait>(&self, rt: &R, seat: &mut Chair<D, V>) -> (u64, Handed)
-        requires table { seat.old.table_id ≡ self.now.table }
-        requires no_turn { seat.old.me.1 ≡ [] }
-        requires no_device { seat.old.me.0.device ≡ free }
-        requires some_source { 0 < length seat.old.me.0.mine }
-        ensures table { seat.new.table_id ≡ seat.old.table_id }
-        ensures word { result.0 ≡ seat.new.me.0.met }
-        ensures took { HasTurned seat.old.me.0 seat.new.me result.1 }
-    {
-        let word = self.device_turn(rt, seat);
-        (word, self.hand_out(seat))
     }
 
     /// Gives the turn back, writes the block that was handed out in it, and takes the turn again.
@@ -163,6 +162,8 @@ impl<D: Disk, V: Shown> SharedBook<D, V> {
         requires both { (y : View) × HasBoth D.Disk y seat.old.me written }
         ensures table { seat.new.table_id ≡ seat.old.table_id }
         ensures no_turn { seat.new.me.1 ≡ [] }
+        ensures turns { seat.new.me.0.turns ≡ seat.old.me.0.turns }
+        ensures due { seat.new.me.0.due ≡ seat.old.me.0.due }
         ensures flushed { (y : View) → HasBoth D.Disk y seat.old.me written → (number : ℕ) → IsSingle y number → HasFlushed D.Disk V.Shown y seat.new.me.0 result }
     {
         let answer = self.finish_out(rt, seat, written);
@@ -171,8 +172,8 @@ impl<D: Disk, V: Shown> SharedBook<D, V> {
         answer
     }
 
-    /// Shows the durable samples where nothing was handed out, and gives the turn and the device back.
-    fn flush_nothing<R: Threads + Wait + Sync>(
+    /// Hands the pending records out in the turn that was taken, and writes them.
+    fn flush_pending<R: Threads + Wait + Sync>(
         &self,
         rt: &R,
         seat: &mut Chair<D, V>,
@@ -180,14 +181,75 @@ impl<D: Disk, V: Shown> SharedBook<D, V> {
     ) -> Flush<V::Note>
         requires table { seat.old.table_id ≡ self.now.table }
         requires word { word ≡ seat.old.me.0.met }
-        requires nothing { (v : View) × HasTurned v seat.old.me given_out.Nothing }
+        requires pending { (v : View) × HasPending v seat.old.me × (0 < length v.mine) }
         ensures table { seat.new.table_id ≡ seat.old.table_id }
         ensures no_turn { seat.new.me.1 ≡ [] }
-        ensures flushed { (v : View) → HasTurned v seat.old.me given_out.Nothing → (number : ℕ) → IsSingle v number → HasFlushed D.Disk V.Shown v seat.new.me.0 result }
+        ensures turns { seat.new.me.0.turns ≡ seat.old.me.0.turns + 1 }
+        ensures due { seat.new.me.0.due ≡ seat.old.me.0.due }
+        ensures flushed { (v : View) → HasPending v seat.old.me → (number : ℕ) → IsSingle v number → HasFlushed D.Disk V.Shown v seat.new.me.0 result }
     {
-        let answer = self.finish_out(rt, seat, Written::Nothing);
-        self.end_round(seat, word, true);
+        match self.hand_out(seat) {
+            Handed::Given { through, block } => {
+                let (word, written) = self.write_block(rt, seat, word, through, block);
+                self.flush_written(rt, seat, word, written)
+            }
+            Handed::Stopped { mark: _ } => unreachable!(),
+            Handed::Nothing => unreachable!(),
+        }
+    }
+
+    /// The first turn of a flush, without the device. At `Err` it needs a write, and this is how many samples were accepted.
+    fn flush_first<R: Threads + Wait + Sync>(
+        &self,
+        rt: &R,
+        seat: &mut Chair<D, V>,
+    ) -> Result<Flush<V::Note>, u64>
+        requires table { seat.old.table_id ≡ self.now.table }
+        requires no_turn { seat.old.me.1 ≡ [] }
+        requires no_device { seat.old.me.0.device ≡ free }
+        requires single { (number : ℕ) × IsSingle seat.old.me.0 number }
+        ensures table { seat.new.table_id ≡ seat.old.table_id }
+        ensures no_turn { seat.new.me.1 ≡ [] }
+        ensures turns { seat.new.me.0.turns ≡ seat.old.me.0.turns + 1 }
+        ensures due { seat.new.me.0.due ≡ seat.old.me.0.due }
+        ensures flushed { IfOk result (λ answer. HasFlushed D.Disk V.Shown seat.old.me.0 seat.new.me.0 answer) }
+        ensures seen { IfErr result (λ accepted. HasSeen seat.old.me.0 seat.new.me.0 accepted) }
+    {
+        let word = self.seize(rt, seat, None);
+        let answer = self.flush_out(rt, seat, None);
+        self.give(seat, word, false);
         answer
+    }
+
+    /// The rest of a flush, by a seat that has seen the samples that were accepted in the first turn. It waits for the device, and
+    /// writes where no other has made them durable by then.
+    fn flush_round<R: Threads + Wait + Sync>(
+        &self,
+        rt: &R,
+        seat: &mut Chair<D, V>,
+        accepted: u64,
+    ) -> Flush<V::Note>
+        requires table { seat.old.table_id ≡ self.now.table }
+        requires no_turn { seat.old.me.1 ≡ [] }
+        requires no_device { seat.old.me.0.device ≡ free }
+        requires single { (number : ℕ) × IsSingle seat.old.me.0 number }
+        requires accepted { accepted ≡ length seat.old.me.0.seen }
+        requires own { AreOwn seat.old.me.0.basis.owners seat.old.me.0.seen seat.old.me.0.mine }
+        ensures table { seat.new.table_id ≡ seat.old.table_id }
+        ensures no_turn { seat.new.me.1 ≡ [] }
+        ensures turns { seat.new.me.0.turns ≤ seat.old.me.0.turns + 2 }
+        ensures due { seat.new.me.0.due ≡ seat.old.me.0.due }
+        ensures flushed { HasFlushed D.Disk V.Shown seat.old.me.0 seat.new.me.0 result }
+    {
+        self.let_pass(rt);
+        let word = self.device_turn(rt, seat, None);
+        match self.flush_out(rt, seat, Some(accepted)) {
+            Ok(answer) => {
+                self.end_round(seat, word, false);
+                answer
+            }
+            Err(_accepted) => self.flush_pending(rt, seat, word),
+        }
     }
 
     /// `flush`, over the seat at the table.
@@ -202,19 +264,13 @@ impl<D: Disk, V: Shown> SharedBook<D, V> {
         requires single { (number : ℕ) × IsSingle seat.old.me.0 number }
         ensures table { seat.new.table_id ≡ seat.old.table_id }
         ensures no_turn { seat.new.me.1 ≡ [] }
+        ensures turns { seat.new.me.0.turns ≤ seat.old.me.0.turns + 3 }
+        ensures due { seat.new.me.0.due ≡ seat.old.me.0.due }
         ensures flushed { HasFlushed D.Disk V.Shown seat.old.me.0 seat.new.me.0 result }
     {
-        let (word, handed) = self.first_turn(rt, seat);
-        match handed {
-            Handed::Stopped { mark } => {
-                self.end_round(seat, word, false);
-                Flush::Stopped { mark }
-            }
-            Handed::Nothing => self.flush_nothing(rt, seat, word),
-            Handed::Given { through, block } => {
-                let (word, written) = self.write_block(rt, seat, word, through, block);
-                self.flush_written(rt, seat, word, written)
-            }
+        match self.flush_first(rt, seat) {
+            Ok(answer) => answer,
+            Err(accepted) => self.flush_round(rt, seat, accepted),
         }
     }
 }

@@ -1,8 +1,9 @@
 //! A shared book and its calls.
-ghost use Rattle.std.specs.Prelude.{ℕ, ◌≡◌, ◌+◌, ◌≤◌, slice_index};
+ghost use Rattle.std.specs.Prelude.{◌≡◌, ◌+◌, ◌≤◌, slice_index};
 ghost use Rattle.mdf_layout.specs.Record.{SampleFits, encoded_size};
 ghost use Rattle.book_shared.specs.Place.{IsSingle};
-ghost use Rattle.book_shared.specs.Told.{Appends, Tries, Flushes, FlushesSeen, HadTurn, Asks, IsNoted, AppendsFront, TriesFront, FlushesFront};
+ghost use Rattle.book_shared.specs.Turns.{HasTurnsFor, OnlyDue};
+ghost use Rattle.book_shared.specs.Told.{Appends, Tries, Flushes, FlushesSeen, HadTurn, Asks, IsNoted, IsOneTurn, AppendsFront, TriesFront, FlushesFront};
 
 use crate::Try;
 use crate::fixed::Fixed;
@@ -34,6 +35,8 @@ pub struct SharedBook<D: Disk, V: Shown> {
     >,
     /// How often a seat has given the device back. Who waits for it or for the turn sleeps on this. No promise rests on it.
     pub(crate) flushes: AtomicU64,
+    /// How many seats wait for the device. Who comes to flush lets them go first. No promise rests on it.
+    pub(crate) waiting: AtomicU64,
 }
 
 impl<D: Disk, V: Shown> Model for SharedBook<D, V> {
@@ -64,7 +67,10 @@ impl<D: Disk, V: Shown> SharedBook<D, V> {
         requires size { encoded_size seat.old.know.basis.terms.layouts sample ≤ seat.old.know.basis.terms.block_limit }
         ensures seat { (seat.new.table ≡ seat.old.table) × (seat.new.number ≡ seat.old.number) × (seat.new.know.basis ≡ seat.old.know.basis) × IsSingle seat.new.know seat.new.number }
         ensures appends { Appends seat.old.know seat.new.know sample result }
+        ensures turns { HasTurnsFor 3 seat.old.know seat.new.know }
+        ensures one { IsOneTurn seat.old.know seat.new.know sample }
         ensures asked { seat.new.know.asked ≡ seat.old.know.asked }
+        ensures due { OnlyDue seat.old.know seat.new.know sample }
         ensures front { AppendsFront D.Disk V.Shown seat.new.know sample result }
     {
         let mut chair = mem::replace(&mut seat.badge, Badge::blank()).into_seat();
@@ -83,7 +89,9 @@ impl<D: Disk, V: Shown> SharedBook<D, V> {
         ensures seat { (seat.new.table ≡ seat.old.table) × (seat.new.number ≡ seat.old.number) × (seat.new.know.basis ≡ seat.old.know.basis) × IsSingle seat.new.know seat.new.number }
         ensures tries { Tries seat.old.know seat.new.know sample result }
         ensures steps { HadTurn result → seat.new.know.steps ≡ seat.old.know.steps + 2 }
+        ensures turns { HadTurn result → seat.new.know.turns ≡ seat.old.know.turns + 1 }
         ensures asked { seat.new.know.asked ≡ seat.old.know.asked }
+        ensures due { seat.new.know.due ≡ seat.old.know.due }
         ensures front { TriesFront V seat.new.know sample result }
     {
         let mut chair = mem::replace(&mut seat.badge, Badge::blank()).into_seat();
@@ -92,14 +100,17 @@ impl<D: Disk, V: Shown> SharedBook<D, V> {
         answer
     }
 
-    /// Makes all samples durable that were accepted when it has the turn, those of the other sources too, and publishes them.
-    /// It waits for the device and for the turn where another seat has them; while it writes the others go on.
+    /// Makes all samples durable that were accepted when it has its first turn, those of the other sources too, and publishes them.
+    /// It waits for the device and for the turn where another seat has them; while it writes the others go on. It writes nothing where
+    /// they were durable then, or another has written them while it waited for the device.
     pub fn flush<R: Threads + Wait + Sync>(&self, rt: &R, seat: &mut SourceSeat) -> Flush<V::Note>
         requires table { seat.old.table ≡ self.now.table }
         ensures seat { (seat.new.table ≡ seat.old.table) × (seat.new.number ≡ seat.old.number) × (seat.new.know.basis ≡ seat.old.know.basis) × IsSingle seat.new.know seat.new.number }
         ensures flushes { Flushes seat.old.know seat.new.know result }
+        ensures turns { seat.new.know.turns ≤ seat.old.know.turns + 3 }
         ensures seen { FlushesSeen seat.old.know result }
         ensures asked { Asks seat.old.know seat.new.know result }
+        ensures due { seat.new.know.due ≡ seat.old.know.due }
         ensures noted { IsNoted V.Shown seat.new.know result }
         ensures front { FlushesFront D.Disk V.Shown seat.new.know result }
     {

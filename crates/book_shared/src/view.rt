@@ -29,6 +29,8 @@ pub struct View {
     pub ghost olds: { List (List Sample × List Mark) },
     /// Through how many samples the marks go that its flushes made.
     pub ghost asked: { List ℕ },
+    /// The samples that it announced when it took the device: each it had to append, and met a full block.
+    pub ghost due: { List Sample },
     /// The numbers of the sources that are the seat's, each with the samples of that source that were accepted.
     pub ghost mine: { List (ℕ × List Sample) },
     /// What the seat holds.

@@ -107,9 +107,13 @@ fault_line (NoGroup said groups) = texts_line (codes "no group ") said (codes " 
 fault_line (Differs group) = text_line (codes "differs group ") group
 fault_line (Wide group channel) = texts_line (codes "wide group ") group (codes " channel ") channel
 
--- how many bytes an input file has at most
+-- how many bytes an input file has at most that is held whole
 abbrev pub INPUT_LIMIT : ℕ
 INPUT_LIMIT = 536870912
+
+-- and one that is read piece by piece
+abbrev pub READING_LIMIT : ℕ
+READING_LIMIT = 1099511627776
 
 -- the fault of a file that could not be read whole
 abbrev pub fault_of_load : LoadFault → Fault

@@ -15,11 +15,15 @@ pub record IsLoaded (disk : DiskState) (file : List ℕ) : Type 0 where
   pub told : IfSome disk.content (λ content. file ≡ content)
   pub short : length file ≤ INPUT_LIMIT
 
--- the file has more bytes than an input may have
-pub record IsOver (disk : DiskState) (size limit : ℕ) : Type 0 where
-  pub limit_is : limit ≡ INPUT_LIMIT
+-- the file has more bytes than the most that are read of one
+pub record IsOverOf (most : ℕ) (disk : DiskState) (size limit : ℕ) : Type 0 where
+  pub limit_is : limit ≡ most
   pub over : limit < size
   pub told : IfSome disk.content (λ file. size ≡ length file)
+
+-- and than an input may have that is held whole
+abbrev pub IsOver : DiskState → ℕ → ℕ → Type 0
+IsOver = IsOverOf INPUT_LIMIT
 
 -- the disk did not fail
 abbrev pub IsCalm : DiskState → DiskState → Type 0
@@ -27,16 +31,22 @@ IsCalm old new = new.faults ≡ old.faults
 
 -- Memory was wanted for the name of the file, or for its bytes. So it stands for no disk that failed, and for no file that is too
 -- long.
-abbrev pub LoadWants : DiskState → DiskState → Type 0
-LoadWants old new =
-    (new ≡ old) ⊎ ((new.attached ≡ true) × IfSome old.content (λ file. length file ≤ INPUT_LIMIT) × IsCalm old new)
+abbrev pub LoadWantsOf : ℕ → DiskState → DiskState → Type 0
+LoadWantsOf most old new =
+    (new ≡ old) ⊎ ((new.attached ≡ true) × IfSome old.content (λ file. length file ≤ most) × IsCalm old new)
 
--- The input could not be loaded only where this holds of its disk before and after.
+abbrev pub LoadWants : DiskState → DiskState → Type 0
+LoadWants = LoadWantsOf INPUT_LIMIT
+
+-- A file could not be had, or not all of it, only where this holds of its disk before and after.
+abbrev pub LoadFaultOf : ℕ → DiskState → DiskState → Fault → Type 0
+LoadFaultOf most old new fault.Device = Rose old.faults new.faults
+LoadFaultOf most old new (fault.InputOver size limit) = IsOverOf most old size limit
+LoadFaultOf most old new fault.Memory = LoadWantsOf most old new
+LoadFaultOf most old new _ = ⊥
+
 abbrev pub LoadFaultComes : DiskState → DiskState → Fault → Type 0
-LoadFaultComes old new fault.Device = Rose old.faults new.faults
-LoadFaultComes old new (fault.InputOver size limit) = IsOver old size limit
-LoadFaultComes old new fault.Memory = LoadWants old new
-LoadFaultComes old new _ = ⊥
+LoadFaultComes = LoadFaultOf INPUT_LIMIT
 
 abbrev pub LoadComes : DiskState → DiskState → Result (List ℕ) Fault → Type 0
 LoadComes old new (Ok file) = IsLoaded old file

@@ -12,5 +12,5 @@ mod report;
 
 pub use command::{Command, command_of};
 pub use fault::Fault;
-pub use input::load;
+pub use input::{load, open};
 pub use report::{Piece, give_line, status_after};

@@ -5,7 +5,6 @@ use Rattle.std.specs.Prelude.{if◌then◌else◌, nat_eq, slice_index_or}
 use Rattle.mdf_format.specs.declared.kind.Kind.TheVariants.{Dt}
 use Rattle.mdf_block.specs.Every.{every}
 use Rattle.mdf_block.specs.Refusal.{Read, ◌>>=◌}
-use Rattle.mdf_block.specs.Refusal as refusals
 use Rattle.mdf_stream.specs.declared.part.Part.{Part}
 use Rattle.mdf_stream.specs.Link.{data_parts}
 use Rattle.mdf_stream.specs.Parts.{stream_of, stream_size}

@@ -73,6 +73,10 @@ pub record IsHeld (size : ℕ) (held : Held) : Type 0 where
 abbrev pub value_size : List ℕ → ℕ → ℕ → ℕ
 value_size stream total place = min (4 + le_number (bytes_at 4 stream place)) (total - place)
 
+-- the value in the record at a place, with its length
+abbrev pub value_there : List ℕ → List Part → ℕ → List ℕ
+value_there file parts place = bytes_at (value_size (stream_of file parts) (stream_size parts) place) (stream_of file parts) place
+
 -- the values in the records at these places, each with its length
 abbrev pub values_at : List ℕ → List Part → List ℕ → List Part
 values_at file parts places = flat_map
@@ -85,6 +89,10 @@ values_in file held at None = data_parts file Sd at
 
 unfoldable pub channel_values : List ℕ → DataStream → ℕ → Read (List Part)
 channel_values file held at = values_in file held at (values_group held.groups at 0)
+
+-- the bytes of the parts that are found
+abbrev pub bytes_of : List ℕ → Read (List Part) → Read (List ℕ)
+bytes_of file found = found >>= λ parts. Ok (stream_of file parts)
 
 -- the records of a group that are looked at: how many data bytes they have, their places, and how many they are
 pub record GroupRecords : Type 0 where

@@ -45,7 +45,7 @@ pub struct DataContents {
 
 /// Reads the record of a size at a place of a stream into a list, from `start` on. The search for it begins at part `near`
 /// of the stream.
-fn put_record<P: Span>(
+pub(crate) fn put_record<P: Span>(
     span: &mut P,
     view: &DataView,
     size: usize,
@@ -249,7 +249,8 @@ pub(crate) fn is_strict(
     are_ids_apart(alloc, groups)
 }
 
-/// What is found of a group, with the bytes of its records and of its values.
+/// What is found of a group, with the bytes of its records and of its values. The parts of the values are let go before its records are
+/// copied.
 fn group_fetched_in<P: Span>(
     alloc: Global,
     span: &mut P,
@@ -272,6 +273,7 @@ fn group_fetched_in<P: Span>(
         values,
     } = found;
     let streams = fetch_streams_in(alloc, span, values.as_slice(), room)?;
+    drop(values);
     let none = Places::empty(alloc);
     let places = places_or(lists, which as usize, &none);
     let content = content_in(alloc, span, view, shape.record_size(), places, count, room)?;

@@ -11,6 +11,7 @@ mod layouts;
 mod lower;
 mod records;
 mod room;
+mod streams;
 mod taken;
 mod values;
 
@@ -21,5 +22,6 @@ pub use layouts::{is_variable, layout_in, layouts_in};
 pub use mdf_block::{Kind, What};
 pub use records::{count_at, counted_in, record_size, records_in};
 pub use room::Room;
+pub use streams::streams_in;
 pub use taken::fetch_from;
-pub use values::{Held, Records, place_at, places_or, streams_in, values_table};
+pub use values::{Held, Records, place_at, places_or, values_table};

@@ -1,4 +1,4 @@
-ghost use Rattle.std.specs.Prelude.{◌≡◌, ◌+◌, ◌*◌, ◌≤◌, ◌<◌, Some, length, map, reverse, take, IfOk};
+ghost use Rattle.std.specs.Prelude.{◌≡◌, ◌+◌, ◌*◌, ◌≤◌, ◌<◌, [], Some, length, map, reverse, slice_index_or, take, IfOk};
 ghost use Rattle.std.specs.List.{AllByRecursion};
 ghost use Rattle.mdf_stream.specs.Parts.{stream_of, stream_size, ArePartsInside};
 ghost use Rattle.mdf_content.specs.Contents.{content_of};
@@ -7,7 +7,7 @@ ghost use Rattle.mdf_content.specs.Found.{IsFoundInside, IsGroupInside, data_fet
 use crate::Room;
 use crate::contents::{Contents, DataContents, add_fetched_in, content_in};
 use crate::found::{DataFound, Found};
-use crate::values::{fetch_streams_in, places_or};
+use crate::values::fetch_streams_in;
 use mdf_data::{DataView, Places};
 use mdf_num::{Bytes, Memory, Rows, SliceSpan};
 use mdf_stream::moved_front;
@@ -81,18 +81,31 @@ fn groups_of(
     }
 }
 
-/// What is found of a group of a file that nobody needs any more, with the bytes of its records and of its values.
+/// List `k`, and none of the others; past the end no places.
+fn list_of(alloc: Global, lists: Rows<Places>, k: usize) -> Places
+    ensures { result ≡ slice_index_or lists k [] }
+{
+    let mut lists = lists.into_vec();
+    if k < lists.len() {
+        lists.swap_remove(k)
+    } else {
+        Places::empty(alloc)
+    }
+}
+
+/// What is found of a group of a file that nobody needs any more, with the bytes of its records and of its values. The parts of the values
+/// and the places of the records of other groups are let go before its records are copied.
 fn group_from(
     alloc: Global,
     file: Bytes,
     view: &DataView,
-    lists: &[Places],
+    lists: Rows<Places>,
     found: Found,
     room: &mut Room,
 ) -> Result<Contents, Memory>
     requires view { ArePartsInside (length file) view.now }
-    requires inside { IsGroupInside (length file) view.now lists.now found }
-    ensures { IfOk result (λ contents. contents ≡ fetched file view.now lists.now found) }
+    requires inside { IsGroupInside (length file) view.now lists found }
+    ensures { IfOk result (λ contents. contents ≡ fetched file view.now lists found) }
 {
     let Found {
         shape,
@@ -101,9 +114,9 @@ fn group_from(
         values,
     } = found;
     let streams = streams_of(alloc, &file, values.as_slice(), room)?;
-    let none = Places::empty(alloc);
-    let places = places_or(lists, which as usize, &none);
-    let content = content_from(alloc, file, view, shape.record_size(), places, count, room)?;
+    drop(values);
+    let places = list_of(alloc, lists, which as usize);
+    let content = content_from(alloc, file, view, shape.record_size(), &places, count, room)?;
     Ok(Contents {
         shape,
         count,
@@ -142,7 +155,7 @@ pub fn fetch_from(
     };
     groups.reverse();
     let mut all = groups_of(alloc, &file, &view, lists.as_slice(), groups, room)?;
-    all.push(group_from(alloc, file, &view, lists.as_slice(), last, room)?)?;
+    all.push(group_from(alloc, file, &view, lists, last, room)?)?;
     Ok(DataContents {
         groups: all,
         strict,

@@ -1,4 +1,4 @@
-ghost use Rattle.std.specs.Prelude.{◌≡◌, ◌+◌, ◌-◌, ◌≤◌, ◌<◌, ◌++◌, if◌then◌else◌, ◌&&◌, nat_eq, [], ℕ, List, Some, length, map, slice_index_or, true, false, None, IfOk, IfErr, OnOk};
+ghost use Rattle.std.specs.Prelude.{◌≡◌, ◌+◌, ◌-◌, ◌≤◌, ◌<◌, ◌++◌, if◌then◌else◌, ◌&&◌, nat_eq, [], ℕ, Bool, List, Some, length, map, slice_index_or, true, false, None, IfOk, IfErr, OnOk};
 ghost use Rattle.std.specs.List.{AllByRecursion};
 ghost use Rattle.std.specs.BTreeMap.{get};
 ghost use Rattle.std.specs.Ordering.{nat_cmp};
@@ -27,7 +27,6 @@ ghost use Rattle.mdf_content.specs.Values.{
   offsets_met,
   value_size,
   records_of,
-  streams,
   values_at,
   values_group,
 };
@@ -105,7 +104,7 @@ pub fn place_at(places: &Places, row: u64) -> u64
 
 /// How many bytes the value in the record at a place has, with its length. The search for it begins at part `near` of the
 /// stream of the records.
-fn value_len_in<P: Span>(
+pub(crate) fn value_len_in<P: Span>(
     span: &mut P,
     view: &DataView,
     place: u64,
@@ -198,7 +197,7 @@ fn values_in<P: Span>(
 }
 
 /// The number of the group of values that stands at an address, if one does.
-fn values_group(held: &Held, at: u64) -> Option<u64>
+pub(crate) fn values_group(held: &Held, at: u64) -> Option<u64>
     requires table { IsValuesTable held.now.groups.now (get nat_cmp held.now.table.now) }
     ensures { result ≡ values_group held.now.groups.now at 0 }
 {
@@ -282,6 +281,41 @@ fn has_value_in<P: Span>(
     Ok(place + size as u64 <= total)
 }
 
+/// Values of variable length that an offset may meet. A contract sees them by whether a whole value stands at an offset, over the bytes
+/// of the file.
+pub(crate) trait Met {
+    /// Whether a whole value stands at an offset.
+    ghost meets: { Self → List ℕ → ℕ → Bool };
+
+    /// What a file of so many bytes must have for it.
+    ghost needs: { Self → ℕ → Type 0 };
+
+    /// Whether a whole value stands at an offset. The search for it begins at part `near`.
+    ///
+    /// # Errors
+    /// The span's own.
+    fn meets_in<P: Span>(&self, span: &mut P, offset: u64, near: &mut usize) -> Result<bool, Stop>
+        requires needs { needs self.now (P.size span.old) }
+        ensures has { IfOk result (λ has. (f : List ℕ) → P.bytes span.old ≡ Some f → has ≡ meets self.now f offset) }
+        ensures same { P.bytes span.new ≡ P.bytes span.old }
+        ensures size { P.size span.new ≡ P.size span.old }
+        ensures cause { StopCause P.may_want (P.faults span.old) (P.faults span.new) result };
+}
+
+/// Values that stand in the file.
+impl Met for DataView {
+    ghost use Rattle.mdf_stream.specs.Parts.{ArePartsInside, stream_of};
+    ghost use Rattle.mdf_content.specs.Values.{has_value};
+
+    ghost meets = { λ values f. has_value (stream_of f values) };
+
+    ghost needs = { λ values size. ArePartsInside size values };
+
+    fn meets_in<P: Span>(&self, span: &mut P, offset: u64, near: &mut usize) -> Result<bool, Stop> {
+        has_value_in(span, self, offset, near)
+    }
+}
+
 /// Where the offset of a channel of variable length lies in so many data bytes.
 fn offset_field(channel: &ChannelRow, data_bytes: u32) -> Field
     requires kind { channel.now.kind ≡ 1 }
@@ -362,11 +396,11 @@ fn number_in<P: Span>(
 }
 
 /// Nothing, where the offset of a channel in a row meets a value.
-fn offset_met_in<P: Span>(
+fn offset_met_in<V: Met, P: Span>(
     span: &mut P,
     view: &DataView,
     records: &Records,
-    values: &DataView,
+    values: &V,
     channel: &ChannelRow,
     c: u32,
     row: u64,
@@ -376,10 +410,10 @@ fn offset_met_in<P: Span>(
     requires kind { channel.now.kind ≡ 1 }
     requires placed { HasOffset records.now.data_bytes channel.now }
     requires inside { ArePartsInside (P.size span.old) view.now }
-    requires values { ArePartsInside (P.size span.old) values.now }
+    requires values { V.needs values.now (P.size span.old) }
     requires within { slice_index_or records.now.places.now row 0 + records.now.data_bytes ≤ stream_size view.now }
     ensures found { (f : List ℕ) → P.bytes span.old ≡ Some f → Gives read_refusal result
-        (offset_met (has_value (stream_of f values.now)) (offset_in (stream_of f view.now) (records_of records.now) channel.now) c row) }
+        (offset_met (V.meets values.now f) (offset_in (stream_of f view.now) (records_of records.now) channel.now) c row) }
     ensures plain { IfErr result (IsPlain read_refusal) }
     ensures same { P.bytes span.new ≡ P.bytes span.old }
     ensures size { P.size span.new ≡ P.size span.old }
@@ -388,7 +422,7 @@ fn offset_met_in<P: Span>(
     let place = place_at(records.places, row);
     let field = offset_field(channel, records.data_bytes);
     let offset = number_in(span, view, field, records.data_bytes, place, near)?;
-    let met = has_value_in(span, values, offset, value_near)?;
+    let met = values.meets_in(span, offset, value_near)?;
     if !met {
         return Err(Halt::Fault(ReadFault::Offset {
             channel: c,
@@ -400,21 +434,21 @@ fn offset_met_in<P: Span>(
 }
 
 /// Nothing, where the offsets of a channel meet values.
-fn offsets_met_in<P: Span>(
+pub(crate) fn offsets_met_in<V: Met, P: Span>(
     span: &mut P,
     view: &DataView,
     records: &Records,
-    values: &DataView,
+    values: &V,
     channel: &ChannelRow,
     c: u32,
 ) -> Result<(), Halt<ReadFault>>
     requires kind { channel.now.kind ≡ 1 }
     requires placed { HasOffset records.now.data_bytes channel.now }
     requires inside { ArePartsInside (P.size span.old) view.now }
-    requires values { ArePartsInside (P.size span.old) values.now }
+    requires values { V.needs values.now (P.size span.old) }
     requires within { AreWithin (stream_size view.now) (records_of records.now) }
     ensures found { (f : List ℕ) → P.bytes span.old ≡ Some f → Gives read_refusal result
-        (offsets_met (has_value (stream_of f values.now)) (offset_in (stream_of f view.now) (records_of records.now) channel.now) c 0 records.now.count) }
+        (offsets_met (V.meets values.now f) (offset_in (stream_of f view.now) (records_of records.now) channel.now) c 0 records.now.count) }
     ensures plain { IfErr result (IsPlain read_refusal) }
     ensures same { P.bytes span.new ≡ P.bytes span.old }
     ensures size { P.size span.new ≡ P.size span.old }
@@ -464,7 +498,7 @@ pub(crate) fn bytes_in<P: Span>(
 }
 
 /// All bytes of a stream.
-fn stream_in<P: Span>(
+pub(crate) fn stream_in<P: Span>(
     alloc: Global,
     span: &mut P,
     view: &DataView,
@@ -609,34 +643,5 @@ pub(crate) fn fetch_streams_in<P: Span>(
         };
         k += 1;
     }
-    Ok(streams)
-}
-
-/// The streams of the channels of variable length (`cn_type` 1) of a group, in order, each with its values: those of the
-/// group of values that the channel names, or those where its link to data leads.
-///
-/// # Errors
-/// Of each channel of variable length in order the fault of its link to data, and `Offset` exactly where the offset in a
-/// record that is looked at meets no value, with the first such record. The span's own; and want of memory, which is
-/// answered too where the room does not suffice for the streams.
-pub fn streams_in<P: Span>(
-    alloc: Global,
-    span: &mut P,
-    held: &Held,
-    records: &Records,
-    channels: &[ChannelRow],
-    room: &mut Room,
-) -> Result<Streams, Halt<ReadFault>>
-    requires held { IsHeld (P.size span.old) held.now }
-    requires within { AreWithin (stream_size held.now.view.now) (records_of records.now) }
-    requires placed { AllByNumber (λ _. HasOffset records.now.data_bytes) channels.now }
-    ensures found { (f : List ℕ) → P.bytes span.old ≡ Some f → Gives read_refusal result (streams f (held_of held.now) (records_of records.now) channels.now) }
-    ensures plain { IfErr result (IsPlain read_refusal) }
-    ensures same { P.bytes span.new ≡ P.bytes span.old }
-    ensures size { P.size span.new ≡ P.size span.old }
-    ensures cause { HaltCause true (P.faults span.old) (P.faults span.new) result }
-{
-    let values = values_found_in(alloc, span, held, records, channels, room)?;
-    let streams = fetch_streams_in(alloc, span, values.as_slice(), room)?;
     Ok(streams)
 }

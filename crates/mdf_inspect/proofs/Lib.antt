@@ -1,4 +1,6 @@
+mod Groups
 mod Printed
+mod Paging
 mod Tables
 mod Totals
 mod Truths

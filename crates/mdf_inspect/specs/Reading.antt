@@ -1,28 +1,70 @@
--- What the commands `check IN` and `info IN` read of a file.
-use Rattle.std.specs.Prelude.{ℕ, ◌≡◌, ◌↔◌, ◌⊎◌, List, true, IsTrue, IsSome, IfSome, Result, Ok, Err}
+-- What the commands `check IN` and `info IN` show of a file.
+use Rattle.std.specs.Prelude.{ℕ, Bool, ◌≡◌, ◌≤◌, ◌↔◌, List, length, map, IsTrue, IsSome, IfSome, Result, Ok, Err}
+use Rattle.mdf_format.specs.Cause.{Rose}
+use Rattle.mdf_num.specs.declared.halt.Halt.{Halt}
+use Rattle.mdf_num.specs.declared.halt.Halt.TheVariants as halts
 use Rattle.mdf_block.specs.Refusal.{Read, ◌>>=◌, Fails}
 use Rattle.mdf_head.specs.Ident.{identify}
+use Rattle.mdf_group.specs.declared.row.GroupRow.{GroupRow}
 use Rattle.mdf_content.specs.declared.fault.ReadFault.{ReadFault}
 use Rattle.mdf_content.specs.Fault.{read_refusal}
-use Rattle.mdf_model.specs.Identified.{IsIdentified}
-use Rattle.mdf_model.specs.Measurement.{measurement}
+use Rattle.mdf_model.specs.declared.part.Measure.{Measure}
+use Rattle.mdf_model.specs.declared.whole.WholeFound.{WholeFound}
+use Rattle.mdf_model.specs.Measurement.{Measured, measurement}
 use Rattle.mdf_model.specs.InWords.{IsMeasurement, IsValidFile}
 use Rattle.mdf_model.specs.Truth.{IsTrueOfFile}
+use Rattle.mdf_paged.specs.Groups.{is_strict, shown_groups}
 use Rattle.mdf_disk.specs.State.{DiskState}
 use Rattle.mdf_port.specs.State.{SinkState}
 use Rattle.mdf_command.specs.Texts.{Prints}
-use Rattle.mdf_command.specs.Faults.{fault_line, fault_status}
-use Rattle.mdf_command.specs.Load.{IsCalm, IsLoaded, LoadFaultComes, LoadWants}
+use Rattle.mdf_command.specs.Faults.{READING_LIMIT, fault_line, fault_status}
+use Rattle.mdf_command.specs.Load.{LoadFaultOf}
 use Rattle.mdf_command.specs.declared.fault.Fault.{Fault}
 use Rattle.mdf_command.specs.declared.fault.Fault.TheVariants as fault
-use Rattle.mdf_inspect.specs.declared.reading.Reading.{Reading}
 
--- the version of a file and its measurement, or the first reason to refuse it
+-- what is shown of a file: its version, its groups, each with how many samples it has, how many links were passed over, and
+-- whether it is as the standard has a finalized one
+pub record Reading : Type 0 where
+  pub version : ℕ
+  pub groups : List (GroupRow × ℕ)
+  pub dropped : ℕ
+  pub strict : Bool
+
+-- of a file of this version with this measurement
+abbrev pub group_shown : Measure → GroupRow × ℕ
+group_shown group = (group.part.row, group.count)
+
+abbrev pub shown_of : ℕ → Measured → Reading
+shown_of version found = record {
+  version = version;
+  groups = map group_shown found.groups;
+  dropped = found.dropped;
+  strict = found.strict;
+}
+
+-- of what was found of a file, or why nothing was
+abbrev pub reading_of : WholeFound → Reading
+reading_of all = record {
+  version = all.ident.ver;
+  groups = shown_groups all;
+  dropped = all.tree.dropped;
+  strict = is_strict all;
+}
+
+abbrev pub reading_end : Result WholeFound Fault → Result Reading Fault
+reading_end (Ok all) = Ok (reading_of all)
+reading_end (Err fault) = Err fault
+
+-- what is shown of a finalized file, or the first reason to refuse it
 unfoldable pub reading : List ℕ → Read Reading
 reading file = do
   id ← identify file
   found ← measurement file
-  Ok (record { version = id.ver; measurement = found })
+  Ok (shown_of id.ver found)
+
+-- the file that the disk tells, if it tells one, is no longer than a file may be that is read piece by piece, and this holds of it
+abbrev pub IfRead : DiskState → (List ℕ → Type 0) → Type 0
+IfRead disk Holds = IfSome disk.content (λ file. (length file ≤ READING_LIMIT) × Holds file)
 
 -- The file is refused, and what is said of it is true: of its identification, of a block at the address, or of one of its
 -- data groups. It is never refused for want of memory.
@@ -31,42 +73,43 @@ pub record IsRefused (refused : ReadFault) (file : List ℕ) : Type 0 where
   pub is_refused : Fails (read_refusal refused) (reading file)
   pub holds : IfSome (read_refusal refused) (IsTrueOfFile file)
 
--- memory was wanted to read a file that was loaded and is identified; so it stands for no disk that failed
-pub record WantsToRead (old new : DiskState) : Type 0 where
-  pub file : List ℕ
-  pub loaded : IsLoaded old file
-  pub attached : new.attached ≡ true
-  pub calm : IsCalm old new
-  pub identified : IsIdentified file
-
--- memory was wanted for the file, or to read it
-abbrev pub InputWants : DiskState → DiskState → Type 0
-InputWants old new = LoadWants old new ⊎ WantsToRead old new
-
--- Nothing was read only where this holds of the disk of the input before and after: a file was loaded of it that is refused, or
--- memory was wanted, or no file could be loaded.
+-- Nothing was shown only where this holds of the disk of the input before and after: its file is refused, or memory was
+-- wanted, or the file could not be had, or not all of it.
 abbrev pub ReadingFaultComes : DiskState → DiskState → Fault → Type 0
-ReadingFaultComes old new (fault.Read refused) = (file : List ℕ) × IsLoaded old file × IsRefused refused file
-ReadingFaultComes old new fault.Memory = InputWants old new
-ReadingFaultComes old new problem = LoadFaultComes old new problem
+ReadingFaultComes old new (fault.Read refused) = IsSome (read_refusal refused) × IfRead old (IsRefused refused)
+ReadingFaultComes old new problem = LoadFaultOf READING_LIMIT old new problem
 
--- What is read of a file is its measurement, and it is strict exactly where the file is valid.
+-- Why a reader over pages stopped: their disk failed, or memory was wanted and it did not fail.
+abbrev pub StopComes : ℕ → ℕ → Fault → Type 0
+StopComes before now fault.Device = Rose before now
+StopComes before now fault.Memory = now ≡ before
+StopComes before now problem = ⊥
+
+-- or the file is refused
+abbrev pub HaltComes : ℕ → ℕ → Halt ReadFault → Fault → Type 0
+HaltComes before now (halts.Fault refused) problem = problem ≡ fault.Read refused
+HaltComes before now halts.Failed problem = StopComes before now problem
+HaltComes before now halts.Memory problem = StopComes before now problem
+
+-- What is shown of a file is of its measurement, and it is strict exactly where the file is valid.
 pub record IsReading (found : Reading) (file : List ℕ) : Type 0 where
   pub is_read : reading file ≡ Ok found
-  pub measured : IsMeasurement file found.measurement.head found.measurement.history found.measurement.groups
-  pub valid : IsTrue found.measurement.strict ↔ IsValidFile file
+  pub is : Measured
+  pub measured : IsMeasurement file is.head is.history is.groups
+  pub shown : found ≡ shown_of found.version is
+  pub valid : IsTrue found.strict ↔ IsValidFile file
 
--- This was read of a file that was loaded, which is the one that the disk of the input tells, if it tells one; or nothing was
--- read, only where that disk says so before and after.
+-- This is shown of the file that the disk of the input tells, if it tells one; or nothing is shown, only where that disk says so
+-- before and after.
 abbrev pub ReadingComes : DiskState → DiskState → Result Reading Fault → Type 0
-ReadingComes old new (Ok found) = (file : List ℕ) × IsLoaded old file × IsReading found file
+ReadingComes old new (Ok found) = IfRead old (IsReading found)
 ReadingComes old new (Err fault) = ReadingFaultComes old new fault
 
 abbrev pub reading_status : Result Reading Fault → ℕ
 reading_status (Ok found) = 0
 reading_status (Err fault) = fault_status fault
 
--- what a command prints: this text of a file that was read, or why it was not
+-- what a command prints: this text of what is shown of a file, or why nothing is
 abbrev pub answer_text : (Reading → List ℕ) → Result Reading Fault → List ℕ
 answer_text text (Ok found) = text found
 answer_text text (Err fault) = fault_line fault

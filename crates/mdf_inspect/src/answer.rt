@@ -3,15 +3,17 @@ ghost use Rattle.mdf_disk.specs.State.{state_of};
 ghost use Rattle.mdf_disk.specs.declared.role.Role.TheVariants.{Read};
 ghost use Rattle.mdf_port.specs.State.{sink_state};
 ghost use Rattle.mdf_command.specs.Texts.{Gives};
-ghost use Rattle.mdf_inspect.specs.Reading.{EndsReading, answer_text};
+ghost use Rattle.mdf_inspect.specs.Reading.{EndsReading, answer_text, reading_end, reading_of};
 ghost use Rattle.mdf_inspect.specs.Question.{text_for};
 
 use crate::check::give_verdict;
 use crate::info::give_contents;
-use crate::reading::{Reading, read_input, status};
+use crate::reading::{read_input, status};
+use crate::shown::Shown;
 use mdf_command::{Fault, status_after};
 use mdf_disk::Disk;
 use mdf_num::{Bytes, Failed};
+use mdf_paged::PagedMeasurement;
 use mdf_port::Sink;
 use std::alloc::Global;
 
@@ -25,11 +27,15 @@ pub enum Question {
 }
 
 /// Gives the lines of a file that was read.
-fn give_answer<K: Sink>(sink: &mut K, question: Question, found: &Reading) -> Result<(), Failed>
-    ensures { Gives (text_for question found.now) (sink_state K.Sink sink.old) (sink_state K.Sink sink.new) result }
+fn give_answer<K: Sink>(
+    sink: &mut K,
+    question: Question,
+    found: &PagedMeasurement,
+) -> Result<(), Failed>
+    ensures { Gives (text_for question (reading_of found.now)) (sink_state K.Sink sink.old) (sink_state K.Sink sink.new) result }
 {
     match question {
-        Question::Verdict => give_verdict(sink, found.measurement.strict()),
+        Question::Verdict => give_verdict(sink, found.strict()),
         Question::Contents => give_contents(sink, found),
     }
 }
@@ -38,9 +44,9 @@ fn give_answer<K: Sink>(sink: &mut K, question: Question, found: &Reading) -> Re
 fn give_end<K: Sink>(
     sink: &mut K,
     question: Question,
-    end: &Result<Reading, Fault>,
+    end: &Result<PagedMeasurement, Fault>,
 ) -> Result<(), Failed>
-    ensures { Gives (answer_text (text_for question) end.now) (sink_state K.Sink sink.old) (sink_state K.Sink sink.new) result }
+    ensures { Gives (answer_text (text_for question) (reading_end end.now)) (sink_state K.Sink sink.old) (sink_state K.Sink sink.new) result }
 {
     match end {
         Ok(found) => give_answer(sink, question, found),
@@ -48,23 +54,24 @@ fn give_end<K: Sink>(
     }
 }
 
-/// `check IN` and `info IN`: reads a finalized file and prints what is asked of it, or why it is not read. Answers the
-/// program's status.
+/// `check IN` and `info IN`: reads a finalized file through pages and prints what is asked of it, or why it is not read. Answers
+/// the program's status, with the disk.
 pub fn run_reading<K: Sink, A: Disk>(
     alloc: Global,
     question: Question,
     input: &Bytes,
     sink: &mut K,
-    first: &mut A,
-) -> u8
-    requires { A.asked first.old ≡ None }
-    ensures ends { EndsReading (text_for question) (state_of A.Disk first.old) (state_of A.Disk first.new)
-        (sink_state K.Sink sink.old) (sink_state K.Sink sink.new) result }
-    ensures asked { (A.asked first.new ≡ None) ⊎ (A.asked first.new ≡ Some (input.now, Read)) }
-    ensures content { A.content first.new ≡ A.content first.old }
-    ensures untouched { A.asked first.new ≡ None → first.new ≡ first.old }
+    first: A,
+) -> Shown<A>
+    requires { A.asked first ≡ None }
+    ensures ends { EndsReading (text_for question) (state_of A.Disk first) (state_of A.Disk result.first)
+        (sink_state K.Sink sink.old) (sink_state K.Sink sink.new) result.status }
+    ensures asked { (A.asked result.first ≡ None) ⊎ (A.asked result.first ≡ Some (input.now, Read)) }
+    ensures content { A.content result.first ≡ A.content first }
+    ensures untouched { A.asked result.first ≡ None → result.first ≡ first }
 {
-    let end = read_input(alloc, input, first);
+    let (end, first) = read_input(alloc, input, first);
     let given = give_end(sink, question, &end);
-    status_after(given, status(&end))
+    let status = status_after(given, status(&end));
+    Shown { status, first }
 }

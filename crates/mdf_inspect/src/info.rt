@@ -1,15 +1,16 @@
-ghost use Rattle.std.specs.Prelude.{◌≡◌, ◌<◌, ◌≤◌, length, slice_index_or};
-ghost use Rattle.mdf_model.specs.declared.part.Measure.{Measure};
+ghost use Rattle.std.specs.Prelude.{◌≡◌, ◌<◌, ◌≤◌, ℕ, length, slice_index_or};
+ghost use Rattle.mdf_group.specs.declared.row.GroupRow.{GroupRow};
+ghost use Rattle.mdf_paged.specs.Groups.{Located, groups_of};
 ghost use Rattle.mdf_port.specs.State.{sink_state};
 ghost use Rattle.mdf_command.specs.Texts.{Gives, numbered, text_of};
 ghost use Rattle.mdf_inspect.specs.Info.{contents_text, group_line, total, total_line, version_line};
+ghost use Rattle.mdf_inspect.specs.Reading.{reading_of};
 
-use crate::reading::Reading;
 use mdf_block::Note;
 use mdf_command::Piece::{Name, Number, Sum, Text};
 use mdf_command::give_line;
-use mdf_model::Measurement;
 use mdf_num::Failed;
+use mdf_paged::PagedMeasurement;
 use mdf_port::Sink;
 
 /// The text of a name, which is empty where there is none.
@@ -24,12 +25,12 @@ fn text_of(name: &Note) -> &[u8]
 }
 
 /// Gives the line of a group.
-fn give_group<K: Sink>(sink: &mut K, found: &Measurement, group: u32) -> Result<(), Failed>
-    requires { group < length found.now.groups }
-    ensures { (d : Measure) → Gives (group_line group (slice_index_or found.now.groups group d))
+fn give_group<K: Sink>(sink: &mut K, found: &PagedMeasurement, group: u32) -> Result<(), Failed>
+    requires { group < length (groups_of found.now) }
+    ensures { (d : GroupRow × ℕ) → Gives (group_line group (slice_index_or (reading_of found.now).groups group d))
         (sink_state K.Sink sink.old) (sink_state K.Sink sink.new) result }
 {
-    let row = &found.part(group).row;
+    let row = found.row(group);
     give_line(
         sink,
         &[
@@ -46,8 +47,8 @@ fn give_group<K: Sink>(sink: &mut K, found: &Measurement, group: u32) -> Result<
 }
 
 /// Gives the lines of the groups.
-fn give_groups<K: Sink>(sink: &mut K, found: &Measurement) -> Result<(), Failed>
-    ensures { Gives (numbered group_line 0 found.now.groups) (sink_state K.Sink sink.old) (sink_state K.Sink sink.new) result }
+fn give_groups<K: Sink>(sink: &mut K, found: &PagedMeasurement) -> Result<(), Failed>
+    ensures { Gives (numbered group_line 0 (reading_of found.now).groups) (sink_state K.Sink sink.old) (sink_state K.Sink sink.new) result }
 {
     for group in 0..found.groups() {
         give_group(sink, found, group)?;
@@ -56,17 +57,17 @@ fn give_groups<K: Sink>(sink: &mut K, found: &Measurement) -> Result<(), Failed>
 }
 
 /// How many samples a group has.
-fn samples_of(found: &Measurement, group: u32) -> u128
-    requires { group < length found.now.groups }
-    ensures count { (d : Measure) → result ≡ (slice_index_or found.now.groups group d).count }
+fn samples_of(found: &PagedMeasurement, group: u32) -> u128
+    requires { group < length (groups_of found.now) }
+    ensures count { (d : Located) → result ≡ (slice_index_or (groups_of found.now) group d).group.count }
     ensures small { result ≤ 18446744073709551615 }
 {
     u128::from(found.samples(group))
 }
 
 /// How many samples all groups have.
-fn total(found: &Measurement) -> u128
-    ensures { result ≡ total found.now.groups }
+fn total(found: &PagedMeasurement) -> u128
+    ensures { result ≡ total (reading_of found.now).groups }
 {
     let mut total = 0u128;
     for group in 0..found.groups() {
@@ -76,8 +77,8 @@ fn total(found: &Measurement) -> u128
 }
 
 /// Gives the line of all groups.
-fn give_total<K: Sink>(sink: &mut K, found: &Measurement) -> Result<(), Failed>
-    ensures { Gives (total_line found.now) (sink_state K.Sink sink.old) (sink_state K.Sink sink.new) result }
+fn give_total<K: Sink>(sink: &mut K, found: &PagedMeasurement) -> Result<(), Failed>
+    ensures { Gives (total_line (reading_of found.now)) (sink_state K.Sink sink.old) (sink_state K.Sink sink.new) result }
 {
     give_line(
         sink,
@@ -100,10 +101,10 @@ fn give_version<K: Sink>(sink: &mut K, version: u16) -> Result<(), Failed>
 }
 
 /// Gives the lines on what a file holds.
-pub fn give_contents<K: Sink>(sink: &mut K, found: &Reading) -> Result<(), Failed>
-    ensures { Gives (contents_text found.now) (sink_state K.Sink sink.old) (sink_state K.Sink sink.new) result }
+pub fn give_contents<K: Sink>(sink: &mut K, found: &PagedMeasurement) -> Result<(), Failed>
+    ensures { Gives (contents_text (reading_of found.now)) (sink_state K.Sink sink.old) (sink_state K.Sink sink.new) result }
 {
-    give_version(sink, found.version)?;
-    give_groups(sink, &found.measurement)?;
-    give_total(sink, &found.measurement)
+    give_version(sink, found.ident().ver)?;
+    give_groups(sink, found)?;
+    give_total(sink, found)
 }

@@ -7,8 +7,10 @@ mod check;
 mod info;
 mod opened;
 mod reading;
+mod shown;
 mod table;
 
 pub use answer::{Question, run_reading};
 pub use opened::run_opened;
+pub use shown::Shown;
 pub use table::run_export;

@@ -1,3 +1,4 @@
-mod Measures
+pub mod Measures
 mod Numbers
 mod Placed
+pub mod Shown

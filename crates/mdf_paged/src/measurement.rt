@@ -9,12 +9,13 @@ ghost use Rattle.mdf_content.specs.declared.found.DataFound.{DataFound};
 ghost use Rattle.mdf_model.specs.declared.part.Measure.{Measure};
 ghost use Rattle.mdf_model.specs.Found.{GivesSeen, measured_from, whole_found};
 ghost use Rattle.mdf_model.specs.Measurement.{measurement, sample_of};
-ghost use Rattle.mdf_paged.specs.Groups.{Located, groups_of, is_strict, located};
+ghost use Rattle.mdf_paged.specs.Groups.{Located, group_rows, groups_of, is_strict, located};
 
 use crate::index::{GroupNumber, numbers_of};
 use crate::sample::sample_of;
 use mdf_content::{DataFound, Found, ReadFault};
-use mdf_group::DataRow;
+use mdf_group::{DataRow, GroupRow};
+use mdf_head::Ident;
 use mdf_layout::Entries;
 use mdf_model::{WholeFound, whole_found_in};
 use mdf_num::{Halt, Rows, Span, Stop};
@@ -33,7 +34,7 @@ impl Model for PagedMeasurement {
     ghost use Rattle.std.specs.Coded.{codes};
     ghost use Rattle.mdf_conv.specs.contracts.row.Ref as refs;
     ghost use Rattle.mdf_model.specs.declared.whole.WholeFound.{WholeFound};
-    ghost use Rattle.mdf_paged.specs.Groups.{group_at, groups_of};
+    ghost use Rattle.mdf_paged.specs.Groups.{group_at, group_rows, groups_of, row_at};
 
     ghost Value = { WholeFound };
 
@@ -41,7 +42,8 @@ impl Model for PagedMeasurement {
 
     ghost view = { λ m. m.all };
 
-    ghost invariant = { λ m. (length m.index.items < 2 ^ 32) × (map (group_at m.all.found) m.index.items ≡ map Some (groups_of m.all)) };
+    ghost invariant = { λ m. (length m.index.items < 2 ^ 32) × (map (group_at m.all.found) m.index.items ≡ map Some (groups_of m.all))
+        × (map (row_at m.all.tree.rows m.all.found) m.index.items ≡ map Some (group_rows m.all)) };
 }
 
 /// Item `k` of a list.
@@ -92,7 +94,7 @@ impl PagedMeasurement {
         ensures cause { HaltCause true (P.faults span.old) (P.faults span.new) result }
     {
         let all = whole_found_in(alloc, span)?;
-        let index = numbers_of(alloc, all.found.as_slice())?;
+        let index = numbers_of(alloc, all.tree.rows.as_slice(), all.found.as_slice())?;
         if index.len() > u32::MAX as usize {
             return Err(Halt::Memory);
         }
@@ -104,6 +106,13 @@ impl PagedMeasurement {
         ensures { result.now ≡ self.now.tree.rows }
     {
         &self.all.tree.rows
+    }
+
+    /// What the first 64 bytes say.
+    pub fn ident(&self) -> Ident
+        ensures { result ≡ self.now.ident }
+    {
+        self.all.ident
     }
 
     /// How many links that name something were passed over.
@@ -125,6 +134,7 @@ impl PagedMeasurement {
     /// How many groups have samples.
     pub fn groups(&self) -> u32
         ensures groups { result ≡ length (groups_of self.now) }
+        ensures rows { result ≡ length (group_rows self.now) }
         ensures measured { (f : List ℕ) → whole_found f ≡ Ok self.now → result ≡ length (measured_from f self.now).groups }
     {
         self.index.len() as u32
@@ -141,6 +151,18 @@ impl PagedMeasurement {
         let parent = item(self.all.found.as_slice(), number.parent);
         let found = item(parent.groups.as_slice(), number.group);
         (parent, found)
+    }
+
+    /// A group as it was read.
+    pub fn row(&self, group: u32) -> &GroupRow
+        requires { group < length (groups_of self.now) }
+        ensures row { slice_get (group_rows self.now) group ≡ Some result.now }
+        ensures measured { (f : List ℕ) (d : Measure) → whole_found f ≡ Ok self.now → result.now ≡ (slice_index_or (measured_from f self.now).groups group d).part.row }
+    {
+        let number = item(self.index.as_slice(), group as usize);
+        let (_, found) = self.place(group);
+        let data_row = item(self.all.tree.rows.as_slice(), number.parent);
+        item(data_row.groups.as_slice(), found.which as usize)
     }
 
     /// How many samples a group has.

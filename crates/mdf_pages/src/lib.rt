@@ -3,7 +3,9 @@
 #![tactic(auto)]
 
 mod cache;
+mod kept;
 mod pages;
 mod read;
 
+pub use kept::{Asked, Kept};
 pub use pages::Pages;

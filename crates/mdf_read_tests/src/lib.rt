@@ -27,6 +27,10 @@ mod heads;
 #[cfg(test)]
 mod measurements;
 #[cfg(test)]
+mod paged;
+#[cfg(test)]
+mod pages;
+#[cfg(test)]
 mod recorded;
 #[cfg(test)]
 mod sessions;

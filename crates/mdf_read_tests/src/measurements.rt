@@ -223,7 +223,12 @@ const SAMPLES: &[(Measured, &str)] = &[
     (Measured(&[], Asked::Sample(1, 2)), "no sample"),
 ];
 
-fn sample_told(alloc: Global, m: &Measurement, group: u32, i: u64) -> Result<String, Memory> {
+pub(crate) fn sample_told(
+    alloc: Global,
+    m: &Measurement,
+    group: u32,
+    i: u64,
+) -> Result<String, Memory> {
     if group >= m.groups() || i >= m.samples(group) {
         return Ok(format!(in alloc; "no sample")?);
     }

@@ -5,9 +5,9 @@ use Rattle.mdf_gate.proofs.Carrying.{prefix_self}
 use Rattle.mdf_layout.specs.History.{source_samples}
 use Rattle.mdf_layout.specs.declared.sample.Sample.{Sample}
 use Rattle.book_owned.specs.declared.mark.Mark.{Mark}
-use Rattle.book_shared.specs.Causes.{MarksCaused}
+use Rattle.book_shared.specs.Causes.{AnyOf, IsAmong, MarksCaused}
 use Rattle.book_shared.proofs.Causing.{caused_later, caused_more}
-use Rattle.acq_run.specs.Ran.{AskedFor}
+use Rattle.acq_run.specs.Ran.{AskedFor, DueFor}
 use Rattle.acq_run.specs.Tasks.{samples_of as samples_fed}
 use Rattle.acq_run.specs.Works.{IsFlushed}
 use Rattle.acq_run.specs.declared.tasks.Fed.{Fed}
@@ -16,7 +16,7 @@ use Rattle.acq_script.specs.Tasks.{samples_of}
 use Rattle.acq_script.specs.declared.script.Script.{Script}
 use Rattle.acq_script.specs.declared.script.Task.{Task}
 use Rattle.acq_script.specs.declared.script.Task.TheVariants as task
-use Rattle.mdf_record.specs.Causes.{HaveCauses, IsFlushLine}
+use Rattle.mdf_record.specs.Causes.{HaveCauses, IsFlushLine, IsLineSample}
 use Rattle.mdf_record.specs.Sources.{feds_of}
 use Rattle.mdf_record.proofs.Feeding.{cut, same_samples}
 
@@ -71,22 +71,30 @@ asked_line script history n asked =
     let line = subst (λ k. IsLineOf script.plan.owners k history at.1 n) same at.3 in
     record { source = at.0; tasks = at.1; there = at.2; first = line.first; later = line.later; tasks_are = line.tasks_are; own_is = line.own_is }
 
+-- a sample of one of the feeds is one of the lists
+line_sample : (lists : List (List Task)) (sample : Sample) → DueFor (map feds_of lists) sample → AnyOf (λ tasks. IsAmong (samples_of tasks) sample) lists
+line_sample [] sample due = absurd due
+line_sample (tasks ∷ lists) sample due = ⊎_elim
+    (λ here. inl (subst (λ samples. IsAmong samples sample) (same_samples tasks) here))
+    (λ later. inr (line_sample lists sample later)) due
+
 -- The sources worked at a book that began with one mark, and it was flushed a last time.
 pub have_causes : (script : Script) (first : Mark) (begun marks marks' : List Mark) (history history' : List Sample) → begun ≡ first ∷ [] → first.through ≡ 0
-    → MarksCaused (AskedFor script.plan.owners 0 (map feds_of script.lists) history) script.plan.shapes script.plan.block history begun marks → history' ≡ history
+    → MarksCaused (AskedFor script.plan.owners 0 (map feds_of script.lists) history) (DueFor (map feds_of script.lists)) script.plan.shapes script.plan.block history begun marks → history' ≡ history
     → (marks' ≡ marks) ⊎ ((mark : Mark) × (marks' ≡ marks ++ mark ∷ []) × (mark.through ≡ length history)) → HaveCauses script history' marks'
 have_causes script first begun marks marks' history history' begun_is none worked same last =
     let asked : ℕ → Type 0 = λ n. IsFlushLine script history n ⊎ (n ≡ length history) in
-    let worked' = caused_later (AskedFor script.plan.owners 0 (map feds_of script.lists) history) asked script.plan.shapes script.plan.block history history
-    (λ n is. inl (asked_line script history n is)) (prefix_self history) (first ∷ []) marks
-    (subst (λ ms. MarksCaused (AskedFor script.plan.owners 0 (map feds_of script.lists) history) script.plan.shapes script.plan.block history ms marks) begun_is worked) in
+    let due = IsLineSample script in
+    let worked' = caused_later (AskedFor script.plan.owners 0 (map feds_of script.lists) history) asked (DueFor (map feds_of script.lists)) due script.plan.shapes script.plan.block history history
+    (λ n is. inl (asked_line script history n is)) (line_sample script.lists) (prefix_self history) (first ∷ []) marks
+    (subst (λ ms. MarksCaused (AskedFor script.plan.owners 0 (map feds_of script.lists) history) (DueFor (map feds_of script.lists)) script.plan.shapes script.plan.block history ms marks) begun_is worked) in
     subst (λ h. HaveCauses script h marks') (sym same) (record {
       first = first;
       none = none;
       caused = ⊎_elim
-          (λ is. subst (MarksCaused asked script.plan.shapes script.plan.block history (first ∷ [])) (sym is) worked')
-          (λ made. subst (MarksCaused asked script.plan.shapes script.plan.block history (first ∷ [])) (sym made.1)
-          (caused_more asked script.plan.shapes script.plan.block history (first ∷ []) marks made.0 worked' (inl (inr made.2)))) last;
+          (λ is. subst (MarksCaused asked due script.plan.shapes script.plan.block history (first ∷ [])) (sym is) worked')
+          (λ made. subst (MarksCaused asked due script.plan.shapes script.plan.block history (first ∷ [])) (sym made.1)
+          (caused_more asked due script.plan.shapes script.plan.block history (first ∷ []) marks made.0 worked' (inl (inr made.2)))) last;
     })
 
 -- and one at which no source worked

@@ -25,7 +25,7 @@ use Rattle.mdf_record.specs.Record.{outcome}
 use Rattle.mdf_record.specs.Recorded.{HasRun}
 use Rattle.mdf_record.specs.Sources.{feds_of}
 use Rattle.book_shared.specs.Causes.{MarksCaused}
-use Rattle.acq_run.specs.Ran.{AreOwned, AskedFor}
+use Rattle.acq_run.specs.Ran.{AreOwned, AskedFor, DueFor}
 use Rattle.mdf_record.specs.Work.{Works, fed_by}
 use Rattle.mdf_record.specs.declared.sources.End.{End}
 use Rattle.mdf_record.specs.declared.sources.End.TheVariants as end_
@@ -119,7 +119,7 @@ works_run tells shows script is_script file view begun owners feeds recorded whi
     worked.terms
     (owned_by script owners begun.terms (length (fed_by feeds)) worked.driven.history owners_are (ap (λ t. t.layouts) begins.terms)
     (omega (arith, ap length feeds_are, length-map script.lists feds_of, is_script.lists)) worked.owned)
-    (subst (λ fs. MarksCaused (AskedFor script.plan.owners 0 fs worked.driven.history) begun.terms.layouts begun.terms.block_limit worked.driven.history begun.marks worked.driven.marks) feeds_are
-    (subst (λ os. MarksCaused (AskedFor os 0 (fed_by feeds) worked.driven.history) begun.terms.layouts begun.terms.block_limit worked.driven.history begun.marks worked.driven.marks) owners_are worked.marks))
+    (subst (λ fs. MarksCaused (AskedFor script.plan.owners 0 fs worked.driven.history) (DueFor fs) begun.terms.layouts begun.terms.block_limit worked.driven.history begun.marks worked.driven.marks) feeds_are
+    (subst (λ os. MarksCaused (AskedFor os 0 (fed_by feeds) worked.driven.history) (DueFor (fed_by feeds)) begun.terms.layouts begun.terms.block_limit worked.driven.history begun.marks worked.driven.marks) owners_are worked.marks))
     worked.last (ran_all script.plan.owners worked.driven worked.seen script.lists worked.accepted.items worked.ended worked.all ran worked.accepted_is worked.told)
     (worked.saw ∙ ap length feeds_are ∙ length-map script.lists feds_of) worked.finishes worked.shown_is worked.closes

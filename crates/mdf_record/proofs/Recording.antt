@@ -36,7 +36,7 @@ use Rattle.mdf_carried.specs.Recovers.{IsReadHead}
 use Rattle.acq_script.specs.declared.script.Task.{Task}
 use Rattle.acq_run.specs.Works as Fed
 use Rattle.book_shared.specs.Causes.{MarksCaused}
-use Rattle.acq_run.specs.Ran.{AllRan, AreOwned, AskedFor}
+use Rattle.acq_run.specs.Ran.{AllRan, AreOwned, AskedFor, DueFor}
 use Rattle.acq_run.specs.declared.work.Driven.{Driven}
 use Rattle.acq_run.specs.declared.work.Ended.{Ended}
 use Rattle.acq_run.specs.declared.work.Ended.TheVariants as work
@@ -195,7 +195,7 @@ module _ {D N : Type 0} (tells : DiskOf D) (shows : ViewOf Audience N)
     (begins : HasBegun tells shows file script.plan.shapes script.plan.block script.plan.session view begun)
     (same : driven.terms ≡ begun.terms)
     (owned : AreOwned script.plan.owners (length script.plan.shapes) script.plan.sources driven.history)
-    (caused : MarksCaused (AskedFor script.plan.owners 0 (map feds_of script.lists) driven.history) begun.terms.layouts begun.terms.block_limit driven.history begun.marks driven.marks)
+    (caused : MarksCaused (AskedFor script.plan.owners 0 (map feds_of script.lists) driven.history) (DueFor (map feds_of script.lists)) begun.terms.layouts begun.terms.block_limit driven.history begun.marks driven.marks)
     (last : MarksLast driven flushed) (ran : RanAll script.plan.owners driven seen script.lists accepted.items result) (seen_count : length seen ≡ length script.lists)
     (finishes : Finishes driven flushed script.plan.live result problem note) (live_is : live ≡ counted note) (closes : Closes tells flushed accepted live problem seen recorded) where
   abbrev owners : List ℕ
@@ -220,7 +220,7 @@ module _ {D N : Type 0} (tells : DiskOf D) (shows : ViewOf Audience N)
       (λ s tasks there. let at = at_source s tasks there in own_begins owners flushed s (get_or seen s []) tasks at.driven at.ran)
       (λ s tasks there. let at = at_source s tasks there in own_flushes owners flushed s (get_or seen s []) tasks at.driven at.ran)
       (have_causes script (record { moment = tells.moment file.disk; through = 0 }) begun.marks driven.marks flushed.marks driven.history flushed.history begins.marks refl
-      (subst (λ (t : Terms). MarksCaused (AskedFor owners 0 (map feds_of script.lists) driven.history) t.layouts t.block_limit driven.history begun.marks driven.marks) begins.terms caused)
+      (subst (λ (t : Terms). MarksCaused (AskedFor owners 0 (map feds_of script.lists) driven.history) (DueFor (map feds_of script.lists)) t.layouts t.block_limit driven.history begun.marks driven.marks) begins.terms caused)
       (finishes.steps.history ∙ append-nil driven.history) last)
 
   accepted_are : AreAccepted script left accepted.items

@@ -3,7 +3,7 @@ use Rattle.std.specs.Prelude.{ℕ, ◌≡◌, ◌⊎◌, List, [], ◌∷◌, �
 use Rattle.mdf_layout.specs.History.{source_samples}
 use Rattle.mdf_layout.specs.declared.sample.Sample.{Sample}
 use Rattle.book_owned.specs.declared.mark.Mark.{Mark}
-use Rattle.book_shared.specs.Causes.{MarksCaused}
+use Rattle.book_shared.specs.Causes.{AnyOf, IsAmong, MarksCaused}
 use Rattle.acq_script.specs.Tasks.{samples_of}
 use Rattle.acq_script.specs.declared.script.Script.{Script}
 use Rattle.acq_script.specs.declared.script.Task.{Task}
@@ -19,9 +19,13 @@ pub record IsFlushLine (script : Script) (history : List Sample) (through : ℕ)
   pub tasks_are : tasks ≡ first ++ task.Flush ∷ later
   pub own_is : source_samples script.plan.owners (take through history) source ≡ samples_of first
 
+-- a source of the script has this sample
+abbrev pub IsLineSample : Script → Sample → Type 0
+IsLineSample script sample = AnyOf (λ tasks. IsAmong (samples_of tasks) sample) script.lists
+
 -- The first mark goes through no sample. Each later one goes through the samples of a flush line, or through all; or the
--- records behind the mark before it and that of the next sample pass the block limit.
+-- records behind the mark before it and that of a sample of the script, which its source had to append, pass the block limit.
 pub record HaveCauses (script : Script) (history : List Sample) (marks : List Mark) : Type 0 where
   pub first : Mark
   pub none : first.through ≡ 0
-  pub caused : MarksCaused (λ n. IsFlushLine script history n ⊎ (n ≡ length history)) script.plan.shapes script.plan.block history (first ∷ []) marks
+  pub caused : MarksCaused (λ n. IsFlushLine script history n ⊎ (n ≡ length history)) (IsLineSample script) script.plan.shapes script.plan.block history (first ∷ []) marks

@@ -6,7 +6,7 @@ use Rattle.book_owned.specs.Account.{Account}
 use Rattle.book_owned.specs.Members.{DiskOf}
 use Rattle.book_view.specs.Known.{Note}
 use Rattle.book_shared.specs.Causes.{MarksCaused}
-use Rattle.acq_run.specs.Ran.{AllMayFeed, AllRan, AreOwned, AskedFor}
+use Rattle.acq_run.specs.Ran.{AllMayFeed, AllRan, AreOwned, AskedFor, DueFor}
 use Rattle.acq_run.specs.declared.tasks.Fed.{Fed}
 use Rattle.acq_run.specs.declared.work.Driven.{Driven}
 use Rattle.acq_run.specs.Audience.{count_in, hands_in, shows_in, which_in}
@@ -71,7 +71,7 @@ pub record HasWorked {D : Type 0} (tells : DiskOf D) (owners : List ℕ) (book :
   pub ran : AllRan owners driven seen 0 feeds all
   pub saw : length seen ≡ length feeds
   pub owned : AreOwned owners (length book.terms.layouts) (length feeds) driven.history
-  pub marks : MarksCaused (AskedFor owners 0 feeds driven.history) book.terms.layouts book.terms.block_limit driven.history book.marks driven.marks
+  pub marks : MarksCaused (AskedFor owners 0 feeds driven.history) (DueFor feeds) book.terms.layouts book.terms.block_limit driven.history book.marks driven.marks
   pub last : MarksLast driven flushed
   pub accepted_is : accepted.items ≡ counts_of all
   pub told : ended ≡ worst (ends_of all)

@@ -15,9 +15,8 @@ use Rattle.mdf_command.specs.declared.fault.Fault.{Fault}
 use Rattle.mdf_command.specs.declared.fault.Fault.TheVariants as fault
 use Rattle.mdf_run.specs.Making.{EndsMaking, Inputs, MakingComes, making_status, making_text}
 use Rattle.mdf_inspect.specs.Opened.{EndsOpened, OpenedComes, OpenedFaultComes, opened_status, opened_text}
-use Rattle.mdf_inspect.specs.Reading.{EndsReading, ReadingComes, ReadingFaultComes, answer_text, reading_status}
+use Rattle.mdf_inspect.specs.Reading.{EndsReading, Reading, ReadingComes, ReadingFaultComes, answer_text, reading_status}
 use Rattle.mdf_inspect.specs.Export.{EndsExport, PrintsEnd, TableComes, TableFaultComes}
-use Rattle.mdf_inspect.specs.declared.reading.Reading.{Reading}
 use Rattle.mdf_inspect.specs.declared.table.TableEnd.{TableEnd}
 use Rattle.mdf_inspect.specs.declared.table.TableEnd.TheVariants as table
 use Rattle.mdf_run.specs.Ends.{IsCaused}

@@ -20,7 +20,7 @@ use Rattle.mdf_record.specs.Recovers.{AreRecovered}
 use Rattle.mdf_command.specs.Texts.{Prints, usage_line}
 use Rattle.mdf_carried.specs.Recovers.{IsReadable}
 use Rattle.mdf_record.specs.Recovers.{IsFinalizable}
-use Rattle.mdf_command.specs.Faults.{INPUT_LIMIT}
+use Rattle.mdf_command.specs.Faults.{INPUT_LIMIT, READING_LIMIT}
 use Rattle.mdf_command.specs.Words.{Asks, AsksConcat, AsksCut, AsksExport, AsksFinalize, AsksInput, AsksOutput, AsksRecord, AsksSecond, AsksSort, AsksToMake, IsUsage, Request, input_of, output_of, second_of}
 use Rattle.mdf_command.specs.Words as words
 use Rattle.mdf_run.specs.Kept.{AreJoinable, AsksToJoin, HasGroup, IfRecorded, IsDoneOrLacked, IsDurable, IsMeasured, Keeps, OfRecording, RecordsNothing}
@@ -256,7 +256,7 @@ module _ (said : List (List ℕ)) (asked : Option Asked) (t : Told) (ended : Has
       t.first.content refl (ends_as said asked t ended says (words.cut input output from to) asks).0
 
   pub exports : (input : List ℕ) (group : ℕ) → AsksExport said input group
-      → IfSome t.first.content (λ file. HasGroup file group → length file ≤ INPUT_LIMIT → IsDoneOrLacked t.status)
+      → IfSome t.first.content (λ file. HasGroup file group → length file ≤ READING_LIMIT → IsDoneOrLacked t.status)
   exports input group asks =
       group_is_exported group t.first t.first' t.sink t.sink' t.status t.first.content refl (ends_as said asked t ended says (words.exported input group) asks)
 

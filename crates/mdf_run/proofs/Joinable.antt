@@ -55,15 +55,15 @@ module _ (first second second' : DiskState) (one two : List ℕ) (told_one : fir
     (short_one : length one ≤ INPUT_LIMIT) (short_two : length two ≤ INPUT_LIMIT) where
   none_over : (size limit : ℕ) → ¬ OneIsOver first second second' size limit
   none_over size limit over =
-      ⊎_elim (λ first_over. absurd (not_over first one told_one short_one size limit first_over.0))
-      (λ second_over. absurd (not_over second two told_two short_two size limit second_over.1))
+      ⊎_elim (λ first_over. absurd (not_over first one told_one INPUT_LIMIT short_one size limit first_over.0))
+      (λ second_over. absurd (not_over second two told_two INPUT_LIMIT short_two size limit second_over.1))
       over
 
   loaded_taken : (now : ℕ) → AreJoinable one two → (asked : Joining) → AreBothLoaded now first second asked → (problem : Fault) → AreNotJoined asked problem
       → fault_status problem ≡ 7
   loaded_taken now joinable asked loaded problem refuses =
-      both_taken asked one two (loaded_is first one told_one short_one asked.first loaded.first)
-      (loaded_is second two told_two short_two asked.second loaded.second) joinable problem refuses
+      both_taken asked one two (loaded_is first one told_one asked.first loaded.first)
+      (loaded_is second two told_two asked.second loaded.second) joinable problem refuses
 
 module _ (now : ℕ) (first first' second second' out out' : DiskState) (sink sink' : SinkState) (status : ℕ)
     (ends : EndsConcat now first first' second second' out out' sink sink' status) where

@@ -10,14 +10,15 @@ use Rattle.mdf_session.specs.Session.{session}
 use Rattle.mdf_carried.specs.Recovers.{IsReadable}
 use Rattle.mdf_record.specs.Recovers.{IsFinalizable}
 use Rattle.mdf_tool.specs.declared.made.Report.{Report}
-use Rattle.mdf_command.specs.Faults.{INPUT_LIMIT, fault_line, fault_status, refused_status}
-use Rattle.mdf_command.specs.Load.{IsLoaded, IsOver}
+use Rattle.mdf_command.specs.Faults.{INPUT_LIMIT, READING_LIMIT, fault_line, fault_status, refused_status}
+use Rattle.mdf_command.specs.Load.{IsLoaded, IsOverOf}
 use Rattle.mdf_command.specs.Texts.{unwritten_status}
 use Rattle.mdf_command.specs.declared.fault.Fault.{Fault}
 use Rattle.mdf_command.specs.declared.fault.Fault.TheVariants as fault
 use Rattle.mdf_run.specs.Finalize.{IsNoRecording}
 use Rattle.mdf_run.specs.Sort.{IsNotMeasured}
 use Rattle.mdf_run.specs.Making.{EndsMaking, Inputs, MakingComes, making_text, making_status, one_input}
+use Rattle.tool_export.specs.Export.{HasNoGroup}
 use Rattle.mdf_inspect.specs.Export.{EndsExport, LacksGroup, PrintsEnd, TableComes, TableFaultComes}
 use Rattle.mdf_inspect.specs.declared.table.TableEnd.{TableEnd}
 use Rattle.mdf_inspect.specs.declared.table.TableEnd.TheVariants.{Given, Unwritten, Refused}
@@ -62,39 +63,39 @@ module _ {Input : Type 0} (inputs : Inputs Input) (Makes : Input → List ℕ �
   making_well sink sink' status ends =
       ends_well (making_status ends.0) status (was_status (making_text ends.0) (making_status ends.0) sink sink' status ends.2) (making_end ends.0 ends.1)
 
--- what is loaded of a disk that tells this file
-module _ (disk : DiskState) (file : List ℕ) (told : disk.content ≡ Some file) (short : length file ≤ INPUT_LIMIT) where
+-- what holds of what a disk tells that tells this file
+module _ (disk : DiskState) (file : List ℕ) (told : disk.content ≡ Some file) where
   said : (P : List ℕ → Type 0) → IfSome disk.content P → P file
   said P holds = subst (λ (content : Option (List ℕ)). IfSome content P) told holds
 
   pub loaded_is : (loaded : List ℕ) → IsLoaded disk loaded → loaded ≡ file
   loaded_is loaded is = said (λ f. loaded ≡ f) is.told
 
-  pub not_over : (size limit : ℕ) → ¬ IsOver disk size limit
-  not_over size limit is =
+  pub not_over : (most : ℕ) → length file ≤ most → (size limit : ℕ) → ¬ IsOverOf most disk size limit
+  not_over most short size limit is =
       let long : size ≡ length file = said (λ f. size ≡ length f) is.told in absurd (omega (arith, is.limit_is, is.over, long, short))
 
   -- a command that prints the table of a group that is there
-  module _ (group : ℕ) (has : HasGroup file group) (disk' : DiskState) (sink between : SinkState) where
+  module _ (short : length file ≤ READING_LIMIT) (group : ℕ) (has : HasGroup file group) (disk' : DiskState) (sink between : SinkState) where
     not_lacking : (groups : ℕ) → ¬ LacksGroup disk group groups
-    not_lacking groups (loaded, is, lacks) =
-        let read : measurement file ≡ Ok lacks.found = subst (λ f. measurement f ≡ Ok lacks.found) (loaded_is loaded is) lacks.is_read in
-        let same : has.found ≡ lacks.found = one_read (measurement file) has.found lacks.found has.is_read read in
+    not_lacking groups comes =
+        let lacks = (said (λ f. (length f ≤ READING_LIMIT) × HasNoGroup f group groups) comes.1).1 in
+        let same : has.found ≡ lacks.found = one_read (measurement file) has.found lacks.found has.is_read lacks.is_read in
         let many : length has.found.groups ≡ groups = ap (λ (m : Measured). length m.groups) same ∙ sym lacks.count in
         absurd (omega (arith, many, has.there, lacks.past))
 
     table_fault : (problem : Fault) → TableFaultComes group disk disk' sink between problem
         → (fault_status problem ≡ 0) ⊎ ((fault_status problem ≡ 4) ⊎ (fault_status problem ≡ 7))
     table_fault fault.Device comes = inr (inl refl)
-    table_fault (fault.InputOver size limit) comes = absurd (not_over size limit comes.0)
+    table_fault (fault.InputOver size limit) comes = absurd (not_over READING_LIMIT short size limit comes.0)
     table_fault fault.Memory comes = inr (inr refl)
     table_fault (fault.Read refused) comes =
-        let fails = subst (λ f. Fails (read_refusal refused) (measurement f)) (loaded_is comes.0.0 comes.0.1) comes.0.3 in
+        let fails = (said (λ f. (length f ≤ READING_LIMIT) × Fails (read_refusal refused) (measurement f)) comes.0.1).1 in
         inr (inr (not_refused (read_refusal refused) (measurement file) has.found has.is_read fails))
     table_fault (fault.NoGroup number groups) comes = absurd (not_lacking groups comes.1)
     table_fault problem comes = absurd comes
 
-    table_well : (end : TableEnd) (sink' : SinkState) (status : ℕ) → TableComes group disk disk' sink between end → PrintsEnd end between sink' status
+    pub table_well : (end : TableEnd) (sink' : SinkState) (status : ℕ) → TableComes group disk disk' sink between end → PrintsEnd end between sink' status
         → IsDoneOrLacked status
     table_well (Given rows) sink' status comes prints = inl prints.1
     table_well Unwritten sink' status comes prints = inr (inr (inl prints.1))
@@ -109,8 +110,8 @@ pub one_is_made : (Makes : List ℕ → List ℕ → Report → Type 0) (Refuses
     → IfSome content (λ file. IsSound file → length file ≤ INPUT_LIMIT → IsDoneOrLacked status)
 one_is_made Makes Refuses IsSound takes disk disk' out out' sink sink' status None told ends = tt
 one_is_made Makes Refuses IsSound takes disk disk' out out' sink sink' status (Some file) told ends = λ sound short.
-    making_well (one_input disk disk') Makes Refuses out out' (not_over disk file told short)
-    (λ input loaded problem refuses. takes file sound problem (subst (λ f. Refuses f problem) (loaded_is disk file told short input loaded) refuses)) sink sink' status ends
+    making_well (one_input disk disk') Makes Refuses out out' (not_over disk file told INPUT_LIMIT short)
+    (λ input loaded problem refuses. takes file sound problem (subst (λ f. Refuses f problem) (loaded_is disk file told input loaded) refuses)) sink sink' status ends
 
 -- each file that is read as a recording is finalized
 pub read_is_taken : (file : List ℕ) → IsReadable file → (problem : Fault) → IsNoRecording file problem → fault_status problem ≡ 7
@@ -131,7 +132,7 @@ measured_is_taken file measured problem fails = absurd fails
 
 -- and each of its groups is exported
 pub group_is_exported : (group : ℕ) (disk disk' : DiskState) (sink sink' : SinkState) (status : ℕ) (content : Option (List ℕ)) → disk.content ≡ content
-    → EndsExport group disk disk' sink sink' status → IfSome content (λ file. HasGroup file group → length file ≤ INPUT_LIMIT → IsDoneOrLacked status)
+    → EndsExport group disk disk' sink sink' status → IfSome content (λ file. HasGroup file group → length file ≤ READING_LIMIT → IsDoneOrLacked status)
 group_is_exported group disk disk' sink sink' status None told ends = tt
 group_is_exported group disk disk' sink sink' status (Some file) told ends = λ has short.
     table_well disk file told short group has disk' sink ends.1 ends.0 sink' status ends.2 ends.3

@@ -16,6 +16,7 @@ use crate::showing::show;
 use mdf_command::Piece::Text;
 use mdf_command::{give_line, status_after};
 use mdf_disk::Disk;
+use mdf_inspect::Shown;
 use mdf_port::{Sink, Source};
 use mdf_record::Gate;
 use std::alloc::Global;
@@ -81,8 +82,7 @@ where
 {
     match asked {
         Some(Asked::Show(input, view)) => {
-            let mut first = first;
-            let status = show(alloc, view, input, sink, &mut first);
+            let Shown { status, first } = show(alloc, view, input, sink, first);
             without_recording(alloc, of_one(status), first, out)
         }
         Some(

@@ -33,7 +33,7 @@ ghost use Rattle.mdf_record.specs.Record.{IsComplete, OfSources, outcome};
 ghost use Rattle.mdf_record.specs.Recorded.{EndsGenerated, EndsRecord};
 ghost use Rattle.mdf_record.specs.Recovers.{IsFinalizable, MarksRecover, StartRecovers};
 ghost use Rattle.mdf_carried.specs.Samples.{IsRecovered};
-ghost use Rattle.mdf_command.specs.Faults.{INPUT_LIMIT};
+ghost use Rattle.mdf_command.specs.Faults.{INPUT_LIMIT, READING_LIMIT};
 ghost use Rattle.mdf_run.specs.Kept.{IfRecorded, OfRecording, RecordsNothing, AreJoinable, AsksToJoin, HasGroup, HasSaved, IsDone, IsDoneOrLacked, IsMeasured, IsReported};
 
 use crate::answer::answer;
@@ -159,7 +159,7 @@ where
     ensures cuts { (input output : List ℕ) (from to : ℤ) → AsksCut words.now input output from to
         → IfSome (A.content first) (λ file. IsMeasured file → length file ≤ INPUT_LIMIT → IsDoneOrLacked result.status) }
     ensures exports { (input : List ℕ) (group : ℕ) → AsksExport words.now input group
-        → IfSome (A.content first) (λ file. HasGroup file group → length file ≤ INPUT_LIMIT → IsDoneOrLacked result.status) }
+        → IfSome (A.content first) (λ file. HasGroup file group → length file ≤ READING_LIMIT → IsDoneOrLacked result.status) }
     ensures concats { (input other output : List ℕ) → AsksConcat words.now input other output
         → IfSome (A.content first) (λ one. IfSome (B.content second.old) (λ two. AreJoinable one two
         → length one ≤ INPUT_LIMIT → length two ≤ INPUT_LIMIT → IsDoneOrLacked result.status)) }

@@ -18,6 +18,8 @@ mod joined;
 #[cfg(test)]
 mod kinds;
 #[cfg(test)]
+mod large;
+#[cfg(test)]
 mod live;
 #[cfg(test)]
 mod readings;

@@ -1,12 +1,12 @@
 ghost use Rattle.std.specs.Prelude.{◌≡◌, None, IfOk};
 
-use crate::files::{Asked, FINALIZE, File, all_are_told};
+use crate::files::{Asked, File, all_are_told};
 use crate::kinds::EMPTY;
 use crate::recordings::Part;
 use crate::told::is_told;
 use book_owned::Marks;
-use mdf_disk::{Disk, Fuse, MemoryDisk, Role};
-use mdf_num::{Bytes, Failed, FaultCount, Memory, Numbers, Rows};
+use mdf_disk::{Disk, Fuse, MemoryDisk};
+use mdf_num::{Bytes, Memory, Numbers, Rows};
 use mdf_port::{MemorySink, MemorySource};
 use mdf_run::{Finished, Gate, Open, run};
 use std::alloc::Global;
@@ -320,7 +320,7 @@ pub const fn record<'a>(script: &'a str, broken: &'a [u64], failing: &'a [u64]) 
     }
 }
 
-const OPEN: &[&str] = &["opened", "in.mf4"];
+pub const OPEN: &[&str] = &["opened", "in.mf4"];
 
 // The recording of two blocks, of which the length is given and the parts that are put into it; which calls of its disk and of the
 // sink fail; the status and what is printed.
@@ -448,85 +448,6 @@ fn wrong_words_print_the_usage(rt: HostRuntime) -> Result<(), Fail> {
         is_told(&rt, line_told(&rt, line), USAGE)?;
     }
     Ok(())
-}
-
-/// A disk whose file is one byte over the limit of an input, and can't be read.
-#[derive(Drop)]
-struct Large {
-    asked: Option<(Bytes, Role)>,
-    faults: FaultCount,
-}
-
-impl Disk for Large {
-    ghost use Rattle.std.specs.Prelude.{None, is_some};
-    ghost use Rattle.std.proofs.Common.{rules};
-
-    ghost asked = { λ d. d.asked };
-
-    ghost attached = { λ d. is_some d.asked };
-
-    ghost content = { λ _. None };
-
-    ghost story = { λ _. None };
-
-    ghost moment = { λ _. 0 };
-
-    ghost faults = { λ d. d.faults };
-
-    ghost agrees = { λ _. tt };
-
-    ghost unasked = { λ d none. Prim.search rules };
-
-    ghost unattached = { λ _ _. tt };
-
-    fn attach(&mut self, name: Bytes, role: Role) -> Result<(), Failed> {
-        self.asked = Some((name, role));
-        Ok(())
-    }
-
-    fn size(&mut self) -> Result<u64, Failed> {
-        Ok(536_870_913)
-    }
-
-    fn read_at(&mut self, _at: u64, _buf: &mut [u8]) -> Result<(), Failed> {
-        Err(self.faults.fail())
-    }
-
-    fn write_at(&mut self, _at: u64, _bytes: &[u8]) -> Result<(), Failed> {
-        Err(self.faults.fail())
-    }
-
-    fn sync(&mut self) -> Result<(), Failed> {
-        Err(self.faults.fail())
-    }
-
-    fn moment(&self) -> u64 {
-        0
-    }
-
-    fn faults(&self) -> u64 {
-        self.faults.get()
-    }
-}
-
-/// What is printed and left of a command over that disk, where the name of the output is taken.
-fn large_told<R>(rt: &R, given: Given<'_>) -> Result<String, Fail>
-where
-    R: AllocGlobal + Threads + Wait + Sync,
-{
-    let first = Large {
-        asked: None,
-        faults: FaultCount::zero(),
-    };
-    over_taken(rt, given, first)
-}
-
-const LARGE: &str = "5 input over 536870913 536870912\nfile 5 history 0 marks []";
-
-#[test]
-fn an_input_over_the_limit_is_refused(rt: HostRuntime) -> Result<(), Fail> {
-    is_told(&rt, large_told(&rt, asking(OPEN, &[])), LARGE)?;
-    is_told(&rt, large_told(&rt, FINALIZE), LARGE)
 }
 
 // Three samples of one channel, with a flush after the second.

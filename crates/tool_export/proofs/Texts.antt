@@ -1,13 +1,18 @@
 -- Texts that are given one behind the other.
-use Rattle.std.proofs.Common.{◌≡◌, ◌+◌, ◌-◌, ◌≤◌, ℕ, zero, suc, Result, Ok, Err, List, [], ◌++◌, Option, refl, sym, ◌∙◌, ap, arith, append_assoc, append-nil}
+use Rattle.std.proofs.Common.{◌≡◌, ◌+◌, ◌-◌, ◌≤◌, ℕ, zero, suc, true, Result, Ok, Err, List, [], ◌++◌, Option, refl, sym, ◌∙◌, ap, subst, arith, append_assoc, append-nil}
+use Rattle.std.specs.Prelude.{IfErr}
 use Rattle.std.specs.Io.KnownBytes.{Appends}
 use Rattle.mdf_layout.specs.declared.sample.Entry.{Entry}
+use Rattle.mdf_num.specs.declared.failure.Failed.{Failed}
+use Rattle.mdf_num.specs.declared.halt.Halt.{Halt}
+use Rattle.mdf_num.specs.declared.halt.Halt.TheVariants as halts
 use Rattle.mdf_num.specs.declared.halt.Stop.{Stop}
-use Rattle.mdf_num.specs.declared.halt.Stop.TheVariants as stop
+use Rattle.mdf_num.specs.declared.halt.Stop.TheVariants as stops
+use Rattle.mdf_num.specs.Halt.{HaltCause, halt_of}
 use Rattle.mdf_port.specs.Sink.{AppendsFront}
 use Rattle.mdf_port.specs.State.{SinkState}
 use Rattle.mdf_port.proofs.Streams.{appends_more, appends_none}
-use Rattle.tool_export.specs.Export.{GivesText}
+use Rattle.tool_export.specs.Export.{GivesText, IsOfSink, SinkCause}
 use Rattle.tool_export.specs.Table.{line_at, sample_lines}
 
 -- a front of a text behind a text that was given
@@ -21,44 +26,34 @@ front_longer old new xs rest front =
     (front.0, (front.1.0 ++ rest, sym (append_assoc front.0 front.1.0 rest) ∙ ap (λ (zs : List ℕ). zs ++ rest) front.1.1), front.2)
 
 -- a text behind a text that was given
-pub gives_behind : (xs ys : List ℕ) (old mid new : SinkState) (result : Result Unit Stop)
-    → Appends old.held mid.held xs → mid.faults ≡ old.faults → GivesText ys mid new result → GivesText (xs ++ ys) old new result
-gives_behind xs ys old mid new (Ok done) first same gives = record {
-  ok = appends_more old.held mid.held new.held xs ys first gives.ok;
-  err = tt;
-  cause = record { later = omega (arith, same, gives.cause.later); reason = tt };
-  stays = gives.stays ∙ same;
-}
-gives_behind xs ys old mid new (Err stop.Failed) first same gives = record {
-  ok = tt;
-  err = front_behind old.held mid.held new.held xs ys first gives.err;
-  cause = record { later = omega (arith, same, gives.cause.later); reason = omega (arith, same, gives.cause.reason) };
-  stays = tt;
-}
-gives_behind xs ys old mid new (Err stop.Memory) first same gives = record {
-  ok = tt;
-  err = front_behind old.held mid.held new.held xs ys first gives.err;
-  cause = record { later = omega (arith, same, gives.cause.later); reason = tt };
-  stays = gives.stays ∙ same;
-}
+pub gives_behind : (xs ys : List ℕ) (old mid new : SinkState) (result : Result Unit (Halt Failed))
+    → Appends old.held mid.held xs → GivesText ys mid new result → GivesText (xs ++ ys) old new result
+gives_behind xs ys old mid new (Ok done) first gives = record { ok = appends_more old.held mid.held new.held xs ys first gives.ok; err = tt }
+gives_behind xs ys old mid new (Err halt) first gives = record { ok = tt; err = front_behind old.held mid.held new.held xs ys first gives.err }
 
 -- a longer text, of which giving the first part failed
-pub gives_failed : (xs rest : List ℕ) (old new : SinkState) (e : Stop) → GivesText xs old new (Err e) → GivesText (xs ++ rest) old new (Err e)
-gives_failed xs rest old new e gives = record {
-  ok = tt;
-  err = front_longer old.held new.held xs rest gives.err;
-  cause = gives.cause;
-  stays = gives.stays;
-}
+pub gives_failed : (xs rest : List ℕ) (old new : SinkState) (halt : Halt Failed) → GivesText xs old new (Err halt) → GivesText (xs ++ rest) old new (Err halt)
+gives_failed xs rest old new halt gives = record { ok = tt; err = front_longer old.held new.held xs rest gives.err }
 
--- want of memory before the next text is given
-pub gives_none : (text : List ℕ) (old : SinkState) → GivesText text old old (Err stop.Memory)
-gives_none text old = record {
-  ok = tt;
-  err = ([], (text, refl), appends_none old.held);
-  cause = record { later = omega arith; reason = tt };
-  stays = refl;
-}
+-- a text of which nothing is given
+pub gives_none : (text : List ℕ) (old : SinkState) (halt : Halt Failed) → GivesText text old old (Err halt)
+gives_none text old halt = record { ok = tt; err = ([], (text, refl), appends_none old.held) }
+
+-- why the sink's count is what it is after a call behind another
+pub cause_behind : (before mid now : ℕ) (result : Result Unit (Halt Failed)) → mid ≡ before → SinkCause mid now result → SinkCause before now result
+cause_behind before mid now result same = subst (λ (n : ℕ). SinkCause n now result) same
+
+-- a span that stopped is no fault of the sink
+pub span_stopped : (before now : ℕ) (stop : Stop) → now ≡ before → SinkCause before now (Err (halt_of Failed stop))
+span_stopped before now stops.Failed same = record { later = omega (arith, same); reason = same }
+span_stopped before now stops.Memory same = record { later = omega (arith, same); reason = same }
+
+-- and a sink that failed is none of the span
+pub sink_stopped : (before now : ℕ) (result : Result Unit (Halt Failed)) → before ≤ now → IfErr result IsOfSink → HaltCause true before now result
+sink_stopped before now (Ok done) later is = record { later = later; reason = tt }
+sink_stopped before now (Err (halts.Fault failed)) later is = record { later = later; reason = tt }
+sink_stopped before now (Err halts.Failed) later is = absurd is
+sink_stopped before now (Err halts.Memory) later is = record { later = later; reason = tt }
 
 -- lines that were given behind others
 pub lines_given : (before made text lines : List ℕ) → lines ≡ before ++ made → text ≡ made → lines ≡ before ++ text

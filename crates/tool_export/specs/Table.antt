@@ -11,7 +11,9 @@ use Rattle.mdf_layout.specs.declared.sample.Value.{Value}
 use Rattle.mdf_layout.specs.declared.sample.Value.TheVariants as value
 use Rattle.mdf_layout.specs.declared.sample.Entry.{Entry}
 use Rattle.mdf_model.specs.declared.part.Measure.{Measure}
+use Rattle.mdf_model.specs.declared.whole.WholeFound.{WholeFound}
 use Rattle.mdf_model.specs.Measurement.{Measured, sample_of}
+use Rattle.mdf_paged.specs.Groups.{Located, groups_of}
 
 -- a line of these fields, as the CSV writer writes it with its defaults: commas between the fields, quotes round a field
 -- that needs them, and LF
@@ -69,3 +71,7 @@ sample_in found group i = option_and_then (λ (m : Measure). sample_of m i) (sli
 
 abbrev pub count_in : Measured → ℕ → ℕ
 count_in found group = option_map_or (λ (m : Measure). m.count) (slice_get found.groups group) 0
+
+-- how many samples a group has that is found
+abbrev pub count_at : WholeFound → ℕ → ℕ
+count_at all group = option_map_or (λ (place : Located). place.group.count) (slice_get (groups_of all) group) 0

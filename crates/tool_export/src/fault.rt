@@ -1,8 +1,8 @@
 ghost use Rattle.std.specs.Prelude.{◌≡◌};
-ghost use Rattle.tool_export.specs.Export.{fault_of_read, fault_of_stop};
+ghost use Rattle.tool_export.specs.Export.{fault_of_halt, fault_of_read};
 
 use mdf_content::ReadFault;
-use mdf_num::Stop;
+use mdf_num::{Failed, Halt};
 use thiserror::Error;
 
 /// Why no table, or not all of it, was given.
@@ -38,13 +38,13 @@ impl From<ReadFault> for ExportFault {
     }
 }
 
-impl From<Stop> for ExportFault {
-    ghost from_gives = { λ stop fault. fault ≡ fault_of_stop stop };
+impl From<Halt<Failed>> for ExportFault {
+    ghost from_gives = { λ halt fault. fault ≡ fault_of_halt halt };
 
-    fn from(stop: Stop) -> Self {
-        match stop {
-            Stop::Failed => ExportFault::Failed,
-            Stop::Memory => ExportFault::Memory,
+    fn from(halt: Halt<Failed>) -> Self {
+        match halt {
+            Halt::Fault(_) | Halt::Failed => ExportFault::Failed,
+            Halt::Memory => ExportFault::Memory,
         }
     }
 }

@@ -1,36 +1,42 @@
-ghost use Rattle.std.specs.Prelude.{◌≡◌, ◌<◌, ◌≤◌, ◌++◌, false, IfOk, OnOk};
+ghost use Rattle.std.specs.Prelude.{◌≡◌, ◌≤◌, ◌++◌, ℕ, List, Some, true, false, IfOk, IfErr, OnOk};
 ghost use Rattle.csv.specs.Writing.{default_writer, fields_written, has_written, writer_pending, writer_setup, writer_under};
+ghost use Rattle.mdf_num.specs.Halt.{HaltCause, StopCause};
 ghost use Rattle.mdf_port.specs.State.{sink_state};
-ghost use Rattle.tool_export.specs.Export.{GivesText};
-ghost use Rattle.tool_export.specs.Table.{line_at, line_of, names_line, sample_lines, table_text};
+ghost use Rattle.tool_export.specs.Export.{GivesText, IsOfSink, SinkCause};
+ghost use Rattle.tool_export.specs.Table.{line_of, names_line, sample_line, sample_lines, table_text};
 
 use crate::line::{Line, text_of};
 use crate::samples::SampleList;
 use csv::Writer;
 use mdf_group::ChannelRow;
-use mdf_num::{Memory, Stop};
+use mdf_layout::Entry;
+use mdf_num::{Failed, Halt, Memory, Span, Stop};
 use mdf_port::{Sink, give_all};
 use std::alloc::Global;
 
 /// How many lines are made at once.
 const PAGE: u64 = 2048;
 
-/// Gives a text.
-fn give_text<K: Sink>(sink: &mut K, text: &[u8]) -> Result<(), Stop>
-    ensures { GivesText text.now (sink_state K.Sink sink.old) (sink_state K.Sink sink.new) result }
+/// Gives a text. The fault is that the sink failed.
+fn give_text<K: Sink>(sink: &mut K, text: &[u8]) -> Result<(), Halt<Failed>>
+    ensures text { GivesText text.now (sink_state K.Sink sink.old) (sink_state K.Sink sink.new) result }
+    ensures sink { SinkCause (K.faults sink.old) (K.faults sink.new) result }
+    ensures here { IfErr result IsOfSink }
 {
     match give_all(sink, text) {
         Ok(()) => Ok(()),
-        Err(_) => Err(Stop::Failed),
+        Err(failed) => Err(Halt::Fault(failed)),
     }
 }
 
 /// Gives a line.
-fn give_line<K: Sink>(alloc: Global, sink: &mut K, line: &Line) -> Result<(), Stop>
-    ensures { GivesText (line_of line.now) (sink_state K.Sink sink.old) (sink_state K.Sink sink.new) result }
+fn give_line<K: Sink>(alloc: Global, sink: &mut K, line: &Line) -> Result<(), Halt<Failed>>
+    ensures text { GivesText (line_of line.now) (sink_state K.Sink sink.old) (sink_state K.Sink sink.new) result }
+    ensures sink { SinkCause (K.faults sink.old) (K.faults sink.new) result }
+    ensures here { IfErr result IsOfSink }
 {
     let Ok(bytes) = line.bytes(alloc) else {
-        return Err(Stop::Memory);
+        return Err(Halt::Memory);
     };
     give_text(sink, bytes.as_slice())
 }
@@ -41,77 +47,101 @@ fn give_names<K: Sink>(
     sink: &mut K,
     line: &mut Line,
     channels: &[ChannelRow],
-) -> Result<(), Stop>
-    ensures { GivesText (names_line channels.now) (sink_state K.Sink sink.old) (sink_state K.Sink sink.new) result }
+) -> Result<(), Halt<Failed>>
+    ensures text { GivesText (names_line channels.now) (sink_state K.Sink sink.old) (sink_state K.Sink sink.new) result }
+    ensures sink { SinkCause (K.faults sink.old) (K.faults sink.new) result }
+    ensures here { IfErr result IsOfSink }
 {
     let Ok(()) = line.set_names(channels) else {
-        return Err(Stop::Memory);
+        return Err(Halt::Memory);
     };
     give_line(alloc, sink, line)
 }
 
 /// Writes the line of a sample behind what a CSV writer with its defaults made in memory. The scratch takes texts of values.
-fn write_sample<L: SampleList>(
+fn write_sample(
     alloc: Global,
     line: &mut Line,
     field: &mut Vec<u8>,
     writer: &mut Writer<Vec<u8>>,
-    list: &L,
     index: u64,
+    entries: &[Entry],
 ) -> Result<(), Memory>
-    requires index { index < L.count list.now }
     requires fields { fields_written writer.old ≡ 0 }
     requires clean { has_written writer.old ≡ false }
     requires setup { writer_setup writer.old ≡ default_writer }
     ensures text { OnOk result ((writer_under writer.new).items ++ writer_pending writer.new
-        ≡ (writer_under writer.old).items ++ writer_pending writer.old ++ line_at index (L.sample list.now index)) }
+        ≡ (writer_under writer.old).items ++ writer_pending writer.old ++ sample_line index entries.now) }
     ensures fields { OnOk result (fields_written writer.new ≡ 0) }
     ensures clean { OnOk result (has_written writer.new ≡ false) }
     ensures setup { OnOk result (writer_setup writer.new ≡ default_writer) }
 {
-    let entries = list.sample(alloc, index)?;
-    line.set_sample(alloc, field, index, entries.as_slice())?;
+    line.set_sample(alloc, field, index, entries)?;
     line.write(writer)
 }
 
 /// The lines of the samples from one on, up to another.
-fn lines_between<L: SampleList>(
+fn lines_between<L: SampleList, P: Span>(
     alloc: Global,
+    span: &mut P,
     line: &mut Line,
     list: &L,
     from: u64,
     to: u64,
-) -> Result<Vec<u8>, Memory>
+) -> Result<Vec<u8>, Stop>
+    requires needs { L.needs list.now (P.size span.old) }
     requires order { from ≤ to }
     requires within { to ≤ L.count list.now }
-    ensures { IfOk result (λ lines. sample_lines (L.sample list.now) to ≡ sample_lines (L.sample list.now) from ++ lines.items) }
+    ensures lines { (f : List ℕ) → P.bytes span.old ≡ Some f → L.are_of list.now f
+        → IfOk result (λ lines. sample_lines (L.sample list.now f) to ≡ sample_lines (L.sample list.now f) from ++ lines.items) }
+    ensures same { P.bytes span.new ≡ P.bytes span.old }
+    ensures size { P.size span.new ≡ P.size span.old }
+    ensures cause { StopCause true (P.faults span.old) (P.faults span.new) result }
 {
     let mut writer = Writer::from_writer(Vec::new(alloc));
     let mut field = Vec::new(alloc);
     let mut index = from;
     while index < to {
-        write_sample(alloc, line, &mut field, &mut writer, list, index)?;
+        let entries = list.sample(alloc, span, index)?;
+        let Ok(()) = write_sample(
+            alloc,
+            line,
+            &mut field,
+            &mut writer,
+            index,
+            entries.as_slice(),
+        ) else {
+            return Err(Stop::Memory);
+        };
         index += 1;
     }
-    text_of(writer)
+    let Ok(lines) = text_of(writer) else {
+        return Err(Stop::Memory);
+    };
+    Ok(lines)
 }
 
 /// Gives the lines of all samples, some of them at once.
-fn give_samples<L: SampleList, K: Sink>(
+fn give_samples<L: SampleList, P: Span, K: Sink>(
     alloc: Global,
+    span: &mut P,
     sink: &mut K,
     line: &mut Line,
     list: &L,
-) -> Result<(), Stop>
-    ensures { GivesText (sample_lines (L.sample list.now) (L.count list.now)) (sink_state K.Sink sink.old) (sink_state K.Sink sink.new) result }
+) -> Result<(), Halt<Failed>>
+    requires { L.needs list.now (P.size span.old) }
+    ensures text { (f : List ℕ) → P.bytes span.old ≡ Some f → L.are_of list.now f
+        → GivesText (sample_lines (L.sample list.now f) (L.count list.now)) (sink_state K.Sink sink.old) (sink_state K.Sink sink.new) result }
+    ensures sink { SinkCause (K.faults sink.old) (K.faults sink.new) result }
+    ensures same { P.bytes span.new ≡ P.bytes span.old }
+    ensures size { P.size span.new ≡ P.size span.old }
+    ensures cause { HaltCause true (P.faults span.old) (P.faults span.new) result }
 {
     let count = list.count();
     let mut index = 0;
     while index < count {
         let to = index + PAGE.min(count - index);
-        let Ok(lines) = lines_between(alloc, line, list, index, to) else {
-            return Err(Stop::Memory);
-        };
+        let lines = lines_between(alloc, span, line, list, index, to)?;
         give_text(sink, lines.as_slice())?;
         index = to;
     }
@@ -121,16 +151,23 @@ fn give_samples<L: SampleList, K: Sink>(
 /// Gives the table of channels and their samples. The lines are made in memory, some of them at once, and then given.
 ///
 /// # Errors
-/// `Failed` where the sink failed, and want of memory; then it has a front of the table.
-pub(crate) fn give_table<L: SampleList, K: Sink>(
+/// The fault where the sink failed; the span's own; and want of memory. Then the sink has a front of the table.
+pub(crate) fn give_table<L: SampleList, P: Span, K: Sink>(
     alloc: Global,
+    span: &mut P,
     sink: &mut K,
     channels: &[ChannelRow],
     list: &L,
-) -> Result<(), Stop>
-    ensures { GivesText (table_text channels.now (L.sample list.now) (L.count list.now)) (sink_state K.Sink sink.old) (sink_state K.Sink sink.new) result }
+) -> Result<(), Halt<Failed>>
+    requires { L.needs list.now (P.size span.old) }
+    ensures text { (f : List ℕ) → P.bytes span.old ≡ Some f → L.are_of list.now f
+        → GivesText (table_text channels.now (L.sample list.now f) (L.count list.now)) (sink_state K.Sink sink.old) (sink_state K.Sink sink.new) result }
+    ensures sink { SinkCause (K.faults sink.old) (K.faults sink.new) result }
+    ensures same { P.bytes span.new ≡ P.bytes span.old }
+    ensures size { P.size span.new ≡ P.size span.old }
+    ensures cause { HaltCause true (P.faults span.old) (P.faults span.new) result }
 {
     let mut line = Line::new(alloc);
     give_names(alloc, sink, &mut line, channels)?;
-    give_samples(alloc, sink, &mut line, list)
+    give_samples(alloc, span, sink, &mut line, list)
 }

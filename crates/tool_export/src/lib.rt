@@ -4,10 +4,12 @@
 mod fault;
 mod give;
 mod line;
+mod paged;
 mod samples;
 mod table;
 mod text;
 
 pub use fault::ExportFault;
+pub use paged::export_in;
 pub use table::export;
 pub use text::name_text;

@@ -1,25 +1,25 @@
-ghost use Rattle.std.specs.Prelude.{ℕ, ◌≡◌, ◌≤◌, ◌<◌, List, length, slice_index_or, Ok, IfOk, IfErr};
+ghost use Rattle.std.specs.Prelude.{ℕ, ◌≡◌, ◌≤◌, ◌<◌, List, length, slice_index_or, true, Ok, IfOk, IfErr};
+ghost use Rattle.mdf_num.specs.Halt.{HaltCause};
 ghost use Rattle.mdf_model.specs.declared.part.Measure.{Measure};
 ghost use Rattle.mdf_model.specs.Measurement.{measurement};
 ghost use Rattle.mdf_model.specs.InWords.{IsMeasurement};
 ghost use Rattle.mdf_port.specs.State.{sink_state};
-ghost use Rattle.tool_export.specs.Export.{ExportEnds, GivesText, NamesNone};
+ghost use Rattle.tool_export.specs.Export.{ExportEnds, GivesText, NamesNone, SinkCause};
 ghost use Rattle.tool_export.specs.Table.{table_of};
 
 use crate::ExportFault;
 use crate::give::give_table;
 use crate::samples::GroupSamples;
 use mdf_model::{Measurement, take_file};
-use mdf_num::{Bytes, Stop};
+use mdf_num::{Bytes, Failed, Halt, SliceSpan};
 use mdf_port::Sink;
 use std::alloc::Global;
 
-/// The number of a group, where there is one.
-fn group_in(found: &Measurement, said: u64) -> Result<u32, ExportFault>
-    ensures there { IfOk result (λ group. (group ≡ said) × (group < length found.now.groups)) }
-    ensures none { IfErr result (NamesNone said found.now) }
+/// The number of a group, where there is one among so many.
+pub(crate) fn group_in(groups: u32, said: u64) -> Result<u32, ExportFault>
+    ensures there { IfOk result (λ group. (group ≡ said) × (group < groups)) }
+    ensures none { IfErr result (NamesNone said groups) }
 {
-    let groups = found.groups();
     if said >= u64::from(groups) {
         return Err(ExportFault::NoGroup { said, groups });
     }
@@ -32,13 +32,16 @@ fn give_group<K: Sink>(
     sink: &mut K,
     found: &Measurement,
     group: u32,
-) -> Result<(), Stop>
+) -> Result<(), Halt<Failed>>
     requires { group < length found.now.groups }
-    ensures { (d : Measure) → GivesText (table_of (slice_index_or found.now.groups group d)) (sink_state K.Sink sink.old) (sink_state K.Sink sink.new) result }
+    ensures text { (d : Measure) → GivesText (table_of (slice_index_or found.now.groups group d)) (sink_state K.Sink sink.old) (sink_state K.Sink sink.new) result }
+    ensures sink { SinkCause (K.faults sink.old) (K.faults sink.new) result }
+    ensures cause { HaltCause true 0 0 result }
 {
     let channels = found.part(group).row.channels.as_slice();
     let list = GroupSamples::new(found, group);
-    give_table(alloc, sink, channels, &list)
+    let mut none = SliceSpan::new(&[]);
+    give_table(alloc, &mut none, sink, channels, &list)
 }
 
 /// Gives the table of the group of this number, if there is one. It answers how many samples it has.
@@ -52,7 +55,7 @@ fn give_numbered<K: Sink>(
         → ExportEnds file said (sink_state K.Sink sink.old) (sink_state K.Sink sink.new) result }
     ensures later { K.faults sink.old ≤ K.faults sink.new }
 {
-    let group = group_in(found, said)?;
+    let group = group_in(found.groups(), said)?;
     give_group(alloc, sink, found, group)?;
     Ok(found.samples(group))
 }

@@ -43,7 +43,7 @@ overflow_add-accepted g c =
     omega (
       arith,
       few_more c.args.seat.now c.loop.seat (g.F.Feed.left c.args.feed.now) left c.loop.accepted c.loop.invariant.told.done c.perform.new.seat c.in-Ok.ensures.seat
-          c.in-Ok.ensures.turn task later c.in-Ok.more c.next-in-loop.ensures (task_of left task later c.next-in-loop.ensures c.in_default.not-End) c.in-Ok.ensures.done,
+          task c.in-Ok.ensures.turns c.in-Ok.ensures.due later c.in-Ok.more c.next-in-loop.ensures (task_of left task later c.next-in-loop.ensures c.in_default.not-End) c.in-Ok.ensures.done,
       c.requires.ready.few,
     )
 
@@ -54,8 +54,8 @@ loop-preserved g c =
     let task = c.next-in-loop.result in
     record {
       told = told_on g.L.Follower.hears g.met.L.Follower.hears_more c.args.seat.now c.loop.seat (g.F.Feed.left c.args.feed.now) left c.loop.accepted
-          c.args.follower.now c.loop.follower c.loop.invariant.told c.perform.new.seat c.in-Ok.ensures.seat c.in-Ok.ensures.turn c.perform.new.follower
-          task later c.in-Ok.more c.next-in-loop.ensures (task_of left task later c.next-in-loop.ensures c.in_default.not-End) c.in-Ok.ensures.done c.in-Ok.ensures.heard;
+          c.args.follower.now c.loop.follower c.loop.invariant.told c.perform.new.seat c.in-Ok.ensures.seat task c.in-Ok.ensures.turns c.in-Ok.ensures.due c.perform.new.follower
+          later c.in-Ok.more c.next-in-loop.ensures (task_of left task later c.next-in-loop.ensures c.in_default.not-End) c.in-Ok.ensures.done c.in-Ok.ensures.heard;
       follows = c.in-Ok.ensures.follows;
     }
 
@@ -65,15 +65,15 @@ returns-in-Err g c =
     let later = g.F.Feed.left c.next-in-loop.new.self in
     let task = c.next-in-loop.result in
     let stopped = heard_stopped g.L.Follower.hears g.met.L.Follower.hears_more c.args.seat.now c.loop.seat (g.F.Feed.left c.args.feed.now) left c.loop.accepted
-    c.args.follower.now c.loop.follower c.loop.invariant.told c.perform.new.seat c.in-Err.ensures.seat c.in-Err.ensures.turn c.perform.new.follower
-    task later c.in-Err.ended c.next-in-loop.ensures (task_of left task later c.next-in-loop.ensures c.in_default.not-End) c.in-Err.ensures.ended.0 c.in-Err.ensures.ended.1
+    c.args.follower.now c.loop.follower c.loop.invariant.told c.perform.new.seat c.in-Err.ensures.seat task c.in-Err.ensures.turns c.in-Err.ensures.due c.perform.new.follower
+    later c.in-Err.ended c.next-in-loop.ensures (task_of left task later c.next-in-loop.ensures c.in_default.not-End) c.in-Err.ensures.ended.0 c.in-Err.ensures.ended.1
     c.in-Err.ensures.unheard in
     record {
       driven = stopped.driven;
       follows = c.in-Err.ensures.follows;
       heard = stopped;
       fed = fed_stopped c.args.seat.now c.loop.seat (g.F.Feed.left c.args.feed.now) left c.loop.accepted c.loop.invariant.told.done c.perform.new.seat
-          c.in-Err.ensures.seat c.in-Err.ensures.turn task later c.in-Err.ended c.next-in-loop.ensures (task_of left task later c.next-in-loop.ensures c.in_default.not-End)
+          c.in-Err.ensures.seat task c.in-Err.ensures.turns c.in-Err.ensures.due later c.in-Err.ended c.next-in-loop.ensures (task_of left task later c.next-in-loop.ensures c.in_default.not-End)
           c.in-Err.ensures.ended.0 c.in-Err.ensures.ended.1;
       counted = c.in-Err.ensures.counted;
     }

@@ -2,7 +2,7 @@ use Rattle.std.proofs.Common.{◌≡◌, ◌∷◌, [], List, length, ℕ, ap, a
 use Rattle.book_shared.specs.Place.{IsSingle}
 use Rattle.acq_run.specs.Tasks.{flushes_of}
 use Rattle.acq_run.specs.Works.{Does}
-use Rattle.acq_run.proofs.Performing.{any_err, any_ok, append_counted, append_done, append_ended, flush_done, flush_failed, flush_stopped, follows_on}
+use Rattle.acq_run.proofs.Performing.{any_err, any_ok, append_counted, append_done, append_due, append_ended, flush_done, flush_due, flush_failed, flush_stopped, flush_turns, follows_on}
 use Rattle.acq_run.proofs.driving.perform.Goals as goal
 
 pub returns-in-Sample : goal.returns-in-Sample
@@ -20,7 +20,8 @@ returns-in-Sample g c =
     let single = subst (IsSingle u) seat.1 seat.3 in
     record {
       seat = record { table_is = seat.0; number_is = seat.1 };
-      turn = appends.1.turns;
+      turns = record { some = appends.1.turns; few = c.append.ensures.turns };
+      due = append_due v u c.args.task sample c.in-Sample.is c.append.ensures.due;
       done = append_done v u source single sample c.append.ensures.asked c.args.task answer result c.in-Sample.is c.appended.ensures appends;
       ended = append_ended v u source single sample c.append.ensures.asked g.D.Disk g.V.Shown number seat.1 c.args.task answer result c.in-Sample.is c.appended.ensures appends c.append.ensures.front;
       counted = append_counted v u source single sample c.append.ensures.asked g.D.Disk g.V.Shown number seat.1 answer result c.appended.ensures c.append.ensures.front;
@@ -51,7 +52,8 @@ returns-in-Done g c =
     let flushes = c.in-Done.ensures.flushes in
     record {
       seat = record { table_is = seat.0; number_is = seat.1 };
-      turn = flushes.1.turns;
+      turns = flush_turns v u flushes.1.turns (omega (arith, c.in-Done.ensures.turns)) flushes.1.kept;
+      due = flush_due v u c.args.task c.in-Done.ensures.due;
       done = subst (λ t. Does v u source (t ∷ []) 0) (sym c.in-Flush.is)
           (flush_done g.D.Disk g.V.Shown v u source (subst (IsSingle u) seat.1 seat.3) c.in-Done.through c.in-Done.shown c.in-Done.note flushes c.in-Done.ensures.asked);
       ended = tt;
@@ -72,7 +74,8 @@ returns-in-Stopped g c =
     let stopped = flush_stopped g.D.Disk g.V.Shown v u source (subst (IsSingle u) seat.1 seat.3) c.in-Stopped.mark flushes c.in-Stopped.ensures.asked c.in-Stopped.ensures.front in
     record {
       seat = record { table_is = seat.0; number_is = seat.1 };
-      turn = flushes.1.turns;
+      turns = flush_turns v u flushes.1.turns (omega (arith, c.in-Stopped.ensures.turns)) flushes.1.kept;
+      due = flush_due v u c.args.task c.in-Stopped.ensures.due;
       done = tt;
       ended = (stopped.0, λ later. stopped.1 (c.args.task ∷ later));
       counted = tt;
@@ -92,7 +95,8 @@ returns-in-DiskFault g c =
     let failed = flush_failed g.D.Disk g.V.Shown v u source (subst (IsSingle u) seat.1 seat.3) c.in-DiskFault.before c.in-DiskFault.after flushes c.in-DiskFault.ensures.asked front in
     record {
       seat = record { table_is = seat.0; number_is = seat.1 };
-      turn = flushes.1.turns;
+      turns = flush_turns v u flushes.1.turns (omega (arith, c.in-DiskFault.ensures.turns)) flushes.1.kept;
+      due = flush_due v u c.args.task c.in-DiskFault.ensures.due;
       done = tt;
       ended = (failed.0, λ later. failed.1 (c.args.task ∷ later));
       counted = (front.old, front.new, front.turned, front.does);

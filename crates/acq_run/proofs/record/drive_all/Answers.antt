@@ -1,6 +1,10 @@
 use Rattle.std.proofs.Common.{rules, subst, sym}
+use denote.Param.Send.{sendable}
+use Rattle.std.proofs.Crossing.{crosses}
 use Rattle.acq_run.specs.Workers.{IsReady}
 use Rattle.acq_run.specs.Watching.{Watches}
+use Rattle.acq_run.proofs.audience.Audience.TheSendSync.{the_send}
+use Rattle.acq_run.proofs.Crossing.{book_sync}
 use Rattle.acq_run.proofs.record.drive_all.Goals as goal
 
 pub returns-clause-heard : goal.returns-clause-heard
@@ -26,3 +30,6 @@ for_each_mut-requires-clause-accepts g c κs outlives i p less is = (
     search rules,
   ),
 )
+
+pub for_each_mut-requires-sync-F : goal.for_each_mut-requires-sync-F
+for_each_mut-requires-sync-F g c κs within = search (sendable, crosses, book_sync, the_send) depth 40

@@ -4,13 +4,13 @@ use Rattle.std.specs.Prelude.{All}
 use Rattle.mdf_gate.proofs.Carrying.{prefix_self}
 use Rattle.book_owned.specs.Account.{Terms}
 use Rattle.book_shared.specs.Causes.{MarksCaused}
-use Rattle.book_shared.specs.Seats.{AskedBy}
+use Rattle.book_shared.specs.Seats.{AskedBy, DueBy}
 use Rattle.book_shared.proofs.Causing.{caused_later}
-use Rattle.acq_run.specs.Ran.{AllHeard, AllMayFeed, AllRan, AskedFor}
+use Rattle.acq_run.specs.Ran.{AllHeard, AllMayFeed, AllRan, AskedFor, DueFor}
 use Rattle.acq_run.specs.Workers.{IsReady}
 use Rattle.acq_run.proofs.Groups.{ran_owned}
 use Rattle.acq_run.proofs.Owning.{owned_same}
-use Rattle.acq_run.proofs.Gathering.{all_follow, all_ready, have_worked, seated, seats_count, worked_count, worked_follow, worked_asked, worked_numbers, worked_of_table, worked_ran, worked_seen, HaveWorked}
+use Rattle.acq_run.proofs.Gathering.{all_follow, all_ready, have_worked, seated, seats_count, worked_count, worked_follow, worked_asked, worked_due, worked_numbers, worked_of_table, worked_ran, worked_seen, HaveWorked}
 use Rattle.acq_run.proofs.Telling.{worked_heard}
 use Rattle.acq_run.specs.Watching.{Hears, Watches}
 use Rattle.acq_run.specs.Stays.{watches_on}
@@ -86,12 +86,14 @@ returns-clause-marks g c =
     let done = c.close.result in
     let seats = c.part_all.new.seats.items in
     let asked = AskedFor c.args.owners.now 0 (map left c.args.feeds.items) done.history in
+    let due = DueFor (map left c.args.feeds.items) in
     let worked = all_worked g (goal.at.returns-clause-marks g c).After-drive_all in
-    subst (λ (t : Terms). MarksCaused asked t.layouts t.block_limit done.history c.args.book.marks done.marks) shared.terms_are
-    (subst (λ ms. MarksCaused asked book.basis.terms.layouts book.basis.terms.block_limit done.history ms done.marks) c.in_ok-shared.ensures.marks
-    (caused_later (AskedBy seats) asked book.basis.terms.layouts book.basis.terms.block_limit done.history done.history
+    subst (λ (t : Terms). MarksCaused asked due t.layouts t.block_limit done.history c.args.book.marks done.marks) shared.terms_are
+    (subst (λ ms. MarksCaused asked due book.basis.terms.layouts book.basis.terms.block_limit done.history ms done.marks) c.in_ok-shared.ensures.marks
+    (caused_later (AskedBy seats) asked (DueBy seats) due book.basis.terms.layouts book.basis.terms.block_limit done.history done.history
     (worked_asked left book.table book.basis lent news _ c.args.feeds.items worked c.args.owners.now shared.owners_are done c.close.ensures.terms
     seats c.part_all.ensures.seats c.close.ensures.seats)
+    (worked_due left book.table book.basis lent news _ c.args.feeds.items worked seats c.part_all.ensures.seats)
     (prefix_self done.history) book.basis.begun done.marks c.close.ensures.marks))
 
 pub drive_all-requires-clause-follow : goal.drive_all-requires-clause-follow

@@ -1,9 +1,10 @@
-use Rattle.std.proofs.Common.{sym, ap, subst, ◌∙◌, arith}
+use Rattle.std.proofs.Common.{rules, ◌≡◌, [], ◌++◌, sym, ap, subst, ◌∙◌, arith}
 use Rattle.book_shared.specs.Fixed.{basis_of}
 use Rattle.book_shared.specs.Parts.{joined}
 use Rattle.book_shared.specs.Place.{Common}
 use Rattle.book_shared.specs.Plays.{Here}
-use Rattle.book_shared.specs.Seats.{AreOf}
+use Rattle.book_shared.specs.Seats.{AreOf, DueBy}
+use Rattle.book_shared.proofs.Keeps.{seat_of}
 use Rattle.book_shared.proofs.Ends.{joins}
 use Rattle.book_shared.proofs.Covering.{Gathered, gathered_first, gathered_on, of_last}
 use Rattle.book_shared.proofs.closing.gather.Goals as goal
@@ -44,10 +45,17 @@ loop-seat-preserved g c =
     let seats = c.args.seats.items in
     let whole = c.loop-seat.whole.me.0 in
     let seat = c.in-Some-pop.seat in
-    let chair = c.chair_of.ensures in (
+    let chair = c.chair_of.ensures in
+    let now = seat_of (joined whole c.chair_of.result.me.0) c.loop-seat.whole.me.1 in (
       c.join_seat.ensures.0 ∙ c.loop-seat.invariant.0,
-      ap (λ (x : Here g.row.D.Denot g.row.V.Denot). x.1) c.join_seat.ensures.2 ∙ c.loop-seat.invariant.1,
+      ap (λ (x : Here g.row.D.Denot g.row.V.Denot). x.1) {y = now} c.join_seat.ensures.2 ∙ c.loop-seat.invariant.1,
       subst (Gathered table seats c.pop-in-loop-seat.new.self.items)
-          (sym (ap (λ (x : Here g.row.D.Denot g.row.V.Denot). x.0) c.join_seat.ensures.2 ∙ ap (λ (x : Here g.row.D.Denot g.row.V.Denot). joined whole x.0) chair.know))
+          (sym (ap (λ (x : Here g.row.D.Denot g.row.V.Denot). x.0) {y = now} c.join_seat.ensures.2 ∙ ap (λ (x : Here g.row.D.Denot g.row.V.Denot). joined whole x.0) {y = seat_of seat.know []} chair.know))
           (gathered_on table seats c.loop-seat.seats.items c.pop-in-loop-seat.new.self.items whole seat c.loop-seat.invariant.2 c.in-Some-pop.ensures.items chair.single),
     )
+
+pub returns-clause-due : goal.returns-clause-due
+returns-clause-due g c sample is =
+    let gathered = c.loop-seat.invariant.2 in
+    let none_left : c.loop-seat.seats.items ≡ [] = search rules in
+    subst (λ seats. DueBy seats sample) (sym (gathered.parts ∙ ap (λ left. left ++ gathered.behind) none_left)) (gathered.due sample is)

@@ -2,7 +2,7 @@ use Rattle.std.proofs.Common.{sym, ◌∙◌, arith}
 use Rattle.std.proofs.lemmas.Result.{err_from_is_err_and}
 use Rattle.mdf_stream.specs.Parts.{stream_of}
 use Rattle.mdf_content.specs.Fault.{read_refusal}
-use Rattle.mdf_content.specs.Values.{has_value, offset_in, records_of}
+use Rattle.mdf_content.specs.Values.{offset_in, records_of}
 use Rattle.mdf_content.proofs.Offsets.{is_done, goes_on, ends}
 use Rattle.mdf_content.proofs.values.offsets_met_in.Goals as goal
 
@@ -13,7 +13,7 @@ returns-in_err-offset_met_in-clause-found g c = λ f told.
     let values = c.args.values.now in
     let records = c.args.records.now in
     rw (p.1, p.2) (
-    ends (has_value (stream_of f values)) (offset_in (stream_of f c.args.view.now) (records_of records) c.args.channel.now) c.args.c
+    ends (g.V.Met.meets values f) (offset_in (stream_of f c.args.view.now) (records_of records) c.args.channel.now) c.args.c
     read_refusal _ loop.row records.count c.loop-row-test.true (c.in_err-offset_met_in.ensures.found f (loop.invariant.same ∙ told)) _
     (loop.invariant.found f told)
     )
@@ -24,7 +24,7 @@ loop-row-preserved g c = record {
       let loop = c.loop-row in
       let values = c.args.values.now in
       let records = c.args.records.now in
-      sym (goes_on (has_value (stream_of f values)) (offset_in (stream_of f c.args.view.now) (records_of records) c.args.channel.now) c.args.c
+      sym (goes_on (g.V.Met.meets values f) (offset_in (stream_of f c.args.view.now) (records_of records) c.args.channel.now) c.args.c
       loop.row records.count c.loop-row-test.true (c.in_ok-offset_met_in.ensures.found f (loop.invariant.same ∙ told)))
       ∙ loop.invariant.found f told;
   same = c.in_ok-offset_met_in.ensures.same ∙ c.loop-row.invariant.same;
@@ -38,5 +38,5 @@ returns-clause-found g c = λ f told.
     let values = c.args.values.now in
     let records = c.args.records.now in
     sym (loop.invariant.found f told)
-    ∙ is_done (has_value (stream_of f values)) (offset_in (stream_of f c.args.view.now) (records_of records) c.args.channel.now) c.args.c
+    ∙ is_done (g.V.Met.meets values f) (offset_in (stream_of f c.args.view.now) (records_of records) c.args.channel.now) c.args.c
     loop.row records.count c.loop-row-test.false

@@ -1,4 +1,4 @@
-use Rattle.std.proofs.Common.{◌∙◌, ap, sym, subst}
+use Rattle.std.proofs.Common.{◌∙◌, ap, sym, subst, arith}
 use Rattle.book_owned.specs.FrontHalf.{HandTells}
 use Rattle.book_owned.specs.declared.handed.Handed.TheVariants as handed
 use Rattle.book_shared.specs.Turns.{Works}
@@ -55,3 +55,20 @@ returns-clause-tried g c v full single =
     tried_full v c.args.seat.now.me c.hand_out.new.seat.me c.args.sample full c.in-Given.through c.in-Given.block c.hand_out.ensures.view works g.D.Disk g.V.Shown
     c.args.word c.write_block-word.new.seat.me c.write_block-word.result.0 c.write_block-word.result.1 c.append_written.new.seat.me.0 c.append_written.result
     (c.write_block-word.ensures.written turned.new turned.out) single c.append_written.ensures.tried
+
+pub returns-clause-turns : goal.returns-clause-turns
+returns-clause-turns g c =
+    let works = subst (λ what. Works c.args.seat.now.me c.hand_out.new.seat.me (λ old new. HandTells old new what)) c.in-Given.is c.hand_out.ensures.works in
+    let turned = turned_full c.requires.full.0 c.args.seat.now.me c.hand_out.new.seat.me c.args.sample c.requires.full.1 c.in-Given.through c.in-Given.block c.hand_out.ensures.view works in
+    omega (
+      arith,
+      c.append_written.ensures.turns,
+      ap (λ (y : View). y.turns) (c.write_block-word.ensures.written turned.new turned.out).took.rest,
+      ap (λ (y : View). y.turns) c.hand_out.ensures.view,
+    )
+
+pub returns-clause-due : goal.returns-clause-due
+returns-clause-due g c =
+    let works = subst (λ what. Works c.args.seat.now.me c.hand_out.new.seat.me (λ old new. HandTells old new what)) c.in-Given.is c.hand_out.ensures.works in
+    let turned = turned_full c.requires.full.0 c.args.seat.now.me c.hand_out.new.seat.me c.args.sample c.requires.full.1 c.in-Given.through c.in-Given.block c.hand_out.ensures.view works in
+    c.append_written.ensures.due ∙ ap (λ (y : View). y.due) (c.write_block-word.ensures.written turned.new turned.out).took.rest ∙ ap (λ (y : View). y.due) c.hand_out.ensures.view

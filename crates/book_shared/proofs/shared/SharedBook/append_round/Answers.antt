@@ -1,13 +1,15 @@
 use Rattle.std.proofs.Common.{◌+◌, [], ◌∙◌, ap, sym, subst, arith}
+use Rattle.std.specs.Prelude.{Some}
 use Rattle.book_shared.specs.Basis.{resting}
 use Rattle.book_shared.specs.Plays.{Here, at_device}
-use Rattle.book_shared.specs.Rounds.{HasTried}
+use Rattle.book_shared.specs.Rounds.{wanted, HasTried}
 use Rattle.book_shared.specs.Told.{Puts}
 use Rattle.book_shared.specs.Turns.{Works}
 use Rattle.book_shared.specs.declared.view.View.{View}
 use Rattle.book_shared.proofs.Given.{may_take}
 use Rattle.book_shared.proofs.Lists.{one_source}
-use Rattle.book_shared.proofs.Handing.{back_full, end_put, tried_put, full_may}
+use Rattle.book_shared.proofs.Following.{tried_later}
+use Rattle.book_shared.proofs.Handing.{back_full, end_put, tried_put, full_may, follows_due, only_new, wants_it}
 use Rattle.book_shared.proofs.shared.SharedBook.append_round.Goals as goal
 
 pub device_turn-word-requires-clause-some_source : goal.device_turn-word-requires-clause-some_source
@@ -16,7 +18,7 @@ device_turn-word-requires-clause-some_source g c = one_source _ c.args.seat.now.
 pub try_out-requires-clause-front : goal.try_out-requires-clause-front
 try_out-requires-clause-front g c =
     let seized = c.device_turn-word.ensures.seized in
-    may_take (at_device c.args.seat.now.me.0 resting) c.device_turn-word.new.seat.me.0 resting c.device_turn-word.new.seat.me seized.front [] c.args.sample seized.out seized.took c.requires.fits c.requires.size
+    may_take (at_device (wanted c.args.seat.now.me.0 (Some c.args.sample)) resting) c.device_turn-word.new.seat.me.0 resting c.device_turn-word.new.seat.me seized.front [] c.args.sample seized.out seized.took c.requires.fits c.requires.size
 
 pub append_full-requires-clause-word : goal.append_full-requires-clause-word
 append_full-requires-clause-word g c = λ κs outlives. c.device_turn-word.ensures.word ∙ ap (λ (y : View). y.met) (sym c.try_out.ensures.view)
@@ -25,19 +27,20 @@ pub append_full-requires-clause-full : goal.append_full-requires-clause-full
 append_full-requires-clause-full g c =
     let works = subst (λ what. Works c.device_turn-word.new.seat.me c.try_out.new.seat.me (λ old new. Puts old new c.args.sample what)) c.in-NeedsFlush.is c.try_out.ensures.works in
     λ κs outlives.
-    full_may c.args.seat.now.me.0 c.device_turn-word.new.seat.me c.try_out.new.seat.me c.args.sample c.device_turn-word.ensures.seized c.try_out.ensures.view
-    c.in-NeedsFlush.held c.in-NeedsFlush.size c.in-NeedsFlush.limit c.in-NeedsFlush.sample works (c.requires.owns, c.requires.fits, c.requires.size)
+    full_may (wanted c.args.seat.now.me.0 (Some c.args.sample)) c.device_turn-word.new.seat.me c.try_out.new.seat.me c.args.sample c.device_turn-word.ensures.seized c.try_out.ensures.view
+    c.in-NeedsFlush.held c.in-NeedsFlush.size c.in-NeedsFlush.limit c.in-NeedsFlush.sample works (wants_it c.args.seat.now.me.0 c.args.sample) (c.requires.owns, c.requires.fits, c.requires.size)
 
 pub returns-in-NeedsFlush-clause-tried : goal.returns-in-NeedsFlush-clause-tried
 returns-in-NeedsFlush-clause-tried g c =
     let v = c.args.seat.now.me.0 in
+    let w = wanted v (Some c.args.sample) in
     let works = subst (λ what. Works c.device_turn-word.new.seat.me c.try_out.new.seat.me (λ old new. Puts old new c.args.sample what)) c.in-NeedsFlush.is c.try_out.ensures.works in
-    let may = full_may v c.device_turn-word.new.seat.me c.try_out.new.seat.me c.args.sample c.device_turn-word.ensures.seized c.try_out.ensures.view
-    c.in-NeedsFlush.held c.in-NeedsFlush.size c.in-NeedsFlush.limit c.in-NeedsFlush.sample works (c.requires.owns, c.requires.fits, c.requires.size) in
+    let may = full_may w c.device_turn-word.new.seat.me c.try_out.new.seat.me c.args.sample c.device_turn-word.ensures.seized c.try_out.ensures.view
+    c.in-NeedsFlush.held c.in-NeedsFlush.size c.in-NeedsFlush.limit c.in-NeedsFlush.sample works (wants_it c.args.seat.now.me.0 c.args.sample) (c.requires.owns, c.requires.fits, c.requires.size) in
     subst (λ s. HasTried g.D.Disk g.V.Shown v c.append_full.new.seat.me.0 s c.append_full.result)
-    (back_full v c.device_turn-word.new.seat.me c.try_out.new.seat.me c.args.sample c.device_turn-word.ensures.seized c.try_out.ensures.view
-    c.in-NeedsFlush.held c.in-NeedsFlush.size c.in-NeedsFlush.limit c.in-NeedsFlush.sample works)
-    (c.append_full.ensures.tried v may.1 may.2)
+    (back_full w c.device_turn-word.new.seat.me c.try_out.new.seat.me c.args.sample c.device_turn-word.ensures.seized c.try_out.ensures.view
+    c.in-NeedsFlush.held c.in-NeedsFlush.size c.in-NeedsFlush.limit c.in-NeedsFlush.sample works (wants_it v c.args.sample))
+    (tried_later v w c.append_full.new.seat.me.0 (follows_due v c.args.sample) g.D.Disk g.V.Shown c.in-NeedsFlush.sample c.append_full.result (c.append_full.ensures.tried w may.1 may.2))
 
 pub end_round-requires-clause-word : goal.end_round-requires-clause-word
 end_round-requires-clause-word g c = c.device_turn-word.ensures.word ∙ ap (λ (y : View). y.met) (sym c.try_out.ensures.view)
@@ -48,17 +51,35 @@ end_round-requires-clause-low g c = omega (arith, c.device_turn-word.ensures.wor
 pub end_round-requires-clause-returns : goal.end_round-requires-clause-returns
 end_round-requires-clause-returns g c =
     let works = subst (λ what. Works c.device_turn-word.new.seat.me c.try_out.new.seat.me (λ old new. Puts old new c.args.sample what)) c.in-Answered.is c.try_out.ensures.works in
-    end_put c.args.seat.now.me.0 c.device_turn-word.new.seat.me c.try_out.new.seat.me c.args.sample c.device_turn-word.ensures.seized c.try_out.ensures.view c.in-Answered.answer works c.requires.owns
+    end_put (wanted c.args.seat.now.me.0 (Some c.args.sample)) c.device_turn-word.new.seat.me c.try_out.new.seat.me c.args.sample c.device_turn-word.ensures.seized c.try_out.ensures.view c.in-Answered.answer works c.requires.owns
 
 pub returns-in-Answered-clause-no_turn : goal.returns-in-Answered-clause-no_turn
 returns-in-Answered-clause-no_turn g c =
     let works = subst (λ what. Works c.device_turn-word.new.seat.me c.try_out.new.seat.me (λ old new. Puts old new c.args.sample what)) c.in-Answered.is c.try_out.ensures.works in
     let held =
-    end_put c.args.seat.now.me.0 c.device_turn-word.new.seat.me c.try_out.new.seat.me c.args.sample c.device_turn-word.ensures.seized c.try_out.ensures.view c.in-Answered.answer works c.requires.owns in
+    end_put (wanted c.args.seat.now.me.0 (Some c.args.sample)) c.device_turn-word.new.seat.me c.try_out.new.seat.me c.args.sample c.device_turn-word.ensures.seized c.try_out.ensures.view c.in-Answered.answer works c.requires.owns in
     ap (λ (x : Here g.row.D.Denot g.row.V.Denot). x.1) (c.end_round.ensures.ended held.0 held.1)
 
 pub returns-in-Answered-clause-tried : goal.returns-in-Answered-clause-tried
 returns-in-Answered-clause-tried g c =
     let works = subst (λ what. Works c.device_turn-word.new.seat.me c.try_out.new.seat.me (λ old new. Puts old new c.args.sample what)) c.in-Answered.is c.try_out.ensures.works in
-    tried_put c.args.seat.now.me.0 c.device_turn-word.new.seat.me c.try_out.new.seat.me c.args.sample c.device_turn-word.ensures.seized c.try_out.ensures.view c.in-Answered.answer works
-    g.D.Disk g.V.Shown (c.device_turn-word.result + 1) c.end_round.new.seat.me c.end_round.ensures.ended c.requires.owns
+    let v = c.args.seat.now.me.0 in
+    tried_later v (wanted v (Some c.args.sample)) c.end_round.new.seat.me.0 (follows_due v c.args.sample) g.D.Disk g.V.Shown c.args.sample _
+    (tried_put (wanted v (Some c.args.sample)) c.device_turn-word.new.seat.me c.try_out.new.seat.me c.args.sample c.device_turn-word.ensures.seized c.try_out.ensures.view c.in-Answered.answer works
+    g.D.Disk g.V.Shown (c.device_turn-word.result + 1) c.end_round.new.seat.me c.end_round.ensures.ended c.requires.owns)
+
+pub returns-in-NeedsFlush-clause-turns : goal.returns-in-NeedsFlush-clause-turns
+returns-in-NeedsFlush-clause-turns g c =
+    omega (arith, c.append_full.ensures.turns, ap (λ (y : View). y.turns) c.try_out.ensures.view, ap (λ (y : View). y.turns) c.device_turn-word.ensures.seized.took.rest)
+
+pub returns-in-Answered-clause-turns : goal.returns-in-Answered-clause-turns
+returns-in-Answered-clause-turns g c =
+    omega (arith, c.end_round.ensures.turns, ap (λ (y : View). y.turns) c.try_out.ensures.view, ap (λ (y : View). y.turns) c.device_turn-word.ensures.seized.took.rest)
+
+pub returns-in-NeedsFlush-clause-due : goal.returns-in-NeedsFlush-clause-due
+returns-in-NeedsFlush-clause-due g c =
+    only_new c.args.seat.now.me.0 c.append_full.new.seat.me.0 c.args.sample (c.append_full.ensures.due ∙ ap (λ (y : View). y.due) c.try_out.ensures.view ∙ ap (λ (y : View). y.due) c.device_turn-word.ensures.seized.took.rest)
+
+pub returns-in-Answered-clause-due : goal.returns-in-Answered-clause-due
+returns-in-Answered-clause-due g c =
+    only_new c.args.seat.now.me.0 c.end_round.new.seat.me.0 c.args.sample (c.end_round.ensures.due ∙ ap (λ (y : View). y.due) c.try_out.ensures.view ∙ ap (λ (y : View). y.due) c.device_turn-word.ensures.seized.took.rest)

@@ -2,6 +2,7 @@ use Rattle.std.proofs.Common.{◌+◌, ◌∙◌, ap, sym, subst}
 use Rattle.book_shared.specs.Plays.{Here}
 use Rattle.book_shared.specs.Rounds.{HasTried, round_answer}
 use Rattle.book_shared.specs.declared.answer.Try.TheVariants.{Busy}
+use Rattle.book_shared.specs.declared.view.View.{View}
 use Rattle.book_shared.proofs.Finishing.{awaited_now}
 use Rattle.book_shared.proofs.Appending.{may_try, may_come_in, may_end_append, word_then, tried_end}
 use Rattle.book_shared.proofs.shared.SharedBook.append_written.Goals as goal
@@ -49,3 +50,9 @@ returns-clause-tried g c y both single =
     (tried_end g.D.Disk g.V.Shown y c.args.seat.now.me c.finish_out.new.seat.me c.try_out-answer.new.seat.me c.args.written c.finish_out.result c.args.sample c.try_out-answer.result both
     c.finish_out.ensures.view c.finish_out.ensures.works c.try_out-answer.ensures.view c.try_out-answer.ensures.works c.bring_in.new.seat.me c.bring_in.ensures.back_in
     (c.args.word + 1) c.end_round.new.seat.me c.end_round.ensures.ended single)
+
+pub returns-clause-turns : goal.returns-clause-turns
+returns-clause-turns g c = c.end_round.ensures.turns ∙ c.bring_in.ensures.turns ∙ ap (λ (y : View). y.turns) c.try_out-answer.ensures.view ∙ ap (λ (y : View). y.turns) c.finish_out.ensures.view
+
+pub returns-clause-due : goal.returns-clause-due
+returns-clause-due g c = c.end_round.ensures.due ∙ c.bring_in.ensures.due ∙ ap (λ (y : View). y.due) c.try_out-answer.ensures.view ∙ ap (λ (y : View). y.due) c.finish_out.ensures.view

@@ -1,7 +1,8 @@
-use Rattle.std.proofs.Common.{rules}
+use Rattle.std.proofs.Common.{ap, rules}
 use Rattle.atomic_table.specs.Table.{step}
 use mathlib.Core.Option.{none}
 use Rattle.book_shared.specs.Fixed.{basis_of}
+use Rattle.book_shared.specs.Plays.{Here}
 use Rattle.book_shared.proofs.Devices.{back_in_turned, brought_in}
 use Rattle.book_shared.proofs.shared.SharedBook.bring_in.Goals as goal
 
@@ -15,3 +16,15 @@ load-requires g c =
 
 pub returns-clause-back_in : goal.returns-clause-back_in
 returns-clause-back_in g c = brought_in (step c.self.inside.table.shared.table_id.slots 1 0 0 none) c.args.seat.now.me c.turn.new.self.me c.load.new.seat.me c.load.result c.turn.ensures.2 c.load.ensures.2
+
+pub returns-clause-turns : goal.returns-clause-turns
+returns-clause-turns g c =
+    let held = c.requires.back in
+    ap (λ (x : Here g.row.D.Denot g.row.V.Denot). x.0.turns)
+    (brought_in (step c.self.inside.table.shared.table_id.slots 1 0 0 none) c.args.seat.now.me c.turn.new.self.me c.load.new.seat.me c.load.result c.turn.ensures.2 c.load.ensures.2 held.0 held.1 held.3)
+
+pub returns-clause-due : goal.returns-clause-due
+returns-clause-due g c =
+    let held = c.requires.back in
+    ap (λ (x : Here g.row.D.Denot g.row.V.Denot). x.0.due)
+    (brought_in (step c.self.inside.table.shared.table_id.slots 1 0 0 none) c.args.seat.now.me c.turn.new.self.me c.load.new.seat.me c.load.result c.turn.ensures.2 c.load.ensures.2 held.0 held.1 held.3)

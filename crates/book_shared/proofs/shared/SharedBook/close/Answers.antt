@@ -5,9 +5,9 @@ use Rattle.book_owned.specs.Account.{Account}
 use Rattle.book_shared.specs.Fixed.{basis_of}
 use Rattle.book_shared.specs.Place.{Common}
 use Rattle.book_shared.specs.Rule.{asks, AreOfSources}
-use Rattle.book_shared.specs.Causes.{MarksCaused}
+use Rattle.book_shared.specs.Causes.{IsAmong, MarksCaused}
 use Rattle.book_shared.specs.Ends.{Ended}
-use Rattle.book_shared.specs.Seats.{AskedBy, Closes}
+use Rattle.book_shared.specs.Seats.{AskedBy, Closes, DueBy}
 use Rattle.book_shared.proofs.Causing.{caused_later}
 use Rattle.book_shared.proofs.Covering.{finished, some_seat, are_halves, ended_terms, closes}
 use Rattle.book_shared.proofs.shared.SharedBook.close.Given as given
@@ -56,10 +56,10 @@ returns-clause-marks g c =
     let basis = basis_of g.D.Disk c.self.inside.table.shared.key in
     let whole = c.gather-whole.result.me.0 in
     let seats = c.args.seats.items in
-    subst (λ (b : Common). MarksCaused (AskedBy seats) b.basis.terms.layouts b.basis.terms.block_limit c.book_of.result.history b.basis.begun c.book_of.result.marks) c.self.view_is
-    (subst (λ (a : Account g.row.D.Denot g.row.V.Denot). MarksCaused (AskedBy seats) basis.terms.layouts basis.terms.block_limit a.history basis.begun a.marks) (sym (c.book_of.ensures e.front e.back e.front_is e.back_is))
-    (caused_later (λ n. 0 < asks n whole) (AskedBy seats) basis.terms.layouts basis.terms.block_limit e.front.history e.front.history
-    (λ n is. omega (arith, is, c.gather-whole.ensures.asked n)) (prefix_self e.front.history) basis.begun e.front.marks e.marks))
+    subst (λ (b : Common). MarksCaused (AskedBy seats) (DueBy seats) b.basis.terms.layouts b.basis.terms.block_limit c.book_of.result.history b.basis.begun c.book_of.result.marks) c.self.view_is
+    (subst (λ (a : Account g.row.D.Denot g.row.V.Denot). MarksCaused (AskedBy seats) (DueBy seats) basis.terms.layouts basis.terms.block_limit a.history basis.begun a.marks) (sym (c.book_of.ensures e.front e.back e.front_is e.back_is))
+    (caused_later (λ n. 0 < asks n whole) (AskedBy seats) (IsAmong whole.due) (DueBy seats) basis.terms.layouts basis.terms.block_limit e.front.history e.front.history
+    (λ n is. omega (arith, is, c.gather-whole.ensures.asked n)) c.gather-whole.ensures.due (prefix_self e.front.history) basis.begun e.front.marks e.marks))
 
 pub gather-whole-requires : goal.gather-whole-requires
 gather-whole-requires g c = record {

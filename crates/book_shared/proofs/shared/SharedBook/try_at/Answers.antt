@@ -33,3 +33,12 @@ returns-in-Ok-clause-steps g c had = c.try_turn.ensures.steps ∙ c.in-Ok.ensure
 
 pub returns-in-Err-clause-asked : goal.returns-in-Err-clause-asked
 returns-in-Err-clause-asked g c = ap (λ (y : View). y.asked) c.in-Err.ensures.busy.1.waited.rest
+
+pub returns-in-Ok-clause-turns : goal.returns-in-Ok-clause-turns
+returns-in-Ok-clause-turns g c had = c.try_turn.ensures.turns ∙ ap (λ (y : View). y.turns) c.in-Ok.ensures.took.1.2.rest
+
+pub returns-in-Ok-clause-due : goal.returns-in-Ok-clause-due
+returns-in-Ok-clause-due g c = c.try_turn.ensures.due ∙ ap (λ (y : View). y.due) c.in-Ok.ensures.took.1.2.rest
+
+pub returns-in-Err-clause-due : goal.returns-in-Err-clause-due
+returns-in-Err-clause-due g c = ap (λ (y : View). y.due) c.in-Err.ensures.busy.1.waited.rest

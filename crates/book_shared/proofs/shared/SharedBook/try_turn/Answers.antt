@@ -50,3 +50,17 @@ returns-clause-tried g c v taken single =
     let out = worked c.args.seat.now.me c.try_out-answer.new.seat.me taken.front done.0 [] taken.out refl done.1 in
     tried_now v c.args.seat.now.me.0 c.try_out-answer.new.seat.me.0 free taken.front done.0 (c.args.word + 1) c.give.new.seat.me c.args.sample c.try_out-answer.result taken.took
     single refl done.2 c.try_out-answer.ensures.view (c.give.ensures.given done.0 out)
+
+pub returns-clause-turns : goal.returns-clause-turns
+returns-clause-turns g c =
+    let taken = c.requires.taken.1 in
+    let done = c.try_out-answer.ensures.works taken.front (carries _ _ _ taken.out) in
+    let out = worked c.args.seat.now.me c.try_out-answer.new.seat.me taken.front done.0 [] taken.out refl done.1 in
+    ap (λ (x : Here g.row.D.Denot g.row.V.Denot). x.0.turns) (c.give.ensures.given done.0 out) ∙ ap (λ (y : View). y.turns) c.try_out-answer.ensures.view
+
+pub returns-clause-due : goal.returns-clause-due
+returns-clause-due g c =
+    let taken = c.requires.taken.1 in
+    let done = c.try_out-answer.ensures.works taken.front (carries _ _ _ taken.out) in
+    let out = worked c.args.seat.now.me c.try_out-answer.new.seat.me taken.front done.0 [] taken.out refl done.1 in
+    ap (λ (x : Here g.row.D.Denot g.row.V.Denot). x.0.due) (c.give.ensures.given done.0 out) ∙ ap (λ (y : View). y.due) c.try_out-answer.ensures.view

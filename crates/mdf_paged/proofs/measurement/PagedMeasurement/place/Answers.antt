@@ -4,8 +4,8 @@ use Rattle.mdf_stream.specs.Parts.{ArePartsInside}
 use Rattle.std.specs.List.{AllByRecursion}
 use Rattle.mdf_content.specs.Found.{IsFoundInside, IsGroupInside}
 use Rattle.mdf_model.specs.declared.whole.WholeFound.{WholeFound}
-use Rattle.mdf_paged.specs.Groups.{Located, groups_of}
-use Rattle.mdf_paged.proofs.Numbers.{group_led, group_below, parent_below, place_inside, place_same}
+use Rattle.mdf_paged.specs.Groups.{Located}
+use Rattle.mdf_paged.proofs.Numbers.{group_below, group_placed, parent_below, place_inside, place_same}
 use Rattle.mdf_paged.proofs.measurement.PagedMeasurement.place.Goals as goal
 
 pub item-parent-requires : goal.item-parent-requires
@@ -13,8 +13,7 @@ item-parent-requires c =
     let all = c.self.inside.all in
     let number = c.item-number.result.now in
     let there : slice_get c.self.inside.index.items c.args.group ≡ Some number = search rules in
-    let below : c.args.group < length (groups_of all) = subst (λ (a : WholeFound). c.args.group < length (groups_of a)) (sym c.self.view_is) c.requires in
-    let led = group_led all.found c.self.inside.index.items (groups_of all) c.args.group number c.self.invariant.1 there below in
+    let led = group_placed all c.args.self.now c.self.inside.index.items c.args.group number c.self.view_is c.self.invariant.1 there in
     let within : number.parent < length all.found = parent_below all.found number.parent number.group led.0 led.2 in
     search (rules, within)
 
@@ -23,8 +22,7 @@ item-found-requires c =
     let all = c.self.inside.all in
     let number = c.item-number.result.now in
     let there : slice_get c.self.inside.index.items c.args.group ≡ Some number = search rules in
-    let below : c.args.group < length (groups_of all) = subst (λ (a : WholeFound). c.args.group < length (groups_of a)) (sym c.self.view_is) c.requires in
-    let led = group_led all.found c.self.inside.index.items (groups_of all) c.args.group number c.self.invariant.1 there below in
+    let led = group_placed all c.args.self.now c.self.inside.index.items c.args.group number c.self.view_is c.self.invariant.1 there in
     let parent : slice_get all.found number.parent ≡ Some c.item-parent.result.now = search rules in
     let within : number.group < length c.item-parent.result.now.groups = group_below all.found number.parent number.group led.0 led.2 c.item-parent.result.now parent in
     search (rules, within)
@@ -34,20 +32,17 @@ returns-clause-place c =
     let all = c.self.inside.all in
     let number = c.item-number.result.now in
     let there : slice_get c.self.inside.index.items c.args.group ≡ Some number = search rules in
-    let below : c.args.group < length (groups_of all) = subst (λ (a : WholeFound). c.args.group < length (groups_of a)) (sym c.self.view_is) c.requires in
-    let led = group_led all.found c.self.inside.index.items (groups_of all) c.args.group number c.self.invariant.1 there below in
+    let led = group_placed all c.args.self.now c.self.inside.index.items c.args.group number c.self.view_is c.self.invariant.1 there in
     let parent : slice_get all.found number.parent ≡ Some c.item-parent.result.now = search rules in
     let group : slice_get c.item-parent.result.now.groups number.group ≡ Some c.item-found.result.now = search rules in
-    ap (λ (a : WholeFound). slice_get (groups_of a) c.args.group) (sym c.self.view_is) ∙ led.1
-    ∙ ap Some (place_same all.found number.parent number.group led.0 led.2 c.item-parent.result.now c.item-found.result.now parent group)
+    led.1 ∙ ap Some (place_same all.found number.parent number.group led.0 led.2 c.item-parent.result.now c.item-found.result.now parent group)
 
 pub returns-clause-inside : goal.returns-clause-inside
 returns-clause-inside c = λ size inside.
     let all = c.self.inside.all in
     let number = c.item-number.result.now in
     let there : slice_get c.self.inside.index.items c.args.group ≡ Some number = search rules in
-    let below : c.args.group < length (groups_of all) = subst (λ (a : WholeFound). c.args.group < length (groups_of a)) (sym c.self.view_is) c.requires in
-    let led = group_led all.found c.self.inside.index.items (groups_of all) c.args.group number c.self.invariant.1 there below in
+    let led = group_placed all c.args.self.now c.self.inside.index.items c.args.group number c.self.view_is c.self.invariant.1 there in
     let parent : slice_get all.found number.parent ≡ Some c.item-parent.result.now = search rules in
     let group : slice_get c.item-parent.result.now.groups number.group ≡ Some c.item-found.result.now = search rules in
     let all_inside : AllByRecursion (IsFoundInside size) all.found =

@@ -2,7 +2,7 @@ use Rattle.std.proofs.Common.{◌≡◌, ℕ, List, false, length, sym, ◌∙�
 use Rattle.std.proofs.lemmas.List.{length-take}
 use Rattle.lru.specs.LruCache.{LruCache}
 use Rattle.mdf_pages.specs.Page.{is_kept, with_page}
-use Rattle.mdf_pages.proofs.Kept.{put_new}
+use Rattle.mdf_pages.proofs.Held.{put_new}
 use Rattle.mdf_pages.proofs.cache.Cache.put.Goals as goal
 
 pub invariant_of-self-2 : goal.invariant_of-self-2

@@ -1,7 +1,7 @@
 use Rattle.std.proofs.Common.{◌≡◌, ℕ, List, true, sym, ◌∙◌, ap, subst, arith}
 use Rattle.lru.specs.LruCache.{LruCache}
 use Rattle.mdf_pages.specs.Page.{ArePages, is_kept}
-use Rattle.mdf_pages.proofs.Kept.{promoted_first, promoted_keeps, promoted_none, length-promoted, pages_promoted}
+use Rattle.mdf_pages.proofs.Held.{promoted_first, promoted_keeps, promoted_none, length-promoted, pages_promoted}
 use Rattle.mdf_pages.proofs.cache.Cache.touch.Goals as goal
 
 pub invariant_of-self : goal.invariant_of-self

@@ -1,7 +1,7 @@
 use Rattle.std.proofs.Common.{ℕ, List, Option, sym, ◌∙◌, subst}
 use Rattle.mdf_num.specs.Span.{IsTold}
 use Rattle.mdf_pages.specs.Page.{ArePages}
-use Rattle.mdf_pages.proofs.Kept.{pages_after}
+use Rattle.mdf_pages.proofs.Held.{pages_after}
 use Rattle.mdf_pages.proofs.pages.Pages.read.Goals as goal
 
 pub invariant_of-self : goal.invariant_of-self

@@ -1,0 +1,77 @@
+use Rattle.std.proofs.Common.{◌+◌, ◌∙◌, ap, sym, subst, length, arith}
+use Rattle.std.specs.Prelude.{Ok, Err}
+use Rattle.book_shared.specs.Plays.{Here}
+use Rattle.book_shared.specs.Told.{FlushesNow}
+use Rattle.book_shared.specs.Turns.{Works}
+use Rattle.book_shared.specs.declared.view.View.{View}
+use Rattle.book_shared.proofs.Lists.{one_source}
+use Rattle.book_shared.proofs.Takings.{carries}
+use Rattle.book_shared.proofs.Flushes.{end_shown, shown_end, pending_now}
+use Rattle.book_shared.proofs.shared.SharedBook.flush_round.Goals as goal
+
+pub device_turn-word-requires-clause-some_source : goal.device_turn-word-requires-clause-some_source
+device_turn-word-requires-clause-some_source g c = one_source c.requires.single.0 c.args.seat.now.me.0.mine _ c.requires.single.1
+
+pub flush_out-requires-clause-front : goal.flush_out-requires-clause-front
+flush_out-requires-clause-front g c = let seized = c.device_turn-word.ensures.seized in λ κs outlives. (seized.front, carries _ _ _ seized.out)
+
+pub end_round-requires-clause-word : goal.end_round-requires-clause-word
+end_round-requires-clause-word g c = c.device_turn-word.ensures.word ∙ ap (λ (y : View). y.met) (sym c.flush_out.ensures.view)
+
+pub end_round-requires-clause-low : goal.end_round-requires-clause-low
+end_round-requires-clause-low g c = omega (arith, c.device_turn-word.ensures.word, c.device_turn-word.ensures.seized.took.low)
+
+pub end_round-requires-clause-returns : goal.end_round-requires-clause-returns
+end_round-requires-clause-returns g c =
+    let works = subst (λ what. Works c.device_turn-word.new.seat.me c.flush_out.new.seat.me (λ old new. FlushesNow g.V.Shown old new c.args.accepted what)) c.in-Ok.is c.flush_out.ensures.works in
+    end_shown g.V.Shown c.args.seat.now.me.0 c.device_turn-word.new.seat.me c.flush_out.new.seat.me c.device_turn-word.ensures.seized c.args.accepted c.flush_out.ensures.view c.in-Ok.answer works
+
+pub returns-in-Ok-clause-no_turn : goal.returns-in-Ok-clause-no_turn
+returns-in-Ok-clause-no_turn g c =
+    let works = subst (λ what. Works c.device_turn-word.new.seat.me c.flush_out.new.seat.me (λ old new. FlushesNow g.V.Shown old new c.args.accepted what)) c.in-Ok.is c.flush_out.ensures.works in
+    let held =
+    end_shown g.V.Shown c.args.seat.now.me.0 c.device_turn-word.new.seat.me c.flush_out.new.seat.me c.device_turn-word.ensures.seized c.args.accepted c.flush_out.ensures.view c.in-Ok.answer works in
+    ap (λ (x : Here g.row.D.Denot g.row.V.Denot). x.1) (c.end_round.ensures.ended held.0 held.1)
+
+pub returns-in-Ok-clause-flushed : goal.returns-in-Ok-clause-flushed
+returns-in-Ok-clause-flushed g c =
+    let works = subst (λ what. Works c.device_turn-word.new.seat.me c.flush_out.new.seat.me (λ old new. FlushesNow g.V.Shown old new c.args.accepted what)) c.in-Ok.is c.flush_out.ensures.works in
+    shown_end g.V.Shown c.args.seat.now.me.0 c.device_turn-word.new.seat.me c.flush_out.new.seat.me c.device_turn-word.ensures.seized c.args.accepted c.flush_out.ensures.view c.in-Ok.answer works
+    g.D.Disk (c.device_turn-word.result + 1) c.end_round.new.seat.me c.end_round.ensures.ended c.requires.single.0 c.requires.single.1 c.requires.accepted c.requires.own
+
+pub returns-in-Ok-clause-turns : goal.returns-in-Ok-clause-turns
+returns-in-Ok-clause-turns g c =
+    omega (arith, c.end_round.ensures.turns, ap (λ (y : View). y.turns) c.flush_out.ensures.view, ap (λ (y : View). y.turns) c.device_turn-word.ensures.seized.took.rest)
+
+pub returns-in-Ok-clause-due : goal.returns-in-Ok-clause-due
+returns-in-Ok-clause-due g c =
+    c.end_round.ensures.due ∙ ap (λ (y : View). y.due) c.flush_out.ensures.view ∙ ap (λ (y : View). y.due) c.device_turn-word.ensures.seized.took.rest
+
+pub flush_pending-requires-clause-word : goal.flush_pending-requires-clause-word
+flush_pending-requires-clause-word g c = λ κs outlives. c.device_turn-word.ensures.word ∙ ap (λ (y : View). y.met) (sym c.flush_out.ensures.view)
+
+pub flush_pending-requires-clause-pending : goal.flush_pending-requires-clause-pending
+flush_pending-requires-clause-pending g c =
+    let works = subst (λ what. Works c.device_turn-word.new.seat.me c.flush_out.new.seat.me (λ old new. FlushesNow g.V.Shown old new c.args.accepted what)) c.in-Err.is c.flush_out.ensures.works in
+    λ κs outlives. (
+      c.args.seat.now.me.0,
+      pending_now g.V.Shown c.args.seat.now.me.0 c.device_turn-word.new.seat.me c.flush_out.new.seat.me c.device_turn-word.ensures.seized c.args.accepted c.flush_out.ensures.view
+          c.in-Err._accepted works c.requires.accepted,
+      one_source c.requires.single.0 c.args.seat.now.me.0.mine _ c.requires.single.1,
+    )
+
+pub returns-in-Err-clause-flushed : goal.returns-in-Err-clause-flushed
+returns-in-Err-clause-flushed g c =
+    let works = subst (λ what. Works c.device_turn-word.new.seat.me c.flush_out.new.seat.me (λ old new. FlushesNow g.V.Shown old new c.args.accepted what)) c.in-Err.is c.flush_out.ensures.works in
+    c.flush_pending.ensures.flushed c.args.seat.now.me.0
+    (pending_now g.V.Shown c.args.seat.now.me.0 c.device_turn-word.new.seat.me c.flush_out.new.seat.me c.device_turn-word.ensures.seized c.args.accepted c.flush_out.ensures.view
+    c.in-Err._accepted works c.requires.accepted)
+    c.requires.single.0 c.requires.single.1
+
+pub returns-in-Err-clause-turns : goal.returns-in-Err-clause-turns
+returns-in-Err-clause-turns g c =
+    omega (arith, c.flush_pending.ensures.turns, ap (λ (y : View). y.turns) c.flush_out.ensures.view, ap (λ (y : View). y.turns) c.device_turn-word.ensures.seized.took.rest)
+
+pub returns-in-Err-clause-due : goal.returns-in-Err-clause-due
+returns-in-Err-clause-due g c =
+    c.flush_pending.ensures.due ∙ ap (λ (y : View). y.due) c.flush_out.ensures.view ∙ ap (λ (y : View). y.due) c.device_turn-word.ensures.seized.took.rest

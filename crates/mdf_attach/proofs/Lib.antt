@@ -1,0 +1,6 @@
+pub mod Fronts
+pub mod Found
+pub mod Lacking
+pub mod Reached
+pub mod Identified
+pub mod Answering

@@ -1,0 +1,4 @@
+pub mod Says
+pub mod Listed
+pub mod Stands
+pub mod Lacks

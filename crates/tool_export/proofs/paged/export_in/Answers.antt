@@ -1,0 +1,17 @@
+use Rattle.std.proofs.Common.{Err, ◌∙◌, subst, sym}
+use Rattle.mdf_num.specs.declared.halt.Halt.{Halt}
+use Rattle.mdf_port.specs.State.{sink_state}
+use Rattle.tool_export.specs.declared.fault.ExportFault.{ExportFault}
+use Rattle.tool_export.specs.Export.{ExportHalts}
+use Rattle.tool_export.proofs.Ends.{read_halts}
+use Rattle.tool_export.proofs.paged.export_in.Goals as goal
+
+pub returns-in-Ok-clause-ends : goal.returns-in-Ok-clause-ends
+returns-in-Ok-clause-ends g c = λ file told.
+    c.give_numbered_in.ensures.ends file (c.in-Ok.ensures.same ∙ told) (c.in-Ok.ensures.found file told)
+
+pub returns-in-Err-clause-ends : goal.returns-in-Err-clause-ends
+returns-in-Err-clause-ends g c = λ file told.
+    let state = sink_state g.K.Sink c.args.sink.now in
+    subst (λ (end : Halt ExportFault). ExportHalts file c.args.group state state (Err end)) (sym c.halt_of_read.ensures)
+    (read_halts file c.args.group state c.in-Err.halt c.in-Err.ensures.plain (c.in-Err.ensures.measured file told))
