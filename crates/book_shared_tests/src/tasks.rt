@@ -20,10 +20,10 @@ pub enum Task {
     Flush,
 }
 
-/// Tells the answer of a try.
+/// Tells the answer of a try, and of a busy one whether the turn word was odd.
 pub fn tell_try(told: &mut String, answer: &Try) -> Result<(), AllocError> {
     match answer {
-        Try::Busy { word, sample: _ } => write!(told, "busy {word}"),
+        Try::Busy { word, sample: _ } => write!(told, "busy odd {}", *word % 2 == 1),
         Try::NeedsFlush {
             held,
             size,

@@ -287,13 +287,13 @@ fn a_seat_goes_on_while_the_flush_of_another_is_in_a_sync(rt: HostRuntime) -> Re
     )
 }
 
-// The view is published in the turn. The word is 2 after the append, 4 when the flush has handed over, and 5 while it publishes.
+// The view is published in the turn, so the word is odd while it is.
 #[test]
 fn a_seat_is_busy_while_the_flush_of_another_publishes(rt: HostRuntime) -> Result<(), Fail> {
     is_told(
         &rt,
         together(&rt, Step::Publish, false, LOOKS),
-        "Accepted { place: 0 }Done { through: 1, shown: 1, note: () }\nbusy 5\nAccepted { place: 1 }accepted 2 marks 0 1 in vain false",
+        "Accepted { place: 0 }Done { through: 1, shown: 1, note: () }\nbusy odd true\nAccepted { place: 1 }accepted 2 marks 0 1 in vain false",
     )
 }
 
