@@ -1,12 +1,13 @@
 -- Pages that are kept, after one is put first and after one more is.
-use Rattle.std.proofs.Common.{◌≡◌, ◌+◌, ◌-◌, ◌≤◌, ℕ, Bool, true, false, cond, List, [], ◌∷◌, length, take, Contains, Option, Some, None, is_some, Result, Ok, Err, OnOk, OnErr, slice_get, nat_eq, refl, sym, ◌∙◌, ap, subst, arith, inl, inr}
-use Rattle.std.proofs.lemmas.Bool.{eqb-true}
+use Rattle.std.proofs.Common.{◌≡◌, ◌+◌, ◌-◌, ◌≤◌, ◌<◌, ℕ, Bool, true, false, cond, List, [], ◌∷◌, length, take, Contains, Option, Some, None, is_some, Result, Ok, Err, OnOk, OnErr, slice_get, nat_eq, refl, sym, ◌∙◌, ap, subst, arith, inl, inr}
+use Rattle.std.proofs.lemmas.Bool.{eqb-true, eq-eqb}
+use Rattle.std.proofs.lemmas.List.{take_all}
 use Rattle.std.specs.Option.{option_map_or}
 use Rattle.std.specs.Map.{lookup, lookup_entry, remove_entry}
 use Rattle.lru.specs.LruCache.{LruCache, promoted, put_entries}
 use Rattle.lru.proofs.CallerLemmas.{Contains-lookup_entry, Contains-promoted, Contains-take}
 use Rattle.lru.proofs.Splits.{Contains-head, Contains-cons}
-use Rattle.mdf_pages.specs.Page.{IsPageOf, ArePages, is_kept, first_page, with_page}
+use Rattle.mdf_pages.specs.Page.{IsPageOf, ArePages, StillKept, is_kept, first_page, with_page}
 
 -- a key has a value where it has an entry
 entry_there : {K V : Type 0} (test : K → Bool) (es : List (K × V)) → is_some (lookup test es) ≡ is_some (lookup_entry test es)
@@ -117,3 +118,23 @@ pub pages_after : {T E : Type 0} (result : Result T E) (told : Option (List ℕ)
 pages_after (Ok x) told size page bytes old new ok err pages is =
     subst (ArePages told size) (sym ok) (pages_with told size page bytes old pages is)
 pages_after (Err e) told size page bytes old new ok err pages is = subst (ArePages told size) (sym err) pages
+
+-- the page that stands first is kept
+pub first_is_kept : (kept : List (ℕ × List ℕ)) (page : ℕ) → first_page kept ≡ Some page → is_kept page kept ≡ true
+first_is_kept [] page first = cc
+first_is_kept (e ∷ es) page first =
+    let key : e.0 ≡ page = cc in
+    let same : nat_eq page e.0 ≡ true = eq-eqb page e.0 (sym key) in
+    rw same refl
+
+-- a page more lets no other go where there is room
+with_keeps : (page : ℕ) (bytes : List ℕ) (old : List (ℕ × List ℕ)) → length old < 256 → StillKept old (with_page page bytes old)
+with_keeps page bytes old few other there = (elim (nat_eq other page) as (λ b. nat_eq other page ≡ b → is_kept other (with_page page bytes old) ≡ true) [
+  | true ↦ λ t. rw t refl
+  | false ↦ λ t. rw t (subst (λ (es : List (ℕ × List ℕ)). is_kept other es ≡ true) (sym (take_all 255 old (omega (arith, few)))) there)
+]) refl
+
+pub still_after : {T E : Type 0} (result : Result T E) (page : ℕ) (bytes : List ℕ) (old new : List (ℕ × List ℕ))
+    → OnOk result (new ≡ with_page page bytes old) → OnErr result (new ≡ old) → length old < 256 → StillKept old new
+still_after (Ok x) page bytes old new ok err few = subst (StillKept old) (sym ok) (with_keeps page bytes old few)
+still_after (Err e) page bytes old new ok err few = subst (StillKept old) (sym err) (λ other there. there)

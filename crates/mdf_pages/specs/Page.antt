@@ -32,6 +32,14 @@ first_page (entry ∷ entries) = Some entry.0
 abbrev pub AreKept : ℕ → ℕ → List (ℕ × List ℕ) → Type 0
 AreKept at len kept = (place : ℕ) → at ≤ place → place < at + len → IsTrue (is_kept (place / 65536) kept)
 
+-- the bytes of a range lie in one page
+abbrev pub AreOfOnePage : ℕ → ℕ → Type 0
+AreOfOnePage at len = (at + len - 1) / 65536 ≡ at / 65536
+
+-- each page that was kept is kept still
+abbrev pub StillKept : List (ℕ × List ℕ) → List (ℕ × List ℕ) → Type 0
+StillKept old new = (page : ℕ) → IsTrue (is_kept page old) → IsTrue (is_kept page new)
+
 -- one page more, which stands first; of 256 the one that was used least lately goes
 abbrev pub with_page : ℕ → List ℕ → List (ℕ × List ℕ) → List (ℕ × List ℕ)
 with_page page bytes kept = (page, bytes) ∷ take 255 kept

@@ -3,7 +3,7 @@ ghost use Rattle.std.proofs.Props.{props};
 ghost use Rattle.mdf_format.specs.Number.{le_number, bytes_at};
 ghost use Rattle.mdf_num.specs.Halt.{StopCause};
 ghost use Rattle.mdf_num.specs.Span.{IsTold};
-ghost use Rattle.mdf_pages.specs.Page.{is_kept, first_page, ArePages, AreKept};
+ghost use Rattle.mdf_pages.specs.Page.{is_kept, first_page, ArePages, AreKept, AreOfOnePage, StillKept};
 ghost use Rattle.mdf_pages.specs.Cause.{ReadCause};
 
 use crate::cache::Cache;
@@ -105,6 +105,7 @@ impl<D: Disk> Pages<D> {
         requires within { 65536 * page < self.old.size }
         requires absent { is_kept page self.old.cache ≡ false }
         ensures first { OnOk result (first_page self.new.cache ≡ Some page) }
+        ensures stays { OnOk result (length self.old.cache < 256 → StillKept self.old.cache self.new.cache) }
         ensures size { self.new.size ≡ self.old.size }
         ensures cause { StopCause true (D.faults self.old.disk) (D.faults self.new.disk) result }
         ensures reason { IfErr result (ReadCause (D.faults self.old.disk) (D.faults self.new.disk)) }
@@ -128,6 +129,7 @@ impl<D: Disk> Pages<D> {
         ensures kept { IsTrue (is_kept page self.old.cache) → self.new.disk ≡ self.old.disk }
         ensures others { IsTrue (is_kept page self.old.cache) → (other : ℕ) → IsTrue (is_kept other self.old.cache)
             → IsTrue (is_kept other self.new.cache) }
+        ensures stays { OnOk result (length self.old.cache < 256 → StillKept self.old.cache self.new.cache) }
         ensures size { self.new.size ≡ self.old.size }
         ensures cause { StopCause true (D.faults self.old.disk) (D.faults self.new.disk) result }
         ensures reason { IfErr result (ReadCause (D.faults self.old.disk) (D.faults self.new.disk)) }
@@ -157,6 +159,7 @@ impl<D: Disk> Pages<D> {
         ensures kept { IsTrue (is_kept (at / 65536) self.old.cache) → self.new.disk ≡ self.old.disk }
         ensures others { IsTrue (is_kept (at / 65536) self.old.cache) → (other : ℕ) → IsTrue (is_kept other self.old.cache)
             → IsTrue (is_kept other self.new.cache) }
+        ensures stays { OnOk result (length self.old.cache < 256 → StillKept self.old.cache self.new.cache) }
         ensures size { self.new.size ≡ self.old.size }
         ensures cause { StopCause true (D.faults self.old.disk) (D.faults self.new.disk) result }
         ensures reason { IfErr result (ReadCause (D.faults self.old.disk) (D.faults self.new.disk)) }
@@ -180,6 +183,7 @@ impl<D: Disk> Pages<D> {
         ensures fits { IfOk result (λ n. n < 256 ^ count) }
         ensures first { OnOk result (first_page self.new.cache ≡ Some ((at + count - 1) / 65536)) }
         ensures kept { AreKept at count self.old.cache → self.new.disk ≡ self.old.disk }
+        ensures stays { OnOk result (AreOfOnePage at count → length self.old.cache < 256 → StillKept self.old.cache self.new.cache) }
         ensures size { self.new.size ≡ self.old.size }
         ensures cause { StopCause true (D.faults self.old.disk) (D.faults self.new.disk) result }
         ensures reason { IfErr result (ReadCause (D.faults self.old.disk) (D.faults self.new.disk)) }
@@ -222,6 +226,7 @@ impl<D: Disk> Span for Pages<D> {
         ensures cause { StopCause true (⟦<Pages<D> as Span>⟧.faults self.old) (⟦<Pages<D> as Span>⟧.faults self.new) result }
         ensures first { OnOk result (0 < length buf.old → first_page (kept_of self.new) ≡ Some ((at + length buf.old - 1) / 65536)) }
         ensures kept { AreKept at (length buf.old) (kept_of self.old) → disk_of self.new ≡ disk_of self.old }
+        ensures stays { OnOk result (AreOfOnePage at (length buf.old) → length (kept_of self.old) < 256 → StillKept (kept_of self.old) (kept_of self.new)) }
         ensures few { length (kept_of self.new) ≤ 256 }
         ensures reason { IfErr result (ReadCause (D.faults (disk_of self.old)) (D.faults (disk_of self.new))) }
         ensures calm { OnOk result (D.faults (disk_of self.new) ≡ D.faults (disk_of self.old)) }
@@ -255,6 +260,7 @@ impl<D: Disk> Span for Pages<D> {
         ensures cause { StopCause true (⟦<Pages<D> as Span>⟧.faults self.old) (⟦<Pages<D> as Span>⟧.faults self.new) result }
         ensures first { OnOk result (first_page (kept_of self.new) ≡ Some ((at + count - 1) / 65536)) }
         ensures kept { AreKept at count (kept_of self.old) → disk_of self.new ≡ disk_of self.old }
+        ensures stays { OnOk result (AreOfOnePage at count → length (kept_of self.old) < 256 → StillKept (kept_of self.old) (kept_of self.new)) }
         ensures few { length (kept_of self.new) ≤ 256 }
         ensures reason { IfErr result (ReadCause (D.faults (disk_of self.old)) (D.faults (disk_of self.new))) }
         ensures calm { OnOk result (D.faults (disk_of self.new) ≡ D.faults (disk_of self.old)) }

@@ -1,7 +1,7 @@
 use Rattle.std.proofs.Common.{ℕ, List, Option, sym, ◌∙◌, subst}
 use Rattle.mdf_num.specs.Span.{IsTold}
 use Rattle.mdf_pages.specs.Page.{ArePages}
-use Rattle.mdf_pages.proofs.Held.{pages_after}
+use Rattle.mdf_pages.proofs.Held.{pages_after, still_after}
 use Rattle.mdf_pages.proofs.pages.Pages.read.Goals as goal
 
 pub invariant_of-self : goal.invariant_of-self
@@ -27,3 +27,7 @@ invariant_of-self-2 g c =
           c.put.ensures.ok c.put.ensures.err now.pages c.in_ok-bytes.ensures.page);
       few = c.put.ensures.few;
     }
+
+pub returns-clause-stays : goal.returns-clause-stays
+returns-clause-stays g c = λ few.
+    still_after c.put.result c.args.page c.in_ok-bytes.bytes c.args.self.now.cache c.put.new.self c.put.ensures.ok c.put.ensures.err few

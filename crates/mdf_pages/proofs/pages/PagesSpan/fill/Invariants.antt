@@ -1,6 +1,6 @@
-use Rattle.std.proofs.Common.{◌≡◌, ◌+◌, ◌-◌, ◌/◌, ◌<◌, ◌≤◌, ℕ, List, Some, length, take}
+use Rattle.std.proofs.Common.{◌≡◌, ◌+◌, ◌-◌, ◌/◌, ◌<◌, ◌≤◌, ◌⊎◌, ℕ, List, Some, true, length, take}
 use Rattle.mdf_format.specs.Number.{bytes_at}
-use Rattle.mdf_pages.specs.Page.{first_page, AreKept}
+use Rattle.mdf_pages.specs.Page.{is_kept, first_page, AreKept, AreOfOnePage, StillKept}
 use Rattle.mdf_pages.proofs.pages.PagesSpan.fill.Given as goal
 
 abbrev pub invariant-loop-done : goal.invariant-loop-done
@@ -10,6 +10,8 @@ invariant-loop-done g l = record {
   first : 0 < l.done → first_page l.self.cache ≡ Some ((l.at + l.done - 1) / 65536);
   kept : AreKept l.at (length l.initial.buf) l.initial.self.cache → l.self.disk ≡ l.initial.self.disk;
   held : AreKept l.at (length l.initial.buf) l.initial.self.cache → AreKept l.at (length l.initial.buf) l.self.cache;
+  stays : AreOfOnePage l.at (length l.initial.buf) → length l.initial.self.cache < 256
+      → ((l.done ≡ 0) × (l.self.cache ≡ l.initial.self.cache)) ⊎ ((is_kept (l.at / 65536) l.self.cache ≡ true) × StillKept l.initial.self.cache l.self.cache);
   size : l.self.size ≡ l.initial.self.size;
   calm : g.D.Disk.faults l.self.disk ≡ g.D.Disk.faults l.initial.self.disk;
   asked : g.D.Disk.asked l.self.disk ≡ g.D.Disk.asked l.initial.self.disk;
