@@ -196,7 +196,33 @@ impl PagedMeasurement {
         ensures size { P.size span.new ≡ P.size span.old }
         ensures cause { StopCause true (P.faults span.old) (P.faults span.new) result }
     {
+        let mut scratch = Vec::new(alloc);
+        self.sample_with(alloc, span, group, i, &mut scratch)
+    }
+
+    /// As `sample_in`, where the record is read into the scratch, whose old content goes. Samples that are read with one scratch
+    /// share its memory.
+    ///
+    /// # Errors
+    /// As `sample_in`.
+    pub fn sample_with<P: Span>(
+        &self,
+        alloc: Global,
+        span: &mut P,
+        group: u32,
+        i: u64,
+        scratch: &mut Vec<u8>,
+    ) -> Result<Entries, Stop>
+        requires inside { AllByRecursion (IsFoundInside (P.size span.old)) self.now.found }
+        requires group { group < length (groups_of self.now) }
+        requires index { (d : Located) → i < (slice_index_or (groups_of self.now) group d).group.count }
+        ensures sample { (f : List ℕ) (d : Measure) → P.bytes span.old ≡ Some f → whole_found f ≡ Ok self.now
+            → IfOk result (λ entries. sample_of (slice_index_or (measured_from f self.now).groups group d) i ≡ Some entries) }
+        ensures same { P.bytes span.new ≡ P.bytes span.old }
+        ensures size { P.size span.new ≡ P.size span.old }
+        ensures cause { StopCause true (P.faults span.old) (P.faults span.new) result }
+    {
         let (parent, found) = self.place(group);
-        sample_of(alloc, span, parent, found, i)
+        sample_of(alloc, span, parent, found, i, scratch)
     }
 }

@@ -1,4 +1,4 @@
-ghost use Rattle.std.specs.Prelude.{◌≡◌, ◌<◌, ℕ, List, Some, true, length, IfOk};
+ghost use Rattle.std.specs.Prelude.{◌≡◌, ◌<◌, ℕ, List, Some, true, length, IfOk, OnOk};
 ghost use Rattle.mdf_num.specs.Halt.{StopCause};
 ghost use Rattle.mdf_stream.specs.Parts.{ArePartsInside};
 ghost use Rattle.mdf_layout.specs.Layout.{record_size};
@@ -6,27 +6,28 @@ ghost use Rattle.mdf_content.specs.Found.{IsGroupInside};
 ghost use Rattle.mdf_content.specs.Samples.{record_at};
 ghost use Rattle.mdf_paged.specs.Groups.{held_at, located, sample_in};
 
-use crate::values::{Views, bytes_in};
+use crate::values::{Views, read_into};
 use mdf_content::{DataFound, Found, place_at, places_or};
 use mdf_data::Places;
 use mdf_layout::Entries;
-use mdf_num::{Bytes, Halt, Span, Stop};
+use mdf_num::{Halt, Span, Stop};
 use std::alloc::Global;
 
-/// The bytes of record `i` of a group.
+/// Reads record `i` of a group into the scratch, whose old content goes.
 fn record_in<P: Span>(
     alloc: Global,
     span: &mut P,
     parent: &DataFound,
     group: &Found,
     i: u64,
-) -> Result<Bytes, Stop>
+    scratch: &mut Vec<u8>,
+) -> Result<(), Stop>
     requires view { ArePartsInside (P.size span.old) parent.now.view }
     requires inside { IsGroupInside (P.size span.old) parent.now.view parent.now.lists group.now }
     requires index { i < group.now.count }
-    ensures record { IfOk result (λ bytes. (f : List ℕ) → P.bytes span.old ≡ Some f
-        → bytes ≡ record_at group.now.shape (held_at f (located parent.now group.now)).content i) }
-    ensures long { IfOk result (λ bytes. length bytes ≡ record_size group.now.shape) }
+    ensures record { OnOk result ((f : List ℕ) → P.bytes span.old ≡ Some f
+        → scratch.new.items ≡ record_at group.now.shape (held_at f (located parent.now group.now)).content i) }
+    ensures long { OnOk result (length scratch.new.items ≡ record_size group.now.shape) }
     ensures same { P.bytes span.new ≡ P.bytes span.old }
     ensures size { P.size span.new ≡ P.size span.old }
     ensures cause { StopCause true (P.faults span.old) (P.faults span.new) result }
@@ -35,24 +36,26 @@ fn record_in<P: Span>(
     let places = places_or(parent.lists.as_slice(), group.which as usize, &none);
     let place = place_at(places, i);
     let mut near = 0;
-    bytes_in(
-        alloc,
+    read_into(
         span,
         &parent.view,
         place,
         group.shape.record_size(),
         &mut near,
+        scratch,
     )
 }
 
-/// The sample of record `i` of a group. An offset that meets no value, which none does in the file that was found, counts as
-/// want of memory.
+/// The sample of record `i` of a group; the scratch takes the record. Where each value is a part of its stream, as in a group of
+/// values, those of record `i` stand about part `i`. An offset that meets no value, which none does in the file that was found,
+/// counts as want of memory.
 pub(crate) fn sample_of<P: Span>(
     alloc: Global,
     span: &mut P,
     parent: &DataFound,
     group: &Found,
     i: u64,
+    scratch: &mut Vec<u8>,
 ) -> Result<Entries, Stop>
     requires view { ArePartsInside (P.size span.old) parent.now.view }
     requires inside { IsGroupInside (P.size span.old) parent.now.view parent.now.lists group.now }
@@ -63,13 +66,14 @@ pub(crate) fn sample_of<P: Span>(
     ensures size { P.size span.new ≡ P.size span.old }
     ensures cause { StopCause true (P.faults span.old) (P.faults span.new) result }
 {
-    let record = record_in(alloc, span, parent, group, i)?;
+    record_in(alloc, span, parent, group, i, scratch)?;
     let values = Views {
         streams: group.values.as_slice(),
+        near: i as usize,
     };
     match group
         .shape
-        .decode_in(alloc, span, record.as_slice(), &values, i)
+        .decode_in(alloc, span, scratch.as_slice(), &values, i)
     {
         Ok(entries) => Ok(entries),
         Err(Halt::Failed) => Err(Stop::Failed),

@@ -1,4 +1,4 @@
-ghost use Rattle.std.specs.Prelude.{◌≡◌, ◌+◌, ◌≤◌, ℕ, List, Some, None, true, length, map, if◌then◌else◌, IfOk, IfSome};
+ghost use Rattle.std.specs.Prelude.{◌≡◌, ◌+◌, ◌≤◌, ℕ, List, Some, None, true, length, map, if◌then◌else◌, IfOk, IfSome, OnOk};
 ghost use Rattle.std.specs.List.{AllByRecursion};
 ghost use Rattle.mdf_format.specs.Number.{bytes_at};
 ghost use Rattle.mdf_num.specs.Halt.{StopCause};
@@ -11,8 +11,33 @@ use mdf_layout::Values;
 use mdf_num::{Bytes, Span, Stop};
 use std::alloc::Global;
 
+/// Reads a range of a stream into the scratch, which becomes as long as the range; its old content goes. The search for the bytes
+/// begins at part `near`.
+pub(crate) fn read_into<P: Span>(
+    span: &mut P,
+    view: &DataView,
+    at: u64,
+    len: u64,
+    near: &mut usize,
+    scratch: &mut Vec<u8>,
+) -> Result<(), Stop>
+    requires inside { ArePartsInside (P.size span.old) view.now }
+    requires within { at + len ≤ stream_size view.now }
+    ensures bytes { OnOk result ((f : List ℕ) → P.bytes span.old ≡ Some f → scratch.new.items ≡ bytes_at len (stream_of f view.now) at) }
+    ensures long { OnOk result (length scratch.new.items ≡ len) }
+    ensures same { P.bytes span.new ≡ P.bytes span.old }
+    ensures size { P.size span.new ≡ P.size span.old }
+    ensures cause { StopCause true (P.faults span.old) (P.faults span.new) result }
+{
+    let Ok(()) = scratch.resize(len as usize, 0) else {
+        return Err(Stop::Memory);
+    };
+    view.read_near(span, at, scratch.as_mut_slice(), near)?;
+    Ok(())
+}
+
 /// The bytes of a range of a stream. The search for them begins at part `near`.
-pub(crate) fn bytes_in<P: Span>(
+fn bytes_in<P: Span>(
     alloc: Global,
     span: &mut P,
     view: &DataView,
@@ -23,15 +48,14 @@ pub(crate) fn bytes_in<P: Span>(
     requires inside { ArePartsInside (P.size span.old) view.now }
     requires within { at + len ≤ stream_size view.now }
     ensures bytes { IfOk result (λ bytes. (f : List ℕ) → P.bytes span.old ≡ Some f → bytes ≡ bytes_at len (stream_of f view.now) at) }
-    ensures long { IfOk result (λ bytes. length bytes ≡ len) }
     ensures same { P.bytes span.new ≡ P.bytes span.old }
     ensures size { P.size span.new ≡ P.size span.old }
     ensures cause { StopCause true (P.faults span.old) (P.faults span.new) result }
 {
-    let Ok(mut bytes) = vec![in alloc; 0u8; len as usize] else {
+    let Ok(mut bytes) = Vec::with_capacity(alloc, len as usize) else {
         return Err(Stop::Memory);
     };
-    view.read_near(span, at, bytes.as_mut_slice(), near)?;
+    read_into(span, view, at, len, near, &mut bytes)?;
     Ok(Bytes::from_vec(bytes))
 }
 
@@ -65,13 +89,14 @@ fn value_size_in<P: Span>(
     Ok(Some(size))
 }
 
-/// The value at an offset of a stream. None exactly where no whole value stands there.
+/// The value at an offset of a stream. None exactly where no whole value stands there. The search for it begins at part `near`.
 #[tactic(auto, using(crate::proofs::Placed::value_none, crate::proofs::Placed::value_some))]
 fn value_in<P: Span>(
     alloc: Global,
     span: &mut P,
     values: &DataView,
     offset: u64,
+    near: usize,
 ) -> Result<Option<Bytes>, Stop>
     requires inside { ArePartsInside (P.size span.old) values.now }
     ensures value { (f : List ℕ) → P.bytes span.old ≡ Some f → IfOk result (λ value. value ≡ value_at (stream_of f values.now) offset) }
@@ -79,7 +104,7 @@ fn value_in<P: Span>(
     ensures size { P.size span.new ≡ P.size span.old }
     ensures cause { StopCause true (P.faults span.old) (P.faults span.new) result }
 {
-    let mut near = 0;
+    let mut near = near;
     let Some(size) = value_size_in(span, values, offset, &mut near)? else {
         return Ok(None);
     };
@@ -88,10 +113,12 @@ fn value_in<P: Span>(
     Ok(Some(bytes))
 }
 
-/// The values of a group's channels of variable length, each in its stream.
+/// The values of a group's channels of variable length, each in its stream. The search for a value begins at part `near` of its
+/// stream: any number will do.
 #[derive(Drop)]
 pub(crate) struct Views<'a> {
     pub(crate) streams: &'a [DataView],
+    pub(crate) near: usize,
 }
 
 impl Values for Views<'_> {
@@ -109,6 +136,6 @@ impl Values for Views<'_> {
         if stream >= self.streams.len() {
             return Ok(None);
         }
-        value_in(alloc, span, &self.streams[stream], offset)
+        value_in(alloc, span, &self.streams[stream], offset, self.near)
     }
 }

@@ -100,9 +100,10 @@ fn lines_between<L: SampleList, P: Span>(
 {
     let mut writer = Writer::from_writer(Vec::new(alloc));
     let mut field = Vec::new(alloc);
+    let mut scratch = Vec::new(alloc);
     let mut index = from;
     while index < to {
-        let entries = list.sample(alloc, span, index)?;
+        let entries = list.sample(alloc, span, index, &mut scratch)?;
         let Ok(()) = write_sample(
             alloc,
             line,

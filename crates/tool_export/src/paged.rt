@@ -52,8 +52,15 @@ impl SampleList for PagedSamples<'_> {
         self.found.samples(self.group)
     }
 
-    fn sample<P: Span>(&self, alloc: Global, span: &mut P, index: u64) -> Result<Entries, Stop> {
-        self.found.sample_in(alloc, span, self.group, index)
+    fn sample<P: Span>(
+        &self,
+        alloc: Global,
+        span: &mut P,
+        index: u64,
+        scratch: &mut Vec<u8>,
+    ) -> Result<Entries, Stop> {
+        self.found
+            .sample_with(alloc, span, self.group, index, scratch)
     }
 }
 

@@ -27,11 +27,17 @@ pub(crate) trait SampleList {
     fn count(&self) -> u64
         ensures { result ≡ count self.now };
 
-    /// The sample of an index, counted from 0.
+    /// The sample of an index, counted from 0. Its record may be read into the scratch, whose old content goes.
     ///
     /// # Errors
     /// The span's own; and want of memory.
-    fn sample<P: Span>(&self, alloc: Global, span: &mut P, index: u64) -> Result<Entries, Stop>
+    fn sample<P: Span>(
+        &self,
+        alloc: Global,
+        span: &mut P,
+        index: u64,
+        scratch: &mut Vec<u8>,
+    ) -> Result<Entries, Stop>
         requires needs { needs self.now (P.size span.old) }
         requires index { index < count self.now }
         ensures sample { (f : List ℕ) → P.bytes span.old ≡ Some f → are_of self.now f
@@ -73,7 +79,13 @@ impl SampleList for GroupSamples<'_> {
         self.found.samples(self.group)
     }
 
-    fn sample<P: Span>(&self, alloc: Global, _span: &mut P, index: u64) -> Result<Entries, Stop> {
+    fn sample<P: Span>(
+        &self,
+        alloc: Global,
+        _span: &mut P,
+        index: u64,
+        _scratch: &mut Vec<u8>,
+    ) -> Result<Entries, Stop> {
         let Ok(entries) = self.found.sample(alloc, self.group, index) else {
             return Err(Stop::Memory);
         };

@@ -1,11 +1,9 @@
 use Rattle.std.proofs.Common.{◌≡◌, ℕ, List, [], Some, ◌∙◌, ap, rules}
-use Rattle.std.proofs.lemmas.Result.{IfOk-weaker}
+use Rattle.std.proofs.lemmas.Result.{on_ok_weaker}
 use Rattle.std.specs.Prelude.{slice_index_or}
 use Rattle.mdf_format.specs.Number.{bytes_at}
 use Rattle.mdf_stream.specs.Parts.{stream_of}
 use Rattle.mdf_layout.specs.Layout.{record_size}
-use Rattle.mdf_content.specs.Samples.{record_at}
-use Rattle.mdf_paged.specs.Groups.{held_at, located}
 use Rattle.mdf_paged.proofs.Placed.{record_read}
 use Rattle.mdf_paged.proofs.sample.record_in.Goals as goal
 
@@ -15,13 +13,12 @@ returns-clause-record g c =
     let group = c.args.group.now in
     let told = g.P.Span.bytes c.args.span.now in
     let place : c.place_at-place.result ≡ slice_index_or (slice_index_or parent.lists group.which []) c.args.i 0 = search rules in
-    IfOk-weaker c.bytes_in.result
-    (λ (bytes : List ℕ). (f : List ℕ) → told ≡ Some f → bytes ≡ bytes_at c.record_size.result (stream_of f parent.view) c.place_at-place.result)
-    (λ (bytes : List ℕ). (f : List ℕ) → told ≡ Some f → bytes ≡ record_at group.shape (held_at f (located parent group)).content c.args.i)
-    (λ bytes is f is_told.
+    on_ok_weaker c.read_into.result
+    (λ (is : (f : List ℕ) → told ≡ Some f → c.read_into.new.scratch.items ≡ bytes_at c.record_size.result (stream_of f parent.view) c.place_at-place.result).
+    λ f is_told.
     is f is_told
     ∙ ap (λ (n : ℕ). bytes_at n (stream_of f parent.view) c.place_at-place.result) c.record_size.ensures.size
     ∙ ap (bytes_at (record_size group.shape) (stream_of f parent.view))
     place
     ∙ record_read told (g.P.Span.size c.args.span.now) f parent group c.args.i (g.met.P.Span.whole c.args.span.now) is_told c.requires.view c.requires.inside c.requires.index)
-    c.bytes_in.ensures.bytes
+    c.read_into.ensures.bytes

@@ -16,8 +16,8 @@ returns-clause-sample g c = λ f told read.
     let groups = (measured_from f all).groups in
     let below = group_below f all list.group read list.there in
     let d = item_of groups list.group below in
-    IfOk-weaker c.sample_in.result
+    IfOk-weaker c.sample_with.result
     (λ (entries : List Entry). sample_of (slice_index_or groups list.group d) c.args.index ≡ Some entries)
     (λ (entries : List Entry). sample_in (measured_from f all) list.group c.args.index ≡ Some entries)
     (λ entries is. sample_there f all list.group read c.args.index entries below d is)
-    (c.sample_in.ensures.sample f d told read)
+    (c.sample_with.ensures.sample f d told read)

@@ -7,7 +7,7 @@ use Rattle.mdf_model.specs.Found.{measured_from}
 use Rattle.mdf_model.specs.Measurement.{sample_of}
 use Rattle.mdf_paged.specs.Groups.{Located, groups_of, located, sample_in}
 use Rattle.mdf_paged.proofs.Measures.{sample_is}
-use Rattle.mdf_paged.proofs.measurement.PagedMeasurement.sample_in.Goals as goal
+use Rattle.mdf_paged.proofs.measurement.PagedMeasurement.sample_with.Goals as goal
 
 pub sample_of-requires-clause-view : goal.sample_of-requires-clause-view
 sample_of-requires-clause-view g c = (c.place.ensures.inside (g.P.Span.size c.args.span.now) c.requires.inside).0
