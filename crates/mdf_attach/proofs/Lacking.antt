@@ -1,5 +1,5 @@
 -- Why the attachments are refused.
-use Rattle.std.proofs.Common.{◌≡◌, ◌≢◌, ◌+◌, ◌-◌, ◌<◌, ◌≤◌, ℕ, List, [], ◌∷◌, length, map, Ok, Err, refl, sym, ◌∙◌, ap, subst, ◌⊎◌, inl, inr, arith}
+use Rattle.std.proofs.Common.{◌≡◌, ◌+◌, ◌-◌, ◌<◌, ◌≤◌, ℕ, List, [], ◌∷◌, length, map, Ok, Err, refl, sym, ◌∙◌, ap, subst, ◌⊎◌, inl, inr, arith}
 use Rattle.std.proofs.lemmas.Bool.{leb-false}
 use Rattle.std.proofs.lemmas.List.{length-map}
 use Rattle.std.proofs.lemmas.List.Sums.{sum_by-cons}
@@ -13,7 +13,7 @@ use Rattle.mdf_block.specs.declared.what.What.TheVariants as whats
 use Rattle.mdf_block.specs.declared.note.Note.{Note}
 use Rattle.mdf_block.specs.declared.place.BlockAt.{BlockAt}
 use Rattle.mdf_block.specs.Refusal.{Refusal, NotMdf, Version, Unfinalized, Bad, TooMany, Read}
-use Rattle.mdf_block.specs.Block.{block, body_of, the_block}
+use Rattle.mdf_block.specs.Block.{block, body_of}
 use Rattle.mdf_block.specs.Text.{note, note_size, LacksNote}
 use Rattle.mdf_block.specs.Chain.{AreAlong}
 use Rattle.mdf_block.proofs.Refusals.{bind_err}

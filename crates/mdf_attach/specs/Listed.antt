@@ -7,7 +7,6 @@ use Rattle.mdf_format.specs.declared.kind.Kind.TheVariants.{Hd, At}
 use Rattle.mdf_block.specs.declared.what.What.{What}
 use Rattle.mdf_block.specs.declared.what.What.TheVariants as whats
 use Rattle.mdf_block.specs.declared.place.BlockAt.{BlockAt}
-use Rattle.mdf_block.specs.declared.note.Note.{Note}
 use Rattle.mdf_block.specs.Refusal.{Refusal, NotMdf, Unfinalized, Version, Bad, TooMany, Read, ◌>>=◌}
 use Rattle.mdf_block.specs.Block.{block, body_of}
 use Rattle.mdf_block.specs.Text.{note}
