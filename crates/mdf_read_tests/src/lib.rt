@@ -3,6 +3,8 @@
 #![tactic(auto)]
 
 #[cfg(test)]
+mod attachments;
+#[cfg(test)]
 mod blocks;
 #[cfg(test)]
 mod concats;
