@@ -28,7 +28,7 @@ use Rattle.book_shared.specs.Rule.{lends_block, KeepsAll, IsWrittenBy}
 use Rattle.book_shared.specs.Plays.{Here, at_device, held_of, settled_by, given, given_device, MakesMark, Finishes, Holds}
 use Rattle.book_shared.specs.Place.{IsSingle}
 use Rattle.book_shared.specs.Turns.{Took, Served, MayTake, Works}
-use Rattle.book_shared.specs.Told.{Told, AppendDoes, HasMarked, MeetsFault, NeedsNoDisk, Puts, Turned, tried_by}
+use Rattle.book_shared.specs.Told.{Told, AppendDoes, HasMarked, MarksThrough, MeetsFault, NeedsNoDisk, Puts, Turned, tried_by}
 use Rattle.book_shared.specs.Rounds.{HasBoth, IsWrittenAs, WasFull, IsRound, HasTried, round_answer, answered}
 use Rattle.book_shared.specs.declared.answer.Try.{Try}
 use Rattle.book_shared.specs.declared.answer.Try.TheVariants.{Busy, NeedsFlush, Answered}
@@ -36,6 +36,7 @@ use Rattle.book_shared.specs.declared.half.Answer.{Answer}
 use Rattle.book_shared.specs.declared.half.Answer.TheVariants.{Marked, Faulted}
 use Rattle.book_shared.specs.declared.view.View.{View}
 use Rattle.book_shared.specs.declared.half.Half.TheVariants.{TheFront, TheBack}
+use Rattle.book_shared.proofs.Causing.{durable_last_of}
 use Rattle.book_shared.proofs.Keeps.{seat_of, slot_front, slot_back}
 use Rattle.book_shared.proofs.Takings.{carries}
 use Rattle.book_shared.proofs.Given.{FrontSteps, LeavesAll, try_leaves, adds_try, turning, holds_now, served_given, told_put}
@@ -159,9 +160,10 @@ module _ {D V N : Type 0} (disk : DiskOf D) (view : ViewOf V N) (y u : View) (de
   turned_seat = record { found = refl; terms = took.meets.terms; history = refl; marks = refl; stopped = refl }
 
   -- after a write that made a mark, or none
-  pub tried_on : (first ≡ old) ⊎ HasMarked view old first → HasMore y now_seat answer → HasTried disk view y now_seat sample answer
-  tried_on ready more = record {
+  pub tried_on : (first ≡ old) ⊎ HasMarked view old first → MarksThrough now_seat y.seen → HasMore y now_seat answer → HasTried disk view y now_seat sample answer
+  tried_on ready marks more = record {
     round = round_holds disk view y now_seat old first then old.history sample answer ready puts turned_seat served_now told_now more;
+    marks = marks;
     rests = rests_ended y u device old then false word;
     asked = append-nil y.asked;
   }
@@ -193,6 +195,7 @@ module _ {D V N : Type 0} (disk : DiskOf D) (view : ViewOf V N) (y u : View) (de
             does = record { going = fault.going; stops = stopped_stays first then sample answer stop puts ∙ fault.stops; counts = fault.counts };
           },
         );
+        marks = inl (held_of old, refl, left_now.marks ∙ ap (λ (f : FrontAccount V). f.marks) fault.stops);
         rests = rests_ended y u device old then false word;
         asked = append-nil y.asked;
       }
@@ -201,7 +204,9 @@ module _ {D V N : Type 0} (disk : DiskOf D) (view : ViewOf V N) (y u : View) (de
       → FinishTells view old first wrote result → HasTried disk view y now_seat sample (round_answer (answered wrote) answer)
   tried_written back (Done mark block) (flush.Done through shown note) by is =
       let marked : HasMarked view old first = record { mark = mark; through = through; shown = shown; note = note; tells = is } in
-      tried_on (inr marked) (has_more y now_seat answer (marked_more marked))
+      tried_on (inr marked)
+      (inr (omega (arith, by.2, durable_last_of old.marks mark, ap durable (left_now.marks ∙ ap (λ (f : FrontAccount V). f.marks) is.1))))
+      (has_more y now_seat answer (marked_more marked))
   tried_written back (Done mark block) (flush.DiskFault before after) by is = absurd is
   tried_written back (Done mark block) (flush.Stopped last) by is = absurd is
   tried_written back (DiskFault before after block) (flush.Done through shown note) by is = absurd is

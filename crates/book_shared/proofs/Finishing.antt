@@ -191,6 +191,7 @@ served_at v x d history added is = record {
   olds = is.olds;
   basis_is = is.basis_is;
   turns = is.turns;
+  found = is.found;
 }
 
 -- lists that are counted anew are what they were

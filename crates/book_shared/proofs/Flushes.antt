@@ -20,13 +20,13 @@ use Rattle.book_owned.specs.declared.written.Written.{Written}
 use Rattle.book_owned.specs.declared.written.Written.TheVariants.{Done, DiskFault, Nothing}
 use Rattle.book_owned.specs.declared.answer.Flush.{Flush}
 use Rattle.book_owned.specs.declared.answer.Flush.TheVariants as flush
-use Rattle.book_shared.specs.Basis.{Device, free, resting, writing, written, settled}
-use Rattle.book_shared.specs.Rule.{AreOwn, KeepsAll, IsWrittenBy}
+use Rattle.book_shared.specs.Basis.{Basis, Device, free, resting, writing, written, settled}
+use Rattle.book_shared.specs.Rule.{lends_block, AreOwn, KeepsAll, IsWrittenBy}
 use Rattle.book_shared.specs.Plays.{Here, recount, at_device, held_of, settled_by, given, given_device, Stays, Does, Holds}
 use Rattle.book_shared.specs.Place.{IsSingle}
 use Rattle.book_shared.specs.Turns.{Took, Served, Rests, Works}
-use Rattle.book_shared.specs.Told.{HasMark, FlushesNow, FlushDoes, FlushesFront, Asks, AreCounts, MeetsFault}
-use Rattle.book_shared.specs.Rounds.{HasTaken, HasSeized, HasPending, HasTurned, HasHanded, HasWritten, HasBoth, HasSeen, HasFlushed, IsWrittenAs}
+use Rattle.book_shared.specs.Told.{HasMark, FlushesFirst, FlushesFor, FlushesNow, FlushDoes, FlushesFront, Asks, AreCounts, MeetsFault}
+use Rattle.book_shared.specs.Rounds.{HasTaken, HasSeized, HasPending, HasTurned, HasHanded, HasWritten, HasBoth, HasSeen, HasFlushed, IsWrittenAs, Lacks}
 use Rattle.book_shared.specs.declared.half.Half.TheVariants.{TheFront, TheBack}
 use Rattle.book_shared.specs.declared.half.Answer.{Answer}
 use Rattle.book_shared.specs.declared.view.View.{View}
@@ -187,7 +187,45 @@ module _ {D V N : Type 0} (disk : DiskOf D) (view : ViewOf V N) (v u : View) (de
     rests = rests_ended v u device old new false word;
     asked = append-nil v.asked;
     accepted_is = now.2 ∙ ap (λ (f : FrontAccount V). length f.history) (sym now.1);
+    found = ap (λ n. v.found ++ n ∷ []) (sym now.2);
   }
+
+-- how many samples a flush was for, after its last turn
+module _ {V N : Type 0} (view : ViewOf V N) (v u : View) (device : Device) (old new : FrontAccount V) (word : ℕ) where
+  abbrev last_seat : Bool → View
+  last_seat asks = at_device (given asks (turning v u device old) word new) free
+
+  -- it needed no write of more
+  shown_only : (count wanted : ℕ) → count ≤ wanted → (result : Flush N) → wanted ≤ durable old.marks → FinishTells view old new Nothing result → FlushesFor count (last_seat false) result
+  shown_only count wanted less (flush.Done through shown note) reached is = (omega (arith, less, reached, is.2), inl (held_of old, refl, ap (λ (f : FrontAccount V). f.marks) is.1))
+  shown_only count wanted less (flush.DiskFault before after) reached is = absurd is
+  shown_only count wanted less (flush.Stopped last) reached is = absurd is
+
+  pub shown_for : (count wanted : ℕ) → count ≤ wanted → (result : Flush N) → FlushesNow view old new wanted (Ok result) → FlushesFor count (last_seat false) result
+  shown_for count wanted less result now = ⊎_elim
+      (λ stop. subst (λ answer. FlushesFor {N = N} count (last_seat false) answer) (sym stop.2) tt)
+      (λ shown. shown_only count wanted less result shown.1 shown.2) now
+
+  -- and so it was in its first turn
+  pub shown_first : (result : Result (Flush N) ℕ) → FlushesNow view old new (length old.history) result → IfOk result (λ answer. FlushesFirst v (last_seat false) answer)
+  shown_first (Ok answer) now = record {
+    accepted = length old.history;
+    first = ([], refl);
+    flushes = shown_for (length old.history) (length old.history) (omega arith) answer now;
+  }
+  shown_first (Err accepted) now = tt
+
+  -- it wrote, since fewer were durable
+  pub written_for : {D : Type 0} (disk : DiskOf D) (basis : Basis) (back : Gated D) (seen : List Sample) (kept : List Mark) (answer : Written) (result : Flush N)
+      → IsWrittenAs disk basis back seen kept answer → FinishTells view old new answer result → old.marks ≡ kept → (count : ℕ) → Lacks seen kept count → FlushesFor count (last_seat true) result
+  written_for disk basis back seen kept (Done mark block) (flush.Done through shown note) by is same count lacks =
+      (omega (arith, lacks.1, is.2, durable_last_of old.marks mark, by.2), inr (held_of old, refl, omega (arith, lacks.0, ap durable same)))
+  written_for disk basis back seen kept (Done mark block) (flush.DiskFault before after) by is same count lacks = absurd is
+  written_for disk basis back seen kept (Done mark block) (flush.Stopped last) by is same count lacks = absurd is
+  written_for disk basis back seen kept (DiskFault before after block) (flush.Done through shown note) by is same count lacks = absurd is
+  written_for disk basis back seen kept (DiskFault before after block) (flush.DiskFault before' after') by is same count lacks = (held_of old, refl, omega (arith, lacks.0, ap durable same))
+  written_for disk basis back seen kept (DiskFault before after block) (flush.Stopped last) by is same count lacks = absurd is
+  written_for disk basis back seen kept Nothing result by is same count lacks = absurd by
 
 -- a flush after a write, from the finish to the end
 module _ {D V N : Type 0} (disk : DiskOf D) (view : ViewOf V N) (y : View) (n p : Here D V) (answer : Written) (result : Flush N) (both : HasBoth disk y n answer) (same : p.0 ≡ n.0)
@@ -227,6 +265,15 @@ module _ {D V N : Type 0} (disk : DiskOf D) (view : ViewOf V N) (y : View) (n p 
         subst (λ v. HasFlushed disk view y v result)
         (sym (ended_so y q.0 (settled (answer_in answer)) both.front finished_now.0 took_settled true word q x refl (ends finished_now.0 (ap (λ (z : Here D V). z.1) brought))))
         (flushed_written disk view y q.0 (settled (answer_in answer)) both.front finished_now.0 took_settled word both.back answer result number single both.by both.own finished_now.2.0)
+
+    pub wrote_end : (word : ℕ) (x : Here D V)
+        → ((front : FrontAccount V) → q.1 ≡ (0, TheFront front) ∷ [] → x ≡ seat_of (at_device (given true q.0 word front) free) [])
+        → (count : ℕ) → Lacks y.seen y.kept count → FlushesFor count x.0 result
+    wrote_end word x ends count lacks =
+        subst (λ v. FlushesFor count v result)
+        (sym (ended_so y q.0 (settled (answer_in answer)) both.front finished_now.0 took_settled true word q x refl (ends finished_now.0 (ap (λ (z : Here D V). z.1) brought))))
+        (written_for view y q.0 (settled (answer_in answer)) both.front finished_now.0 word disk y.basis both.back y.seen y.kept answer result both.by finished_now.2.0
+        (both.took.meets.awaits (ap lends_block both.was)).2 count lacks)
 
 same_leaves : {V : Type 0} (old new : FrontAccount V) → new ≡ old → FrontSteps old new [] × Stays (held_of old) new
 same_leaves old new same = let left = leaves_same old new same in (left_steps old new [] left, left_stays old new [] left)
@@ -284,59 +331,85 @@ module _ {D V N : Type 0} (view : ViewOf V N) (v : View) (m n : Here D V) (taken
         subst (λ y. IfErr result (λ accepted. HasSeen v y accepted)) (sym seat_first)
         (first_seen disk view v m.0 free taken.front first_now.0 taken.took word number single result first_now.2)
 
--- the turn with the device of one that has seen so many samples before
-module _ {D V N : Type 0} (view : ViewOf V N) (v : View) (m n : Here D V) (seized : HasSeized v m) (accepted : ℕ) (same : n.0 ≡ m.0) where
+    pub first_for : IfOk result (λ answer. FlushesFirst v x.0 answer)
+    first_for = subst (λ y. IfOk result (λ answer. FlushesFirst v y answer)) (sym seat_first) (shown_first view v m.0 free taken.front first_now.0 word result first_now.2)
+
+-- the turn with the device of one that asks for so many samples, by the front that it meets
+module _ {D V N : Type 0} (view : ViewOf V N) (v : View) (m n : Here D V) (seized : HasSeized v m) (same : n.0 ≡ m.0) (wanted : FrontAccount V → ℕ) (result : Result (Flush N) ℕ)
+    (works : Works m n (λ old new. FlushesNow view old new (wanted old) result)) where
+  abbrev second_now : (new : FrontAccount V) × (n.1 ≡ (0, TheFront new) ∷ rest m.1) × FlushesNow view seized.front new (wanted seized.front) result
+  second_now = works seized.front (carries m.1 (0, slot_front seized.front) [] seized.out)
+
+  out_second : n.1 ≡ (0, TheFront second_now.0) ∷ []
+  out_second = worked m n seized.front second_now.0 [] seized.out refl second_now.1
+
+  took_second : Took (at_device v resting) n.0 resting seized.front
+  took_second = subst (λ u. Took (at_device v resting) u resting seized.front) (sym same) seized.took
+
   -- where it needs no write
-  module _ (answer : Flush N) (works : Works m n (λ old new. FlushesNow view old new accepted (Ok answer))) where
-    abbrev shown_now : (new : FrontAccount V) × (n.1 ≡ (0, TheFront new) ∷ rest m.1) × FlushesNow view seized.front new accepted (Ok answer)
-    shown_now = works seized.front (carries m.1 (0, slot_front seized.front) [] seized.out)
+  module _ (answer : Flush N) (is : result ≡ Ok answer) where
+    shows : FlushesNow view seized.front second_now.0 (wanted seized.front) (Ok answer)
+    shows = subst (λ what. FlushesNow view seized.front second_now.0 (wanted seized.front) what) is second_now.2
 
-    out_shown : n.1 ≡ (0, TheFront shown_now.0) ∷ []
-    out_shown = worked m n seized.front shown_now.0 [] seized.out refl shown_now.1
+    left_shown : FrontSteps seized.front second_now.0 [] × Stays (held_of seized.front) second_now.0
+    left_shown = now_leaves view seized.front second_now.0 (wanted seized.front) (Ok answer) shows
 
-    took_shown : Took (at_device v resting) n.0 resting seized.front
-    took_shown = subst (λ u. Took (at_device v resting) u resting seized.front) (sym same) seized.took
-
-    left_shown : FrontSteps seized.front shown_now.0 [] × Stays (held_of seized.front) shown_now.0
-    left_shown = now_leaves view seized.front shown_now.0 accepted (Ok answer) shown_now.2
-
-    spare_shown : shown_now.0.spare ≡ true
+    spare_shown : second_now.0.spare ≡ true
     spare_shown = left_shown.1.3 ∙ seized.took.meets.spare refl refl
 
     pub end_shown : (front : FrontAccount V) × (n.1 ≡ (0, TheFront front) ∷ []) × Holds false n.0 front × (given_device n.0.device front.spare ≡ resting)
     end_shown = (
-      shown_now.0,
-      out_shown,
-      holds_now (at_device v resting) n.0 resting seized.front shown_now.0 took_shown false [] 0 left_shown.0 (adds_none v.basis.owners v.mine 0)
-          (stays_resting seized.front shown_now.0 left_shown.1 spare_shown) (inl left_shown.1.0),
-      ap (λ (x : View). given_device x.device shown_now.0.spare) took_shown.rest ∙ ap (given_device resting) spare_shown,
+      second_now.0,
+      out_second,
+      holds_now (at_device v resting) n.0 resting seized.front second_now.0 took_second false [] 0 left_shown.0 (adds_none v.basis.owners v.mine 0)
+          (stays_resting seized.front second_now.0 left_shown.1 spare_shown) (inl left_shown.1.0),
+      ap (λ (x : View). given_device x.device second_now.0.spare) took_second.rest ∙ ap (given_device resting) spare_shown,
     )
 
-    pub shown_end : (disk : DiskOf D) (word : ℕ) (x : Here D V)
-        → ((front : FrontAccount V) → n.1 ≡ (0, TheFront front) ∷ [] → x ≡ seat_of (at_device (given false n.0 word front) free) [])
-        → (number : ℕ) → IsSingle v number → accepted ≡ length v.seen → AreOwn v.basis.owners v.seen v.mine → HasFlushed disk view v x.0 answer
-    shown_end disk word x ends number single counts own =
-        flushed_later v (at_device v resting) x.0 (follows_device v resting) disk view answer
-        (subst (λ y. HasFlushed disk view (at_device v resting) y answer)
-        (sym (ended_so (at_device v resting) n.0 resting seized.front shown_now.0 took_shown false word n x refl (ends shown_now.0 out_shown)))
-        (flushed_now disk view (at_device v resting) n.0 resting seized.front shown_now.0 took_shown word number single accepted v.seen (prefix_self v.seen) seized.took.meets.seen
-        (omega (arith, counts)) own answer shown_now.2))
+    -- after it gave the turn and the device back
+    module _ (word : ℕ) (x : Here D V) (ends : (front : FrontAccount V) → n.1 ≡ (0, TheFront front) ∷ [] → x ≡ seat_of (at_device (given false n.0 word front) free) []) where
+      ended_second : x.0 ≡ at_device (given false (turning (at_device v resting) n.0 resting seized.front) word second_now.0) free
+      ended_second = ended_so (at_device v resting) n.0 resting seized.front second_now.0 took_second false word n x refl (ends second_now.0 out_second)
+
+      pub shown_end : (disk : DiskOf D) (number : ℕ) → IsSingle v number → ((front : FrontAccount V) → IsPrefix v.seen front.history → length v.seen ≤ wanted front)
+          → AreOwn v.basis.owners v.seen v.mine → HasFlushed disk view v x.0 answer
+      shown_end disk number single enough own =
+          flushed_later v (at_device v resting) x.0 (follows_device v resting) disk view answer
+          (subst (λ y. HasFlushed disk view (at_device v resting) y answer) (sym ended_second)
+          (flushed_now disk view (at_device v resting) n.0 resting seized.front second_now.0 took_second word number single (wanted seized.front) v.seen (prefix_self v.seen) seized.took.meets.seen
+          (enough seized.front seized.took.meets.seen) own answer shows))
+
+      pub shown_count : (count : ℕ) → ((front : FrontAccount V) → IsPrefix v.seen front.history → count ≤ wanted front) → FlushesFor count x.0 answer
+      shown_count count enough =
+          subst (λ y. FlushesFor count y answer) (sym ended_second)
+          (shown_for view (at_device v resting) n.0 resting seized.front second_now.0 word count (wanted seized.front) (enough seized.front seized.took.meets.seen) answer shows)
 
   -- and where it needs one
-  pub pending_now : (all : ℕ) → Works m n (λ old new. FlushesNow view old new accepted (Err all)) → accepted ≡ length v.seen → HasPending v n
-  pending_now all works counts =
-      let now = works seized.front (carries m.1 (0, slot_front seized.front) [] seized.out) in
-      let met = seized.took.meets in
-      record {
-        seized = record {
-          front = now.0;
-          out = worked m n seized.front now.0 [] seized.out refl now.1;
-          took = subst (λ (f : FrontAccount V). Took (at_device v resting) n.0 resting f) (sym now.2.1) (subst (λ u. Took (at_device v resting) u resting seized.front) (sym same) seized.took);
-        };
-        going = ap (λ (f : FrontAccount V). f.stopped) now.2.1 ∙ now.2.0;
-        pending = subst (λ (f : FrontAccount V). durable f.marks < length f.history) (sym now.2.1)
-            (omega (arith, now.2.3 (met.spare refl refl), counts, ap length met.seen.1, length-append v.seen met.seen.0));
-      }
+  module _ (all : ℕ) (is : result ≡ Err all) where
+    lacking : FlushesNow view seized.front second_now.0 (wanted seized.front) (Err all)
+    lacking = subst (λ what. FlushesNow view seized.front second_now.0 (wanted seized.front) what) is second_now.2
+
+    fewer : durable seized.front.marks < wanted seized.front
+    fewer = lacking.3 (seized.took.meets.spare refl refl)
+
+    pub pending_now : ((front : FrontAccount V) → IsPrefix v.seen front.history → wanted front ≤ length front.history) → HasPending v n
+    pending_now there = record {
+      seized = record {
+        front = second_now.0;
+        out = out_second;
+        took = subst (λ (f : FrontAccount V). Took (at_device v resting) n.0 resting f) (sym lacking.1) took_second;
+      };
+      going = ap (λ (f : FrontAccount V). f.stopped) lacking.1 ∙ lacking.0;
+      pending = subst (λ (f : FrontAccount V). durable f.marks < length f.history) (sym lacking.1) (omega (arith, fewer, there seized.front seized.took.meets.seen));
+    }
+
+    -- it is written for so many
+    pub pending_count : (x : View) (answer : Flush N) (count : ℕ)
+        → ((front : FrontAccount V) → n.1 ≡ (0, TheFront front) ∷ [] → (k : ℕ) → Lacks front.history front.marks k → FlushesFor k x answer)
+        → ((front : FrontAccount V) → IsPrefix v.seen front.history → (wanted front ≤ count) × (count ≤ length front.history)) → FlushesFor count x answer
+    pending_count x answer count does between =
+        let fits = between seized.front seized.took.meets.seen in
+        does second_now.0 out_second count (subst (λ (f : FrontAccount V). Lacks f.history f.marks count) (sym lacking.1) (omega (arith, fewer, fits.0), fits.1))
 
 -- a flush that handed the pending records out
 module _ {D V : Type 0} (v : View) (m : Here D V) where
@@ -370,6 +443,11 @@ module _ {D V : Type 0} (v : View) (m : Here D V) where
     follows_wrote =
         follows_handed v m.0 turned.old turned.new (word + 1) turned.took (ap (λ (f : FrontAccount V). f.history) turned.tells.8)
         (ap (λ (f : FrontAccount V). f.marks) turned.tells.8) (ap (λ (f : FrontAccount V). f.stopped) turned.tells.8)
+
+    -- of which fewer than so many are durable
+    pub lacks_handed : (count : ℕ) (front : FrontAccount V) → front ≡ turned.old → Lacks front.history front.marks count → Lacks turned.new.history turned.new.marks count
+    lacks_handed count front same lacks =
+        subst (λ (f : FrontAccount V). Lacks f.history f.marks count) (sym turned.tells.8) (subst (λ (f : FrontAccount V). Lacks f.history f.marks count) same lacks)
 
 pub turned_word : {D V : Type 0} (v : View) (m : Here D V) (what : Handed) (word : ℕ) → HasTurned v m what → word ≡ m.0.met → word ≤ 18446744073709551613
 turned_word v m what word turned is = omega (arith, is, turned.took.low)

@@ -1,8 +1,8 @@
 -- What a seat knew goes on in what it knows later.
-use Rattle.std.proofs.Common.{◌≡◌, ℕ, ◌≤◌, true, false, List, [], ◌∷◌, ◌++◌, length, length-append, refl, sym, ap, ◌∙◌, subst, inl, inr, ⊎_elim, arith, append-nil}
+use Rattle.std.proofs.Common.{◌≡◌, ℕ, ◌≤◌, true, false, List, [], ◌∷◌, ◌++◌, length, length-append, refl, sym, ap, ◌∙◌, subst, inl, inr, ⊎_elim, arith, append-nil, append_assoc}
 use mathlib.Core.List.{IsPrefix}
 use Rattle.mdf_disk.specs.declared.disk.Disk.{Ghosts as DiskOf}
-use Rattle.mdf_gate.proofs.Carrying.{prefix_self, prefix_trans}
+use Rattle.mdf_gate.proofs.Carrying.{prefix_self, prefix_append, prefix_trans}
 use Rattle.mdf_layout.specs.declared.sample.Sample.{Sample}
 use Rattle.book_owned.specs.FrontHalf.{FrontAccount}
 use Rattle.book_owned.specs.declared.view.Shown.{Ghosts as ViewOf}
@@ -12,8 +12,8 @@ use Rattle.book_owned.specs.declared.answer.Flush.TheVariants as flush
 use Rattle.book_shared.specs.Basis.{Device, resting, writing}
 use Rattle.book_shared.specs.Plays.{recount, at_device, given}
 use Rattle.book_shared.specs.Place.{own_part, IsSingle}
-use Rattle.book_shared.specs.Turns.{Took, Served, Rests}
-use Rattle.book_shared.specs.Told.{FlushesSeen, Asks}
+use Rattle.book_shared.specs.Turns.{IsFirst, Took, Served, Rests}
+use Rattle.book_shared.specs.Told.{FlushesSeen, Asks, MarksThrough}
 use Rattle.book_shared.specs.Rounds.{HasFlushed, IsRound, HasTried}
 use Rattle.book_shared.specs.declared.answer.Try.{Try}
 use Rattle.book_shared.specs.declared.answer.Try.TheVariants.{Busy, NeedsFlush, Answered}
@@ -30,6 +30,7 @@ pub record Follows (v y : View) : Type 0 where
   pub olds : y.olds ≡ v.olds
   pub basis_is : y.basis ≡ v.basis
   pub turns : v.turns ≤ y.turns
+  pub found : IsPrefix v.found y.found
   pub asked : y.asked ≡ v.asked
   pub single : (number : ℕ) → IsSingle v number → IsSingle y number
 
@@ -42,6 +43,7 @@ follows_self v = record {
   olds = refl;
   basis_is = refl;
   turns = omega arith;
+  found = prefix_self v.found;
   asked = refl;
   single = λ number is. is;
 }
@@ -56,6 +58,7 @@ follows_device v device = record {
   olds = refl;
   basis_is = refl;
   turns = omega arith;
+  found = prefix_self v.found;
   asked = refl;
   single = λ number is. is;
 }
@@ -72,6 +75,7 @@ follows_handed {V} v u old new word took history marks stopped =
       olds = refl;
       basis_is = refl;
       turns = omega arith;
+      found = prefix_append v.found (length old.history ∷ []);
       asked = append-nil v.asked;
       single = λ number single. single_again v.basis.owners new.history v.mine number single;
     })
@@ -85,6 +89,20 @@ round_seen disk view v x sample (Busy word back) round = absurd round
 round_seen disk view v x sample (NeedsFlush held size limit back) round = served_seen v x round.0.0 [] round.0.1
 round_seen disk view v x sample (Answered answer) round = served_seen v x round.0.0 (accepted_by answer sample) round.0.1
 
+-- and what its turns had met
+pub round_found : {D V N : Type 0} (disk : DiskOf D) (view : ViewOf V N) (v x : View) (sample : Sample) (answer : Try) → IsRound disk view v x sample answer → IsPrefix v.found x.found
+round_found disk view v x sample (Busy word back) round = absurd round
+round_found disk view v x sample (NeedsFlush held size limit back) round = round.0.1.found
+round_found disk view v x sample (Answered answer) round = round.0.1.found
+
+-- the first turn of a seat is the first also where it has had more
+pub first_later : (v y x : View) (count : ℕ) → IsFirst v y count → IsPrefix y.found x.found → IsFirst v x count
+first_later v y x count is more = (is.0 ++ more.0, sym more.1 ∙ ap (λ counts. counts ++ more.0) is.1 ∙ append_assoc v.found (count ∷ is.0) more.0)
+
+-- a mark through all of these goes through their first ones
+pub marks_fewer : (x : View) (first samples : List Sample) → IsPrefix first samples → MarksThrough x samples → MarksThrough x first
+marks_fewer x first samples begins marks = ⊎_elim (λ none. inl none) (λ all. inr (omega (arith, all, ap length begins.1, length-append first begins.0))) marks
+
 -- and one that had turns in which nothing was accepted
 pub follows_served : (v u : View) (history : List Sample) → Served v u history [] → Rests v u → u.asked ≡ v.asked → Follows v u
 follows_served v u history served rests asked = record {
@@ -95,6 +113,7 @@ follows_served v u history served rests asked = record {
   olds = served.olds;
   basis_is = served.basis_is;
   turns = omega (arith, served.turns);
+  found = served.found;
   asked = asked;
   single = rests.single;
 }
@@ -109,6 +128,7 @@ module _ (v y x : View) (on : Follows v y) where
     olds = more.olds ∙ on.olds;
     basis_is = more.basis_is ∙ on.basis_is;
     turns = omega (arith, on.turns, more.turns);
+    found = prefix_trans v.found y.found x.found on.found more.found;
     asked = more.asked ∙ on.asked;
     single = λ number is. more.single number (on.single number is);
   }
@@ -124,6 +144,7 @@ module _ (v y x : View) (on : Follows v y) where
     olds = served.olds ∙ on.olds;
     basis_is = served.basis_is ∙ on.basis_is;
     turns = omega (arith, served.turns, on.turns);
+    found = prefix_trans v.found y.found x.found on.found served.found;
   }
 
   pub rests_later : Rests y x → Rests v x
@@ -166,6 +187,7 @@ module _ (v y x : View) (on : Follows v y) where
     pub tried_later : (sample : Sample) (answer : Try) → HasTried disk view y x sample answer → HasTried disk view v x sample answer
     tried_later sample answer is = record {
       round = round_later sample answer is.round;
+      marks = marks_fewer x v.seen y.seen on.seen is.marks;
       rests = rests_later is.rests;
       asked = is.asked ∙ on.asked;
     }

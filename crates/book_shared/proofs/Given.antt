@@ -4,7 +4,7 @@ use Rattle.std.specs.Prelude.{◌==◌, slice_index}
 use mathlib.Core.List.{IsPrefix}
 use Rattle.std.proofs.lemmas.Bool.{eq-eqb, cond-true}
 use Rattle.atomic_table.specs.Table.{rest}
-use Rattle.mdf_gate.proofs.Carrying.{prefix_self, prefix_trans}
+use Rattle.mdf_gate.proofs.Carrying.{prefix_self, prefix_append, prefix_trans}
 use Rattle.mdf_layout.specs.History.{source_samples}
 use Rattle.mdf_layout.specs.Record.{SampleFits, cost_of, encoded_size, history_cost, history_size}
 use Rattle.mdf_layout.specs.declared.sample.Sample.{Sample}
@@ -162,6 +162,7 @@ turning v u device front = record v {
   prior = u.prior;
   steps = u.steps;
   turns = v.turns + 1;
+  found = v.found ++ length front.history ∷ [];
   turn = holding (held_of front);
   last = holding (held_of front);
   device = device;
@@ -199,6 +200,7 @@ module _ {V : Type 0} (v u : View) (device : Device) (old new : FrontAccount V) 
       olds = refl;
       basis_is = refl;
       turns = omega arith;
+      found = prefix_append v.found (length old.history ∷ []);
     }
 
     -- the seat after the front was given back
@@ -309,6 +311,7 @@ tried_now {D} {V} v u w device old new word x sample answer took single off puts
     subst (λ y. IsTried V v y sample answer) (sym (gave_now v u w device old new false word x took same is)) (record {
       tries = tries_given v u device old new took false word sample single answer puts;
       from = omega (arith, took.meets.from, (try_leaves old new sample answer puts).from);
+      found = refl;
       rests = rests_given v u device old new took false word (ap (λ d. given_device d new.spare) off);
       asked = append-nil v.asked;
       front = record { tried = λ _. (old, new, turned_given v u device old new took false word, puts) };

@@ -1,5 +1,5 @@
 -- A round of an append: the sample is put, or a full block is handed over.
-use Rattle.std.proofs.Common.{◌≡◌, ℕ, ◌+◌, ◌<◌, ◌≤◌, ◌⊎◌, true, false, [], ◌∷◌, ◌++◌, drop, refl, sym, ap, ◌∙◌, subst, inl, inr, ⊎_elim, arith}
+use Rattle.std.proofs.Common.{◌≡◌, ℕ, ◌+◌, ◌<◌, ◌≤◌, ◌⊎◌, true, false, [], ◌∷◌, ◌++◌, length, drop, refl, sym, ap, ◌∙◌, subst, inl, inr, ⊎_elim, arith}
 use Rattle.std.specs.Prelude.{slice_index, Some}
 use mathlib.Core.List.{IsPrefix}
 use Rattle.atomic_table.specs.Table.{rest}
@@ -16,12 +16,12 @@ use Rattle.book_owned.specs.declared.handed.Handed.TheVariants as handed
 use Rattle.book_owned.specs.declared.view.Shown.{Ghosts as ViewOf}
 use Rattle.book_owned.specs.declared.written.Written.{Written}
 use Rattle.book_shared.specs.Basis.{Basis, free, resting, writing}
-use Rattle.book_shared.specs.Plays.{Here, at_device, given, given_device, Holds}
+use Rattle.book_shared.specs.Plays.{Here, at_device, given, given_device, held_of, Holds}
 use Rattle.book_shared.specs.Place.{IsSingle}
 use Rattle.book_shared.specs.Turns.{OnlyDue, Took, Works}
-use Rattle.book_shared.specs.Told.{Puts, WasBlocked, IsOneTurn}
+use Rattle.book_shared.specs.Told.{MarksThrough, Puts, WasBlocked, IsOneTurn}
 use Rattle.book_shared.specs.Causes.{IsAmong}
-use Rattle.book_shared.specs.Rounds.{wanted, HasSeized, HasTurned, HasFull, HasWritten, HasBoth, HasTried, IsOneRound, IsTried, WasFull}
+use Rattle.book_shared.specs.Rounds.{wanted, met_in, HasSeized, HasTurned, HasFull, HasWritten, HasBoth, HasTried, IsOneRound, IsTried, WasFull}
 use Rattle.book_shared.specs.declared.answer.Try.{Try}
 use Rattle.book_shared.specs.declared.answer.Try.TheVariants.{Busy, NeedsFlush, Answered}
 use Rattle.book_shared.specs.declared.half.Half.TheVariants.{TheFront}
@@ -31,7 +31,7 @@ use Rattle.book_shared.proofs.Keeps.{seat_of, slot_front}
 use Rattle.book_shared.proofs.Takings.{carries, turned_now}
 use Rattle.book_shared.proofs.Given.{LeavesAll, leaves_same, left_steps, left_stays, put_leaves, adds_by, holds_now}
 use Rattle.book_shared.proofs.Finishing.{HasFinished}
-use Rattle.book_shared.proofs.Following.{Follows, follows_self, follows_device, follows_served, served_seen, round_seen, tried_later}
+use Rattle.book_shared.proofs.Following.{Follows, first_later, follows_self, follows_device, follows_served, marks_fewer, served_seen, round_found, round_seen, tried_later}
 use Rattle.book_shared.proofs.Flushes.{ended_so, stays_resting, both_of, follows_wrote}
 use Rattle.book_shared.proofs.Appending.{append_does, tried_on}
 
@@ -100,6 +100,7 @@ follows_due v sample = record {
   olds = refl;
   basis_is = refl;
   turns = omega arith;
+  found = prefix_self v.found;
   asked = refl;
   single = λ number is. is;
 }
@@ -189,7 +190,8 @@ module _ {D V : Type 0} (v : View) (m n : Here D V) (sample : Sample) (seized : 
         tried_later v (at_device v resting) x.0 (follows_device v resting) disk view sample (Answered answer)
         (subst (λ y. HasTried disk view (at_device v resting) y sample (Answered answer))
         (sym (ended_so (at_device v resting) n.0 resting seized.front put_now.0 took_put false word n x refl (ends put_now.0 out_put)))
-        (tried_on disk view (at_device v resting) n.0 resting seized.front seized.front put_now.0 took_put word sample (Answered answer) single rests_same put_now.2 (inl refl) tt))
+        (tried_on disk view (at_device v resting) n.0 resting seized.front seized.front put_now.0 took_put word sample (Answered answer) single rests_same put_now.2 (inl refl)
+        (inl (held_of seized.front, refl, left_put.marks)) tt))
 
 -- a try of one turn, of which an append is made
 module _ {D V N : Type 0} (disk : DiskOf D) (view : ViewOf V N) (v x : View) (sample : Sample) where
@@ -205,6 +207,7 @@ module _ {D V N : Type 0} (disk : DiskOf D) (view : ViewOf V N) (v x : View) (sa
             does = append_does disk view front.0 front.0 front.1 sample answer (inl refl) front.3.0 front.3.1;
           },
         );
+        marks = inl (held_of front.0, front.2.found, sym front.2.marks ∙ (put_leaves front.0 front.1 sample answer front.3.0).marks);
         rests = is.rests;
         asked = is.asked;
       }
@@ -220,11 +223,17 @@ full_once v x sample held size limit back is = follows_served v x is.tries.0.his
 
 -- its sample did not fit
 pub blocked_once : {V : Type 0} (v x : View) (sample : Sample) (held size limit : ℕ) (back : Sample) → IsTried V v x sample (NeedsFlush held size limit back) → WasBlocked v x sample
-blocked_once v x sample held size limit back is =
+blocked_once {V} v x sample held size limit back is =
     let full = is.tries.0 in
+    let front = is.front.tried tt in
     record {
       history = x.seen;
       from = x.from;
+      first = (
+        [],
+        is.found ∙ ap (λ n. v.found ++ n ∷ []) (ap met_in front.2.found ∙ ap (λ (f : FrontAccount V). length f.history) (sym front.3.2) ∙ ap length front.2.history),
+      );
+      marks = inl (held_of front.0, front.2.found, sym front.2.marks ∙ ap (λ (f : FrontAccount V). f.marks) front.3.2);
       later = served_seen v x full.history [] full.served;
       seen = prefix_self x.seen;
       handed = is.from;
@@ -232,10 +241,12 @@ blocked_once v x sample held size limit back is =
     }
 
 -- and so it is of a seat that goes on
-blocked_later : (v x u : View) (sample : Sample) → IsPrefix x.seen u.seen → u.basis ≡ x.basis → WasBlocked v x sample → WasBlocked v u sample
-blocked_later v x u sample more same is = record {
+blocked_later : (v x u : View) (sample : Sample) → IsPrefix x.seen u.seen → IsPrefix x.found u.found → MarksThrough u x.seen → u.basis ≡ x.basis → WasBlocked v x sample → WasBlocked v u sample
+blocked_later v x u sample more found marks same is = record {
   history = is.history;
   from = is.from;
+  first = first_later v x u (length is.history) is.first found;
+  marks = marks_fewer u is.history x.seen is.seen marks;
   later = is.later;
   seen = prefix_trans is.history x.seen u.seen is.seen more;
   handed = is.handed;
@@ -251,12 +262,13 @@ one_round v x sample (Answered answer) blocked = inr blocked
 pub round_blocked : {D V N : Type 0} (disk : DiskOf D) (view : ViewOf V N) (v x u : View) (sample : Sample) (held size limit : ℕ) (back : Sample) (answer : Try)
     → IsTried V v x sample (NeedsFlush held size limit back) → HasTried disk view x u back answer → IsOneRound v u sample answer
 round_blocked disk view v x u sample held size limit back answer first then =
-    one_round v u sample answer (blocked_later v x u sample (round_seen disk view x u back answer then.round) then.rests.basis_is (blocked_once v x sample held size limit back first))
+    one_round v u sample answer (blocked_later v x u sample (round_seen disk view x u back answer then.round) (round_found disk view x u back answer then.round) then.marks then.rests.basis_is (blocked_once v x sample held size limit back first))
 
 -- after rounds, if there were any, in the first of which the sample did not fit
-module _ (v y x : View) (sample left : Sample) (same : left ≡ sample) (before : (y ≡ v) ⊎ WasBlocked v y sample) (more : IsPrefix y.seen x.seen) (basis : x.basis ≡ y.basis) where
+module _ (v y x : View) (sample left : Sample) (same : left ≡ sample) (before : (y ≡ v) ⊎ WasBlocked v y sample) (more : IsPrefix y.seen x.seen) (found : IsPrefix y.found x.found)
+    (marks : MarksThrough x y.seen) (basis : x.basis ≡ y.basis) where
   pub blocked_on : WasBlocked y x left → WasBlocked v x sample
-  blocked_on now = ⊎_elim (λ is. subst (λ w. WasBlocked w x sample) is (subst (WasBlocked y x) same now)) (λ was. blocked_later v y x sample more basis was) before
+  blocked_on now = ⊎_elim (λ is. subst (λ w. WasBlocked w x sample) is (subst (WasBlocked y x) same now)) (λ was. blocked_later v y x sample more found marks basis was) before
 
   pub one_on : IsOneTurn y x left → IsOneTurn v x sample
-  one_on now = ⊎_elim (λ is. subst (λ w. IsOneTurn w x sample) is (subst (IsOneTurn y x) same now)) (λ was. inr (blocked_later v y x sample more basis was)) before
+  one_on now = ⊎_elim (λ is. subst (λ w. IsOneTurn w x sample) is (subst (IsOneTurn y x) same now)) (λ was. inr (blocked_later v y x sample more found marks basis was)) before

@@ -14,7 +14,7 @@ use Rattle.book_owned.specs.declared.handed.Handed.{Handed}
 use Rattle.book_owned.specs.declared.written.Written.{Written}
 use Rattle.book_owned.specs.declared.written.Written.TheVariants.{Done, DiskFault, Nothing}
 use Rattle.book_owned.specs.declared.answer.Flush.{Flush}
-use Rattle.book_shared.specs.Basis.{Basis, holding, free, resting, writing}
+use Rattle.book_shared.specs.Basis.{Basis, Turn, idle, holding, free, resting, writing}
 use Rattle.book_shared.specs.Causes.{IsAmong}
 use Rattle.book_shared.specs.Rule.{AreOwn, KeepsAll, IsWrittenBy}
 use Rattle.book_shared.specs.Plays.{Here, at_device, given, held_of}
@@ -22,7 +22,7 @@ use Rattle.book_shared.specs.Turns.{Took, Served, Rests, told_by}
 use Rattle.book_owned.specs.declared.answer.Append.TheVariants as append
 use Rattle.book_shared.specs.declared.answer.Try.{Try}
 use Rattle.book_shared.specs.declared.answer.Try.TheVariants.{Busy, NeedsFlush, Answered}
-use Rattle.book_shared.specs.Told.{AreCounts, Appends, AppendsFront, Tries, TriesFront, Flushes, FlushesSeen, FlushesFront, Asks, IsNoted, WasBlocked, IsOneTurn}
+use Rattle.book_shared.specs.Told.{AreCounts, Appends, AppendsFront, Tries, TriesFront, Flushes, FlushesSeen, FlushesFront, Asks, IsNoted, MarksThrough, WasBlocked, IsOneTurn}
 use Rattle.book_shared.specs.declared.half.Answer.{Answer}
 use Rattle.book_shared.specs.declared.half.Answer.TheVariants.{Marked, Faulted}
 use Rattle.book_shared.specs.declared.half.Half.TheVariants.{TheFront, TheBack}
@@ -125,6 +125,11 @@ pub record HasSeen (v y : View) (accepted : ℕ) : Type 0 where
   pub rests : Rests v y
   pub asked : y.asked ≡ v.asked
   pub accepted_is : accepted ≡ length y.seen
+  pub found : y.found ≡ v.found ++ accepted ∷ []
+
+-- fewer than so many of these samples are durable
+abbrev pub Lacks : List Sample → List Mark → ℕ → Type 0
+Lacks samples marks count = (durable marks < count) × (count ≤ length samples)
 
 -- a flush went on to its end
 pub record HasFlushed {D V N : Type 0} (disk : DiskOf D) (view : ViewOf V N) (v x : View) (answer : Flush N) : Type 0 where
@@ -135,10 +140,16 @@ pub record HasFlushed {D V N : Type 0} (disk : DiskOf D) (view : ViewOf V N) (v 
   pub rests : Rests v x
   pub front : FlushesFront disk view x answer
 
+-- how many samples a turn met
+abbrev pub met_in : Turn → ℕ
+met_in idle = 0
+met_in (holding held) = length held.history
+
 -- a try of one turn
 pub record IsTried (V : Type 0) (v x : View) (sample : Sample) (answer : Try) : Type 0 where
   pub tries : Tries v x sample answer
   pub from : v.from ≤ x.from
+  pub found : x.found ≡ v.found ++ met_in x.last ∷ []
   pub rests : Rests v x
   pub asked : x.asked ≡ v.asked
   pub front : TriesFront V x sample answer
@@ -157,6 +168,7 @@ IsRound disk view v x sample (Answered answer) = Appends v x sample answer × Ap
 
 pub record HasTried {D V N : Type 0} (disk : DiskOf D) (view : ViewOf V N) (v x : View) (sample : Sample) (answer : Try) : Type 0 where
   pub round : IsRound disk view v x sample answer
+  pub marks : MarksThrough x v.seen
   pub rests : Rests v x
   pub asked : x.asked ≡ v.asked
 

@@ -16,10 +16,10 @@ use Rattle.book_owned.specs.declared.answer.Append.TheVariants.{Accepted, Sessio
 use Rattle.book_owned.specs.declared.answer.Flush.{Flush}
 use Rattle.book_owned.specs.declared.answer.Flush.TheVariants as flush
 use Rattle.book_owned.specs.declared.written.Written.TheVariants.{Nothing}
-use Rattle.book_shared.specs.Basis.{holding}
+use Rattle.book_shared.specs.Basis.{Held, holding}
 use Rattle.book_shared.specs.Plays.{held_of}
 use Rattle.book_shared.specs.Rule.{AreOwn}
-use Rattle.book_shared.specs.Turns.{Served, IsBusy}
+use Rattle.book_shared.specs.Turns.{IsBusy, IsFirst, Served}
 use Rattle.book_shared.specs.declared.answer.Try.{Try}
 use Rattle.book_shared.specs.declared.answer.Try.TheVariants.{Busy, NeedsFlush, Answered}
 use Rattle.book_shared.specs.declared.view.View.{View}
@@ -56,11 +56,22 @@ pub record IsFull (v u : View) (sample : Sample) (held size limit : ℕ) : Type 
   pub room : history_cost u.basis.terms.layouts u.seen + cost_of u.basis.terms.layouts sample ≤ u.basis.terms.session_limit
   pub going : u.knows ≡ false
 
--- The pending records and that of the sample passed the block limit, as the seat met them in a turn of this call: it had a beginning
--- of the history that goes on from what the seat had seen, and no fewer samples were handed out than the seat knew of.
+-- the seat's last turn made no mark
+abbrev pub MadeNone : View → Type 0
+MadeNone u = (held : Held) × (u.last ≡ holding held) × (u.kept ≡ held.marks)
+
+-- or one that goes through no fewer samples than these
+abbrev pub MarksThrough : View → List Sample → Type 0
+MarksThrough u samples = MadeNone u ⊎ (length samples ≤ durable u.kept)
+
+-- The pending records and that of the sample passed the block limit, as the seat met them in its first turn of this call: it had a beginning
+-- of the history that goes on from what the seat had seen, and no fewer samples were handed out than the seat knew of. Where the last
+-- turn made a mark, that goes through all that the first met.
 pub record WasBlocked (v u : View) (sample : Sample) : Type 0 where
   pub history : List Sample
   pub from : ℕ
+  pub first : IsFirst v u (length history)
+  pub marks : MarksThrough u history
   pub later : IsPrefix v.seen history
   pub seen : IsPrefix history u.seen
   pub handed : v.from ≤ from
@@ -140,6 +151,23 @@ abbrev pub FlushesSeen : {N : Type 0} → View → Flush N → Type 0
 FlushesSeen v (flush.Done through shown note) = length v.seen ≤ through
 FlushesSeen v (flush.DiskFault before after) = Unit {0}
 FlushesSeen v (flush.Stopped mark) = Unit {0}
+
+-- the seat's last turn met fewer than so many durable samples
+abbrev pub Lacked : View → ℕ → Type 0
+Lacked u count = (held : Held) × (u.last ≡ holding held) × (durable held.marks < count)
+
+-- A flush of so many samples. Where it is done, it goes through no fewer; and it wrote, and so made a mark or met a fault, only where
+-- fewer were durable.
+abbrev pub FlushesFor : {N : Type 0} → ℕ → View → Flush N → Type 0
+FlushesFor count u (flush.Done through shown note) = (count ≤ through) × (MadeNone u ⊎ Lacked u count)
+FlushesFor count u (flush.DiskFault before after) = Lacked u count
+FlushesFor count u (flush.Stopped mark) = Unit {0}
+
+-- of those that were accepted when the seat had its first turn of this call
+pub record FlushesFirst {N : Type 0} (v u : View) (answer : Flush N) : Type 0 where
+  pub accepted : ℕ
+  pub first : IsFirst v u accepted
+  pub flushes : FlushesFor accepted u answer
 
 -- where it made a mark, the seat asked for that one
 abbrev pub Asks : {N : Type 0} → View → View → Flush N → Type 0

@@ -1,5 +1,5 @@
 -- What a seat knows after a turn, and after none.
-use Rattle.std.specs.Prelude.{ℕ, ◌≡◌, ◌+◌, ◌*◌, ◌%◌, ◌<◌, ◌≤◌, ◌⊎◌, true, List, ◌∷◌, ◌++◌, length, take, All, Option as Opt, Some, None}
+use Rattle.std.specs.Prelude.{ℕ, ◌≡◌, ◌+◌, ◌*◌, ◌%◌, ◌<◌, ◌≤◌, ◌⊎◌, true, List, [], ◌∷◌, ◌++◌, length, take, All, Option as Opt, Some, None}
 use mathlib.Core.Option.{Option as Home, some, none}
 use mathlib.Core.List.{IsPrefix}
 use Rattle.atomic_table.specs.Table.{rest}
@@ -47,6 +47,7 @@ pub record Took {V : Type 0} (v u : View) (device : Device) (front : FrontAccoun
     prior = u.prior;
     steps = u.steps;
     turns = v.turns + 1;
+    found = v.found ++ length front.history ∷ [];
     turn = holding (held_of front);
     last = holding (held_of front);
     device = device;
@@ -67,6 +68,11 @@ pub record Served (v u : View) (history added : List Sample) : Type 0 where
   pub olds : u.olds ≡ v.olds
   pub basis_is : u.basis ≡ v.basis
   pub turns : v.turns < u.turns
+  pub found : IsPrefix v.found u.found
+
+-- the first turn that the seat had since met so many samples
+abbrev pub IsFirst : View → View → ℕ → Type 0
+IsFirst v u first = (more : List ℕ) × (u.found ≡ v.found ++ first ∷ more)
 
 -- There were at most so many turns, and three more for each mark that was made since the seat had last given the front back.
 abbrev pub HasTurnsFor : ℕ → View → View → Type 0

@@ -7,9 +7,9 @@ ghost use Rattle.book_owned.specs.declared.handed.Handed.TheVariants as given_ou
 ghost use Rattle.book_shared.specs.Basis.{idle, free, resting};
 ghost use Rattle.book_shared.specs.Place.{IsSingle};
 ghost use Rattle.book_shared.specs.Plays.{at_device, given, given_device, Holds};
-ghost use Rattle.book_shared.specs.Rounds.{wanted, HasTaken, HasSeized, HasPending, HasHanded, HasWritten, HasBoth, HasSeen, HasFlushed, IsTried, answered};
+ghost use Rattle.book_shared.specs.Rounds.{wanted, HasTaken, HasSeized, HasPending, HasHanded, HasWritten, HasBoth, HasSeen, HasFlushed, IsTried, Lacks, answered};
 ghost use Rattle.book_shared.specs.Rule.{AreOwn};
-ghost use Rattle.book_shared.specs.Told.{HadTurn, Tries, TriesFront};
+ghost use Rattle.book_shared.specs.Told.{FlushesFirst, FlushesFor, HadTurn, Tries, TriesFront};
 ghost use Rattle.book_shared.specs.Turns.{Rests};
 ghost use Rattle.book_shared.specs.declared.half.Half.TheVariants.{TheFront};
 ghost use Rattle.book_shared.specs.declared.view.View.{View};
@@ -165,6 +165,7 @@ impl<D: Disk, V: Shown> SharedBook<D, V> {
         ensures turns { seat.new.me.0.turns ≡ seat.old.me.0.turns }
         ensures due { seat.new.me.0.due ≡ seat.old.me.0.due }
         ensures flushed { (y : View) → HasBoth D.Disk y seat.old.me written → (number : ℕ) → IsSingle y number → HasFlushed D.Disk V.Shown y seat.new.me.0 result }
+        ensures wrote { (y : View) → HasBoth D.Disk y seat.old.me written → (count : ℕ) → Lacks y.seen y.kept count → FlushesFor count seat.new.me.0 result }
     {
         let answer = self.finish_out(rt, seat, written);
         self.bring_in(seat);
@@ -187,6 +188,8 @@ impl<D: Disk, V: Shown> SharedBook<D, V> {
         ensures turns { seat.new.me.0.turns ≡ seat.old.me.0.turns + 1 }
         ensures due { seat.new.me.0.due ≡ seat.old.me.0.due }
         ensures flushed { (v : View) → HasPending v seat.old.me → (number : ℕ) → IsSingle v number → HasFlushed D.Disk V.Shown v seat.new.me.0 result }
+        ensures wrote { (front : FrontAccount V) → seat.old.me.1 ≡ (0, TheFront front) ∷ [] → (count : ℕ) → Lacks front.history front.marks count
+            → FlushesFor count seat.new.me.0 result }
     {
         match self.hand_out(seat) {
             Handed::Given { through, block } => {
@@ -213,6 +216,7 @@ impl<D: Disk, V: Shown> SharedBook<D, V> {
         ensures turns { seat.new.me.0.turns ≡ seat.old.me.0.turns + 1 }
         ensures due { seat.new.me.0.due ≡ seat.old.me.0.due }
         ensures flushed { IfOk result (λ answer. HasFlushed D.Disk V.Shown seat.old.me.0 seat.new.me.0 answer) }
+        ensures first { IfOk result (λ answer. FlushesFirst seat.old.me.0 seat.new.me.0 answer) }
         ensures seen { IfErr result (λ accepted. HasSeen seat.old.me.0 seat.new.me.0 accepted) }
     {
         let word = self.seize(rt, seat, None);
@@ -240,6 +244,7 @@ impl<D: Disk, V: Shown> SharedBook<D, V> {
         ensures turns { seat.new.me.0.turns ≤ seat.old.me.0.turns + 2 }
         ensures due { seat.new.me.0.due ≡ seat.old.me.0.due }
         ensures flushed { HasFlushed D.Disk V.Shown seat.old.me.0 seat.new.me.0 result }
+        ensures wrote { FlushesFor accepted seat.new.me.0 result }
     {
         self.let_pass(rt);
         let word = self.device_turn(rt, seat, None);
@@ -267,6 +272,7 @@ impl<D: Disk, V: Shown> SharedBook<D, V> {
         ensures turns { seat.new.me.0.turns ≤ seat.old.me.0.turns + 3 }
         ensures due { seat.new.me.0.due ≡ seat.old.me.0.due }
         ensures flushed { HasFlushed D.Disk V.Shown seat.old.me.0 seat.new.me.0 result }
+        ensures first { FlushesFirst seat.old.me.0 seat.new.me.0 result }
     {
         match self.flush_first(rt, seat) {
             Ok(answer) => answer,

@@ -3,7 +3,7 @@ ghost use Rattle.std.specs.Prelude.{◌≡◌, ◌+◌, ◌≤◌, slice_index};
 ghost use Rattle.mdf_layout.specs.Record.{SampleFits, encoded_size};
 ghost use Rattle.book_shared.specs.Place.{IsSingle};
 ghost use Rattle.book_shared.specs.Turns.{HasTurnsFor, OnlyDue};
-ghost use Rattle.book_shared.specs.Told.{Appends, Tries, Flushes, FlushesSeen, HadTurn, Asks, IsNoted, IsOneTurn, AppendsFront, TriesFront, FlushesFront};
+ghost use Rattle.book_shared.specs.Told.{Appends, Tries, Flushes, FlushesFirst, FlushesSeen, HadTurn, Asks, IsNoted, IsOneTurn, AppendsFront, TriesFront, FlushesFront};
 
 use crate::Try;
 use crate::fixed::Fixed;
@@ -109,6 +109,7 @@ impl<D: Disk, V: Shown> SharedBook<D, V> {
         ensures flushes { Flushes seat.old.know seat.new.know result }
         ensures turns { seat.new.know.turns ≤ seat.old.know.turns + 3 }
         ensures seen { FlushesSeen seat.old.know result }
+        ensures first { FlushesFirst seat.old.know seat.new.know result }
         ensures asked { Asks seat.old.know seat.new.know result }
         ensures due { seat.new.know.due ≡ seat.old.know.due }
         ensures noted { IsNoted V.Shown seat.new.know result }

@@ -17,6 +17,8 @@ pub struct View {
     pub ghost steps: { ℕ },
     /// How many turns were taken.
     pub ghost turns: { ℕ },
+    /// How many samples were accepted when it took each of its turns.
+    pub ghost found: { List ℕ },
     /// Whether the front was stopped when the seat last gave it back.
     pub ghost knows: { Bool },
     /// The history when the seat last gave the front back.

@@ -2,7 +2,7 @@ use Rattle.std.proofs.Common.{[], length, length-append, refl, subst, ap, inl, i
 use Rattle.book_shared.specs.Rounds.{HasTried, IsOneRound}
 use Rattle.book_shared.specs.Turns.{OnlyDue}
 use Rattle.book_shared.specs.declared.answer.Try.TheVariants.{Answered}
-use Rattle.book_shared.proofs.Following.{follows_on, follows_self, follows_served, served_seen, round_seen}
+use Rattle.book_shared.proofs.Following.{follows_on, follows_self, follows_served, served_seen, round_found, round_seen}
 use Rattle.book_shared.proofs.Handing.{may_later, appended_now, blocked_on, one_on, only_on, only_same}
 use Rattle.book_shared.proofs.shared.SharedBook.append_at.Goals as goal
 
@@ -50,7 +50,7 @@ loop-preserved g c =
       tried.round.1 ∙ c.loop.invariant.3,
       follows_on v y x c.loop.invariant.4 (follows_served y x tried.round.0.0 tried.round.0.1 tried.rests tried.asked),
       omega (arith, c.append_once.ensures.turns, c.loop.invariant.5, tried.round.2),
-      inr (blocked_on v y x c.args.sample c.loop.left c.loop.invariant.3 c.loop.invariant.6 (served_seen y x tried.round.0.0 [] tried.round.0.1) tried.rests.basis_is
+      inr (blocked_on v y x c.args.sample c.loop.left c.loop.invariant.3 c.loop.invariant.6 (served_seen y x tried.round.0.0 [] tried.round.0.1) tried.round.0.1.found tried.marks tried.rests.basis_is
           (subst (IsOneRound y x c.loop.left) c.in-NeedsFlush.is c.append_once.ensures.one)),
       only_on v y x c.args.sample c.loop.invariant.7 (subst (OnlyDue y x) c.loop.invariant.3 c.append_once.ensures.due),
     )
@@ -70,7 +70,8 @@ returns-in-Answered-clause-one g c =
     let y = c.loop.seat.me.0 in
     let x = c.append_once.new.seat.me.0 in
     let tried = subst (HasTried g.D.Disk g.V.Shown y x c.loop.left) c.in-Answered.is c.append_once.ensures.tried in
-    one_on c.args.seat.now.me.0 y x c.args.sample c.loop.left c.loop.invariant.3 c.loop.invariant.6 (round_seen g.D.Disk g.V.Shown y x c.loop.left (Answered c.in-Answered.answer) tried.round) tried.rests.basis_is
+    one_on c.args.seat.now.me.0 y x c.args.sample c.loop.left c.loop.invariant.3 c.loop.invariant.6 (round_seen g.D.Disk g.V.Shown y x c.loop.left (Answered c.in-Answered.answer) tried.round)
+    (round_found g.D.Disk g.V.Shown y x c.loop.left (Answered c.in-Answered.answer) tried.round) tried.marks tried.rests.basis_is
     (subst (IsOneRound y x c.loop.left) c.in-Answered.is c.append_once.ensures.one)
 
 pub returns-in-Answered-clause-due : goal.returns-in-Answered-clause-due

@@ -1,5 +1,5 @@
-use Rattle.std.proofs.Common.{◌∙◌, sym, arith}
-use Rattle.book_shared.proofs.Following.{follows_served, flushed_later}
+use Rattle.std.proofs.Common.{[], ◌∙◌, arith}
+use Rattle.book_shared.proofs.Following.{first_later, follows_served, flushed_later}
 use Rattle.book_shared.proofs.shared.SharedBook.flush_at.Goals as goal
 
 pub flush_round-requires-clause-no_device : goal.flush_round-requires-clause-no_device
@@ -29,3 +29,13 @@ returns-in-Err-clause-flushed g c =
     let y = c.flush_first.new.seat.me.0 in
     let seen = c.in-Err.ensures.seen in
     flushed_later v y c.flush_round.new.seat.me.0 (follows_served v y seen.history seen.served seen.rests seen.asked) g.D.Disk g.V.Shown c.flush_round.result c.flush_round.ensures.flushed
+
+pub returns-in-Err-clause-first : goal.returns-in-Err-clause-first
+returns-in-Err-clause-first g c =
+    let v = c.args.seat.now.me.0 in
+    let y = c.flush_first.new.seat.me.0 in
+    record {
+      accepted = c.in-Err.accepted;
+      first = first_later v y c.flush_round.new.seat.me.0 c.in-Err.accepted ([], c.in-Err.ensures.seen.found) c.flush_round.ensures.flushed.flushes.1.found;
+      flushes = c.flush_round.ensures.wrote;
+    }

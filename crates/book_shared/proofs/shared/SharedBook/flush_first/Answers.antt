@@ -1,10 +1,10 @@
-use Rattle.std.proofs.Common.{◌+◌, ◌∙◌, ap, inl, arith}
+use Rattle.std.proofs.Common.{◌+◌, ap, inl, arith}
 use Rattle.book_shared.specs.Plays.{Here}
 use Rattle.book_shared.specs.declared.view.View.{View}
 use Rattle.book_shared.proofs.Given.{taken_now}
 use Rattle.book_shared.proofs.Lists.{one_source}
 use Rattle.book_shared.proofs.Takings.{carries}
-use Rattle.book_shared.proofs.Flushes.{give_first, seat_first, flushed_first, seen_first}
+use Rattle.book_shared.proofs.Flushes.{give_first, seat_first, first_for, flushed_first, seen_first}
 use Rattle.book_shared.proofs.shared.SharedBook.flush_first.Goals as goal
 
 pub seize-word-requires-clause-some_source : goal.seize-word-requires-clause-some_source
@@ -61,3 +61,9 @@ returns-clause-seen g c =
     (taken_now c.args.seat.now.me c.seize-word.new.seat.me c.requires.no_turn c.requires.no_device c.seize-word.ensures.took)
     c.flush_out-answer.result c.flush_out-answer.ensures.view c.flush_out-answer.ensures.works (c.seize-word.result + 1) c.give.new.seat.me c.give.ensures.given
     g.D.Disk c.requires.single.0 c.requires.single.1
+
+pub returns-clause-first : goal.returns-clause-first
+returns-clause-first g c =
+    first_for g.V.Shown c.args.seat.now.me.0 c.seize-word.new.seat.me c.flush_out-answer.new.seat.me
+    (taken_now c.args.seat.now.me c.seize-word.new.seat.me c.requires.no_turn c.requires.no_device c.seize-word.ensures.took)
+    c.flush_out-answer.result c.flush_out-answer.ensures.view c.flush_out-answer.ensures.works (c.seize-word.result + 1) c.give.new.seat.me c.give.ensures.given

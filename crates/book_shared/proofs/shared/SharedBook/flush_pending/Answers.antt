@@ -7,7 +7,8 @@ use Rattle.book_shared.specs.Turns.{Works}
 use Rattle.book_shared.specs.declared.view.View.{View}
 use Rattle.book_shared.proofs.Takings.{may_hand, turned_now}
 use Rattle.book_shared.proofs.Following.{flushed_later}
-use Rattle.book_shared.proofs.Flushes.{hand_of, both_of, follows_wrote, turned_sources}
+use Rattle.book_shared.proofs.Writing.{same_front}
+use Rattle.book_shared.proofs.Flushes.{hand_of, both_of, follows_wrote, lacks_handed, turned_sources}
 use Rattle.book_shared.proofs.shared.SharedBook.flush_pending.Goals as goal
 
 pub hand_out-requires-clause-front : goal.hand_out-requires-clause-front
@@ -75,3 +76,16 @@ returns-clause-due g c =
     let works = subst (λ what. Works c.args.seat.now.me c.hand_out.new.seat.me (λ old new. HandTells old new what)) c.in-Given.is c.hand_out.ensures.works in
     let turned = turned_now c.requires.pending.0 c.args.seat.now.me c.hand_out.new.seat.me (Given c.in-Given.through c.in-Given.block) c.requires.pending.1.seized c.hand_out.ensures.view works in
     c.flush_written.ensures.due ∙ ap (λ (y : View). y.due) (c.write_block-word.ensures.written turned.new turned.out).took.rest ∙ ap (λ (y : View). y.due) c.hand_out.ensures.view
+
+pub returns-clause-wrote : goal.returns-clause-wrote
+returns-clause-wrote g c front carried count lacks =
+    let v = c.requires.pending.0 in
+    let seized = c.requires.pending.1.seized in
+    let works = subst (λ what. Works c.args.seat.now.me c.hand_out.new.seat.me (λ old new. HandTells old new what)) c.in-Given.is c.hand_out.ensures.works in
+    let turned = turned_now v c.args.seat.now.me c.hand_out.new.seat.me (Given c.in-Given.through c.in-Given.block) seized c.hand_out.ensures.view works in
+    c.flush_written.ensures.wrote (at_device (given false c.hand_out.new.seat.me.0 (c.args.word + 1) turned.new) writing)
+    (both_of v c.hand_out.new.seat.me c.in-Given.through c.in-Given.block turned c.args.word g.D.Disk c.write_block-word.new.seat.me
+    c.write_block-word.result.0 c.write_block-word.result.1 (c.write_block-word.ensures.written turned.new turned.out))
+    count
+    (lacks_handed v c.hand_out.new.seat.me c.in-Given.through c.in-Given.block turned c.args.word count front
+    (same_front c.args.seat.now.me.1 front seized.front carried seized.out) lacks)

@@ -1,12 +1,9 @@
-use Rattle.std.proofs.Common.{◌+◌, ◌∙◌, ap, sym, subst, length, arith}
-use Rattle.std.specs.Prelude.{Ok, Err}
+use Rattle.std.proofs.Common.{◌+◌, ◌∙◌, ap, sym, length, length-append, arith}
 use Rattle.book_shared.specs.Plays.{Here}
-use Rattle.book_shared.specs.Told.{FlushesNow}
-use Rattle.book_shared.specs.Turns.{Works}
 use Rattle.book_shared.specs.declared.view.View.{View}
 use Rattle.book_shared.proofs.Lists.{one_source}
 use Rattle.book_shared.proofs.Takings.{carries}
-use Rattle.book_shared.proofs.Flushes.{end_shown, shown_end, pending_now}
+use Rattle.book_shared.proofs.Flushes.{end_shown, shown_count, shown_end, pending_count, pending_now}
 use Rattle.book_shared.proofs.shared.SharedBook.flush_round.Goals as goal
 
 pub device_turn-word-requires-clause-some_source : goal.device_turn-word-requires-clause-some_source
@@ -23,21 +20,29 @@ end_round-requires-clause-low g c = omega (arith, c.device_turn-word.ensures.wor
 
 pub end_round-requires-clause-returns : goal.end_round-requires-clause-returns
 end_round-requires-clause-returns g c =
-    let works = subst (λ what. Works c.device_turn-word.new.seat.me c.flush_out.new.seat.me (λ old new. FlushesNow g.V.Shown old new c.args.accepted what)) c.in-Ok.is c.flush_out.ensures.works in
-    end_shown g.V.Shown c.args.seat.now.me.0 c.device_turn-word.new.seat.me c.flush_out.new.seat.me c.device_turn-word.ensures.seized c.args.accepted c.flush_out.ensures.view c.in-Ok.answer works
+    end_shown g.V.Shown c.args.seat.now.me.0 c.device_turn-word.new.seat.me c.flush_out.new.seat.me c.device_turn-word.ensures.seized c.flush_out.ensures.view _
+    c.flush_out.result c.flush_out.ensures.works c.in-Ok.answer c.in-Ok.is
 
 pub returns-in-Ok-clause-no_turn : goal.returns-in-Ok-clause-no_turn
 returns-in-Ok-clause-no_turn g c =
-    let works = subst (λ what. Works c.device_turn-word.new.seat.me c.flush_out.new.seat.me (λ old new. FlushesNow g.V.Shown old new c.args.accepted what)) c.in-Ok.is c.flush_out.ensures.works in
     let held =
-    end_shown g.V.Shown c.args.seat.now.me.0 c.device_turn-word.new.seat.me c.flush_out.new.seat.me c.device_turn-word.ensures.seized c.args.accepted c.flush_out.ensures.view c.in-Ok.answer works in
+    end_shown g.V.Shown c.args.seat.now.me.0 c.device_turn-word.new.seat.me c.flush_out.new.seat.me c.device_turn-word.ensures.seized c.flush_out.ensures.view _
+    c.flush_out.result c.flush_out.ensures.works c.in-Ok.answer c.in-Ok.is in
     ap (λ (x : Here g.row.D.Denot g.row.V.Denot). x.1) (c.end_round.ensures.ended held.0 held.1)
 
 pub returns-in-Ok-clause-flushed : goal.returns-in-Ok-clause-flushed
 returns-in-Ok-clause-flushed g c =
-    let works = subst (λ what. Works c.device_turn-word.new.seat.me c.flush_out.new.seat.me (λ old new. FlushesNow g.V.Shown old new c.args.accepted what)) c.in-Ok.is c.flush_out.ensures.works in
-    shown_end g.V.Shown c.args.seat.now.me.0 c.device_turn-word.new.seat.me c.flush_out.new.seat.me c.device_turn-word.ensures.seized c.args.accepted c.flush_out.ensures.view c.in-Ok.answer works
-    g.D.Disk (c.device_turn-word.result + 1) c.end_round.new.seat.me c.end_round.ensures.ended c.requires.single.0 c.requires.single.1 c.requires.accepted c.requires.own
+    let v = c.args.seat.now.me.0 in
+    shown_end g.V.Shown v c.device_turn-word.new.seat.me c.flush_out.new.seat.me c.device_turn-word.ensures.seized c.flush_out.ensures.view _
+    c.flush_out.result c.flush_out.ensures.works c.in-Ok.answer c.in-Ok.is (c.device_turn-word.result + 1) c.end_round.new.seat.me c.end_round.ensures.ended
+    g.D.Disk c.requires.single.0 c.requires.single.1 (λ front begins. omega (arith, c.requires.accepted, ap length begins.1, length-append v.seen begins.0)) c.requires.own
+
+pub returns-in-Ok-clause-wrote : goal.returns-in-Ok-clause-wrote
+returns-in-Ok-clause-wrote g c =
+    let v = c.args.seat.now.me.0 in
+    shown_count g.V.Shown v c.device_turn-word.new.seat.me c.flush_out.new.seat.me c.device_turn-word.ensures.seized c.flush_out.ensures.view _
+    c.flush_out.result c.flush_out.ensures.works c.in-Ok.answer c.in-Ok.is (c.device_turn-word.result + 1) c.end_round.new.seat.me c.end_round.ensures.ended
+    c.args.accepted (λ front begins. omega (arith, c.requires.accepted, ap length begins.1, length-append v.seen begins.0))
 
 pub returns-in-Ok-clause-turns : goal.returns-in-Ok-clause-turns
 returns-in-Ok-clause-turns g c =
@@ -52,21 +57,30 @@ flush_pending-requires-clause-word g c = λ κs outlives. c.device_turn-word.ens
 
 pub flush_pending-requires-clause-pending : goal.flush_pending-requires-clause-pending
 flush_pending-requires-clause-pending g c =
-    let works = subst (λ what. Works c.device_turn-word.new.seat.me c.flush_out.new.seat.me (λ old new. FlushesNow g.V.Shown old new c.args.accepted what)) c.in-Err.is c.flush_out.ensures.works in
+    let v = c.args.seat.now.me.0 in
     λ κs outlives. (
-      c.args.seat.now.me.0,
-      pending_now g.V.Shown c.args.seat.now.me.0 c.device_turn-word.new.seat.me c.flush_out.new.seat.me c.device_turn-word.ensures.seized c.args.accepted c.flush_out.ensures.view
-          c.in-Err._accepted works c.requires.accepted,
-      one_source c.requires.single.0 c.args.seat.now.me.0.mine _ c.requires.single.1,
+      v,
+      pending_now g.V.Shown v c.device_turn-word.new.seat.me c.flush_out.new.seat.me c.device_turn-word.ensures.seized c.flush_out.ensures.view _
+          c.flush_out.result c.flush_out.ensures.works c.in-Err._accepted c.in-Err.is
+          (λ front begins. omega (arith, c.requires.accepted, ap length begins.1, length-append v.seen begins.0)),
+      one_source c.requires.single.0 v.mine _ c.requires.single.1,
     )
 
 pub returns-in-Err-clause-flushed : goal.returns-in-Err-clause-flushed
 returns-in-Err-clause-flushed g c =
-    let works = subst (λ what. Works c.device_turn-word.new.seat.me c.flush_out.new.seat.me (λ old new. FlushesNow g.V.Shown old new c.args.accepted what)) c.in-Err.is c.flush_out.ensures.works in
-    c.flush_pending.ensures.flushed c.args.seat.now.me.0
-    (pending_now g.V.Shown c.args.seat.now.me.0 c.device_turn-word.new.seat.me c.flush_out.new.seat.me c.device_turn-word.ensures.seized c.args.accepted c.flush_out.ensures.view
-    c.in-Err._accepted works c.requires.accepted)
+    let v = c.args.seat.now.me.0 in
+    c.flush_pending.ensures.flushed v
+    (pending_now g.V.Shown v c.device_turn-word.new.seat.me c.flush_out.new.seat.me c.device_turn-word.ensures.seized c.flush_out.ensures.view _
+    c.flush_out.result c.flush_out.ensures.works c.in-Err._accepted c.in-Err.is
+    (λ front begins. omega (arith, c.requires.accepted, ap length begins.1, length-append v.seen begins.0)))
     c.requires.single.0 c.requires.single.1
+
+pub returns-in-Err-clause-wrote : goal.returns-in-Err-clause-wrote
+returns-in-Err-clause-wrote g c =
+    let v = c.args.seat.now.me.0 in
+    pending_count g.V.Shown v c.device_turn-word.new.seat.me c.flush_out.new.seat.me c.device_turn-word.ensures.seized c.flush_out.ensures.view _
+    c.flush_out.result c.flush_out.ensures.works c.in-Err._accepted c.in-Err.is c.flush_pending.new.seat.me.0 c.flush_pending.result c.args.accepted c.flush_pending.ensures.wrote
+    (λ front begins. (omega arith, omega (arith, c.requires.accepted, ap length begins.1, length-append v.seen begins.0)))
 
 pub returns-in-Err-clause-turns : goal.returns-in-Err-clause-turns
 returns-in-Err-clause-turns g c =

@@ -2,7 +2,7 @@ use Rattle.std.proofs.Common.{◌+◌, ◌∙◌, ap}
 use Rattle.book_shared.specs.Plays.{Here}
 use Rattle.book_shared.specs.declared.view.View.{View}
 use Rattle.book_shared.proofs.Finishing.{awaited_now}
-use Rattle.book_shared.proofs.Flushes.{may_come, may_end, word_now, flushed_end}
+use Rattle.book_shared.proofs.Flushes.{may_come, may_end, word_now, flushed_end, wrote_end}
 use Rattle.book_shared.proofs.shared.SharedBook.flush_written.Goals as goal
 
 pub finish_out-answer-requires-clause-front : goal.finish_out-answer-requires-clause-front
@@ -46,3 +46,9 @@ returns-clause-turns g c = c.end_round.ensures.turns ∙ c.bring_in.ensures.turn
 
 pub returns-clause-due : goal.returns-clause-due
 returns-clause-due g c = c.end_round.ensures.due ∙ c.bring_in.ensures.due ∙ ap (λ (y : View). y.due) c.finish_out-answer.ensures.view
+
+pub returns-clause-wrote : goal.returns-clause-wrote
+returns-clause-wrote g c y both count lacks =
+    wrote_end g.D.Disk g.V.Shown y c.args.seat.now.me c.finish_out-answer.new.seat.me c.args.written c.finish_out-answer.result both
+    c.finish_out-answer.ensures.view c.finish_out-answer.ensures.works c.bring_in.new.seat.me c.bring_in.ensures.back_in (c.args.word + 1) c.end_round.new.seat.me
+    c.end_round.ensures.ended count lacks
