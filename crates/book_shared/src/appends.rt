@@ -107,7 +107,7 @@ impl<D: Disk, V: Shown> SharedBook<D, V> {
         ensures due { OnlyDue seat.old.me.0 seat.new.me.0 sample }
         ensures tried { HasTried D.Disk V.Shown seat.old.me.0 seat.new.me.0 sample result }
     {
-        let word = self.device_turn(rt, seat, Some(&sample));
+        let word = self.device_turn(rt, seat, Some(&sample), 0);
         match self.try_out(seat, sample) {
             Try::NeedsFlush {
                 held: _,

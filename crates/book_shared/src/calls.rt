@@ -29,6 +29,7 @@ use mdf_gate::Block;
 use mdf_layout::Sample;
 use std::snapshot::Snapshot;
 use std::sync::Wait;
+use std::sync::atomic::AtomicU64;
 use std::sync::atomic::Ordering::SeqCst;
 use std::thread::Threads;
 use std::time::Duration;
@@ -38,11 +39,17 @@ use std::time::Duration;
 /// made for each sample.
 const NAP: u64 = 100;
 
-/// How many sleeps a seat that wants to flush makes at most before those who wait for the device: no more seats than that wait.
-const NAPS: u64 = 16;
+/// How often a seat whose samples are not durable sleeps before it takes a device that others wait for too.
+const NAPS: u64 = 2;
 
 /// The greatest even turn word. From it no turn is taken any more.
 const LAST: u64 = 18446744073709551614;
+
+/// Sleeps for `NAP`, or until another wakes who sleeps on this word.
+fn park<R: Wait>(rt: &R, word: &AtomicU64) {
+    let seen = word.load(SeqCst);
+    word.park_timeout(rt, (seen % 4294967296) as u32, Duration::from_micros(NAP));
+}
 
 /// Puts a sample into the front where that needs no call of the disk.
 #[inline(always)]
@@ -180,12 +187,12 @@ impl<D: Disk, V: Shown> SharedBook<D, V> {
 
     /// Sleeps for `NAP`, or until a seat gives the device back.
     pub(crate) fn sleep<R: Wait>(&self, rt: &R) {
-        let flushes = self.flushes.load(SeqCst);
-        self.flushes.park_timeout(
-            rt,
-            (flushes % 4294967296) as u32,
-            Duration::from_micros(NAP),
-        );
+        park(rt, &self.flushes);
+    }
+
+    /// Sleeps for `NAP`, whoever gives the device back meanwhile.
+    fn nap<R: Wait>(&self, rt: &R) {
+        park(rt, &self.waiting);
     }
 
     /// Wakes all who wait for the turn or the device.
@@ -282,21 +289,31 @@ impl<D: Disk, V: Shown> SharedBook<D, V> {
         }
     }
 
-    /// Sleeps while others wait for the device, until it was given back some times. A seat that has just written finds the device
-    /// free again before any of those wakes who waited for it, whose samples it may have written: without this it would take the
-    /// device once more, for its next samples alone, and they would wait for that write too. So they go first, need no write, and their
-    /// next samples are written with its own.
-    pub(crate) fn let_pass<R: Wait>(&self, rt: &R) {
-        for _ in 0..NAPS {
-            if self.waiting.load(SeqCst) == 0 {
-                return;
+    /// Lets those go first whose samples the last write made durable, who need the device for no write. Meanwhile they and others
+    /// append their next samples, which are then written with those of this seat.
+    fn let_pass<R: Wait>(&self, rt: &R, accepted: u64) {
+        if self.durable.load(SeqCst) < accepted {
+            for _ in 0..NAPS {
+                self.nap(rt);
             }
-            self.sleep(rt);
         }
     }
 
-    /// Takes the device, and waits for it where another seat has it.
-    pub(crate) fn seize_device<R: Wait>(&self, rt: &R, seat: &mut Chair<D, V>, due: Option<&Sample>)
+    /// Tells those who wait for the device through how many samples are durable now.
+    pub(crate) fn tell_durable(&self, written: &Written) {
+        if let Written::Done { mark, block: _ } = written {
+            self.durable.store(mark.through, SeqCst);
+        }
+    }
+
+    /// Takes the device, and waits for it where another seat has it. So many samples are to be durable: 0 lets nobody go first.
+    pub(crate) fn seize_device<R: Wait>(
+        &self,
+        rt: &R,
+        seat: &mut Chair<D, V>,
+        due: Option<&Sample>,
+        accepted: u64,
+    )
         requires table { seat.old.table_id ≡ self.now.table }
         requires no_turn { seat.old.me.1 ≡ [] }
         requires no_device { seat.old.me.0.device ≡ free }
@@ -304,13 +321,17 @@ impl<D: Disk, V: Shown> SharedBook<D, V> {
         ensures table { seat.new.table_id ≡ seat.old.table_id }
         ensures seized { seat.new.me ≡ (at_device (wanted seat.old.me.0 (option_copied due.entry)) resting, seat.old.me.1) }
     {
-        self.waiting.fetch_add(1, SeqCst);
+        let mut alone = self.waiting.fetch_add(1, SeqCst) == 0;
         for _ in rt.forever() {
+            if !alone {
+                self.let_pass(rt, accepted);
+            }
             if self.take_device(seat, due) {
                 self.waiting.fetch_sub(1, SeqCst);
                 return;
             }
             self.sleep(rt);
+            alone = false;
         }
         unreachable!()
     }

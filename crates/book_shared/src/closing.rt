@@ -95,6 +95,7 @@ impl<D: Disk, V: Shown> SharedBook<D, V> {
             table,
             flushes: _,
             waiting: _,
+            durable: _,
         } = self;
         book_of(table.close_with(whole))
     }

@@ -107,6 +107,7 @@ fn shared_of<D: Disk, V: Shown>(
                 table,
                 flushes: AtomicU64::new(0),
                 waiting: AtomicU64::new(0),
+                durable: AtomicU64::new(0),
             };
             Ok((shared, first))
         }

@@ -106,12 +106,13 @@ impl<D: Disk, V: Shown> SharedBook<D, V> {
         self.wake();
     }
 
-    /// Takes the device, and then the turn.
+    /// Takes the device, and then the turn. So many samples are to be durable.
     pub(crate) fn device_turn<R: Wait>(
         &self,
         rt: &R,
         seat: &mut Chair<D, V>,
         due: Option<&Sample>,
+        accepted: u64,
     ) -> u64
         requires table { seat.old.table_id ≡ self.now.table }
         requires no_turn { seat.old.me.1 ≡ [] }
@@ -121,7 +122,7 @@ impl<D: Disk, V: Shown> SharedBook<D, V> {
         ensures word { result ≡ seat.new.me.0.met }
         ensures seized { HasSeized (wanted seat.old.me.0 (option_copied due.entry)) seat.new.me }
     {
-        self.seize_device(rt, seat, due);
+        self.seize_device(rt, seat, due, accepted);
         self.seize(rt, seat, None)
     }
 
@@ -145,6 +146,7 @@ impl<D: Disk, V: Shown> SharedBook<D, V> {
         self.give(seat, word, false);
         self.bring_out(seat);
         let written = self.write_out(seat, through, block);
+        self.tell_durable(&written);
         let word = self.seize(rt, seat, answer_of(&written));
         (word, written)
     }
@@ -246,8 +248,7 @@ impl<D: Disk, V: Shown> SharedBook<D, V> {
         ensures flushed { HasFlushed D.Disk V.Shown seat.old.me.0 seat.new.me.0 result }
         ensures wrote { FlushesFor accepted seat.new.me.0 result }
     {
-        self.let_pass(rt);
-        let word = self.device_turn(rt, seat, None);
+        let word = self.device_turn(rt, seat, None, accepted);
         match self.flush_out(rt, seat, Some(accepted)) {
             Ok(answer) => {
                 self.end_round(seat, word, false);

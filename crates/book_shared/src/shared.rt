@@ -35,8 +35,11 @@ pub struct SharedBook<D: Disk, V: Shown> {
     >,
     /// How often a seat has given the device back. Who waits for it or for the turn sleeps on this. No promise rests on it.
     pub(crate) flushes: AtomicU64,
-    /// How many seats wait for the device. Who comes to flush lets them go first. No promise rests on it.
+    /// How many seats wait for the device. No promise rests on it.
     pub(crate) waiting: AtomicU64,
+    /// Through how many samples the last write went. Who waits for the device and needs no write by it goes first. No promise
+    /// rests on it.
+    pub(crate) durable: AtomicU64,
 }
 
 impl<D: Disk, V: Shown> Model for SharedBook<D, V> {
