@@ -13,3 +13,4 @@ pub mod Founds
 pub mod Parts
 pub mod Pops
 pub mod Tested
+pub mod Kepts

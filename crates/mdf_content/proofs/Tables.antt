@@ -44,7 +44,7 @@ table_more groups find next k group some within is behind here at =
 some_is : (a b : ℕ) → ◌≡◌ {A = Option ℕ} (Some a) (Some b) → a ≡ b
 some_is a b same = cc
 
-values_found : (groups : List GroupRow) (at from k : ℕ) → values_group groups at from ≡ Some k
+pub values_found : (groups : List GroupRow) (at from k : ℕ) → values_group groups at from ≡ Some k
     → (j : ℕ) × (k ≡ from + j) × (j < length groups) × ((d : GroupRow) → is_variable (get_or groups j d) ≡ true)
 unfolding values_group
 values_found [] at from k found = let wrong : ◌≡◌ {A = Option ℕ} None (Some k) = found in cc

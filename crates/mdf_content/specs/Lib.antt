@@ -5,3 +5,4 @@ pub mod Values
 pub mod Samples
 pub mod Contents
 pub mod Found
+pub mod Kept

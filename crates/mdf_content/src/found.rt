@@ -6,16 +6,17 @@ ghost use Rattle.mdf_stream.specs.Parts.{stream_size, ArePartsInside};
 ghost use Rattle.mdf_data.specs.Places.{HaveRoom};
 ghost use Rattle.mdf_group.specs.Group.{is_variable};
 ghost use Rattle.mdf_content.specs.Fault.{read_refusal};
-ghost use Rattle.mdf_content.specs.Found.{IsFoundInside, IsGroupInside, data_at, data_found, group_found, groups_found};
+ghost use Rattle.mdf_content.specs.Found.{IsFoundInside, IsGroupInside, data_at, group_found, groups_found};
+ghost use Rattle.mdf_content.specs.Kept.{data_kept};
 ghost use Rattle.mdf_content.specs.Records.{known_of, record_size};
 ghost use Rattle.mdf_content.specs.Values.{IsHeld, held_of};
 
 use crate::contents::is_strict;
 use crate::layouts::{is_variable, layout_in, layouts_in};
 use crate::lower::view_of;
-use crate::records::{counted_in, records_in};
+use crate::records::{counted_in, kept_records_in};
 use crate::values::{Held, Records, places_or, values_found_in, values_table};
-use crate::{ReadFault, Room};
+use crate::{ReadFault, Room, Wanted};
 use mdf_block::{Kind, Visit, every_in};
 use mdf_data::{DataView, Places};
 use mdf_group::{DataRow, GroupRow};
@@ -41,7 +42,8 @@ pub struct Found {
 pub struct DataFound {
     /// Its data stream.
     pub view: DataView,
-    /// The places of the bodies of all records in the stream, channel group by channel group.
+    /// The places of the bodies of all records in the stream, channel group by channel group. Of a group whose records are counted
+    /// alone each place is told as 0.
     pub lists: Rows<Places>,
     /// Its channel groups that hold no values of variable length, in order.
     pub groups: Rows<Found>,
@@ -211,8 +213,9 @@ fn data_at_in<P: Span>(
 }
 
 /// Where what is read of a data group (DGBLOCK) of a finalized file stands, and how many groups that hold no values come
-/// before the next one, where so many came before this one. None of its records and values are read but for their lengths
-/// and the offsets of channels of variable length.
+/// before the next one, where so many came before this one. Of the places of records with ids those are kept that are wanted;
+/// the others are counted. None of its records and values are read but for their lengths and the offsets of channels of variable
+/// length.
 ///
 /// # Errors
 /// The first fault in this order: `Layout` of its id size; `Layout` of the first channel that breaks a rule; the fault of
@@ -220,15 +223,16 @@ fn data_at_in<P: Span>(
 /// there are; and of the groups in order, of each channel of variable length the fault of its link to data, and `Offset`
 /// of the first record whose offset meets no value. The span's own; and want of memory, which is answered too where the
 /// room does not suffice for the parts of the values.
-#[tactic(auto, unfolding(crate::specs::Found::data_found))]
+#[tactic(auto, unfolding(crate::specs::Kept::data_kept))]
 pub fn data_found_in<P: Span>(
     alloc: Global,
     span: &mut P,
     row: &DataRow,
+    wanted: Wanted,
     number: u32,
     room: &mut Room,
 ) -> Result<(DataFound, u32), Halt<ReadFault>>
-    ensures found { (f : List ℕ) → P.bytes span.old ≡ Some f → Gives read_refusal result (data_found f row.now number) }
+    ensures found { (f : List ℕ) → P.bytes span.old ≡ Some f → Gives read_refusal result (data_kept wanted f row.now number) }
     ensures inside { IfOk result (λ found. IsFoundInside (P.size span.old) found.0) }
     ensures plain { IfErr result (IsPlain read_refusal) }
     ensures same { P.bytes span.new ≡ P.bytes span.old }
@@ -237,7 +241,7 @@ pub fn data_found_in<P: Span>(
 {
     layouts_in(alloc, span, row)?;
     let view = view_of(alloc, span, row.content, Kind::Dt)?;
-    let lists = records_in(alloc, span, &view, true, row)?;
+    let lists = kept_records_in(alloc, span, &view, true, wanted, row)?;
     let next = counted_in(alloc, span, lists.as_slice(), row.groups.as_slice(), number)?;
     let found = data_at_in(alloc, span, view, row, lists, room)?;
     Ok((found, next))

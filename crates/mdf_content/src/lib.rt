@@ -14,6 +14,7 @@ mod room;
 mod streams;
 mod taken;
 mod values;
+mod wanted;
 
 pub use contents::{Contents, DataContents, fetch_in};
 pub use fault::ReadFault;
@@ -25,3 +26,4 @@ pub use room::Room;
 pub use streams::streams_in;
 pub use taken::fetch_from;
 pub use values::{Held, Records, place_at, places_or, values_table};
+pub use wanted::Wanted;

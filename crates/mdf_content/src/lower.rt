@@ -5,7 +5,8 @@ ghost use Rattle.mdf_stream.specs.Parts.{stream_of, stream_size, ArePartsInside}
 ghost use Rattle.mdf_stream.specs.declared.part.Part.{Part};
 ghost use Rattle.mdf_stream.specs.Link.{data_parts, data_refusal};
 ghost use Rattle.mdf_data.specs.Record.{IsIdSize};
-ghost use Rattle.mdf_data.specs.Places.{places, HaveRoom};
+ghost use Rattle.mdf_data.specs.Kept.{kept_places};
+ghost use Rattle.mdf_data.specs.Places.{HaveRoom};
 ghost use Rattle.mdf_content.specs.Fault.{read_refusal};
 
 use crate::ReadFault;
@@ -66,19 +67,21 @@ pub(crate) fn view_of<P: Span>(
     }
 }
 
-/// The places of the records of a stream with ids, with the faults of this crate.
+/// The places of the records of a stream with ids, of which those of some groups are counted alone, with the faults of this
+/// crate.
 pub(crate) fn places_with<P: Span>(
     alloc: Global,
     span: &mut P,
     view: &DataView,
     id_size: u8,
     known: &[Known],
+    counted: &[bool],
 ) -> Result<Rows<Places>, Halt<ReadFault>>
     requires id_size { IsIdSize id_size }
     requires few { length known.now < 2 ^ 32 }
     requires inside { ArePartsInside (P.size span.old) view.now }
     ensures found { (f : List ℕ) → P.bytes span.old ≡ Some f →
-        Gives read_refusal result (places (stream_of f view.now) (stream_size view.now) id_size known.now) }
+        Gives read_refusal result (kept_places (stream_of f view.now) (stream_size view.now) id_size known.now counted.now) }
     ensures count { IfOk result (λ lists. length lists ≡ length known.now) }
     ensures room { IfOk result (HaveRoom (stream_size view.now) known.now) }
     ensures plain { IfErr result (IsPlain read_refusal) }
@@ -86,7 +89,7 @@ pub(crate) fn places_with<P: Span>(
     ensures size { P.size span.new ≡ P.size span.old }
     ensures cause { HaltCause true (P.faults span.old) (P.faults span.new) result }
 {
-    match places_in(alloc, span, view, id_size, known) {
+    match places_in(alloc, span, view, id_size, known, counted) {
         Ok(lists) => Ok(lists),
         Err(Halt::Fault(SplitFault::UnknownId { id, at })) => Err(Halt::Fault(ReadFault::UnknownId {
             id,

@@ -4,6 +4,7 @@ ghost use Rattle.mdf_block.specs.Refusal.{Gives, IsPlain};
 ghost use Rattle.mdf_stream.specs.Parts.{stream_of, stream_size, ArePartsInside};
 ghost use Rattle.mdf_data.specs.Places.{HaveRoom};
 ghost use Rattle.mdf_content.specs.Fault.{read_refusal};
+ghost use Rattle.mdf_content.specs.Kept.{kept_of};
 ghost use Rattle.mdf_content.specs.Layouts.{has_id_size};
 ghost use Rattle.mdf_content.specs.Records.{
   record_size,
@@ -19,6 +20,7 @@ ghost use Rattle.mdf_content.specs.Records.{
 use crate::ReadFault;
 use crate::layouts::is_variable;
 use crate::lower::places_with;
+use crate::wanted::{Wanted, counted_alone};
 use mdf_block::{Visit, What, every_in};
 use mdf_data::{DataView, Known, Places, Size, places_alone};
 use mdf_group::{DataRow, GroupRow};
@@ -123,7 +125,6 @@ fn places_without_ids(
 /// `TooMany` with the address of the group exactly where its records have no bytes, there are no ids, and it says more
 /// than 268,435,456 of them; `UnknownId` exactly where a whole id stands at a place and no group has it; `Cut` exactly
 /// where fewer bytes than an id has are left, or the record of a known id is not whole; the span's own; want of memory.
-#[tactic(auto, unfolding(crate::specs::Records::places_of))]
 pub fn records_in<P: Span>(
     alloc: Global,
     span: &mut P,
@@ -141,6 +142,32 @@ pub fn records_in<P: Span>(
     ensures size { P.size span.new ≡ P.size span.old }
     ensures cause { HaltCause true (P.faults span.old) (P.faults span.new) result }
 {
+    kept_records_in(alloc, span, view, believed, Wanted::Every, row)
+}
+
+/// The same, with the places that are wanted: of a group whose records are counted alone each place is told as 0.
+///
+/// # Errors
+/// As `records_in`.
+#[tactic(auto, unfolding(crate::specs::Kept::kept_of))]
+pub(crate) fn kept_records_in<P: Span>(
+    alloc: Global,
+    span: &mut P,
+    view: &DataView,
+    believed: bool,
+    wanted: Wanted,
+    row: &DataRow,
+) -> Result<Rows<Places>, Halt<ReadFault>>
+    requires ids { IsTrue (has_id_size row.now) }
+    requires inside { ArePartsInside (P.size span.old) view.now }
+    ensures found { (f : List ℕ) → P.bytes span.old ≡ Some f →
+        Gives read_refusal result (kept_of wanted (stream_of f view.now) (stream_size view.now) believed row.now) }
+    ensures room { IfOk result (HaveRoom (stream_size view.now) (map known_of row.now.groups)) }
+    ensures plain { IfErr result (IsPlain read_refusal) }
+    ensures same { P.bytes span.new ≡ P.bytes span.old }
+    ensures size { P.size span.new ≡ P.size span.old }
+    ensures cause { HaltCause true (P.faults span.old) (P.faults span.new) result }
+{
     let groups = row.groups.as_slice();
     if row.id_size == 0 {
         let lists = places_without_ids(alloc, view.len(), believed, groups)?;
@@ -150,7 +177,15 @@ pub fn records_in<P: Span>(
         return Err(Halt::Memory);
     }
     let known = known_groups(alloc, groups)?;
-    places_with(alloc, span, view, row.id_size, known.as_slice())
+    let counted = counted_alone(alloc, wanted, groups)?;
+    places_with(
+        alloc,
+        span,
+        view,
+        row.id_size,
+        known.as_slice(),
+        counted.as_slice(),
+    )
 }
 
 /// How many places list `k` has; none past the end.

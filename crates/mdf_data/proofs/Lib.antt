@@ -4,3 +4,4 @@ pub mod Steps
 pub mod Splits
 pub mod Pieces
 pub mod Alones
+pub mod Kepts

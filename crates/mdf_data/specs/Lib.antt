@@ -3,3 +3,4 @@ pub mod Splitting
 pub mod Places
 pub mod Table
 pub mod Split
+pub mod Kept

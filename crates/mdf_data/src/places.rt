@@ -1,4 +1,5 @@
 ghost use Rattle.std.specs.Prelude.{◌≡◌, ◌+◌, ◌*◌, ◌^◌, ◌<◌, ◌++◌, ◌∷◌, [], length, slice_get, IfSome, OnOk, OnErr};
+ghost use Rattle.mdf_data.specs.Kept.{untold};
 ghost use Rattle.mdf_data.specs.Places.{steps};
 
 use crate::listed::Listed;
@@ -87,5 +88,22 @@ impl Places {
         ensures err { OnErr result (self.new ≡ self.old) }
     {
         self.listed.push(place)
+    }
+
+    /// Counts one place more and keeps none of them: each is told as 0. They take no memory. After an error the places are as
+    /// before.
+    ///
+    /// # Errors
+    /// 2^62 places count as want of memory.
+    pub fn count(&mut self, alloc: Global) -> Result<(), Memory>
+        ensures ok { OnOk result (self.new ≡ untold (length self.old + 1)) }
+        ensures err { OnErr result (self.new ≡ self.old) }
+    {
+        let count = self.len();
+        if count >= (1 << 62) - 1 {
+            return Err(Memory);
+        }
+        *self = Places::even(alloc, count + 1, 0);
+        Ok(())
     }
 }

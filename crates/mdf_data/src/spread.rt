@@ -1,4 +1,4 @@
-ghost use Rattle.std.specs.Prelude.{◌≡◌, ◌+◌, ◌-◌, ◌^◌, ◌≤◌, ◌<◌, [], ℕ, List, Some, length, replicate, true, IfOk, IfSome, OnOk};
+ghost use Rattle.std.specs.Prelude.{◌≡◌, ◌+◌, ◌-◌, ◌^◌, ◌≤◌, ◌<◌, [], ℕ, List, Some, length, replicate, slice_index_or, true, false, IfOk, IfSome, OnOk};
 ghost use Rattle.std.specs.BTreeMap.{get};
 ghost use Rattle.std.specs.Ordering.{nat_cmp};
 ghost use Rattle.mdf_num.specs.Halt.{HaltCause};
@@ -7,7 +7,8 @@ ghost use Rattle.mdf_data.specs.declared.known.Known.{Known};
 ghost use Rattle.mdf_stream.specs.Parts.{stream_of, stream_size, ArePartsInside};
 ghost use Rattle.mdf_data.specs.Record.{IsIdSize, piece_at, split_refusal, IsPieceAt};
 ghost use Rattle.mdf_data.specs.Table.{IsTable};
-ghost use Rattle.mdf_data.specs.Places.{with_place, places, places_alone, HaveRoom};
+ghost use Rattle.mdf_data.specs.Places.{with_place, places_alone, HaveRoom};
+ghost use Rattle.mdf_data.specs.Kept.{kept_places, with_kept};
 
 use crate::known::Group;
 use crate::record::{group_piece_in, id_here_in};
@@ -66,8 +67,38 @@ fn add_place(lists: &mut Vec<Places>, which: u32, place: u64) -> Result<(), Memo
     lists[which as usize].push(place)
 }
 
-/// The places of the bodies of all records of a stream with ids of so many bytes, group by group, read through a span.
-/// An id that stands twice belongs to the first group that has it.
+/// Adds a place of a group, or counts it alone.
+fn add_or_count(
+    alloc: Global,
+    lists: &mut Vec<Places>,
+    counted: bool,
+    which: u32,
+    place: u64,
+) -> Result<(), Memory>
+    requires { which < length lists.old.items }
+    ensures { OnOk result (lists.new.items ≡ with_kept counted lists.old.items which place) }
+{
+    if counted {
+        return lists[which as usize].count(alloc);
+    }
+    add_place(lists, which, place)
+}
+
+/// Whether the places of a group are counted alone.
+fn is_counted(counted: &[bool], which: u32) -> bool
+    ensures { result ≡ slice_index_or counted.now which false }
+{
+    let which = which as usize;
+    if which < counted.len() {
+        counted[which]
+    } else {
+        false
+    }
+}
+
+/// The places of the bodies of all records of a stream with ids of so many bytes, group by group, read through a span. Those
+/// of the groups that are counted alone are not kept: each is told as 0, and takes no memory; of groups behind the last of
+/// `counted` all are kept. An id that stands twice belongs to the first group that has it.
 ///
 /// # Errors
 /// `UnknownId` exactly where a whole id stands at the place and no group has it. `Cut` exactly where fewer bytes than an
@@ -79,12 +110,13 @@ pub fn places_in<P: Span>(
     view: &DataView,
     id_size: u8,
     known: &[Known],
+    counted: &[bool],
 ) -> Result<Rows<Places>, Halt<SplitFault>>
     requires id_size { IsIdSize id_size }
     requires few { length known.now < 2 ^ 32 }
     requires inside { ArePartsInside (P.size span.old) view.now }
     ensures found { (f : List ℕ) → P.bytes span.old ≡ Some f →
-        Gives split_refusal result (places (stream_of f view.now) (stream_size view.now) id_size known.now) }
+        Gives split_refusal result (kept_places (stream_of f view.now) (stream_size view.now) id_size known.now counted.now) }
     ensures count { IfOk result (λ lists. length lists ≡ length known.now) }
     ensures room { IfOk result (HaveRoom (stream_size view.now) known.now) }
     ensures same { P.bytes span.new ≡ P.bytes span.old }
@@ -96,7 +128,14 @@ pub fn places_in<P: Span>(
     let mut at = 0;
     let mut near = 0;
     'records: while let Some(piece) = piece_by(span, view, id_size, &table, at, &mut near)? {
-        add_place(&mut lists, piece.which, piece.at + id_size as u64)?;
+        let alone = is_counted(counted, piece.which);
+        add_or_count(
+            alloc,
+            &mut lists,
+            alone,
+            piece.which,
+            piece.at + id_size as u64,
+        )?;
         at = piece.at + piece.len;
     }
     Ok(Rows::from_vec(lists))

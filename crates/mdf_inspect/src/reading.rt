@@ -53,7 +53,7 @@ fn read_branded<A: Disk, K: Asked>(alloc: Global, first: A) -> (Result<PagedMeas
     match Kept::<A, K>::begin(alloc, first) {
         Ok(kept) => {
             let mut kept = kept;
-            let read = PagedMeasurement::read(alloc, &mut kept);
+            let read = PagedMeasurement::read_counted(alloc, &mut kept);
             let first = kept.into_disk();
             match read {
                 Ok(found) => (Ok(found), first),

@@ -12,6 +12,7 @@ mod Firsts
 pub mod Fronts
 pub mod Insides
 pub mod Items
+pub mod Kepts
 pub mod Fetches
 pub mod Onces
 pub mod Picks

@@ -2,6 +2,7 @@ pub mod Tree
 pub mod Whole
 pub mod Measurement
 pub mod Found
+pub mod Kept
 pub mod Bodies
 pub mod Contents
 pub mod InWords

@@ -22,4 +22,4 @@ pub use measurement::{Measurement, read_measurement, take_measurement};
 pub use part::{GroupPart, Measure};
 pub use read::{read_file, take_file};
 pub use tree::{Tree, tree_in};
-pub use whole::{Whole, WholeFound, whole_found_in, whole_in};
+pub use whole::{Whole, WholeFound, whole_found_in, whole_in, whole_kept_in};

@@ -5,7 +5,8 @@ ghost use Rattle.mdf_block.specs.Refusal.{Gives, HidesNone, IsPlain};
 ghost use Rattle.mdf_content.specs.Fault.{read_refusal};
 ghost use Rattle.mdf_content.specs.Contents.{AllHaveSamples};
 ghost use Rattle.mdf_content.specs.Found.{IsFoundInside, data_fetched};
-ghost use Rattle.mdf_model.specs.Found.{all_found, whole_found};
+ghost use Rattle.mdf_model.specs.Found.{whole_found};
+ghost use Rattle.mdf_model.specs.Kept.{all_kept, whole_kept};
 ghost use Rattle.mdf_model.specs.Tree.{finalized};
 ghost use Rattle.mdf_model.specs.Whole.{whole};
 
@@ -13,7 +14,7 @@ use crate::Tree;
 use crate::identity::finalized_in;
 use crate::tree::tree_in;
 use mdf_block::{Visit, every_in};
-use mdf_content::{DataContents, DataFound, ReadFault, Room, data_found_in, fetch_in};
+use mdf_content::{DataContents, DataFound, ReadFault, Room, Wanted, data_found_in, fetch_in};
 use mdf_group::DataRow;
 use mdf_head::Ident;
 use mdf_num::{Halt, Memory, Rows, Span, Stop};
@@ -41,12 +42,15 @@ pub struct WholeFound {
     pub found: Rows<DataFound>,
 }
 
-/// The data groups of a file.
-struct DataGroups;
+/// The data groups of a file, with the places that are wanted.
+#[derive(Drop)]
+struct DataGroups {
+    wanted: Wanted,
+}
 
 impl Visit for DataGroups {
     ghost use Rattle.mdf_content.specs.Found.{IsFoundInside};
-    ghost use Rattle.mdf_model.specs.Found.{data_place};
+    ghost use Rattle.mdf_model.specs.Kept.{kept_place};
 
     type Item = DataRow;
 
@@ -60,7 +64,7 @@ impl Visit for DataGroups {
 
     ghost refusal = { read_refusal };
 
-    ghost read = { λ _. data_place };
+    ghost read = { λ groups. kept_place groups.wanted };
 
     ghost needs = { λ _ _. Unit {0} };
 
@@ -77,19 +81,20 @@ impl Visit for DataGroups {
         number: u32,
         room: &mut Room,
     ) -> Result<(Option<DataFound>, u32), Halt<ReadFault>> {
-        let (found, next) = data_found_in(alloc, span, item, number, room)?;
+        let (found, next) = data_found_in(alloc, span, item, self.wanted, number, room)?;
         Ok((Some(found), next))
     }
 }
 
 /// Where what the data groups hold stands.
-#[tactic(auto, unfolding(crate::specs::Found::all_found))]
+#[tactic(auto, unfolding(crate::specs::Kept::all_kept))]
 fn all_found_in<P: Span>(
     alloc: Global,
     span: &mut P,
     rows: &[DataRow],
+    wanted: Wanted,
 ) -> Result<Rows<DataFound>, Halt<ReadFault>>
-    ensures found { (f : List ℕ) → P.bytes span.old ≡ Some f → Gives read_refusal result (all_found f rows.now) }
+    ensures found { (f : List ℕ) → P.bytes span.old ≡ Some f → Gives read_refusal result (all_kept wanted f rows.now) }
     ensures inside { IfOk result (AllByRecursion (IsFoundInside (P.size span.old))) }
     ensures plain { IfErr result (IsPlain read_refusal) }
     ensures same { P.bytes span.new ≡ P.bytes span.old }
@@ -97,7 +102,7 @@ fn all_found_in<P: Span>(
     ensures cause { HaltCause true (P.faults span.old) (P.faults span.new) result }
 {
     let mut room = Room::of_file(span);
-    let (found, _) = every_in(alloc, &DataGroups, span, rows, 0, &mut room)?;
+    let (found, _) = every_in(alloc, &DataGroups { wanted }, span, rows, 0, &mut room)?;
     Ok(found)
 }
 
@@ -108,7 +113,6 @@ fn all_found_in<P: Span>(
 /// The first fault in this order: of the identification; of the tree, as `tree_in`; and of the data groups in order, as
 /// `data_found_in`. The span's own; and want of memory, which is answered too where the values have more parts than the file
 /// has bytes.
-#[tactic(auto, unfolding(crate::specs::Found::whole_found))]
 pub fn whole_found_in<P: Span>(alloc: Global, span: &mut P) -> Result<WholeFound, Halt<ReadFault>>
     ensures found { (f : List ℕ) → P.bytes span.old ≡ Some f → Gives read_refusal result (whole_found f) }
     ensures first { (f : List ℕ) → P.bytes span.old ≡ Some f → HidesNone P.may_want result (finalized f) }
@@ -118,9 +122,30 @@ pub fn whole_found_in<P: Span>(alloc: Global, span: &mut P) -> Result<WholeFound
     ensures size { P.size span.new ≡ P.size span.old }
     ensures cause { HaltCause true (P.faults span.old) (P.faults span.new) result }
 {
+    whole_kept_in(alloc, span, Wanted::Every)
+}
+
+/// The same, with the places of records that are wanted: of a group whose records are counted alone each place is told as 0.
+///
+/// # Errors
+/// As `whole_found_in`.
+#[tactic(auto, unfolding(crate::specs::Kept::whole_kept))]
+pub fn whole_kept_in<P: Span>(
+    alloc: Global,
+    span: &mut P,
+    wanted: Wanted,
+) -> Result<WholeFound, Halt<ReadFault>>
+    ensures found { (f : List ℕ) → P.bytes span.old ≡ Some f → Gives read_refusal result (whole_kept wanted f) }
+    ensures first { (f : List ℕ) → P.bytes span.old ≡ Some f → HidesNone P.may_want result (finalized f) }
+    ensures inside { IfOk result (λ all. AllByRecursion (IsFoundInside (P.size span.old)) all.found) }
+    ensures plain { IfErr result (IsPlain read_refusal) }
+    ensures same { P.bytes span.new ≡ P.bytes span.old }
+    ensures size { P.size span.new ≡ P.size span.old }
+    ensures cause { HaltCause true (P.faults span.old) (P.faults span.new) result }
+{
     let ident = finalized_in(span)?;
     let tree = tree_in(alloc, span)?;
-    let found = all_found_in(alloc, span, tree.rows.as_slice())?;
+    let found = all_found_in(alloc, span, tree.rows.as_slice(), wanted)?;
     Ok(WholeFound { ident, tree, found })
 }
 

@@ -2,3 +2,4 @@ pub mod Measures
 mod Numbers
 mod Placed
 pub mod Shown
+pub mod Kepts

@@ -7,18 +7,20 @@ ghost use Rattle.mdf_content.specs.Found.{IsFoundInside, IsGroupInside};
 ghost use Rattle.mdf_stream.specs.Parts.{ArePartsInside};
 ghost use Rattle.mdf_content.specs.declared.found.DataFound.{DataFound};
 ghost use Rattle.mdf_model.specs.declared.part.Measure.{Measure};
+ghost use Rattle.mdf_content.specs.declared.wanted.Wanted.TheVariants as wants;
 ghost use Rattle.mdf_model.specs.Found.{GivesSeen, measured_from, whole_found};
+ghost use Rattle.mdf_model.specs.Kept.{found_kept};
 ghost use Rattle.mdf_model.specs.Measurement.{measurement, sample_of};
 ghost use Rattle.mdf_paged.specs.Groups.{Located, group_rows, groups_of, is_strict, located};
 
 use crate::index::{GroupNumber, numbers_of};
 use crate::sample::sample_of;
-use mdf_content::{DataFound, Found, ReadFault};
+use mdf_content::{DataFound, Found, ReadFault, Wanted};
 use mdf_group::{DataRow, GroupRow};
 use mdf_head::Ident;
 use mdf_layout::Entries;
-use mdf_model::{WholeFound, whole_found_in};
-use mdf_num::{Halt, Rows, Span, Stop};
+use mdf_model::{WholeFound, whole_found_in, whole_kept_in};
+use mdf_num::{Halt, Memory, Rows, Span, Stop};
 use std::alloc::Global;
 use std::marker::Model;
 
@@ -94,9 +96,39 @@ impl PagedMeasurement {
         ensures cause { HaltCause true (P.faults span.old) (P.faults span.new) result }
     {
         let all = whole_found_in(alloc, span)?;
+        let found = PagedMeasurement::numbered(alloc, all)?;
+        Ok(found)
+    }
+
+    /// The same for a caller that needs no samples. Of records with ids only those places are kept that are needed to find the
+    /// values of variable length: of groups that hold such values, and of groups with channels that refer to them. Those of the
+    /// other groups are counted: each place is told as 0.
+    ///
+    /// # Errors
+    /// As `read`.
+    pub fn read_counted<P: Span>(
+        alloc: Global,
+        span: &mut P,
+    ) -> Result<PagedMeasurement, Halt<ReadFault>>
+        ensures found { (f : List ℕ) → P.bytes span.old ≡ Some f → Gives read_refusal result (found_kept wants.Values f) }
+        ensures inside { IfOk result (λ m. AllByRecursion (IsFoundInside (P.size span.old)) m.found) }
+        ensures plain { IfErr result (IsPlain read_refusal) }
+        ensures same { P.bytes span.new ≡ P.bytes span.old }
+        ensures size { P.size span.new ≡ P.size span.old }
+        ensures cause { HaltCause true (P.faults span.old) (P.faults span.new) result }
+    {
+        let all = whole_kept_in(alloc, span, Wanted::Values)?;
+        let found = PagedMeasurement::numbered(alloc, all)?;
+        Ok(found)
+    }
+
+    /// What is found of a file, with the numbers of its groups.
+    fn numbered(alloc: Global, all: WholeFound) -> Result<PagedMeasurement, Memory>
+        ensures { IfOk result (λ m. m ≡ all) }
+    {
         let index = numbers_of(alloc, all.tree.rows.as_slice(), all.found.as_slice())?;
         if index.len() > u32::MAX as usize {
-            return Err(Halt::Memory);
+            return Err(Memory);
         }
         Ok(PagedMeasurement { all, index })
     }
@@ -176,7 +208,8 @@ impl PagedMeasurement {
     }
 
     /// Sample `i` of a group, counted from 0, read out of a span of the same bytes: an entry for each of its channels. A
-    /// virtual channel's value is `i`. One record is read, and the values that its offsets name.
+    /// virtual channel's value is `i`. One record is read, and the values that its offsets name. Nothing is said of a sample where
+    /// the places were counted alone.
     ///
     /// # Errors
     /// The span's own; and want of memory, as which it counts too where an offset meets no value, in a span of other bytes.

@@ -197,22 +197,60 @@ const RECORDS: &[(Split, &str)] = &[
 /// How many bytes an id has, the groups, and the body of a block of data.
 struct Split(u8, &'static [Known], &'static [u8]);
 
+// The places of its records, where those of these groups are counted alone.
+fn counted_told(alloc: Global, split: &Split, counted: &[bool]) -> Result<String, Memory> {
+    let Split(id_size, known, body) = *split;
+    if body.len() > 1000 || known.len() > 1000 || !matches!(id_size, 1 | 2 | 4 | 8) {
+        return Err(Memory);
+    }
+    let mut view = DataView::empty(alloc);
+    view.add(0, body.len() as u64)?;
+    let mut span = SliceSpan::new(body);
+    let answer = places_in(alloc, &mut span, &view, id_size, known, counted);
+    shown(alloc, &answer)
+}
+
 impl Told for Split {
     fn told(&self, alloc: Global) -> Result<String, Memory> {
-        let Split(id_size, known, body) = *self;
-        if body.len() > 1000 || known.len() > 1000 || !matches!(id_size, 1 | 2 | 4 | 8) {
-            return Err(Memory);
-        }
-        let mut view = DataView::empty(alloc);
-        view.add(0, body.len() as u64)?;
-        let answer = places_in(alloc, &mut SliceSpan::new(body), &view, id_size, known);
-        shown(alloc, &answer)
+        counted_told(alloc, self, &[])
     }
 }
 
 #[test]
 fn records_are_told(rt: HostRuntime) -> Result<(), Memory> {
     all_are_told(&rt, RECORDS)
+}
+
+// Which groups are counted alone, and what is told of the places of three records, of which the second is of the first group.
+const COUNTED: &[(Counted, &str)] = &[
+    (
+        Counted(&[true, false], THREE),
+        "Ok(Rows { items: [Places { even: 1, step: 0, listed: Listed { short: [], long: Rows { items: [] } } }, Places { even: 0, step: 0, listed: Listed { short: [1, 13], long: Rows { items: [] } } }] })",
+    ),
+    (
+        Counted(&[false, true], THREE),
+        "Ok(Rows { items: [Places { even: 0, step: 0, listed: Listed { short: [4], long: Rows { items: [] } } }, Places { even: 2, step: 0, listed: Listed { short: [], long: Rows { items: [] } } }] })",
+    ),
+    (
+        Counted(&[true], THREE),
+        "Ok(Rows { items: [Places { even: 1, step: 0, listed: Listed { short: [], long: Rows { items: [] } } }, Places { even: 0, step: 0, listed: Listed { short: [1, 13], long: Rows { items: [] } } }] })",
+    ),
+];
+
+const THREE: Split = Split(1, &[EIGHT, TWO], b"\x02aa\x01bbbbbbbb\x02cc");
+
+/// Which groups are counted alone, and the records.
+struct Counted(&'static [bool], Split);
+
+impl Told for Counted {
+    fn told(&self, alloc: Global) -> Result<String, Memory> {
+        counted_told(alloc, &self.1, self.0)
+    }
+}
+
+#[test]
+fn records_are_counted_alone(rt: HostRuntime) -> Result<(), Memory> {
+    all_are_told(&rt, COUNTED)
 }
 
 // A DLBLOCK that names one block.
@@ -592,7 +630,7 @@ impl Stopped for PlaceReader {
         }
         let mut view = DataView::empty(alloc);
         view.add(0, len)?;
-        let answer = places_in(alloc, &mut span, &view, 1, &[EIGHT, TWO]);
+        let answer = places_in(alloc, &mut span, &view, 1, &[EIGHT, TWO], &[]);
         shown(alloc, &answer)
     }
 }

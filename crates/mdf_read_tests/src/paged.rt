@@ -237,3 +237,55 @@ fn both_measurements_tell_the_same(rt: HostRuntime) -> Result<(), Memory> {
     }
     Ok(())
 }
+
+// How many groups, links that were passed over, and whether the file is as the standard has it; and of each group how many
+// samples.
+fn counts_told<S: Sampled>(alloc: Global, m: &S) -> Result<String, Memory> {
+    let (groups, dropped, strict) = (m.groups(), m.dropped(), m.strict());
+    let mut text = format!(in alloc; "{groups} {dropped} {strict}")?;
+    for group in 0..groups {
+        let count = m.samples(group);
+        write!(text, " {count}")?;
+    }
+    Ok(text)
+}
+
+fn read_told(
+    alloc: Global,
+    file: &[u8],
+    read: Result<PagedMeasurement, Halt<ReadFault>>,
+) -> Result<String, Memory> {
+    match read {
+        Ok(found) => counts_told(
+            alloc,
+            &InFile {
+                found: &found,
+                file,
+            },
+        ),
+        Err(halt) => halt_told(alloc, &halt),
+    }
+}
+
+fn counts_tell_the_same<R: AllocGlobal + Abort>(
+    rt: &R,
+    i: usize,
+    changes: &[(usize, u64)],
+) -> Result<(), Memory> {
+    let file = changed(rt.alloc(), changes)?;
+    let bytes = file.as_slice();
+    let counted = PagedMeasurement::read_counted(rt.alloc(), &mut SliceSpan::new(bytes));
+    let whole = PagedMeasurement::read(rt.alloc(), &mut SliceSpan::new(bytes));
+    let told = read_told(rt.alloc(), bytes, counted)?;
+    let want = read_told(rt.alloc(), bytes, whole)?;
+    assert_eq!(rt; told.as_str(), want.as_str(), "row {i}");
+    Ok(())
+}
+
+#[test]
+fn records_that_are_counted_tell_the_same(rt: HostRuntime) -> Result<(), Memory> {
+    for (i, changes) in BOTH.iter().enumerate() {
+        counts_tell_the_same(&rt, i, *changes)?;
+    }
+    Ok(())
+}

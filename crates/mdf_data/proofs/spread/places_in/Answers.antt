@@ -1,17 +1,22 @@
-use Rattle.std.proofs.Common.{◌+◌, ◌≤◌, ℕ, List, Ok, length, refl, sym, ◌∙◌, ap, arith}
+use Rattle.std.proofs.Common.{◌≡◌, ◌+◌, ◌≤◌, ℕ, Bool, false, List, Ok, length, get_or, refl, sym, ◌∙◌, ap, subst, arith}
 use Rattle.std.proofs.lemmas.List.{length-replicate}
-use Rattle.std.proofs.Math.ListN.{length-set}
 use Rattle.std.specs.BTreeMap.{get}
 use Rattle.std.specs.Ordering.{nat_cmp}
 use Rattle.std.proofs.lemmas.Result.{err_from_is_err_and}
+use Rattle.mdf_block.specs.Refusal.{Read, ◌>>=◌}
+use Rattle.mdf_block.proofs.Refusals.{halts_then}
 use Rattle.mdf_stream.specs.Parts.{stream_of, stream_size}
 use Rattle.mdf_data.specs.Record.{split_refusal}
-use Rattle.mdf_data.proofs.Spreads.{begins, goes_on, is_done, ends, none_of, room_more, room_none, some_stands, moves_on, shrinks}
+use Rattle.mdf_data.specs.Places.{places, HaveRoom}
+use Rattle.mdf_data.specs.Kept.{kept, kept_places, with_kept}
+use Rattle.mdf_data.proofs.Kepts.{LeadsKept, kept_begins, kept_goes_on, length-with_kept, room_kept}
+use Rattle.mdf_data.proofs.Spreads.{is_done, ends, none_of, room_none, some_stands, moves_on, shrinks}
 use Rattle.mdf_data.proofs.spread.places_in.Goals as goal
 
 pub records-init : goal.records-init
 records-init g c = record {
-  found = λ f told. rw c.in_ok-lists.ensures (begins (stream_of f c.args.view.now) (stream_size c.args.view.now) c.args.id_size c.args.known.now);
+  found = λ f told.
+      rw c.in_ok-lists.ensures (kept_begins (stream_of f c.args.view.now) (stream_size c.args.view.now) c.args.id_size c.args.known.now c.args.counted.now);
   count = ap length c.in_ok-lists.ensures ∙ length-replicate {A = List ℕ} _ _;
   room = λ k d e below. rw c.in_ok-lists.ensures (room_none (stream_size c.args.view.now) c.args.known.now _ k d e below);
   within = omega arith;
@@ -21,13 +26,17 @@ records-init g c = record {
 }
 
 pub returns-in_err-piece-clause-found : goal.returns-in_err-piece-clause-found
+unfolding kept_places
 returns-in_err-piece-clause-found g c = λ f told.
     let p = err_from_is_err_and c.from_residual-in_err-piece.result c.from_residual-in_err-piece.ensures.1 in
     let loop = c.records in
+    let stream = stream_of f c.args.view.now in
+    let total = stream_size c.args.view.now in
     let halted = c.in_err-piece.ensures.found f c.args.known.now (loop.invariant.same ∙ told) c.in_ok-table.ensures in
+    let so_far = loop.invariant.found f told in
     rw (p.1, p.2) (
-    ends (stream_of f c.args.view.now) (stream_size c.args.view.now) c.args.id_size c.args.known.now split_refusal _ loop.lists.items loop.at _ halted
-    (loop.invariant.found f told)
+    halts_then split_refusal _ (places stream total c.args.id_size c.args.known.now) (λ lists. Ok (kept lists c.args.counted.now))
+    (ends stream total c.args.id_size c.args.known.now split_refusal _ so_far.all loop.at _ halted so_far.leads)
     )
 
 pub records-smaller : goal.records-smaller
@@ -44,23 +53,28 @@ records-preserved g c =
     let loop = c.records in
     let total = stream_size c.args.view.now in
     let piece = c.in-Some.piece in
+    let known = c.args.known.now in
+    let counted = c.args.counted.now in
+    let place = piece.at + c.args.id_size in
     let stands =
-    some_stands total c.args.id_size c.args.known.now (get nat_cmp c.in_ok-table.table) loop.at c.in_ok-piece.field-0 piece c.in-Some.is
+    some_stands total c.args.id_size known (get nat_cmp c.in_ok-table.table) loop.at c.in_ok-piece.field-0 piece c.in-Some.is
     c.in_ok-piece.ensures.piece c.in_ok-table.ensures in
-    let more = moves_on total c.args.id_size c.args.known.now loop.at piece c.requires.id_size stands in
+    let more = moves_on total c.args.id_size known loop.at piece c.requires.id_size stands in
     let ends : piece.at + piece.len ≤ total = omega (arith, stands.begins, stands.ends) in
+    let added : c.add_or_count.new.lists.items ≡ with_kept (get_or counted piece.which false) loop.lists.items piece.which place =
+    c.in_ok-add_or_count.ensures ∙ ap (λ (b : Bool). with_kept b loop.lists.items piece.which place) c.is_counted-alone.ensures in
     record {
       found = λ f told.
-          let found =
-          c.in_ok-piece.ensures.found f c.args.known.now (loop.invariant.same ∙ told) c.in_ok-table.ensures ∙ ap Ok c.in-Some.is in
-          rw c.in_ok-add_place.ensures (
-          goes_on (stream_of f c.args.view.now) total c.args.id_size c.args.known.now loop.lists.items loop.at piece _ found ends more
-          (loop.invariant.found f told)
-          );
-      count = ap length c.in_ok-add_place.ensures ∙ length-set loop.lists.items _ _ ∙ loop.invariant.count;
-      room = λ k d e below. rw c.in_ok-add_place.ensures (
-          room_more total c.args.id_size c.args.known.now loop.lists.items loop.at piece loop.invariant.room loop.invariant.count stands k d e below
-          );
+          let stream = stream_of f c.args.view.now in
+          let whole = places stream total c.args.id_size known in
+          let found = c.in_ok-piece.ensures.found f known (loop.invariant.same ∙ told) c.in_ok-table.ensures ∙ ap Ok c.in-Some.is in
+          subst (λ (lists : List (List ℕ)). LeadsKept stream total c.args.id_size known counted lists (piece.at + piece.len) whole) (sym added)
+          (kept_goes_on stream total c.args.id_size known counted loop.lists.items loop.at piece whole found ends more (loop.invariant.found f told));
+      count =
+          ap length added ∙ length-with_kept (get_or counted piece.which false) loop.lists.items piece.which place ∙ loop.invariant.count;
+      room =
+          subst (HaveRoom total known) (sym added)
+          (room_kept (get_or counted piece.which false) total c.args.id_size known loop.lists.items loop.at piece loop.invariant.room loop.invariant.count stands);
       within = ends;
       same = c.in_ok-piece.ensures.same ∙ loop.invariant.same;
       size = c.in_ok-piece.ensures.size ∙ loop.invariant.size;
@@ -68,14 +82,18 @@ records-preserved g c =
     }
 
 pub returns-clause-found : goal.returns-clause-found
+unfolding kept_places
 returns-clause-found g c = λ f told.
     let loop = c.records in
+    let stream = stream_of f c.args.view.now in
+    let total = stream_size c.args.view.now in
+    let so_far = loop.invariant.found f told in
     let found =
     c.in_ok-piece.ensures.found f c.args.known.now (loop.invariant.same ∙ told) c.in_ok-table.ensures
     ∙ ap Ok (none_of c.in_ok-piece.field-0 c.in_default.not-Some) in
-    is_done (stream_of f c.args.view.now) (stream_size c.args.view.now) c.args.id_size c.args.known.now loop.lists.items loop.at _ found
-    (loop.invariant.found f told)
-    ∙ ap Ok (sym c.from_vec.ensures)
+    ap (λ (read : Read (List (List ℕ))). read >>= λ lists. Ok (kept lists c.args.counted.now))
+    (is_done stream total c.args.id_size c.args.known.now so_far.all loop.at _ found so_far.leads)
+    ∙ ap Ok (sym so_far.kept_are ∙ sym c.from_vec.ensures)
 
 pub returns-clause-room : goal.returns-clause-room
 returns-clause-room g c = λ k d e below. rw c.from_vec.ensures (c.records.invariant.room k d e below)

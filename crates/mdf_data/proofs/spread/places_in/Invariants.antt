@@ -1,13 +1,14 @@
 use Rattle.std.proofs.Common.{◌≡◌, ◌-◌, ◌≤◌, ℕ, List, Some, length}
 use Rattle.mdf_stream.specs.Parts.{stream_of, stream_size}
 use Rattle.mdf_data.specs.Places.{places, HaveRoom}
-use Rattle.mdf_data.proofs.Spreads.{Leads}
+use Rattle.mdf_data.proofs.Kepts.{LeadsKept}
 use Rattle.mdf_data.proofs.spread.places_in.Given as goal
 
 abbrev pub invariant-records : goal.invariant-records
 invariant-records g l = record {
   found : (f : List ℕ) → g.P.Span.bytes l.initial.span ≡ Some f
-      → Leads (stream_of f l.view) (stream_size l.view) l.id_size l.known l.lists.items l.at (places (stream_of f l.view) (stream_size l.view) l.id_size l.known);
+      → LeadsKept (stream_of f l.view) (stream_size l.view) l.id_size l.known l.counted l.lists.items l.at
+      (places (stream_of f l.view) (stream_size l.view) l.id_size l.known);
   count : length l.lists.items ≡ length l.known;
   room : HaveRoom (stream_size l.view) l.known l.lists.items;
   within : l.at ≤ stream_size l.view;

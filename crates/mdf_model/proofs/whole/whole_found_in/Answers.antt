@@ -1,8 +1,9 @@
-use Rattle.mdf_block.proofs.Refusals.{hides_none}
+use Rattle.std.proofs.Common.{subst}
+use Rattle.mdf_block.specs.Refusal.{Gives}
+use Rattle.mdf_content.specs.Fault.{read_refusal}
+use Rattle.mdf_model.proofs.Kepts.{every_whole}
 use Rattle.mdf_model.proofs.whole.whole_found_in.Goals as goal
 
-pub returns-in_err-tree-clause-first : goal.returns-in_err-tree-clause-first
-returns-in_err-tree-clause-first g c = λ f told. hides_none _ _ _ _ (c.in_ok-ident.ensures.found f told)
-
-pub returns-in_err-found-clause-first : goal.returns-in_err-found-clause-first
-returns-in_err-found-clause-first g c = λ f told. hides_none _ _ _ _ (c.in_ok-ident.ensures.found f told)
+pub returns-clause-found : goal.returns-clause-found
+returns-clause-found g c = λ f told.
+    subst (Gives read_refusal c.whole_kept_in.result) (every_whole f) (c.whole_kept_in.ensures.found f told)
