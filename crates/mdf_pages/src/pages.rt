@@ -122,7 +122,32 @@ impl<D: Disk> Pages<D> {
         Ok(())
     }
 
-    /// Puts a page first. The disk is asked only for a page that is not kept.
+    /// Puts a page first that may be kept behind another. The disk is asked only for a page that is not kept.
+    #[inline(never)]
+    fn load_other(&mut self, page: u64) -> Result<(), Stop>
+        requires { 65536 * page < self.old.size }
+        ensures first { OnOk result (first_page self.new.cache ≡ Some page) }
+        ensures kept { IsTrue (is_kept page self.old.cache) → self.new.disk ≡ self.old.disk }
+        ensures others { IsTrue (is_kept page self.old.cache) → (other : ℕ) → IsTrue (is_kept other self.old.cache)
+            → IsTrue (is_kept other self.new.cache) }
+        ensures stays { OnOk result (length self.old.cache < 256 → StillKept self.old.cache self.new.cache) }
+        ensures size { self.new.size ≡ self.old.size }
+        ensures cause { StopCause true (D.faults self.old.disk) (D.faults self.new.disk) result }
+        ensures reason { IfErr result (ReadCause (D.faults self.old.disk) (D.faults self.new.disk)) }
+        ensures calm { OnOk result (D.faults self.new.disk ≡ D.faults self.old.disk) }
+        ensures asked { D.asked self.new.disk ≡ D.asked self.old.disk }
+        ensures content { D.content self.new.disk ≡ D.content self.old.disk }
+        ensures story { D.story self.new.disk ≡ D.story self.old.disk }
+        ensures moment { D.moment self.old.disk ≤ D.moment self.new.disk }
+    {
+        if self.cache.touch(page) {
+            return Ok(());
+        }
+        self.read(page)
+    }
+
+    /// As `load_other`, where the page may stand first already.
+    #[inline]
     fn load(&mut self, page: u64) -> Result<(), Stop>
         requires { 65536 * page < self.old.size }
         ensures first { OnOk result (first_page self.new.cache ≡ Some page) }
@@ -142,10 +167,7 @@ impl<D: Disk> Pages<D> {
         if self.cache.is_first(page) {
             return Ok(());
         }
-        if self.cache.touch(page) {
-            return Ok(());
-        }
-        self.read(page)
+        self.load_other(page)
     }
 
     /// Fills the front of the buffer with the bytes from `at` on, as many as one page has, and answers how many.

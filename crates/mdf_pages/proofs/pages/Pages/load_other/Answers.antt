@@ -1,4 +1,4 @@
-use Rattle.mdf_pages.proofs.pages.Pages.load.Goals as goal
+use Rattle.mdf_pages.proofs.pages.Pages.load_other.Goals as goal
 
 pub invariant_of-self : goal.invariant_of-self
 invariant_of-self g c =
