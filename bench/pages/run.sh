@@ -28,11 +28,11 @@ compare() {
     ratio "$name: $*" "$ours" whole "$theirs"
 }
 
-# the most memory that a command holds, in millions of bytes
+# the most memory that a command holds in its first ten seconds, in millions of bytes
 held() {
     local name="$1"
     shift
-    awk -v name="$name" -v peak="$(peak timeout 10 "$program" "$@")" 'BEGIN { printf "%s %.1f million bytes\n", name, peak / 1000000 }'
+    awk -v name="$name" -v peak="$(peak bash -c 'timeout 10 "$@" || [ $? = 124 ]' held "$program" "$@")" 'BEGIN { printf "%s %.1f million bytes\n", name, peak / 1000000 }'
 }
 
 for shape in sorted unsorted; do
@@ -54,19 +54,22 @@ for shape in sorted hole; do
     rm "$work/large.mf4"
 done
 
-mkdir -p "$work/crates/bench_pages/src"
+ours="$work/crates/bench_pages"
+mkdir -p "$ours/src" "$ours/proofs/numbers" "$ours/proofs/fills"
 cp -r "$top/crates/"{mdf_format,mdf_num,mdf_disk,mdf_pages} "$work/crates/"
-cp "$here/program.rt.txt" "$work/crates/bench_pages/src/main.rt"
+cp "$here/program.rt.txt" "$ours/src/main.rt"
+cp "$here/invariants.antt.txt" "$ours/proofs/numbers/Invariants.antt"
+sed 's/numbers/fills/' "$here/invariants.antt.txt" > "$ours/proofs/fills/Invariants.antt"
 grep -E '^(mdf_format|mdf_num|mdf_disk|mdf_pages):' "$top/crates.txt" > "$work/crates.txt"
 echo 'bench_pages: mdf_num mdf_disk mdf_pages' >> "$work/crates.txt"
-if ! (cd "$work/crates/bench_pages" && rt run) > "$work/log" 2>&1; then
+if ! (cd "$ours" && rt run) > "$work/log" 2>&1 < /dev/null; then
     cat "$work/log" >&2
     exit 1
 fi
-ours="$work/crates/bench_pages/out/bench_pages"
+counts=()
 for what in none number fill; do
     echo "$what" > "$work/what"
-    counts["${#counts[@]}"]="$(cost "$work/what" "$ours")"
+    counts+=("$(cost "$work/what" "$ours/out/bench_pages")")
 done
 awk -v none="${counts[0]}" -v number="${counts[1]}" -v fill="${counts[2]}" \
     'BEGIN { printf "a number of 8 bytes %.1f, a fill %.1f instructions\n", (number - none) / 1000000, (fill - none) / 1000000 }'
