@@ -1,13 +1,14 @@
 use crate::measurements::changed;
-use crate::told::{Told, all_are_told};
-use mdf_num::{Bytes, Memory, Numbers, Rows};
+use crate::told::{Told, all_are_told, is_told};
+use mdf_num::{Bytes, Halt, Memory, Numbers, Rows, SliceSpan};
 use mdf_port::MemorySink;
 use std::alloc::Global;
 use std::fmt::Debug;
-use tool_export::export;
+use tool_export::{ExportFault, export, export_in};
 
 // The numbers of 8 bytes that are changed in a file of two groups, the number of the group, which call of the sink fails,
-// and what is answered and given. No channel has a name, so the second field of the first line is empty.
+// and what is answered and given, of a file in memory and of a span of its bytes. No channel has a name, so the second field of the
+// first line is empty.
 const TABLES: &[(Table, &str)] = &[
     (Table(&[], 0, 9), "Ok(2) index,\n0,7\n1,8\n"),
     (Table(&[], 1, 9), "Ok(2) index,\n0,x616263\n1,x\n"),
@@ -17,6 +18,15 @@ const TABLES: &[(Table, &str)] = &[
         "Err(NoGroup { said: 18446744073709551615, groups: 2 }) ",
     ),
     (Table(&[(0, 0)], 2, 9), "Err(Read(NotMdf)) "),
+    // an offset that meets no value, and one that meets the last
+    (
+        Table(&[(1007, 8)], 1, 9),
+        "Err(Read(Offset { channel: 0, row: 1, offset: 8 })) ",
+    ),
+    (
+        Table(&[(1007, 0)], 1, 9),
+        "Ok(2) index,\n0,x616263\n1,x616263\n",
+    ),
     // all values of the first group's channel are invalid
     (Table(&[(708, 1)], 0, 9), "Ok(2) index,\n0,7?\n1,8?\n"),
     // they are signed
@@ -76,4 +86,31 @@ impl Told for Table {
 #[test]
 fn tables_are_given(rt: HostRuntime) -> Result<(), Memory> {
     all_are_told(&rt, TABLES)
+}
+
+/// The answer of an export out of a span of bytes in memory, which never fails, as one of a file in memory.
+fn as_in_memory(answer: Result<u64, Halt<ExportFault>>) -> Result<u64, ExportFault> {
+    match answer {
+        Ok(count) => Ok(count),
+        Err(Halt::Fault(fault)) => Err(fault),
+        Err(Halt::Failed | Halt::Memory) => Err(ExportFault::Memory),
+    }
+}
+
+// What a row tells where the records are read out of a span of the file's bytes.
+fn span_told(alloc: Global, table: &Table) -> Result<String, Memory> {
+    let file = changed(alloc, table.0)?;
+    let calls = Numbers::from_vec([table.2].to_vec(alloc)?);
+    let mut sink = MemorySink::new(alloc, calls);
+    let mut span = SliceSpan::new(file.as_slice());
+    let answer = as_in_memory(export_in(alloc, &mut span, table.1, &mut sink));
+    line(alloc, &answer, sink.bytes())
+}
+
+#[test]
+fn tables_are_given_from_the_file(rt: HostRuntime) -> Result<(), Memory> {
+    for (table, want) in TABLES {
+        is_told(&rt, span_told(rt.alloc(), table), *want)?;
+    }
+    Ok(())
 }
