@@ -1,9 +1,10 @@
 -- What is found where not all places are wanted is what is found, with the places that are wanted in place of all.
 use Rattle.std.proofs.Common.{◌≡◌, ◌+◌, ◌*◌, ◌<◌, ℕ, zero, suc, min, Bool, true, false, not, ◌&&◌, ◌||◌, List, [], ◌∷◌, ◌++◌, length, get_or, map, Option, Some, None, Ok, Err, refl, sym, ◌∙◌, ap, subst, arith}
 use Rattle.std.specs.Option.{option_to_list}
-use Rattle.std.specs.Prelude.{if◌then◌else◌, nat_eq, nat_lt}
+use Rattle.std.specs.Prelude.{if◌then◌else◌, nat_eq, nat_lt, slice_get}
 use Rattle.std.specs.List.{list_any}
-use Rattle.std.proofs.lemmas.Bool.{or_parts}
+use Rattle.std.proofs.lemmas.Bool.{eq-eqb, or_parts}
+use Rattle.std.proofs.lemmas.Option.{get_or_from_slice_get}
 use Rattle.mdf_format.specs.declared.kind.Kind.TheVariants.{Dt}
 use Rattle.mdf_block.specs.Every.{every}
 use Rattle.mdf_block.specs.Refusal.{Cycles, Read, ◌>>=◌}
@@ -24,7 +25,7 @@ use Rattle.mdf_content.specs.declared.wanted.Wanted.{Wanted}
 use Rattle.mdf_content.specs.declared.wanted.Wanted.TheVariants as wants
 use Rattle.mdf_content.specs.Contents.{are_ids_apart, are_said, is_strict, leaves_nothing, records_at, taken}
 use Rattle.mdf_content.specs.Found.{channel_found, channel_place, data_at, data_found, group_found, group_place, groups_found, values_found}
-use Rattle.mdf_content.specs.Kept.{data_kept, is_counted, is_variable_channel, kept_found, kept_lists, kept_of}
+use Rattle.mdf_content.specs.Kept.{data_kept, is_counted, is_variable_channel, is_without_values, kept_found, kept_lists, kept_of}
 use Rattle.mdf_content.specs.Layouts.{layout, layouts}
 use Rattle.mdf_content.specs.Records.{counted, counted_group, known_of, places_of, places_without_ids, record_size}
 use Rattle.mdf_content.specs.Values.{DataStream, GroupRecords, channel_values, has_value, offset_in, offsets_met, values_at, values_group, values_in}
@@ -81,18 +82,35 @@ kept_either false wanted groups lists = record {
 is_kept : (wanted : Wanted) (row : DataRow) (lists : List (List ℕ)) → IsKeptOf wanted row.groups lists (kept_lists wanted row lists)
 is_kept wanted row lists = kept_either (nat_eq row.id_size 0) wanted row.groups lists
 
+-- those of a group that is wanted
+pub wanted_list : (wanted : Wanted) (row : DataRow) (lists : List (List ℕ)) (k : ℕ) (group : GroupRow) → slice_get row.groups k ≡ Some group
+    → is_counted wanted group ≡ false → get_or (kept_lists wanted row lists) k [] ≡ get_or lists k []
+wanted_list wanted row lists k group there denied =
+    let same : is_counted wanted (get_or row.groups k group) ≡ false =
+    ap (is_counted wanted) (get_or_from_slice_get row.groups k group group there) ∙ denied in
+    (is_kept wanted row lists).same k group same
+
 -- groups of values are wanted, and those that refer to values
 and_no : (b : Bool) → (b && false) ≡ false
 and_no true = refl
 and_no false = refl
 
+wanted_with : (wanted : Wanted) (group : GroupRow) → is_without_values group ≡ false → is_counted wanted group ≡ false
+wanted_with wants.Every group denied = refl
+wanted_with wants.Values group denied = denied
+wanted_with (wants.Group at) group denied = ap (λ (b : Bool). b && not (nat_eq group.at at)) denied
+
 values_wanted : (wanted : Wanted) (group : GroupRow) → is_variable group ≡ true → is_counted wanted group ≡ false
-values_wanted wants.Every group holds = refl
-values_wanted wants.Values group holds = ap (λ (b : Bool). not b && not (list_any is_variable_channel group.channels)) holds
+values_wanted wanted group holds =
+    wanted_with wanted group (ap (λ (b : Bool). not b && not (list_any is_variable_channel group.channels)) holds)
 
 offsets_wanted : (wanted : Wanted) (group : GroupRow) → list_any is_variable_channel group.channels ≡ true → is_counted wanted group ≡ false
-offsets_wanted wants.Every group holds = refl
-offsets_wanted wants.Values group holds = ap (λ (b : Bool). not (is_variable group) && not b) holds ∙ and_no (not (is_variable group))
+offsets_wanted wanted group holds =
+    wanted_with wanted group (ap (λ (b : Bool). not (is_variable group) && not b) holds ∙ and_no (not (is_variable group)))
+
+-- and the group at the address that is named
+pub named_wanted : (group : GroupRow) → is_counted (wants.Group group.at) group ≡ false
+named_wanted group = ap (λ (b : Bool). is_without_values group && not b) (eq-eqb group.at group.at refl) ∙ and_no (is_without_values group)
 
 listed_same : (wanted : Wanted) (groups : List GroupRow) (lists fewer : List (List ℕ)) (at k : ℕ) → IsKeptOf wanted groups lists fewer
     → values_group groups at 0 ≡ Some k → get_or fewer k [] ≡ get_or lists k []

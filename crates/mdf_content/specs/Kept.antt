@@ -21,10 +21,15 @@ use Rattle.mdf_content.specs.Records.{counted, known_of, places_without_ids}
 abbrev pub is_variable_channel : ChannelRow → Bool
 is_variable_channel channel = nat_eq channel.kind 1
 
--- the records of a group are counted alone: where values are wanted, those that hold none and have no offset of one
+-- the records of a group hold no values of variable length, and have no offset of one
+abbrev pub is_without_values : GroupRow → Bool
+is_without_values group = not (is_variable group) && not (list_any is_variable_channel group.channels)
+
+-- they are counted alone: where values are wanted, those without them; and where a group is wanted too, those that are not its own
 abbrev pub is_counted : Wanted → GroupRow → Bool
 is_counted wants.Every group = false
-is_counted wants.Values group = not (is_variable group) && not (list_any is_variable_channel group.channels)
+is_counted wants.Values group = is_without_values group
+is_counted (wants.Group at) group = is_without_values group && not (nat_eq group.at at)
 
 -- the places of the records of a data group so; those of records without ids take no memory, and all are kept
 abbrev pub kept_lists : Wanted → DataRow → List (List ℕ) → List (List ℕ)

@@ -1,6 +1,6 @@
 ghost use Rattle.std.specs.Prelude.{◌≡◌, map, IfOk};
 ghost use Rattle.std.specs.List.{list_any};
-ghost use Rattle.mdf_content.specs.Kept.{is_counted, is_variable_channel};
+ghost use Rattle.mdf_content.specs.Kept.{is_counted, is_variable_channel, is_without_values};
 
 use crate::layouts::is_variable;
 use mdf_group::{ChannelRow, GroupRow};
@@ -15,6 +15,8 @@ pub enum Wanted {
     Every,
     /// Of those that hold values of variable length, and of those with a channel whose offsets lead to such values.
     Values,
+    /// Of these, and of each that stands at this address.
+    Group { at: u64 },
 }
 
 /// Whether one of the channels is of variable length.
@@ -30,13 +32,21 @@ fn has_variable(channels: &[ChannelRow]) -> bool
     found
 }
 
+/// Whether the records of the group hold no values of variable length, and have no offset of one.
+fn is_without_values(group: &GroupRow) -> bool
+    ensures { result ≡ is_without_values group.now }
+{
+    !is_variable(group) && !has_variable(group.channels.as_slice())
+}
+
 /// Whether the records of the group are counted alone.
 fn is_counted(wanted: Wanted, group: &GroupRow) -> bool
     ensures { result ≡ is_counted wanted group.now }
 {
     match wanted {
         Wanted::Every => false,
-        Wanted::Values => !is_variable(group) && !has_variable(group.channels.as_slice()),
+        Wanted::Values => is_without_values(group),
+        Wanted::Group { at } => is_without_values(group) && group.at != at,
     }
 }
 
