@@ -14,11 +14,8 @@ use Rattle.mdf_content.proofs.Kepts.{data_kept_is, every_found, joins, keeps_fou
 use Rattle.mdf_model.specs.declared.tree.Tree.{Tree}
 use Rattle.mdf_model.specs.declared.whole.WholeFound.{WholeFound}
 use Rattle.mdf_model.specs.Found.{all_found, data_place, whole_found}
-use Rattle.mdf_model.specs.Kept.{all_kept, found_kept, kept_all, kept_place, kept_whole, whole_kept}
+use Rattle.mdf_model.specs.Kept.{all_kept, found_by, found_kept, kept_all, kept_place, kept_whole, whole_by, whole_kept}
 use Rattle.mdf_model.specs.Tree.{finalized, tree}
-
-abbrev keeps_whole : Wanted → WholeFound → Read WholeFound
-keeps_whole wanted all = Ok (kept_whole wanted all)
 
 module _ (wanted : Wanted) (file : List ℕ) where
   abbrev keeps : List DataRow → List DataFound × ℕ → Read (List DataFound × ℕ)
@@ -64,23 +61,30 @@ module _ (wanted : Wanted) (file : List ℕ) where
   all_kept_is rows =
       ap (λ (found : Read (List DataFound × ℕ)). found >>= firsts) (every_kept 0 rows 0) ∙ list_so rows (every (data_place file) 0 rows 0)
 
-  -- the whole
+module _ (wanted : List DataRow → Wanted) (file : List ℕ) where
+  abbrev keeps_whole : WholeFound → Read WholeFound
+  keeps_whole all = Ok (kept_whole (wanted all.tree.rows) all)
+
   abbrev made : Ident → Tree → List DataFound → Read WholeFound
   made ident tree found = Ok (record { ident = ident; tree = tree; found = found })
 
   made_so : (ident : Ident) (tree : Tree) (found : Read (List DataFound))
-      → ((found >>= lists_kept tree.rows) >>= made ident tree) ≡ ((found >>= made ident tree) >>= keeps_whole wanted)
+      → ((found >>= lists_kept (wanted tree.rows) file tree.rows) >>= made ident tree) ≡ ((found >>= made ident tree) >>= keeps_whole)
   made_so ident tree (Ok found) = refl
   made_so ident tree (Err refusal) = refl
 
-  pub whole_kept_is : whole_kept wanted file ≡ found_kept wanted file
-  unfolding whole_kept whole_found
-  whole_kept_is =
+  pub whole_by_is : whole_by wanted file ≡ found_by wanted file
+  unfolding whole_by whole_found
+  whole_by_is =
       let finds = λ (ident : Ident) (tree : Tree). all_found file tree.rows >>= made ident tree in
-      let finds_kept = λ (ident : Ident) (tree : Tree). all_kept wanted file tree.rows >>= made ident tree in
-      then_turned (keeps_whole wanted) (finalized file) (λ ident. tree file >>= finds ident) (λ ident. tree file >>= finds_kept ident)
-      (λ ident. then_turned (keeps_whole wanted) (tree file) (finds ident) (finds_kept ident)
-      (λ tree. ap (λ (all : Read (List DataFound)). all >>= made ident tree) (all_kept_is tree.rows) ∙ made_so ident tree (all_found file tree.rows)))
+      let finds_kept = λ (ident : Ident) (tree : Tree). all_kept (wanted tree.rows) file tree.rows >>= made ident tree in
+      then_turned keeps_whole (finalized file) (λ ident. tree file >>= finds ident) (λ ident. tree file >>= finds_kept ident)
+      (λ ident. then_turned keeps_whole (tree file) (finds ident) (finds_kept ident)
+      (λ tree. ap (λ (all : Read (List DataFound)). all >>= made ident tree) (all_kept_is (wanted tree.rows) file tree.rows)
+      ∙ made_so ident tree (all_found file tree.rows)))
+
+pub whole_kept_is : (wanted : Wanted) (file : List ℕ) → whole_kept wanted file ≡ found_kept wanted file
+whole_kept_is wanted file = whole_by_is (λ _. wanted) file
 
 -- where every group is wanted, all is kept
 every_all : (rows : List DataRow) (found : List DataFound) → kept_all wants.Every rows found ≡ found
@@ -90,7 +94,7 @@ every_all (row ∷ rows) (one ∷ found) =
     ap (λ (first : DataFound). first ∷ kept_all wants.Every rows found) (every_found row one)
     ∙ ap (λ (rest : List DataFound). one ∷ rest) (every_all rows found)
 
-every_read : (read : Read WholeFound) → (read >>= keeps_whole wants.Every) ≡ read
+every_read : (read : Read WholeFound) → (read >>= λ all. Ok (kept_whole wants.Every all)) ≡ read
 every_read (Ok all) = ap {B = Read WholeFound} (λ (found : List DataFound). Ok (record all { found = found })) (every_all all.tree.rows all.found)
 every_read (Err refusal) = refl
 

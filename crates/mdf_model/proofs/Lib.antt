@@ -28,3 +28,4 @@ mod Walks
 pub mod Wholes
 pub mod Identified
 pub mod Passed
+mod Numbered

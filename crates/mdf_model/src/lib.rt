@@ -9,6 +9,7 @@ mod measurement;
 mod part;
 mod read;
 mod tree;
+mod wanted;
 mod whole;
 
 pub use identity::{finalized_in, identity_in};
@@ -22,4 +23,4 @@ pub use measurement::{Measurement, read_measurement, take_measurement};
 pub use part::{GroupPart, Measure};
 pub use read::{read_file, take_file};
 pub use tree::{Tree, tree_in};
-pub use whole::{Whole, WholeFound, whole_found_in, whole_in, whole_kept_in};
+pub use whole::{Whole, WholeFound, whole_for_in, whole_found_in, whole_in, whole_kept_in};

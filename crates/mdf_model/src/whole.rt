@@ -6,13 +6,14 @@ ghost use Rattle.mdf_content.specs.Fault.{read_refusal};
 ghost use Rattle.mdf_content.specs.Contents.{AllHaveSamples};
 ghost use Rattle.mdf_content.specs.Found.{IsFoundInside, data_fetched};
 ghost use Rattle.mdf_model.specs.Found.{whole_found};
-ghost use Rattle.mdf_model.specs.Kept.{all_kept, whole_kept};
+ghost use Rattle.mdf_model.specs.Kept.{all_kept, whole_for, whole_kept};
 ghost use Rattle.mdf_model.specs.Tree.{finalized};
 ghost use Rattle.mdf_model.specs.Whole.{whole};
 
 use crate::Tree;
 use crate::identity::finalized_in;
 use crate::tree::tree_in;
+use crate::wanted::wanted_for;
 use mdf_block::{Visit, every_in};
 use mdf_content::{DataContents, DataFound, ReadFault, Room, Wanted, data_found_in, fetch_in};
 use mdf_group::DataRow;
@@ -129,7 +130,7 @@ pub fn whole_found_in<P: Span>(alloc: Global, span: &mut P) -> Result<WholeFound
 ///
 /// # Errors
 /// As `whole_found_in`.
-#[tactic(auto, unfolding(crate::specs::Kept::whole_kept))]
+#[tactic(auto, unfolding(crate::specs::Kept::whole_by))]
 pub fn whole_kept_in<P: Span>(
     alloc: Global,
     span: &mut P,
@@ -145,6 +146,32 @@ pub fn whole_kept_in<P: Span>(
 {
     let ident = finalized_in(span)?;
     let tree = tree_in(alloc, span)?;
+    let found = all_found_in(alloc, span, tree.rows.as_slice(), wanted)?;
+    Ok(WholeFound { ident, tree, found })
+}
+
+/// The same for a caller that needs the samples of one group alone, counted from 0 over the groups whose records are samples: the
+/// places of its records are kept, and those that lead to values of variable length. Of a group whose records are counted alone
+/// each place is told as 0.
+///
+/// # Errors
+/// As `whole_found_in`.
+#[tactic(auto, unfolding(crate::specs::Kept::whole_by))]
+pub fn whole_for_in<P: Span>(
+    alloc: Global,
+    span: &mut P,
+    group: u64,
+) -> Result<WholeFound, Halt<ReadFault>>
+    ensures found { (f : List ℕ) → P.bytes span.old ≡ Some f → Gives read_refusal result (whole_for group f) }
+    ensures inside { IfOk result (λ all. AllByRecursion (IsFoundInside (P.size span.old)) all.found) }
+    ensures plain { IfErr result (IsPlain read_refusal) }
+    ensures same { P.bytes span.new ≡ P.bytes span.old }
+    ensures size { P.size span.new ≡ P.size span.old }
+    ensures cause { HaltCause true (P.faults span.old) (P.faults span.new) result }
+{
+    let ident = finalized_in(span)?;
+    let tree = tree_in(alloc, span)?;
+    let wanted = wanted_for(tree.rows.as_slice(), group);
     let found = all_found_in(alloc, span, tree.rows.as_slice(), wanted)?;
     Ok(WholeFound { ident, tree, found })
 }
