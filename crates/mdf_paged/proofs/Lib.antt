@@ -3,3 +3,4 @@ mod Numbers
 mod Placed
 pub mod Shown
 pub mod Kepts
+pub mod Asked

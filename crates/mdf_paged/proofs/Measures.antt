@@ -1,7 +1,7 @@
 -- The groups of the measurement are those that are found, with the bytes there.
 use Rattle.std.proofs.Common.{◌≡◌, ◌+◌, ℕ, suc, Bool, true, false, List, [], ◌∷◌, ◌++◌, length, map, Option, Some, None, Ok, Err, refl, sym, ◌∙◌, ap, subst, inl, inr, arith}
 use Rattle.std.specs.Prelude.{◌&&◌, filter, not, if◌then◌else◌, slice_get, slice_index_or}
-use Rattle.std.specs.List.{flat_map, list_all, zip}
+use Rattle.std.specs.List.{AllZip, flat_map, list_all, zip}
 use Rattle.std.specs.Option.{option_map, option_to_list}
 use Rattle.std.proofs.lemmas.List.{length-map, map-append}
 use Rattle.std.proofs.lemmas.List.Concat.{flat_map_single}
@@ -47,6 +47,13 @@ abbrev IsPlaceOf : ℕ → Bool → Option Found → Type 0
 IsPlaceOf k variable None = variable ≡ true
 IsPlaceOf k variable (Some found) = (variable ≡ false) × (found.which ≡ k)
 
+-- the groups that are found are those that hold samples
+abbrev pub row_in : List GroupRow → Found → Option GroupRow
+row_in all one = slice_get all one.which
+
+abbrev pub AreRows : List GroupRow → List GroupRow → List Found → Type 0
+AreRows all groups found = map (row_in all) found ≡ map Some (filter holds_samples groups)
+
 module _ (file : List ℕ) (held : DataStream) where
   which_is : (k : ℕ) (group : GroupRow) (places : List ℕ) (found : Found) → group_found file held k group places ≡ Ok found → found.which ≡ k
   unfolding group_found
@@ -70,57 +77,44 @@ module _ (file : List ℕ) (held : DataStream) where
             subst (λ (y : Option Found × Unit {0}). IsPlaceOf k (is_variable group) y.0) same (other.0, which_is k group places found.0 found.1)
       ]
 
-  -- what is seen of the groups that hold samples, group by group
-  module _ {B : Type 0} (seen : Measure → B) (at : List GroupRow → Found → List B) (comment : Note) (turn : Found → Contents)
-      (each : (all : List GroupRow) (k : ℕ) (group : GroupRow) (one : Found) → slice_get all k ≡ Some group → one.which ≡ k
-      → seen (measure_of comment group (turn one)) ∷ [] ≡ at all one) where
-    abbrev AreTurned : List GroupRow → List GroupRow → List Found → Type 0
-    AreTurned all groups found = map seen (paired comment (filter holds_samples groups) (map turn found)) ≡ flat_map (at all) found
+  -- so each group that holds samples is found as it was read
+  one_row : (all : List GroupRow) (k : ℕ) (group : GroupRow) (groups : List GroupRow) (one : Option Found) (rest : List Found)
+      → IsPlaceOf k (is_variable group) one → slice_get all k ≡ Some group → AreRows all groups rest → AreRows all (group ∷ groups) (option_to_list one ++ rest)
+  one_row all k group groups None rest is there same =
+      same ∙ sym (ap (λ (b : Bool). map Some (if not b then group ∷ filter holds_samples groups else filter holds_samples groups)) is)
+  one_row all k group groups (Some found) rest is there same =
+      ap (λ (row : Option GroupRow). row ∷ map (row_in all) rest) (ap (slice_get all) is.1 ∙ there)
+      ∙ ap (λ (rows : List (Option GroupRow)). Some group ∷ rows) same
+      ∙ sym (ap (λ (b : Bool). map Some (if not b then group ∷ filter holds_samples groups else filter holds_samples groups)) is.0)
 
-    one_turned : (all : List GroupRow) (k : ℕ) (group : GroupRow) (groups : List GroupRow) (one : Option Found) (rest : List Found)
-        → IsPlaceOf k (is_variable group) one → slice_get all k ≡ Some group → AreTurned all groups rest → AreTurned all (group ∷ groups) (option_to_list one ++ rest)
-    one_turned all k group groups None rest is there same =
-        ap (λ (b : Bool). map seen (paired comment (if not b then group ∷ filter holds_samples groups else filter holds_samples groups) (map turn rest))) is ∙ same
-    one_turned all k group groups (Some found) rest is there same =
-        ap (λ (b : Bool). map seen (paired comment (if not b then group ∷ filter holds_samples groups else filter holds_samples groups)
-        (turn found ∷ map turn rest))) is.0
-        ∙ ap (λ (more : List B). seen (measure_of comment group (turn found)) ∷ more) same
-        ∙ ap (λ (front : List B). front ++ flat_map (at all) rest) (each all k group found there is.1)
+  all_rows : (all : List GroupRow) (k : ℕ) (groups : List GroupRow) (left : Unit {0}) (found : List Found × Unit {0})
+      → ((i : ℕ) → slice_get groups i ≡ slice_get all (k + i)) → every (group_place file held) k groups left ≡ Ok found → AreRows all groups found.0
+  unfolding every
+  all_rows all k [] left found behind is =
+      let same : ([], left) ≡ found = ok_is _ _ is in
+      subst (λ (y : List Found × Unit {0}). AreRows all [] y.0) same refl
+  all_rows all k (group ∷ groups) left found behind is =
+      let first = bind_ok (group_place file held k group left)
+      (λ one. every (group_place file held) (k + 1) groups one.1 >>= λ rest. Ok (option_to_list one.0 ++ rest.0, rest.1)) found is in
+      let second = bind_ok (every (group_place file held) (k + 1) groups first.0.1)
+      (λ rest. Ok (option_to_list first.0.0 ++ rest.0, rest.1)) found first.2 in
+      let same : (option_to_list first.0.0 ++ second.0.0, second.0.1) ≡ found = ok_is _ _ second.2 in
+      let here : k ≡ k + 0 = omega arith in
+      let there : slice_get all k ≡ Some group = ap (slice_get all) here ∙ sym (behind 0) in
+      let rest_behind : (i : ℕ) → slice_get groups i ≡ slice_get all (k + 1 + i) =
+      λ i. let next : k + suc i ≡ k + 1 + i = omega arith in behind (suc i) ∙ ap (slice_get all) next in
+      subst (λ (y : List Found × Unit {0}). AreRows all (group ∷ groups) y.0) same
+      (one_row all k group groups first.0.0 second.0.0 (place_found k group left first.0 first.1) there
+      (all_rows all (k + 1) groups first.0.1 second.0 rest_behind second.1))
 
-    all_turned : (all : List GroupRow) (k : ℕ) (groups : List GroupRow) (left : Unit {0}) (found : List Found × Unit {0})
-        → ((i : ℕ) → slice_get groups i ≡ slice_get all (k + i)) → every (group_place file held) k groups left ≡ Ok found → AreTurned all groups found.0
-    unfolding every
-    all_turned all k [] left found behind is =
-        let same : ([], left) ≡ found = ok_is _ _ is in
-        subst (λ (y : List Found × Unit {0}). AreTurned all [] y.0) same refl
-    all_turned all k (group ∷ groups) left found behind is =
-        let first = bind_ok (group_place file held k group left)
-        (λ one. every (group_place file held) (k + 1) groups one.1 >>= λ rest. Ok (option_to_list one.0 ++ rest.0, rest.1)) found is in
-        let second = bind_ok (every (group_place file held) (k + 1) groups first.0.1)
-        (λ rest. Ok (option_to_list first.0.0 ++ rest.0, rest.1)) found first.2 in
-        let same : (option_to_list first.0.0 ++ second.0.0, second.0.1) ≡ found = ok_is _ _ second.2 in
-        let here : k ≡ k + 0 = omega arith in
-        let there : slice_get all k ≡ Some group = ap (slice_get all) here ∙ sym (behind 0) in
-        let rest_behind : (i : ℕ) → slice_get groups i ≡ slice_get all (k + 1 + i) =
-        λ i. let next : k + suc i ≡ k + 1 + i = omega arith in behind (suc i) ∙ ap (slice_get all) next in
-        subst (λ (y : List Found × Unit {0}). AreTurned all (group ∷ groups) y.0) same
-        (one_turned all k group groups first.0.0 second.0.0 (place_found k group left first.0 first.1) there
-        (all_turned all (k + 1) groups first.0.1 second.0 rest_behind second.1))
+-- data group by data group
+abbrev pub AreDataRows : DataRow → DataFound → Type 0
+AreDataRows row one = AreRows row.groups row.groups one.groups
 
-both_joined : {A B : Type 0} (g : A → B) (xs ys : List A) (us vs : List B) → map g xs ≡ us → map g ys ≡ vs → map g (xs ++ ys) ≡ us ++ vs
-both_joined {A} {B} g xs ys us vs first second =
-    map-append g xs ys ∙ ap (λ (front : List B). front ++ map g ys) first ∙ ap (λ (rest : List B). us ++ rest) second
-
--- what is seen of the groups of the measurement, data group by data group
-module _ (file : List ℕ) {B : Type 0} (seen : Measure → B) (at : List GroupRow → DataFound → Found → List B)
-    (each : (comment : Note) (all : List GroupRow) (parent : DataFound) (k : ℕ) (group : GroupRow) (one : Found) → slice_get all k ≡ Some group → one.which ≡ k
-    → seen (measure_of comment group (held_at file (located parent one))) ∷ [] ≡ at all parent one) where
-  abbrev AreSeen : DataRow → DataFound → Type 0
-  AreSeen row found = map seen (data_measures row (data_fetched file found)) ≡ flat_map (at row.groups found) found.groups
-
-  data_seen : (row : DataRow) (number : ℕ) (found : DataFound × ℕ) → data_found file row number ≡ Ok found → AreSeen row found.0
+module _ (file : List ℕ) where
+  data_rows : (row : DataRow) (number : ℕ) (found : DataFound × ℕ) → data_found file row number ≡ Ok found → AreDataRows row found.0
   unfolding data_found data_at groups_found
-  data_seen row number found is =
+  data_rows row number found is =
       let laid = bind_ok (layouts row) _ found is in
       let parts = bind_ok (data_parts file Dt row.content) _ found laid.2 in
       let lists = bind_ok (places_of (stream_of file parts.0) (stream_size parts.0) true row) _ found parts.2 in
@@ -129,58 +123,92 @@ module _ (file : List ℕ) {B : Type 0} (seen : Measure → B) (at : List GroupR
       let one_found = bind_ok (data_at file parts.0 row lists.0) _ found next.2 in
       let groups = bind_ok (groups_found file held) _ one_found.0 one_found.1 in
       let all = bind_ok (every (group_place file held) 0 row.groups tt) _ groups.0 groups.1 in
-      let made : DataFound = record { view = parts.0; lists = lists.0; groups = groups.0; strict = is_strict row (stream_size parts.0) lists.0 } in
-      let turn = fetched file parts.0 lists.0 in
       let begins : (i : ℕ) → slice_get row.groups i ≡ slice_get row.groups (0 + i) = λ i. let same : i ≡ 0 + i = omega arith in ap (slice_get row.groups) same in
-      let here : map seen (paired row.comment (filter holds_samples row.groups) (map turn all.0.0)) ≡ flat_map (at row.groups made) all.0.0 =
-      all_turned file held seen (λ (rows : List GroupRow). at rows made) row.comment turn (λ rows. each row.comment rows made) row.groups 0 row.groups tt all.0 begins all.1 in
-      let seen_here : AreSeen row made =
-      subst (λ (ys : List Found). map seen (paired row.comment (filter holds_samples row.groups) (map turn ys)) ≡ flat_map (at row.groups made) ys) (ok_is _ _ all.2) here in
+      let here : AreRows row.groups row.groups groups.0 =
+      subst (AreRows row.groups row.groups) (ok_is _ _ all.2) (all_rows file held row.groups 0 row.groups tt all.0 begins all.1) in
+      let made : DataFound = record { view = parts.0; lists = lists.0; groups = groups.0; strict = is_strict row (stream_size parts.0) lists.0 } in
       let same : made ≡ one_found.0 = ok_is _ _ groups.2 in
       let last : (one_found.0, next.0) ≡ found = ok_is _ _ one_found.2 in
-      subst (λ (z : DataFound × ℕ). AreSeen row z.0) last (subst (AreSeen row) same seen_here)
+      subst (λ (z : DataFound × ℕ). AreDataRows row z.0) last (subst (AreDataRows row) same here)
+
+  every_rows : (k : ℕ) (rows : List DataRow) (number : ℕ) (found : List DataFound × ℕ) → every (data_place file) k rows number ≡ Ok found
+      → AllZip AreDataRows rows found.0
+  unfolding every
+  every_rows k [] number found is =
+      let same : ([], number) ≡ found = ok_is _ _ is in
+      subst (λ (y : List DataFound × ℕ). AllZip AreDataRows [] y.0) same tt
+  every_rows k (row ∷ rows) number found is =
+      let first = bind_ok (data_place file k row number)
+      (λ one. every (data_place file) (k + 1) rows one.1 >>= λ rest. Ok (option_to_list one.0 ++ rest.0, rest.1)) found is in
+      let second = bind_ok (every (data_place file) (k + 1) rows first.0.1)
+      (λ rest. Ok (option_to_list first.0.0 ++ rest.0, rest.1)) found first.2 in
+      let one_found = bind_ok (data_found file row number) (λ found. Ok (Some found.0, found.1)) first.0 first.1 in
+      let one : (Some one_found.0.0, one_found.0.1) ≡ first.0 = ok_is _ _ one_found.2 in
+      let same : (option_to_list first.0.0 ++ second.0.0, second.0.1) ≡ found = ok_is _ _ second.2 in
+      subst (λ (y : List DataFound × ℕ). AllZip AreDataRows (row ∷ rows) y.0) same
+      (subst (λ (y : Option DataFound × ℕ). AllZip AreDataRows (row ∷ rows) (option_to_list y.0 ++ second.0.0)) one
+      (data_rows row number one_found.0 one_found.1, every_rows (k + 1) rows first.0.1 second.0 second.1))
+
+  pub whole_rows : (all : WholeFound) → whole_found file ≡ Ok all → AllZip AreDataRows all.tree.rows all.found
+  unfolding whole_found all_found
+  whole_rows all read =
+      let ident = bind_ok (finalized file) _ all read in
+      let data_tree = bind_ok (tree file) _ all ident.2 in
+      let found = bind_ok (all_found file data_tree.0.rows) _ all data_tree.2 in
+      let list = bind_ok (every (data_place file) 0 data_tree.0.rows 0) _ found.0 found.1 in
+      subst (λ (z : WholeFound). AllZip AreDataRows z.tree.rows z.found) (ok_is _ all found.2)
+      (subst (AllZip AreDataRows data_tree.0.rows) (ok_is _ _ list.2) (every_rows 0 data_tree.0.rows 0 list.0 list.1))
+
+both_joined : {A B : Type 0} (g : A → B) (xs ys : List A) (us vs : List B) → map g xs ≡ us → map g ys ≡ vs → map g (xs ++ ys) ≡ us ++ vs
+both_joined {A} {B} g xs ys us vs first second =
+    map-append g xs ys ∙ ap (λ (front : List B). front ++ map g ys) first ∙ ap (λ (rest : List B). us ++ rest) second
+
+pub first_is : {A : Type 0} (x y : A) (xs ys : List A) → ◌≡◌ {A = List A} (x ∷ xs) (y ∷ ys) → x ≡ y
+first_is x y xs ys same = cc
+
+pub rest_is : {A : Type 0} (x y : A) (xs ys : List A) → ◌≡◌ {A = List A} (x ∷ xs) (y ∷ ys) → xs ≡ ys
+rest_is x y xs ys same = cc
+
+-- what is seen of the groups of the measurement, data group by data group
+module _ (file : List ℕ) {B : Type 0} (seen : Measure → B) (at : List GroupRow → DataFound → Found → List B)
+    (each : (comment : Note) (all : List GroupRow) (parent : DataFound) (group : GroupRow) (one : Found) → slice_get all one.which ≡ Some group
+    → seen (measure_of comment group (held_at file (located parent one))) ∷ [] ≡ at all parent one) where
+  groups_seen : (comment : Note) (all : List GroupRow) (parent : DataFound) (rows : List GroupRow) (found : List Found)
+      → map (row_in all) found ≡ map Some rows
+      → map seen (paired comment rows (map (fetched file parent.view parent.lists) found)) ≡ flat_map (at all parent) found
+  groups_seen comment all parent [] [] are = refl
+  groups_seen comment all parent [] (one ∷ found) are =
+      let wrong : ◌≡◌ {A = List (Option GroupRow)} (row_in all one ∷ map (row_in all) found) [] = are in cc
+  groups_seen comment all parent (group ∷ rows) [] are =
+      let wrong : ◌≡◌ {A = List (Option GroupRow)} [] (Some group ∷ map Some rows) = are in cc
+  groups_seen comment all parent (group ∷ rows) (one ∷ found) are =
+      let there = first_is (row_in all one) (Some group) (map (row_in all) found) (map Some rows) are in
+      let behind = rest_is (row_in all one) (Some group) (map (row_in all) found) (map Some rows) are in
+      ap (λ (more : List B). seen (measure_of comment group (held_at file (located parent one))) ∷ more) (groups_seen comment all parent rows found behind)
+      ∙ ap (λ (front : List B). front ++ flat_map (at all parent) found) (each comment all parent group one there)
 
   module _ (whole : List DataRow → List DataFound → List B) (none : [] ≡ whole [] [])
       (more : (row : DataRow) (rows : List DataRow) (one : DataFound) (found : List DataFound)
       → flat_map (at row.groups one) one.groups ++ whole rows found ≡ whole (row ∷ rows) (one ∷ found)) where
-    abbrev AreAllSeen : List DataRow → List DataFound → Type 0
-    AreAllSeen rows found = map seen (measures rows (map (data_fetched file) found)) ≡ whole rows found
-
-    all_seen : (k : ℕ) (rows : List DataRow) (number : ℕ) (found : List DataFound × ℕ) → every (data_place file) k rows number ≡ Ok found → AreAllSeen rows found.0
-    unfolding every
-    all_seen k [] number found is =
-        let same : ([], number) ≡ found = ok_is _ _ is in
-        subst (λ (y : List DataFound × ℕ). AreAllSeen [] y.0) same none
-    all_seen k (row ∷ rows) number found is =
-        let first = bind_ok (data_place file k row number)
-        (λ one. every (data_place file) (k + 1) rows one.1 >>= λ rest. Ok (option_to_list one.0 ++ rest.0, rest.1)) found is in
-        let second = bind_ok (every (data_place file) (k + 1) rows first.0.1)
-        (λ rest. Ok (option_to_list first.0.0 ++ rest.0, rest.1)) found first.2 in
-        let one_found = bind_ok (data_found file row number) (λ found. Ok (Some found.0, found.1)) first.0 first.1 in
-        let one : (Some one_found.0.0, one_found.0.1) ≡ first.0 = ok_is _ _ one_found.2 in
-        let same : (option_to_list first.0.0 ++ second.0.0, second.0.1) ≡ found = ok_is _ _ second.2 in
-        subst (λ (y : List DataFound × ℕ). AreAllSeen (row ∷ rows) y.0) same
-        (subst (λ (y : Option DataFound × ℕ). AreAllSeen (row ∷ rows) (option_to_list y.0 ++ second.0.0)) one
-        (both_joined seen (data_measures row (data_fetched file one_found.0.0)) (measures rows (map (data_fetched file) second.0.0))
-        (flat_map (at row.groups one_found.0.0) one_found.0.0.groups) (whole rows second.0.0)
-        (data_seen row number one_found.0 one_found.1) (all_seen (k + 1) rows first.0.1 second.0 second.1)
-        ∙ more row rows one_found.0.0 second.0.0))
+    all_seen : (rows : List DataRow) (found : List DataFound) → AllZip AreDataRows rows found
+        → map seen (measures rows (map (data_fetched file) found)) ≡ whole rows found
+    all_seen [] [] are = none
+    all_seen [] (one ∷ found) are = absurd are
+    all_seen (row ∷ rows) [] are = absurd are
+    all_seen (row ∷ rows) (one ∷ found) are =
+        both_joined seen (data_measures row (data_fetched file one)) (measures rows (map (data_fetched file) found))
+        (flat_map (at row.groups one) one.groups) (whole rows found)
+        (groups_seen row.comment row.groups one (filter holds_samples row.groups) one.groups are.0) (all_seen rows found are.1)
+        ∙ more row rows one found
 
     pub whole_seen : (all : WholeFound) → whole_found file ≡ Ok all → map seen (measured_from file all).groups ≡ whole all.tree.rows all.found
-    unfolding whole_found all_found
-    whole_seen all read =
-        let ident = bind_ok (finalized file) _ all read in
-        let data_tree = bind_ok (tree file) _ all ident.2 in
-        let found = bind_ok (all_found file data_tree.0.rows) _ all data_tree.2 in
-        let list = bind_ok (every (data_place file) 0 data_tree.0.rows 0) _ found.0 found.1 in
-        subst (λ (z : WholeFound). map seen (measured_from file z).groups ≡ whole z.tree.rows z.found) (ok_is _ all found.2)
-        (subst (AreAllSeen data_tree.0.rows) (ok_is _ _ list.2) (all_seen 0 data_tree.0.rows 0 list.0 list.1))
+    whole_seen all read = all_seen all.tree.rows all.found (whole_rows file all read)
 
 module _ (file : List ℕ) where
   -- what they hold
   pub groups_are : (all : WholeFound) → whole_found file ≡ Ok all → map contents_of (measured_from file all).groups ≡ map (held_at file) (groups_of all)
   groups_are =
-      whole_seen file contents_of (λ rows parent one. held_at file (located parent one) ∷ []) (λ comment rows parent k group one there which. refl)
+      whole_seen file contents_of (λ rows parent one. held_at file (located parent one) ∷ []) (λ comment rows parent group one there. refl)
       (λ rows found. map (held_at file) (flat_map groups_in found)) refl
       (λ row rows one found.
       ap (λ (front : List Contents). front ++ map (held_at file) (flat_map groups_in found))
@@ -191,7 +219,7 @@ module _ (file : List ℕ) where
   pub rows_are : (all : WholeFound) → whole_found file ≡ Ok all → map (λ (m : Measure). m.part.row) (measured_from file all).groups ≡ group_rows all
   rows_are =
       whole_seen file (λ (m : Measure). m.part.row) (λ rows parent one. option_to_list (slice_get rows one.which))
-      (λ comment rows parent k group one there which. sym (ap (λ (n : ℕ). option_to_list (slice_get rows n)) which ∙ ap option_to_list there))
+      (λ comment rows parent group one there. sym (ap option_to_list there))
       (λ rows found. flat_map rows_in (zip rows found)) refl (λ row rows one found. refl)
 
   pub as_many : (all : WholeFound) → whole_found file ≡ Ok all → length (groups_of all) ≡ length (measured_from file all).groups

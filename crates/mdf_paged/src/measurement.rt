@@ -9,8 +9,8 @@ ghost use Rattle.mdf_content.specs.declared.found.DataFound.{DataFound};
 ghost use Rattle.mdf_model.specs.declared.part.Measure.{Measure};
 ghost use Rattle.mdf_content.specs.declared.wanted.Wanted.TheVariants as wants;
 ghost use Rattle.mdf_model.specs.Found.{GivesSeen, measured_from, whole_found};
-ghost use Rattle.mdf_model.specs.Kept.{found_kept};
-ghost use Rattle.mdf_model.specs.Measurement.{measurement, sample_of};
+ghost use Rattle.mdf_model.specs.Kept.{found_for, found_kept};
+ghost use Rattle.mdf_model.specs.Measurement.{Measured, measurement, sample_of};
 ghost use Rattle.mdf_paged.specs.Groups.{Located, group_rows, groups_of, is_strict, located};
 
 use crate::index::{GroupNumber, numbers_of};
@@ -19,7 +19,7 @@ use mdf_content::{DataFound, Found, ReadFault, Wanted};
 use mdf_group::{DataRow, GroupRow};
 use mdf_head::Ident;
 use mdf_layout::Entries;
-use mdf_model::{WholeFound, whole_found_in, whole_kept_in};
+use mdf_model::{WholeFound, whole_for_in, whole_found_in, whole_kept_in};
 use mdf_num::{Halt, Memory, Rows, Span, Stop};
 use std::alloc::Global;
 use std::marker::Model;
@@ -122,6 +122,28 @@ impl PagedMeasurement {
         Ok(found)
     }
 
+    /// The same for a caller that needs the samples of the group of this number alone, counted from 0 over the groups that have
+    /// samples: of records with ids the places of its own are kept too. Where there is no such group, it is as `read_counted`.
+    ///
+    /// # Errors
+    /// As `read`.
+    pub fn read_for<P: Span>(
+        alloc: Global,
+        span: &mut P,
+        group: u64,
+    ) -> Result<PagedMeasurement, Halt<ReadFault>>
+        ensures found { (f : List ℕ) → P.bytes span.old ≡ Some f → Gives read_refusal result (found_for group f) }
+        ensures inside { IfOk result (λ m. AllByRecursion (IsFoundInside (P.size span.old)) m.found) }
+        ensures plain { IfErr result (IsPlain read_refusal) }
+        ensures same { P.bytes span.new ≡ P.bytes span.old }
+        ensures size { P.size span.new ≡ P.size span.old }
+        ensures cause { HaltCause true (P.faults span.old) (P.faults span.new) result }
+    {
+        let all = whole_for_in(alloc, span, group)?;
+        let found = PagedMeasurement::numbered(alloc, all)?;
+        Ok(found)
+    }
+
     /// What is found of a file, with the numbers of its groups.
     fn numbered(alloc: Global, all: WholeFound) -> Result<PagedMeasurement, Memory>
         ensures { IfOk result (λ m. m ≡ all) }
@@ -208,8 +230,8 @@ impl PagedMeasurement {
     }
 
     /// Sample `i` of a group, counted from 0, read out of a span of the same bytes: an entry for each of its channels. A
-    /// virtual channel's value is `i`. One record is read, and the values that its offsets name. Nothing is said of a sample where
-    /// the places were counted alone.
+    /// virtual channel's value is `i`. One record is read, and the values that its offsets name. Nothing is said of a sample of a
+    /// group whose places were counted alone.
     ///
     /// # Errors
     /// The span's own; and want of memory, as which it counts too where an offset meets no value, in a span of other bytes.
@@ -225,6 +247,8 @@ impl PagedMeasurement {
         requires index { (d : Located) → i < (slice_index_or (groups_of self.now) group d).group.count }
         ensures sample { (f : List ℕ) (d : Measure) → P.bytes span.old ≡ Some f → whole_found f ≡ Ok self.now
             → IfOk result (λ entries. sample_of (slice_index_or (measured_from f self.now).groups group d) i ≡ Some entries) }
+        ensures asked { (f : List ℕ) (m : Measured) (d : Measure) → P.bytes span.old ≡ Some f → found_for group f ≡ Ok self.now
+            → measurement f ≡ Ok m → IfOk result (λ entries. sample_of (slice_index_or m.groups group d) i ≡ Some entries) }
         ensures same { P.bytes span.new ≡ P.bytes span.old }
         ensures size { P.size span.new ≡ P.size span.old }
         ensures cause { StopCause true (P.faults span.old) (P.faults span.new) result }
@@ -251,6 +275,8 @@ impl PagedMeasurement {
         requires index { (d : Located) → i < (slice_index_or (groups_of self.now) group d).group.count }
         ensures sample { (f : List ℕ) (d : Measure) → P.bytes span.old ≡ Some f → whole_found f ≡ Ok self.now
             → IfOk result (λ entries. sample_of (slice_index_or (measured_from f self.now).groups group d) i ≡ Some entries) }
+        ensures asked { (f : List ℕ) (m : Measured) (d : Measure) → P.bytes span.old ≡ Some f → found_for group f ≡ Ok self.now
+            → measurement f ≡ Ok m → IfOk result (λ entries. sample_of (slice_index_or m.groups group d) i ≡ Some entries) }
         ensures same { P.bytes span.new ≡ P.bytes span.old }
         ensures size { P.size span.new ≡ P.size span.old }
         ensures cause { StopCause true (P.faults span.old) (P.faults span.new) result }

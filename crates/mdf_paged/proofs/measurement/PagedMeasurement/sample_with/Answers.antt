@@ -6,6 +6,7 @@ use Rattle.mdf_layout.specs.declared.sample.Entry.{Entry}
 use Rattle.mdf_model.specs.Found.{measured_from}
 use Rattle.mdf_model.specs.Measurement.{sample_of}
 use Rattle.mdf_paged.specs.Groups.{Located, groups_of, located, sample_in}
+use Rattle.mdf_paged.proofs.Asked.{asked_sample}
 use Rattle.mdf_paged.proofs.Measures.{sample_is}
 use Rattle.mdf_paged.proofs.measurement.PagedMeasurement.sample_with.Goals as goal
 
@@ -28,4 +29,13 @@ returns-clause-sample g c = λ f d told read.
     (λ (entries : List Entry). (f : List ℕ) → g.P.Span.bytes c.args.span.now ≡ Some f → sample_in f place c.args.i ≡ Some entries)
     (λ (entries : List Entry). sample_of (slice_index_or (measured_from f c.args.self.now).groups c.args.group d) c.args.i ≡ Some entries)
     (λ entries is. sample_is f c.args.self.now c.args.group d place c.args.i read c.place.ensures.place ∙ is f told)
+    c.sample_of.ensures.sample
+
+pub returns-clause-asked : goal.returns-clause-asked
+returns-clause-asked g c = λ f m d told read measured.
+    let place = located c.place.result.0.now c.place.result.1.now in
+    IfOk-weaker c.sample_of.result
+    (λ (entries : List Entry). (f : List ℕ) → g.P.Span.bytes c.args.span.now ≡ Some f → sample_in f place c.args.i ≡ Some entries)
+    (λ (entries : List Entry). sample_of (slice_index_or m.groups c.args.group d) c.args.i ≡ Some entries)
+    (λ entries is. asked_sample f c.args.group c.args.self.now m read measured d place c.args.i c.place.ensures.place ∙ is f told)
     c.sample_of.ensures.sample
