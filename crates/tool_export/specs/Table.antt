@@ -1,11 +1,12 @@
 -- The table of a channel group: a line with the names of its channels, and then a line for each sample.
-use Rattle.std.specs.Prelude.{ℕ, zero, suc, if◌then◌else◌, List, [], ◌∷◌, ◌++◌, map, codes, slice_get, Option, Some, None}
+use Rattle.std.specs.Prelude.{ℕ, zero, suc, if◌then◌else◌, List, [], ◌∷◌, ◌++◌, map, codes, slice_get, Option, Some, None, Ok, Err}
 use Rattle.std.specs.Option.{option_and_then, option_map_or}
 use Rattle.std.specs.Fmt.{decimal, signed_decimal}
 use Rattle.hex.specs.Hex.{encode_lower}
 use Rattle.csv.specs.Writing.{default_writer, row_text}
 use Rattle.mdf_block.specs.declared.note.Note.{Note}
 use Rattle.mdf_block.specs.declared.note.Note.TheVariants as note
+use Rattle.mdf_block.specs.Refusal.{Read}
 use Rattle.mdf_group.specs.declared.row.ChannelRow.{ChannelRow}
 use Rattle.mdf_layout.specs.declared.sample.Value.{Value}
 use Rattle.mdf_layout.specs.declared.sample.Value.TheVariants as value
@@ -68,6 +69,11 @@ table_of m = table_text m.part.row.channels (sample_of m) m.count
 -- the samples of a group of a measurement, and how many they are
 abbrev pub sample_in : Measured → ℕ → ℕ → Option (List Entry)
 sample_in found group i = option_and_then (λ (m : Measure). sample_of m i) (slice_get found.groups group)
+
+-- and of a file
+abbrev pub sample_read : Read Measured → ℕ → ℕ → Option (List Entry)
+sample_read (Ok found) group = sample_in found group
+sample_read (Err refusal) group = λ i. None
 
 abbrev pub count_in : Measured → ℕ → ℕ
 count_in found group = option_map_or (λ (m : Measure). m.count) (slice_get found.groups group) 0

@@ -3,11 +3,12 @@ ghost use Rattle.std.specs.List.{AllByRecursion};
 ghost use Rattle.mdf_num.specs.Halt.{HaltCause};
 ghost use Rattle.mdf_content.specs.Found.{IsFoundInside};
 ghost use Rattle.mdf_model.specs.declared.part.Measure.{Measure};
-ghost use Rattle.mdf_model.specs.Found.{measured_from, whole_found};
+ghost use Rattle.mdf_model.specs.Kept.{found_for};
+ghost use Rattle.mdf_model.specs.Measurement.{Measured, measurement};
 ghost use Rattle.mdf_paged.specs.Groups.{groups_of};
 ghost use Rattle.mdf_port.specs.State.{sink_state};
 ghost use Rattle.tool_export.specs.Export.{ExportCause, ExportHalts, GivesText, IsPlainExport, SinkCause, halt_of_read, halt_of_table};
-ghost use Rattle.tool_export.specs.Table.{count_at, sample_in, table_of};
+ghost use Rattle.tool_export.specs.Table.{count_at, sample_read, table_of};
 
 use crate::ExportFault;
 use crate::give::give_table;
@@ -20,7 +21,7 @@ use mdf_paged::PagedMeasurement;
 use mdf_port::Sink;
 use std::alloc::Global;
 
-/// The samples of a group of a measurement that is in the file of a span.
+/// The samples of a group of a measurement that is in the file of a span, where its places were wanted.
 #[derive(Drop)]
 struct PagedSamples<'a> {
     found: &'a PagedMeasurement,
@@ -40,9 +41,9 @@ impl<'a> PagedSamples<'a> {
 }
 
 impl SampleList for PagedSamples<'_> {
-    ghost are_of = { λ list f. whole_found f ≡ Ok list.found.now };
+    ghost are_of = { λ list f. found_for list.group f ≡ Ok list.found.now };
 
-    ghost sample = { λ list f. sample_in (measured_from f list.found.now) list.group };
+    ghost sample = { λ list f. sample_read (measurement f) list.group };
 
     ghost needs = { λ list size. AllByRecursion (IsFoundInside size) list.found.now.found };
 
@@ -96,8 +97,8 @@ fn give_group_in<P: Span, K: Sink>(
 ) -> Result<(), Halt<Failed>>
     requires inside { AllByRecursion (IsFoundInside (P.size span.old)) found.now.found }
     requires group { group < length (groups_of found.now) }
-    ensures text { (f : List ℕ) (d : Measure) → P.bytes span.old ≡ Some f → whole_found f ≡ Ok found.now
-        → GivesText (table_of (slice_index_or (measured_from f found.now).groups group d)) (sink_state K.Sink sink.old) (sink_state K.Sink sink.new) result }
+    ensures text { (f : List ℕ) (m : Measured) (d : Measure) → P.bytes span.old ≡ Some f → found_for group f ≡ Ok found.now → measurement f ≡ Ok m
+        → GivesText (table_of (slice_index_or m.groups group d)) (sink_state K.Sink sink.old) (sink_state K.Sink sink.new) result }
     ensures sink { SinkCause (K.faults sink.old) (K.faults sink.new) result }
     ensures same { P.bytes span.new ≡ P.bytes span.old }
     ensures size { P.size span.new ≡ P.size span.old }
@@ -117,7 +118,7 @@ fn give_numbered_in<P: Span, K: Sink>(
     said: u64,
 ) -> Result<u64, Halt<ExportFault>>
     requires inside { AllByRecursion (IsFoundInside (P.size span.old)) found.now.found }
-    ensures ends { (f : List ℕ) → P.bytes span.old ≡ Some f → whole_found f ≡ Ok found.now
+    ensures ends { (f : List ℕ) → P.bytes span.old ≡ Some f → found_for said f ≡ Ok found.now
         → ExportHalts f said (sink_state K.Sink sink.old) (sink_state K.Sink sink.new) result }
     ensures plain { IfErr result (IsPlainExport said) }
     ensures sink { ExportCause (sink_state K.Sink sink.old) (sink_state K.Sink sink.new) result }
@@ -136,7 +137,8 @@ fn give_numbered_in<P: Span, K: Sink>(
 }
 
 /// Prints a channel group of a finalized file that need not be in memory, as `export` does. The records are read out of the
-/// span one by one, and some lines are made at once.
+/// span one by one, and some lines are made at once. Of records with ids the places are kept of this group alone, and of those
+/// that lead to values of variable length.
 ///
 /// # Errors
 /// `Read` where the file is refused, with its first fault, and then `NoGroup` exactly where the file has no such group: of
@@ -155,7 +157,7 @@ pub fn export_in<P: Span, K: Sink>(
     ensures size { P.size span.new ≡ P.size span.old }
     ensures cause { HaltCause true (P.faults span.old) (P.faults span.new) result }
 {
-    match PagedMeasurement::read(alloc, span) {
+    match PagedMeasurement::read_for(alloc, span, group) {
         Ok(found) => give_numbered_in(alloc, span, sink, &found, group),
         Err(halt) => Err(halt_of_read(halt)),
     }
