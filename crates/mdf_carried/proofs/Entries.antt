@@ -23,7 +23,7 @@ use Rattle.mdf_layout.specs.declared.sample.Value.{Value}
 use Rattle.mdf_layout.specs.declared.sample.Value.TheVariants as values
 use Rattle.mdf_layout.specs.declared.sample.Entry.{Entry}
 use Rattle.mdf_layout.specs.declared.sample.Sample.{Sample}
-use Rattle.mdf_layout.proofs.Samples.{parts_of_entries}
+use Rattle.mdf_layout.proofs.Entered.{parts_of_entries}
 use Rattle.mdf_content.proofs.Samples.{value_stands}
 use Rattle.mdf_model.proofs.Cases.{two_ways}
 use Rattle.mdf_carried.proofs.Records.{own, is_own}

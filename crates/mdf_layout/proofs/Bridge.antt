@@ -23,7 +23,7 @@ use Rattle.mdf_layout.specs.declared.sample.Value.TheVariants as values
 use Rattle.mdf_layout.specs.declared.sample.Entry.{Entry}
 use Rattle.mdf_layout.specs.declared.sample.Sample.{Sample}
 use Rattle.mdf_layout.proofs.Once.{ids_rise}
-use Rattle.mdf_layout.proofs.Samples.{parts_of_entries}
+use Rattle.mdf_layout.proofs.Entered.{parts_of_entries}
 use Rattle.mdf_layout.specs.Next.{added}
 use Rattle.mdf_layout.proofs.Found.{AreFoundIn, joined, joined-lengths, found_behind, offset_in, sample_alike}
 

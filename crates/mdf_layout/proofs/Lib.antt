@@ -1,4 +1,4 @@
-pub mod Samples
+pub mod Entered
 pub mod Stays
 mod Apart
 mod RoundTrip

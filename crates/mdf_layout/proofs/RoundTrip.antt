@@ -15,7 +15,7 @@ use Rattle.mdf_layout.specs.declared.field.FieldRow.{FieldRow}
 use Rattle.mdf_layout.specs.declared.sample.Value.{Value}
 use Rattle.mdf_layout.specs.declared.sample.Value.TheVariants as value
 use Rattle.mdf_layout.specs.declared.sample.Entry.{Entry}
-use Rattle.mdf_layout.proofs.Samples.{sample_more}
+use Rattle.mdf_layout.proofs.Entered.{sample_more}
 
 -- the value of a field that holds it
 value_read : (kind : FieldKind) (s : Spot) (bits : ℕ) (bytes : List ℕ) (offset : ℕ) (find : Finder) (index : ℕ) (v : Value)

@@ -19,7 +19,7 @@ use Rattle.mdf_layout.specs.declared.sample.Value.{Value}
 use Rattle.mdf_layout.specs.declared.sample.Value.TheVariants as value
 use Rattle.mdf_layout.specs.declared.sample.Entry.{Entry}
 use Rattle.mdf_layout.specs.declared.sample.Sample.{Sample}
-use Rattle.mdf_layout.proofs.Samples.{parts_of_entries}
+use Rattle.mdf_layout.proofs.Entered.{parts_of_entries}
 use Rattle.mdf_layout.proofs.Bridge.{value_of_entry}
 use Rattle.mdf_layout.proofs.Encoded.{long_with}
 

@@ -17,7 +17,7 @@ use Rattle.mdf_layout.specs.declared.field.FieldKind.TheVariants.{Variable}
 use Rattle.mdf_layout.specs.declared.sample.Value.{Value}
 use Rattle.mdf_layout.specs.declared.sample.Value.TheVariants as value
 use Rattle.mdf_layout.specs.declared.sample.Entry.{Entry}
-use Rattle.mdf_layout.proofs.Samples.{parts_of_entries, finder_behind}
+use Rattle.mdf_layout.proofs.Entered.{parts_of_entries, finder_behind}
 use Rattle.mdf_content.specs.declared.contents.Contents.{Contents}
 use Rattle.mdf_content.specs.declared.contents.DataContents.{DataContents}
 use Rattle.mdf_content.specs.Contents.{HaveSamples, AllHaveSamples}

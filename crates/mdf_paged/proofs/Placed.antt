@@ -10,7 +10,7 @@ use Rattle.mdf_stream.specs.Parts.{ArePartsInside, stream_of, stream_size}
 use Rattle.mdf_vlsd.specs.Value.{size_there, value_at}
 use Rattle.mdf_layout.specs.Layout.{record_size}
 use Rattle.mdf_layout.specs.Values.{finder_at}
-use Rattle.mdf_layout.proofs.Samples.{finder_found}
+use Rattle.mdf_layout.proofs.Entered.{finder_found}
 use Rattle.mdf_content.specs.declared.found.DataFound.{DataFound}
 use Rattle.mdf_content.specs.declared.found.Found.{Found}
 use Rattle.mdf_content.specs.Contents.{content_of}

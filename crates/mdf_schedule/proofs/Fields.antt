@@ -17,7 +17,7 @@ use Rattle.mdf_layout.specs.declared.field.FieldRow.{FieldRow}
 use Rattle.mdf_layout.specs.declared.sample.Value.{Value}
 use Rattle.mdf_layout.specs.declared.sample.Entry.{Entry}
 use Rattle.mdf_layout.proofs.Rules.{has_bit_law}
-use Rattle.mdf_layout.proofs.Samples.{parts_of_entries}
+use Rattle.mdf_layout.proofs.Entered.{parts_of_entries}
 use Rattle.mdf_schedule.specs.Records.{AreBytes, IsStoredIn}
 use Rattle.mdf_schedule.proofs.Bits.{two_ways, same_bytes, kind_bits, mark_bits}
 

@@ -4,7 +4,7 @@ use Rattle.std.specs.Prelude.{slice_get, if◌then◌else◌}
 use Rattle.mdf_layout.specs.Rule.{is_variable}
 use Rattle.mdf_layout.specs.Values.{streams_before}
 use Rattle.mdf_layout.specs.declared.field.FieldRow.{FieldRow}
-use Rattle.mdf_layout.proofs.Samples.{streams_more}
+use Rattle.mdf_layout.proofs.Entered.{streams_more}
 
 pub streams_one : (rows : List FieldRow) (k : ℕ) (row : FieldRow) → slice_get rows k ≡ Some row → is_variable row ≡ true
     → streams_before rows (k + 1) ≡ streams_before rows k + 1

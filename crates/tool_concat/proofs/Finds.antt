@@ -16,7 +16,7 @@ use Rattle.mdf_layout.specs.declared.sample.Value.{Value}
 use Rattle.mdf_layout.specs.declared.sample.Value.TheVariants as value
 use Rattle.mdf_layout.specs.declared.sample.Entry.{Entry}
 use Rattle.mdf_vlsd.specs.Value.{size_there, value_at}
-use Rattle.mdf_layout.proofs.Samples.{finder_behind}
+use Rattle.mdf_layout.proofs.Entered.{finder_behind}
 use Rattle.tool_sort.proofs.Indexes.{mapped}
 use Rattle.tool_concat.specs.Joined.{joined_streams}
 use Rattle.tool_concat.specs.Moved.{IsVariableAt, offset_in, shift_of}

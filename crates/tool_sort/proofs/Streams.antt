@@ -30,7 +30,7 @@ use Rattle.mdf_layout.specs.declared.field.FieldRow.{FieldRow}
 use Rattle.mdf_layout.specs.declared.sample.Value.{Value}
 use Rattle.mdf_layout.specs.declared.sample.Value.TheVariants as value
 use Rattle.mdf_layout.specs.declared.sample.Entry.{Entry}
-use Rattle.mdf_layout.proofs.Samples.{parts_of_entries}
+use Rattle.mdf_layout.proofs.Entered.{parts_of_entries}
 use Rattle.mdf_content.specs.Layouts.{field_of}
 use Rattle.mdf_content.specs.Values.{values_group}
 use Rattle.mdf_content.proofs.Samples.{value_stands, other_field}

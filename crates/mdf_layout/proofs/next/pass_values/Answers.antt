@@ -5,7 +5,7 @@ use Rattle.std.proofs.lemmas.Option.{get_or_from_slice_get}
 use Rattle.mdf_layout.specs.Rule.{is_variable}
 use Rattle.mdf_layout.specs.Record.{long_values}
 use Rattle.mdf_layout.specs.Next.{added, value_sizes}
-use Rattle.mdf_layout.proofs.Samples.{few_more}
+use Rattle.mdf_layout.proofs.Entered.{few_more}
 use Rattle.mdf_layout.proofs.Longs.{long_values-drop, variables-drop}
 use Rattle.mdf_layout.proofs.Nexts.{passed_more, small_more, small_at, all_passed}
 use Rattle.mdf_layout.proofs.next.pass_values.Goals as goal

@@ -2,7 +2,7 @@ use Rattle.std.proofs.Common.{◌∙◌, sym, ap, refl, subst, arith, Some}
 use Rattle.mdf_layout.specs.Fault.{LackCause, MissingCause}
 use Rattle.mdf_layout.specs.Rule.{is_variable}
 use Rattle.mdf_layout.specs.Values.{entry_of, finder_at, sample_by}
-use Rattle.mdf_layout.proofs.Samples.{sample_more, streams_more, few_more, missing_behind}
+use Rattle.mdf_layout.proofs.Entered.{sample_more, streams_more, few_more, missing_behind}
 use Rattle.mdf_layout.proofs.reading.decode_in.Goals as goal
 
 pub loop-channel-init : goal.loop-channel-init

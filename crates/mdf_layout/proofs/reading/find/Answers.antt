@@ -1,6 +1,6 @@
 use Rattle.std.proofs.Common.{◌∙◌, sym, ap, arith}
 use Rattle.mdf_layout.specs.Values.{Finder}
-use Rattle.mdf_layout.proofs.Samples.{finder_found}
+use Rattle.mdf_layout.proofs.Entered.{finder_found}
 use Rattle.mdf_layout.proofs.reading.find.Goals as goal
 
 pub returns : goal.returns

@@ -2,7 +2,7 @@ use Rattle.std.proofs.Common.{◌∙◌, ap, sym, arith, length}
 use Rattle.std.proofs.lemmas.List.{take_all}
 use Rattle.mdf_layout.specs.Rule.{is_variable}
 use Rattle.mdf_layout.specs.Behind.{variables}
-use Rattle.mdf_layout.proofs.Samples.{streams_more, few_more}
+use Rattle.mdf_layout.proofs.Entered.{streams_more, few_more}
 use Rattle.mdf_layout.proofs.shape.count_variables.Goals as goal
 
 pub loop-channel-preserved : goal.loop-channel-preserved

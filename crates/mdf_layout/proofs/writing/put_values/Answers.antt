@@ -3,7 +3,7 @@ use Rattle.std.proofs.lemmas.Option.{slice_get_within, get_or_from_slice_get}
 use Rattle.std.specs.List.{All}
 use Rattle.mdf_layout.specs.Rule.{spot_in, is_variable, IsPlacedAs}
 use Rattle.mdf_layout.specs.Written.{ValueFits, HoldsValue, offset_of}
-use Rattle.mdf_layout.proofs.Samples.{streams_more, few_more}
+use Rattle.mdf_layout.proofs.Entered.{streams_more, few_more}
 use Rattle.mdf_layout.proofs.Stays.{AreBytes, values_more, others_more}
 use Rattle.mdf_layout.proofs.writing.put_values.Goals as goal
 
