@@ -13,5 +13,7 @@ pub mod Found
 pub mod Bridge
 pub mod Pieces
 pub mod Behind
+pub mod Joined
+mod Sealing
 mod Longs
 pub mod Nexts

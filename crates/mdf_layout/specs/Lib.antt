@@ -1,4 +1,6 @@
 pub mod Stock
+pub mod Chunked
+pub mod Parts
 pub mod Rule
 pub mod Run
 pub mod Row

@@ -5,6 +5,8 @@
 //! read, are here for channels of all kinds, over rows and for a `Shape`, which is a layout that keeps the rules.
 #![tactic(auto)]
 
+mod chunk;
+mod chunks;
 mod field;
 mod fitting;
 mod law;
@@ -16,10 +18,13 @@ mod row;
 mod rule;
 mod runs;
 mod sample;
+mod samples;
 mod shape;
 mod shapes;
 mod writing;
 
+pub use chunk::Chunk;
+pub use chunks::Chunks;
 pub use field::{FieldKind, FieldRow};
 pub use fitting::{are_apart, entries_fit};
 pub use law::records_are_of_one_list;
@@ -28,7 +33,8 @@ pub use reading::{DecodeFault, Missing, Values, decode, decode_in};
 pub use reserved::Reserved;
 pub use row::{ChannelNumbers, field_row, rules_are_tested};
 pub use rule::first_bad;
-pub use sample::{Entries, Entry, Sample, Samples, Value};
+pub use sample::{Entries, Entry, Sample, Value};
+pub use samples::Samples;
 pub use shape::{Shape, ShapeFault, shape_of};
 pub use shapes::Shapes;
 pub use writing::encode;

@@ -1,6 +1,5 @@
 ghost use Rattle.std.specs.Prelude.{◌≡◌, IfOk};
 
-use crate::Reserved;
 use mdf_num::{Bytes, Memory, Rows};
 use std::alloc::Global;
 
@@ -33,9 +32,6 @@ pub struct Sample {
     pub group: u16,
     pub values: Entries,
 }
-
-/// A list of samples, with room for more that was found beforehand.
-pub type Samples = Reserved<Sample>;
 
 impl Value {
     /// An equal value.
