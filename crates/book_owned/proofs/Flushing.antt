@@ -6,7 +6,7 @@ use Rattle.mdf_layout.specs.declared.sample.Sample.{Sample}
 use Rattle.mdf_gate.specs.Gated.{Gated}
 use Rattle.book_owned.specs.Members.{DiskOf, ViewOf}
 use Rattle.book_owned.specs.Marks.{durable}
-use Rattle.book_owned.specs.Answers.{AddsMark, FlushAnswers, MarksAll, PassesBlock, ShowsAll, Turns}
+use Rattle.book_owned.specs.Answers.{AddsMark, FlushAnswers, MarksAll, PassesBlock, ShowsUpto, Turns}
 use Rattle.book_owned.specs.declared.answer.Flush.{Flush}
 use Rattle.book_owned.specs.declared.answer.Flush.TheVariants as flush
 use Rattle.book_owned.specs.Halves.{IsPending, account_of}
@@ -26,7 +26,7 @@ module _ {D V N : Type 0} (disk : DiskOf D) (view : ViewOf V N) (front : InMemor
       → MarksAll disk (account_of disk view front file) (account_of disk view after file')
   marks_all front' after file' hands written pending same =
       let all = all_durable (durable front'.marks.items) file'.failed front' pending written.going written.emptied in
-      let same_history : front'.history.items ≡ front.history.items = ap (λ f. f.history.items) hands.rest in
+      let same_history = hands.history in
       ⊎_elim
       (λ none. inl (
         same ∙ ap (λ m. m.items) none.1,
@@ -38,8 +38,8 @@ module _ {D V N : Type 0} (disk : DiskOf D) (view : ViewOf V N) (front : InMemor
 
   -- what was pending is handed over and shown
   pub room_made : (front' after : InMemory V) (file' : Gated D) (size : ℕ) → HasWritten disk front file front' file' → size ≤ front.block.limit
-      → front.block.limit < length front.block.bytes + size → after ≡ record front' { view = after.view } → front'.view ≡ front.view
-      → ShowsAll view front'.view after.view (durable front'.marks.items) → MakesRoom disk view front file size after file'
+      → front.block.limit < length front.block.bytes + size → after ≡ record front' { history = after.history; view = after.view } → front'.view ≡ front.view
+      → ShowsUpto view front'.view after.view (durable front'.marks.items) → MakesRoom disk view front file size after file'
   room_made front' after file' size written small over rest same_view shows = ⊎_elim
       (λ none. absurd (omega (arith, ap length none.0, over, small)))
       (λ has. inr (
@@ -48,28 +48,28 @@ module _ {D V N : Type 0} (disk : DiskOf D) (view : ViewOf V N) (front : InMemor
         shown has,
       ))
       written.marked where
-        shown : HasMarked disk front front' file' → ShowsAll view front.view after.view (length front.history.items)
+        shown : HasMarked disk front front' file' → ShowsUpto view front.view after.view (length front.history.items)
         shown has =
             let all : durable front'.marks.items ≡ length front.history.items =
             ap durable has.marks ∙ ap (λ m. m.through) (last_mark-append front.marks.items has.mark) ∙ has.through in
-            subst (ShowsAll view front.view after.view) all (subst (λ v. ShowsAll view v after.view (durable front'.marks.items)) same_view shows)
+            subst (ShowsUpto view front.view after.view) all (subst (λ v. ShowsUpto view v after.view (durable front'.marks.items)) same_view shows)
 
   -- a flush was done
   pub flush_shown : (front' after : InMemory V) (file' : Gated D) (answer : Flush N) → file.failed ≡ false
       → Hands disk view front file front' file' → HasWritten disk front file front' file'
-      → IsPending (durable front'.marks.items) file'.failed front' → front'.view ≡ front.view → after ≡ record front' { view = after.view }
+      → IsPending (durable front'.marks.items) file'.failed front' → front'.view ≡ front.view → after ≡ record front' { history = after.history; view = after.view }
       → ShowTells view front' after answer
       → FlushAnswers disk view (account_of disk view front file) (account_of disk view after file') answer
   flush_shown front' after file' (flush.Done through shown note) going hands written pending same_view rest (through_is, shown_is, few, shows, tells) =
       let all = all_durable (durable front'.marks.items) file'.failed front' pending written.going written.emptied in
-      let same_history : front'.history.items ≡ front.history.items = ap (λ f. f.history.items) hands.rest in (
+      let same_history = hands.history in (
         going,
         written.going,
         through_is ∙ all ∙ ap length same_history,
         shown_is,
         few,
         marks_all front' after file' hands written pending (ap (λ f. f.marks.items) rest),
-        subst (λ v. ShowsAll view v after.view through) same_view shows,
+        subst (λ v. ShowsUpto view v after.view through) same_view shows,
         subst (λ v. view.tells note (view.which v) (take shown front.history.items)) same_view
             (subst (λ h. view.tells note (view.which front'.view) (take shown h)) same_history tells),
       )
@@ -108,9 +108,9 @@ module _ {D V N : Type 0} (disk : DiskOf D) (view : ViewOf V N) (front : InMemor
             over.1.through ∙ ap length same_history,
             over.1.present,
           ),
-          ⊎_elim
-              (λ all. inl (ap view.count same_view ∙ all ∙ ap length same_history))
-              (λ wanted. inr (wanted.0, ap view.count same_view ∙ wanted.1 ∙ ap (λ f. view.count f.view) rest))
-              over.2,
+          (
+            omega (arith, over.2.0, ap view.count same_view, ap (λ f. view.count f.view) rest),
+            omega (arith, over.2.1, ap view.count same_view, ap length same_history),
+          ),
         ))
         room

@@ -1,10 +1,11 @@
 -- The front of a book: over a put, a hand-over and what became of it.
 use Rattle.std.proofs.Common.{◌≡◌, ◌≢◌, ◌+◌, ◌-◌, ◌*◌, ◌<◌, ◌≤◌, ℕ, Bool, true, false, List, [], ◌∷◌, ◌++◌, length, take, drop, Option, Some, None, refl, sym, ◌∙◌, ap, subst, arith, rules, length-take}
 use Rattle.std.proofs.lemmas.Bool.{false≢true}
-use Rattle.std.proofs.lemmas.List.{take_all, drop_all, take-take, take-append-le, drop-take, drop-drop}
+use Rattle.std.proofs.lemmas.List.{take_all, drop_all, take-append-le, drop-take, drop-drop}
 use Rattle.std.proofs.lemmas.List.Sums.{sum_by-take-drop}
 use Rattle.std.specs.Prelude.{is_some}
-use mathlib.Core.List.{IsPrefix}
+use Rattle.mdf_layout.specs.Behind.{AreEncodingsBehind}
+use Rattle.mdf_layout.specs.Chunked.{joined}
 use Rattle.mdf_layout.specs.Layout.{Layout}
 use Rattle.mdf_layout.specs.Record.{cost_of, encoded_size, history_size}
 use Rattle.mdf_layout.specs.Stock.{Stock}
@@ -12,10 +13,10 @@ use Rattle.mdf_layout.specs.declared.sample.Sample.{Sample}
 use Rattle.mdf_layout.proofs.Behind.{no_encodings}
 use Rattle.mdf_layout.proofs.Sizes.{encodings-length}
 use Rattle.mdf_gate.specs.Gated.{Buffered}
-use Rattle.mdf_gate.proofs.Carrying.{prefix_take, prefix_trans}
 use Rattle.book_owned.specs.Members.{ViewOf}
 use Rattle.book_owned.specs.Marks.{durable}
 use Rattle.book_owned.specs.Kept.{IsShowing}
+use Rattle.book_owned.specs.Shared.{IsShared}
 use Rattle.book_owned.specs.Halves.{IsPut}
 use Rattle.book_owned.specs.FrontHalf.{AreThroughs, HandTells, HasSpare, IsFront, front_account}
 use Rattle.book_owned.specs.declared.handed.Handed.TheVariants as handed
@@ -45,20 +46,6 @@ size_parts layouts history low from less =
       ap (history_size layouts) back,
     )
 
--- what shows a beginning of the durable samples shows one of more
-pub showing_marked : {V N : Type 0} (view : ViewOf V N) (now : V) (history : List Sample) (marks more : List Mark) (mark : Mark)
-    → more ≡ marks ++ mark ∷ [] → durable marks ≤ mark.through → IsShowing view now history marks → IsShowing view now history more
-showing_marked view now history marks more mark is less showing =
-    let through : durable more ≡ mark.through = ap durable is ∙ ap (λ m. m.through) (last_mark-append marks mark) in
-    let begins : IsPrefix (take (durable marks) history) (take (durable more) history) =
-    subst (λ xs. IsPrefix xs (take (durable more) history)) (take-take (durable marks) (durable more) history (omega (arith, less, through)))
-    (prefix_take (durable marks) (take (durable more) history)) in
-    record {
-      most = omega (arith, showing.most, less, through);
-      shown = showing.shown;
-      handed = λ handed before. prefix_trans handed (take (durable marks) history) (take (durable more) history) (showing.handed handed before) begins;
-    }
-
 module _ {V : Type 0} (memory : InMemory V) (from : ℕ) (stopped : Bool) where
   -- with its spare block all that was handed over is durable, or it is stopped
   pub spare_durable : (spare : Option Buffered) → is_some spare ≡ true → HasSpare memory from stopped spare → stopped ≡ false → from ≡ durable memory.marks.items
@@ -85,11 +72,11 @@ module _ {V N : Type 0} (view : ViewOf V N) (memory : InMemory V) (spare : Optio
 
   -- room was found
   pub front_reserved : (reserved : InMemory V) → reserved ≡ record memory { history = reserved.history; marks = reserved.marks }
-      → reserved.history.items ≡ history → reserved.marks.items ≡ marks → memory.marks.spare ≤ reserved.marks.spare
-      → IsFront view reserved spare from stopped
-  front_reserved reserved rest same_history same_marks more =
+      → reserved.history.items ≡ history → reserved.history.chunks ≡ memory.history.chunks → reserved.marks.items ≡ marks
+      → memory.marks.spare ≤ reserved.marks.spare → IsFront view reserved spare from stopped
+  front_reserved reserved rest same_history same_chunks same_marks more =
       let has = spare_kept memory from stopped reserved rest same_marks more spare front.has_spare in
-      search (rules, rest, same_history, same_marks, front, has)
+      search (rules, rest, same_history, same_chunks, same_marks, front, has)
 
   -- a sample was put
   pub front_put : (new : InMemory V) (sample : Sample) → IsPut memory new sample → stopped ≡ false → 2 ≤ memory.marks.spare
@@ -115,6 +102,8 @@ module _ {V N : Type 0} (view : ViewOf V N) (memory : InMemory V) (spare : Optio
         pending = pending_put memory at sample put_at from stopped front.pending (omega (arith, room));
         low = front.low;
         shown = showing_longer view memory.view history new.history.items sample marks put.history (omega (arith, front.low, front.pending.through)) front.shown;
+        shared = subst (IsShared view memory.view) (sym put.chunks) front.shared;
+        sealed = omega (arith, front.sealed, ap (λ (xs : List (List Sample)). length (joined xs)) put.chunks);
         throughs = front.throughs;
         has_spare = still spare front.has_spare;
         few = λ _. more;
@@ -141,7 +130,7 @@ module _ {V N : Type 0} (view : ViewOf V N) (memory : InMemory V) (spare : Optio
 
     pub front_handed : IsFront view (record memory { block = dest }) None through stopped
     front_handed = record {
-      counted = counted_as memory (record memory { block = dest }) refl given.1 front.counted;
+      counted = counted_as memory (record memory { block = dest }) refl refl given.1 front.counted;
       pending = record {
         through = omega (arith, all);
         records = λ g. rw (given.0, drop_all through history (omega (arith, all))) (no_encodings memory.shapes (take through history));
@@ -149,6 +138,8 @@ module _ {V N : Type 0} (view : ViewOf V N) (memory : InMemory V) (spare : Optio
       };
       low = omega (arith, front.low, more, all);
       shown = record { most = front.shown.most; shown = front.shown.shown; handed = front.shown.handed };
+      shared = front.shared;
+      sealed = front.sealed;
       throughs = front.throughs;
       has_spare = (going, omega (arith, given.2 going, more, all), front.pending.room some, λ bytes. absurd (bytes given.0));
       few = λ _. subst (λ samples. history_size memory.shapes samples ≤ dest.limit) (sym (drop_all through history (omega (arith, all)))) (omega arith);
@@ -195,27 +186,33 @@ module _ {V N : Type 0} (view : ViewOf V N) (memory : InMemory V) (spare : Optio
           long (b ∷ bytes) is = omega arith
 
   -- The block came back, and its records are written.
-  pub front_marked : (new : InMemory V) (more : Stock Mark) (mark : Mark) (block : Buffered) → new ≡ record memory { marks = more; view = new.view }
-      → is_some spare ≡ false → mark.through ≡ from → more.items ≡ marks ++ mark ∷ [] → more.spare ≡ memory.marks.spare - 1
-      → IsShowing view new.view new.history.items new.marks.items → block.bytes ≡ [] → block.limit ≡ memory.block.limit
+  pub front_marked : (new : InMemory V) (more : Stock Mark) (mark : Mark) (block : Buffered) → new ≡ record memory { history = new.history; marks = more; view = new.view }
+      → new.history.items ≡ history → is_some spare ≡ false → mark.through ≡ from → more.items ≡ marks ++ mark ∷ [] → more.spare ≡ memory.marks.spare - 1
+      → IsShowing view new.view new.history.items new.marks.items → IsShared view new.view new.history.chunks
+      → length (joined new.history.chunks) ≤ durable new.marks.items → block.bytes ≡ [] → block.limit ≡ memory.block.limit
       → IsFront view new (Some block) from stopped
-  front_marked new more mark block rest lent through_is marks_are room shown emptied limit =
+  front_marked new more mark block rest same lent through_is marks_are room shown shared sealed emptied limit =
       let has = spare_lent memory from stopped spare lent front.has_spare in
       let is : durable more.items ≡ from = ap durable marks_are ∙ ap (λ m. m.through) (last_mark-append marks mark) ∙ through_is in
-      let showing = subst (λ f. IsShowing view new.view f.history.items f.marks.items) rest shown in
+      let after : InMemory V = record memory { history = new.history; marks = more; view = new.view } in
+      let back : (P : List Sample → Type 0) → P history → P new.history.items = λ P. subst P (sym same) in
       subst (λ f. IsFront view f (Some block) from stopped) (sym rest) (record {
-        counted = counted_as memory (record memory { marks = more; view = new.view }) refl refl front.counted;
+        counted = counted_as memory after refl same refl front.counted;
         pending = record {
-          through = front.pending.through;
-          records = front.pending.records;
+          through = back (λ h. from ≤ length h) front.pending.through;
+          records = λ going. back (λ h. AreEncodingsBehind memory.shapes (take from h) memory.block.bytes (drop from h)) (front.pending.records going);
           room = λ some. let two = has.3 some in omega (arith, room, two);
         };
         low = omega (arith, is);
-        shown = showing;
+        shown = subst (λ f. IsShowing view new.view new.history.items f.marks.items) rest shown;
+        shared = shared;
+        sealed = subst (λ f. length (joined new.history.chunks) ≤ durable f.marks.items) rest sealed;
         throughs = subst AreThroughs (sym marks_are) (throughs-push marks mark front.throughs (omega (arith, has.1, through_is)));
         has_spare = (emptied, limit, λ going. sym is);
-        few = front.few;
-        few_all = omega (arith, front.few has.0, ap (λ n. history_size memory.shapes (drop n history)) is);
-        few_handed = λ _. subst (λ n. history_size memory.shapes (drop n (take from history)) ≤ memory.block.limit) (sym is)
-            (subst (λ samples. history_size memory.shapes samples ≤ memory.block.limit) (sym (none_between from history)) (omega arith));
+        few = λ going. back (λ h. history_size memory.shapes (drop from h) ≤ memory.block.limit) (front.few going);
+        few_all = back (λ h. history_size memory.shapes (drop (durable more.items) h) ≤ 2 * memory.block.limit)
+            (omega (arith, front.few has.0, ap (λ n. history_size memory.shapes (drop n history)) is));
+        few_handed = λ _. back (λ h. history_size memory.shapes (drop (durable more.items) (take from h)) ≤ memory.block.limit)
+            (subst (λ n. history_size memory.shapes (drop n (take from history)) ≤ memory.block.limit) (sym is)
+            (subst (λ samples. history_size memory.shapes samples ≤ memory.block.limit) (sym (none_between from history)) (omega arith)));
       })

@@ -68,10 +68,7 @@ module _ {D V N : Type 0} (disk : DiskOf D) (view : ViewOf V N) (old new : Accou
         (λ fits. inl (accepts is still fits.1 fits.3))
         (λ over. inr (
           over.0,
-          ⊎_elim
-              (λ all. accepts_flushed is still (marked over.1) (omega (arith, all, within, showing)) (omega (arith, all)))
-              (λ wanted. accepts_flushed is still (marked over.1) (omega (arith, wanted.1)) (omega (arith, wanted.1, within, showing)))
-              over.2,
+          accepts_flushed is still (marked over.1) over.2.0 over.2.1,
         ))
         turns
 
@@ -85,7 +82,7 @@ module _ {D V N : Type 0} (disk : DiskOf D) (view : ViewOf V N) (old new : Accou
       → FlushAnswers disk view old new answer → FlushEvents view.count old new answer
   flush_happens (flush.Done through shown note) history within showing (is, still, through_is, shown_is, few, marks, shows, tells) =
       let all : durable new.marks ≡ length old.history = ⊎_elim (λ same. ap durable same.0 ∙ same.2) marked marks in
-      let more : view.count old.view ≤ shown = ⊎_elim (λ whole. omega (arith, whole, shown_is, through_is, within, showing)) (λ wanted. omega (arith, wanted.1, shown_is)) shows in
+      let more : view.count old.view ≤ shown = omega (arith, shows.0, shown_is) in
       same_state (book_state_of view.count new) old.history (length old.history) shown false history all (sym shown_is) still
       ∙ sym (flushes old.history (durable old.marks) (view.count old.view) shown more (omega (arith, few, through_is)))
       ∙ ap (λ state. after_all state (FlushDone ∷ Publish shown ∷ [])) (sym (goes is))

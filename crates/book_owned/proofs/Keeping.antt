@@ -75,7 +75,7 @@ pairs-fewer R fewer xs (rest, is) pairs i j d less below =
     (subst (R (get_or (fewer ++ rest) i d)) (get_or_append_left fewer rest d j below)
     (whole i j d less (omega (arith, below, length-append fewer rest))))
 
-all-fewer : {A : Type 0} (P : A → Type 0) (fewer xs : List A) → IsPrefix fewer xs → All P xs → All P fewer
+pub all-fewer : {A : Type 0} (P : A → Type 0) (fewer xs : List A) → IsPrefix fewer xs → All P xs → All P fewer
 all-fewer P fewer xs (rest, is) all k d below =
     subst P (get_or_append_left fewer rest d k below)
     (subst (All P) (sym is) all k d (omega (arith, below, length-append fewer rest)))

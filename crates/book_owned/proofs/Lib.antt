@@ -7,6 +7,6 @@ mod Lasts
 mod Parting
 mod Putting
 mod Resting
-mod Showing
+mod Sharing
 mod Turning
 mod Happening

@@ -1,5 +1,5 @@
 -- A book that is split, and the book of two halves.
-use Rattle.std.proofs.Common.{◌≡◌, ◌≤◌, ℕ, Bool, true, false, [], take, drop, Option, Some, refl, sym, ◌∙◌, subst, arith}
+use Rattle.std.proofs.Common.{◌≡◌, ◌≤◌, ℕ, Bool, false, [], take, drop, Option, Some, refl, sym, ◌∙◌, subst, arith}
 use Rattle.mdf_disk.specs.State.{state_of}
 use Rattle.mdf_layout.specs.Behind.{AreEncodingsBehind}
 use Rattle.mdf_layout.specs.Record.{history_size}
@@ -24,6 +24,8 @@ module _ {D V N : Type 0} (disk : DiskOf D) (view : ViewOf V N) (memory : InMemo
         pending = book.pending;
         low = omega arith;
         shown = book.shown;
+        shared = book.shared;
+        sealed = book.sealed;
         throughs = throughs_of (terms_of disk view memory file) (state_of disk file.disk) memory.history.items memory.marks.items book.back.kept;
         has_spare = (emptied, limit, λ going. refl);
         few = λ going. book.back.few going;
@@ -56,6 +58,8 @@ module _ {D V N : Type 0} (disk : DiskOf D) (view : ViewOf V N) (memory : InMemo
           room = front.pending.room;
         };
         shown = front.shown;
+        shared = front.shared;
+        sealed = front.sealed;
         back = record {
           kept = kept_of (terms_of disk view memory file) (state_of disk file.disk) memory.history.items memory.marks.items halves.keeps front.throughs
               front.few_all;

@@ -8,6 +8,7 @@ use Rattle.std.proofs.lemmas.List.Elements.{All-push}
 use mathlib.Core.List.{IsPrefix}
 use Rattle.mdf_disk.specs.State.{state_of}
 use Rattle.mdf_disk.specs.Crash.{HoldsSince}
+use Rattle.mdf_layout.specs.Chunked.{joined}
 use Rattle.mdf_layout.specs.Layout.{Layout}
 use Rattle.mdf_layout.specs.Behind.{AreEncodingsBehind}
 use Rattle.mdf_layout.specs.Next.{AreNext}
@@ -22,6 +23,7 @@ use Rattle.mdf_gate.proofs.Carrying.{carries_opened, carries_begun}
 use Rattle.book_owned.specs.Members.{DiskOf, ViewOf}
 use Rattle.book_owned.specs.Marks.{durable, AreRising}
 use Rattle.book_owned.specs.Kept.{MarkHolds, MarksHold, IsShowing}
+use Rattle.book_owned.specs.Shared.{IsShared}
 use Rattle.book_owned.specs.Begun.{IsNewFile, IsAdmissible}
 use Rattle.book_owned.specs.Halves.{IsBook, IsCounted, IsPending, IsPut, terms_of}
 use Rattle.book_owned.specs.BackHalf.{FileHolds}
@@ -29,6 +31,7 @@ use Rattle.book_owned.specs.declared.in_memory.InMemory.{InMemory}
 use Rattle.book_owned.specs.declared.mark.Mark.{Mark}
 use Rattle.book_owned.proofs.Costs.{history_cost-append}
 use Rattle.book_owned.proofs.Keeping.{kept_of, keeps_of, keeps_longer, throughs_of}
+use Rattle.book_owned.proofs.Sharing.{shares_nothing}
 use Rattle.book_owned.proofs.Turning.{holds_told, told_on}
 
 -- no samples begin any
@@ -127,6 +130,8 @@ module _ {D V N : Type 0} (disk : DiskOf D) (view : ViewOf V N) where
         counted = counted_put old at sample put_at book.counted session;
         pending = pending_put old at sample put_at through file.failed book.pending spare;
         shown = showing_longer view old.view history new.history.items sample old.marks.items put.history book.pending.through book.shown;
+        shared = subst (IsShared view old.view) (sym put.chunks) book.shared;
+        sealed = omega (arith, book.sealed, ap (λ (xs : List (List Sample)). length (joined xs)) put.chunks);
         back = record {
           kept = kept_of (terms_of disk view at file) state new.history.items old.marks.items keeps (throughs_of terms state history old.marks.items book.back.kept)
               (omega (arith, few, put.limit));
@@ -138,19 +143,20 @@ module _ {D V N : Type 0} (disk : DiskOf D) (view : ViewOf V N) where
 
   -- room was found
   pub book_reserved : (front reserved : InMemory V) (file : Gated D) → reserved ≡ record front { history = reserved.history; marks = reserved.marks }
-      → reserved.history.items ≡ front.history.items → reserved.marks.items ≡ front.marks.items → front.marks.spare ≤ reserved.marks.spare
+      → reserved.history.items ≡ front.history.items → reserved.history.chunks ≡ front.history.chunks
+      → reserved.marks.items ≡ front.marks.items → front.marks.spare ≤ reserved.marks.spare
       → IsBook disk view front file → IsBook disk view reserved file
-  book_reserved front reserved file rest history marks spare book = search (rules, rest, history, marks, spare, book)
+  book_reserved front reserved file rest history chunks marks spare book = search (rules, rest, history, chunks, marks, spare, book)
 
   -- a book that has just begun
   pub book_begun : (front : InMemory V) (file : Gated D) → IsNewFile disk file → IsAdmissible front.shapes front.block.limit front.session_limit
-      → front.history.items ≡ [] → front.marks.items ≡ record { moment = disk.moment file.disk; through = 0 } ∷ [] → front.held ≡ 0
+      → front.history.items ≡ [] → front.history.chunks ≡ [] → front.marks.items ≡ record { moment = disk.moment file.disk; through = 0 } ∷ [] → front.held ≡ 0
       → front.block.bytes ≡ []
       → view.shows front.view [] → view.count front.view ≡ 0 → ((handed : List Sample) → view.hands front.view handed → handed ≡ [])
       → HoldsSince (disk.story file.disk) (disk.moment file.disk) (Opens (head_of (disk.story file.disk) file.first) [] file.place)
       → IfSome (disk.story file.disk) (λ _. file.place ≤ length (head_of (disk.story file.disk) file.first))
       → AreNext front.shapes [] front.next → IsBook disk view front file
-  book_begun front file created admissible history_is marks_are held_is bytes_are shown counted handed leaves bare next =
+  book_begun front file created admissible history_is chunks_are marks_are held_is bytes_are shown counted handed leaves bare next =
       let head = head_of (disk.story file.disk) file.first in
       let first : Mark = record { moment = disk.moment file.disk; through = 0 } in
       let durable_is : durable front.marks.items ≡ 0 = ap durable marks_are in
@@ -188,6 +194,8 @@ module _ {D V N : Type 0} (disk : DiskOf D) (view : ViewOf V N) where
           shown = subst (view.shows front.view) (sym (taken (view.count front.view))) shown;
           handed = λ h is. subst (λ xs. IsPrefix xs (take (durable front.marks.items) front.history.items)) (sym (handed h is)) (nothing_begins (take (durable front.marks.items) front.history.items));
         };
+        shared = shares_nothing view front.view front.history.chunks chunks_are shown counted handed;
+        sealed = omega (arith, ap (λ (xs : List (List Sample)). length (joined xs)) chunks_are);
         back = record {
           kept = record {
             marks_hold = subst (MarksHold front.shapes head (disk.story file.disk) (disk.moment file.disk) front.history.items) (sym marks_are) (λ k d below. all_one first mark_holds k d below);

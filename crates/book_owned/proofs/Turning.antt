@@ -9,7 +9,8 @@ use Rattle.mdf_disk.specs.Story.{Story}
 use Rattle.mdf_disk.specs.Crash.{Adds, HoldsSince}
 use Rattle.mdf_disk.specs.State.{state_of}
 use Rattle.mdf_layout.specs.Layout.{Layout}
-use Rattle.mdf_layout.specs.Record.{history_cost, history_size}
+use Rattle.mdf_layout.specs.Next.{AreNext}
+use Rattle.mdf_layout.specs.Record.{SampleFits, history_cost, history_size}
 use Rattle.mdf_layout.specs.Behind.{AreEncodingsBehind}
 use Rattle.mdf_layout.specs.declared.sample.Sample.{Sample}
 use Rattle.mdf_layout.proofs.Behind.{no_encodings}
@@ -88,12 +89,12 @@ pub holds_told : (story : Option Story) (t : ℕ) (P : List ℕ → Type 0) (Q :
 holds_told None t P Q has holds = λ file left. absurd left
 holds_told (Some s) t P Q has holds = holds has
 
--- what is counted stays where the block keeps its limit
-pub counted_as : {V : Type 0} (old new : InMemory V) → new ≡ record old { block = new.block; marks = new.marks; view = new.view } → new.block.limit ≡ old.block.limit
-    → IsCounted old → IsCounted new
-counted_as old new rest limit counted = subst IsCounted (sym rest) (record {
-  fit = counted.fit;
-  held = counted.held;
+-- what is counted stays where the samples stay and the block keeps its limit
+pub counted_as : {V : Type 0} (old new : InMemory V) → new ≡ record old { history = new.history; block = new.block; marks = new.marks; view = new.view }
+    → new.history.items ≡ old.history.items → new.block.limit ≡ old.block.limit → IsCounted old → IsCounted new
+counted_as old new rest history limit counted = subst IsCounted (sym rest) (record {
+  fit = subst (All (SampleFits old.shapes)) (sym history) counted.fit;
+  held = counted.held ∙ ap (history_cost old.shapes) (sym history);
   within = counted.within;
   session = counted.session;
   some = omega (arith, counted.some, limit);
@@ -103,7 +104,7 @@ counted_as old new rest limit counted = subst IsCounted (sym rest) (record {
   disjoint = counted.disjoint;
   stored = counted.stored;
   variable = counted.variable;
-  next = counted.next;
+  next = subst (λ h. AreNext old.shapes h old.next) (sym history) counted.next;
 })
 
 module _ {D V N : Type 0} (disk : DiskOf D) (view : ViewOf V N) (front : InMemory V) (file : Gated D) (book : IsBook disk view front file)
@@ -139,13 +140,15 @@ module _ {D V N : Type 0} (disk : DiskOf D) (view : ViewOf V N) (front : InMemor
         → BackKeeps disk front.shapes file' (take through history) front.marks.items
         → IsBook disk view (record front { block = block }) file'
     book_failed bytes failed keeps = record {
-      counted = counted_as front (record front { block = block }) refl limit book.counted;
+      counted = counted_as front (record front { block = block }) refl refl limit book.counted;
       pending = record {
         through = book.pending.through;
         records = λ going. absurd (both going);
         room = λ some. book.pending.room (subst (λ bs. bs ≢ []) bytes some);
       };
       shown = record { most = book.shown.most; shown = book.shown.shown; handed = book.shown.handed };
+      shared = book.shared;
+      sealed = book.sealed;
       back = record {
         kept = kept_of (terms_of disk view (record front { block = block }) file') (state_of disk file'.disk) history front.marks.items
             (subst (λ samples. BackKeeps disk front.shapes file' samples front.marks.items) whole keeps)
@@ -184,7 +187,7 @@ module _ {D V N : Type 0} (disk : DiskOf D) (view : ViewOf V N) (front : InMemor
           let taken : take (durable marks) history ≡ history = take_all (durable marks) history (omega (arith, durable_is)) in
           let none : drop (durable marks) history ≡ [] = drop_all (durable marks) history (omega (arith, durable_is)) in
           record {
-            counted = counted_as front after refl limit book.counted;
+            counted = counted_as front after refl refl limit book.counted;
             pending = record {
               through = omega (arith, durable_is);
               records = λ g. rw (emptied, none) (no_encodings front.shapes (take (durable marks) history));
@@ -195,6 +198,8 @@ module _ {D V N : Type 0} (disk : DiskOf D) (view : ViewOf V N) (front : InMemor
               shown = book.shown.shown;
               handed = λ handed is. subst (IsPrefix handed) (sym taken) (prefix_trans handed (take low history) history (book.shown.handed handed is) (prefix_take low history));
             };
+            shared = book.shared;
+            sealed = omega (arith, book.sealed, book.pending.through, durable_is);
             back = record {
               kept = kept_of (terms_of disk view after file') (state_of disk file'.disk) history marks
                   (subst (BackKeeps disk front.shapes file' history) (sym marks_are)

@@ -1,7 +1,6 @@
 -- The answers of a book, each with its cause.
 use Rattle.std.specs.Prelude.{ℕ, ◌≡◌, ◌+◌, ◌≤◌, ◌<◌, ◌⊎◌, false, true, List, [], ◌∷◌, ◌++◌, length, take, drop}
 use Rattle.mdf_format.specs.Cause.{Rose}
-use Rattle.mdf_num.specs.Halt.{Wants}
 use Rattle.mdf_layout.specs.Record.{cost_of, encoded_size, history_cost, history_size}
 use Rattle.mdf_layout.specs.declared.sample.Sample.{Sample}
 use Rattle.book_owned.specs.Members.{DiskOf, ViewOf}
@@ -40,9 +39,10 @@ FitsBlock book sample =
 abbrev pub HasPending : {D V : Type 0} → Account D V → Type 0
 HasPending book = durable book.marks < length book.history
 
--- the view shows so many samples, or it wanted memory and shows as many as before
-abbrev pub ShowsAll : {V N : Type 0} → ViewOf V N → V → V → ℕ → Type 0
-ShowsAll view old new through = (view.count new ≡ through) ⊎ (Wants view.may_want × (view.count new ≡ view.count old))
+-- The view shows no fewer samples than before, and so many at most: where memory is wanted in sealing them or in showing them it
+-- shows fewer.
+abbrev pub ShowsUpto : {V N : Type 0} → ViewOf V N → V → V → ℕ → Type 0
+ShowsUpto view old new through = (view.count old ≤ view.count new) × (view.count new ≤ through)
 
 -- one mark was made, of the present moment, through all samples that were accepted before
 abbrev pub AddsMark : {D V : Type 0} → DiskOf D → Account D V → Account D V → Type 0
@@ -64,11 +64,11 @@ pub record IsStopped {D V : Type 0} (old new : Account D V) (mark : Mark) : Type
   pub mark_is : mark ≡ last_mark new.marks
 
 -- what an append did before it accepted: nothing where the sample's record has room in the block; where it would pass the
--- block limit, a mark was made and all samples before were shown
+-- block limit, a mark was made and samples before it were shown
 abbrev pub Turns : {D V N : Type 0} → DiskOf D → ViewOf V N → Account D V → Account D V → Sample → Type 0
 Turns disk view old new sample =
     (FitsBlock old sample × (new.marks ≡ old.marks) × (new.disk ≡ old.disk) × (new.view ≡ old.view))
-    ⊎ (PassesBlock old sample × AddsMark disk old new × ShowsAll view old.view new.view (length old.history))
+    ⊎ (PassesBlock old sample × AddsMark disk old new × ShowsUpto view old.view new.view (length old.history))
 
 -- an append
 abbrev pub AppendAnswers : {D V N : Type 0} → DiskOf D → ViewOf V N → Account D V → Account D V → Sample → Append → Type 0
@@ -97,11 +97,11 @@ abbrev pub MarksAll : {D V : Type 0} → DiskOf D → Account D V → Account D 
 MarksAll disk old new =
     ((new.marks ≡ old.marks) × (new.disk ≡ old.disk) × (durable old.marks ≡ length old.history)) ⊎ AddsMark disk old new
 
--- a flush: all is marked and shown, and the note tells of the samples that are shown
+-- a flush: all is marked, and the note tells of the samples that are shown
 abbrev pub FlushAnswers : {D V N : Type 0} → DiskOf D → ViewOf V N → Account D V → Account D V → Flush N → Type 0
 FlushAnswers disk view old new (flush.Done through shown note) =
     (old.stopped ≡ false) × (new.stopped ≡ false) × (through ≡ length old.history) × (shown ≡ view.count new.view)
-    × (shown ≤ through) × MarksAll disk old new × ShowsAll view old.view new.view through
+    × (shown ≤ through) × MarksAll disk old new × ShowsUpto view old.view new.view through
     × view.tells note old.terms.which (take shown old.history)
 FlushAnswers disk view old new (flush.DiskFault before after) =
     IsFault disk old new before after × (new.marks ≡ old.marks) × (new.view ≡ old.view) × HasPending old

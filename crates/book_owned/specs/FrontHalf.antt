@@ -1,6 +1,7 @@
 -- The front of a book: its history, its marks, the records that are not handed over, and the view.
 use Rattle.std.specs.Prelude.{ℕ, ◌≡◌, ◌≢◌, ◌+◌, ◌*◌, ◌^◌, ◌≤◌, ◌<◌, Bool, true, false, List, [], ◌∷◌, ◌++◌, length, take, drop, All, AllPairs, Option, Some, None, is_some, slice_get, IsSomeAnd}
 use Rattle.mdf_layout.specs.Layout.{Layout}
+use Rattle.mdf_layout.specs.Chunked.{joined}
 use Rattle.mdf_layout.specs.Record.{cost_of, encoded_size, history_cost, history_size}
 use Rattle.mdf_layout.specs.Behind.{AreEncodingsBehind}
 use Rattle.mdf_layout.specs.declared.sample.Sample.{Sample}
@@ -11,7 +12,8 @@ use Rattle.book_core.specs.declared.event.Event.TheVariants.{FlushFailed, FlushT
 use Rattle.book_owned.specs.Members.{ViewOf}
 use Rattle.book_owned.specs.Marks.{last_mark, durable}
 use Rattle.book_owned.specs.Kept.{IsShowing}
-use Rattle.book_owned.specs.Answers.{ShowsAll}
+use Rattle.book_owned.specs.Shared.{IsShared}
+use Rattle.book_owned.specs.Answers.{ShowsUpto}
 use Rattle.book_owned.specs.Events.{Leads, PutLeads}
 use Rattle.book_owned.specs.Halves.{IsCounted, IsPending}
 use Rattle.book_owned.specs.declared.answer.Append.{Append}
@@ -74,6 +76,8 @@ pub record IsFront {V N : Type 0} (view : ViewOf V N) (memory : InMemory V) (spa
   pub pending : IsPending from stopped memory
   pub low : durable memory.marks.items ≤ from
   pub shown : IsShowing view memory.view memory.history.items memory.marks.items
+  pub shared : IsShared view memory.view memory.history.chunks
+  pub sealed : length (joined memory.history.chunks) ≤ durable memory.marks.items
   pub throughs : AreThroughs memory.marks.items
   pub has_spare : HasSpare memory from stopped spare
   pub few : stopped ≡ false → history_size memory.shapes (drop from memory.history.items) ≤ memory.block.limit
@@ -134,11 +138,11 @@ IsAwaited front (written.Done mark block) = (front.spare ≡ false) × (mark.thr
 IsAwaited front (written.DiskFault before after block) = (front.spare ≡ false) × (block.limit ≡ front.terms.block_limit)
 IsAwaited front written.Nothing = (front.spare ≡ true) × (front.stopped ≡ false)
 
--- it has these marks and its spare block, and shows the durable samples, of which the note tells
+-- it has these marks and its spare block, and the note tells of the durable samples that are shown
 abbrev pub DoneTells : {V N : Type 0} → ViewOf V N → FrontAccount V → FrontAccount V → List Mark → ℕ → ℕ → N → Type 0
 DoneTells view old new marks through shown note =
     (old.stopped ≡ false) × (new ≡ record old { marks = marks; spare = true; view = new.view }) × (through ≡ durable marks)
-    × (shown ≡ view.count new.view) × (shown ≤ through) × ShowsAll view old.view new.view through
+    × (shown ≡ view.count new.view) × (shown ≤ through) × ShowsUpto view old.view new.view through
     × view.tells note old.terms.which (take shown old.history)
 
 -- What an answer of the file leads to: the mark is added, nothing is, or the front is stopped.

@@ -1,6 +1,7 @@
 -- The halves of a book: what it holds in memory, and its file.
 use Rattle.std.specs.Prelude.{ℕ, ◌≡◌, ◌≢◌, ◌+◌, ◌≤◌, Bool, false, List, [], ◌∷◌, ◌++◌, length, take, drop, All, sum_by, is_some}
 use Rattle.mdf_disk.specs.State.{state_of}
+use Rattle.mdf_layout.specs.Chunked.{joined}
 use Rattle.mdf_layout.specs.Written.{AreApart}
 use Rattle.mdf_layout.specs.Record.{SampleFits, cost_of, history_cost, history_size}
 use Rattle.mdf_layout.specs.Behind.{variables, IsEncodingBehind, AreEncodingsBehind}
@@ -13,6 +14,7 @@ use Rattle.book_owned.specs.Members.{DiskOf, ViewOf}
 use Rattle.book_owned.specs.Marks.{durable}
 use Rattle.book_owned.specs.Account.{Account, Terms}
 use Rattle.book_owned.specs.Kept.{IsKept, IsShowing}
+use Rattle.book_owned.specs.Shared.{IsShared}
 use Rattle.book_owned.specs.BackHalf.{FileHolds}
 use Rattle.book_owned.specs.declared.in_memory.InMemory.{InMemory}
 
@@ -76,6 +78,8 @@ pub record IsBook {D V N : Type 0} (disk : DiskOf D) (view : ViewOf V N) (front 
   pub counted : IsCounted front
   pub pending : IsPending (durable front.marks.items) file.failed front
   pub shown : IsShowing view front.view front.history.items front.marks.items
+  pub shared : IsShared view front.view front.history.chunks
+  pub sealed : length (joined front.history.chunks) ≤ durable front.marks.items
   pub back : IsBack disk front file (terms_of disk view front file)
 
 -- a sample was put behind the history, and its record behind the pending ones
@@ -86,6 +90,7 @@ pub record IsPut {V : Type 0} (old new : InMemory V) (sample : Sample) : Type 0 
   pub block : new.block.bytes ≡ old.block.bytes ++ record_bytes
   pub limit : new.block.limit ≡ old.block.limit
   pub history : new.history.items ≡ old.history.items ++ sample ∷ []
+  pub chunks : new.history.chunks ≡ old.history.chunks
   pub held : new.held ≡ old.held + cost_of old.shapes sample
   pub next : AreNext old.shapes new.history.items new.next
   pub rest : new ≡ record old { history = new.history; held = new.held; block = new.block; next = new.next }

@@ -7,7 +7,7 @@ use Rattle.mdf_layout.specs.Record.{cost_of}
 use Rattle.mdf_gate.specs.Gated.{Gated}
 use Rattle.book_owned.specs.Members.{DiskOf, ViewOf}
 use Rattle.book_owned.specs.Marks.{last_mark, durable}
-use Rattle.book_owned.specs.Answers.{ShowsAll}
+use Rattle.book_owned.specs.Answers.{ShowsUpto}
 use Rattle.book_owned.specs.Halves.{terms_of}
 use Rattle.book_owned.specs.declared.answer.Append.{Append}
 use Rattle.book_owned.specs.declared.answer.Append.TheVariants.{Accepted, SessionFull, Stopped, DiskFault, Memory}
@@ -20,7 +20,9 @@ use Rattle.book_owned.specs.declared.mark.Mark.{Mark}
 -- what it leaves, whatever the answer
 pub record Hands {D V N : Type 0} (disk : DiskOf D) (view : ViewOf V N)
     (front : InMemory V) (file : Gated D) (front' : InMemory V) (file' : Gated D) : Type 0 where
-  pub rest : front' ≡ record front { marks = front'.marks; block = front'.block; view = front'.view }
+  pub rest : front' ≡ record front { history = front'.history; marks = front'.marks; block = front'.block; view = front'.view }
+  pub history : front'.history.items ≡ front.history.items
+  pub room : front.history.spare ≤ front'.history.spare
   pub marks : IsPrefix front.marks.items front'.marks.items
   pub spare : front.marks.spare ≤ front'.marks.spare + 1
   pub terms : terms_of disk view front' file' ≡ terms_of disk view front file
@@ -39,12 +41,12 @@ pub record HasWritten {D V : Type 0} (disk : DiskOf D) (front : InMemory V) (fil
   pub marked : ((front.block.bytes ≡ []) × (front'.marks ≡ front.marks) × (file' ≡ file)) ⊎ HasMarked disk front front' file'
 
 -- Room was made for a record of so many bytes. Where it was there nothing changed, and where the record would pass the
--- limit what was pending is written, marked and shown.
+-- limit what was pending is written and marked, and samples of it are shown.
 abbrev pub MakesRoom : {D V N : Type 0} → DiskOf D → ViewOf V N → InMemory V → Gated D → ℕ → InMemory V → Gated D → Type 0
 MakesRoom disk view front file size front' file' =
     ((length front.block.bytes + size ≤ front.block.limit) × (front' ≡ front) × (file' ≡ file))
     ⊎ ((front.block.limit < length front.block.bytes + size) × HasMarked disk front front' file'
-    × ShowsAll view front.view front'.view (length front.history.items))
+    × ShowsUpto view front.view front'.view (length front.history.items))
 
 -- the disk failed, and these are its counts of faults
 pub record IsWriteFault {D : Type 0} (disk : DiskOf D) (file file' : Gated D) (fault : Fault) : Type 0 where
@@ -75,10 +77,10 @@ Refuses front failed sample (Stopped mark) = (failed ≡ true) × (mark ≡ last
 Refuses front failed sample (DiskFault before after) = ⊥
 Refuses front failed sample Memory = ⊥
 
--- the durable samples were published, and the note tells of those that are shown
+-- durable samples were published, and the note tells of those that are shown
 abbrev pub ShowTells : {V N : Type 0} → ViewOf V N → InMemory V → InMemory V → Flush N → Type 0
 ShowTells view front front' (flush.Done through shown note) =
     (through ≡ durable front.marks.items) × (shown ≡ view.count front'.view) × (shown ≤ through)
-    × ShowsAll view front.view front'.view through × view.tells note (view.which front.view) (take shown front.history.items)
+    × ShowsUpto view front.view front'.view through × view.tells note (view.which front.view) (take shown front.history.items)
 ShowTells view front front' (flush.DiskFault before after) = ⊥
 ShowTells view front front' (flush.Stopped mark) = ⊥

@@ -2,6 +2,7 @@ pub mod Members
 pub mod Marks
 pub mod Account
 pub mod Kept
+pub mod Shared
 pub mod Answers
 pub mod BackHalf
 pub mod Halves

@@ -19,7 +19,7 @@ pub enum Append {
 #[derive(Debug, Drop)]
 pub enum Flush<N: Drop> {
     /// Each crash from now on leaves a file with `through` samples, which is all of the history; `shown` of them are
-    /// published, and less than all only where the view found no memory.
+    /// published, and less than all only where sealing or the view found no memory.
     Done { through: u64, shown: u64, note: N },
     /// The disk failed in this call: its count of faults rose, or stands at its last value. The book is stopped.
     DiskFault { before: u64, after: u64 },

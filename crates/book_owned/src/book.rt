@@ -106,7 +106,8 @@ impl<D: Disk, V: Shown> Book<D, V> {
         })
     }
 
-    /// Accepts a sample. Where its record would pass the block limit the pending ones are handed over first.
+    /// Accepts a sample. Where its record would pass the block limit the pending ones are handed over first. All memory of
+    /// the call but that of sealing and of the view is taken before that.
     pub fn append<R: Threads + Wait + Sync>(&mut self, rt: &R, sample: Sample) -> Append
         requires fits { SampleFits self.old.terms.layouts sample }
         requires size { encoded_size self.old.terms.layouts sample ≤ self.old.terms.block_limit }
@@ -181,8 +182,8 @@ impl<D: Disk, V: Shown> Book<D, V> {
         self.pending() + size > self.front.block.limit() as u64
     }
 
-    /// Makes all accepted samples durable, and publishes them. With nothing pending it makes no call of the disk and no
-    /// mark.
+    /// Makes all accepted samples durable, seals them and publishes them. With nothing pending it makes no call of the disk
+    /// and no mark.
     pub fn flush<R: Threads + Wait + Sync>(&mut self, rt: &R) -> Flush<V::Note>
         ensures steps { Steps self.old self.new [] }
         ensures answer { FlushAnswers D.Disk V.Shown self.old self.new result }

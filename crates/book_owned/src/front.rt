@@ -1,15 +1,18 @@
-ghost use Rattle.std.specs.Prelude.{◌≡◌, ◌+◌, ◌≤◌, ◌<◌, length, drop, OnOk};
+ghost use Rattle.std.specs.Prelude.{◌≡◌, ◌+◌, ◌^◌, ◌≤◌, ◌<◌, length, drop, All, MatchBool, OnOk};
+ghost use mathlib.Core.List.{IsPrefix};
+ghost use Rattle.mdf_layout.specs.Chunked.{joined, AreSealed};
 ghost use Rattle.mdf_layout.specs.declared.sample.Sample.{Sample};
 ghost use Rattle.mdf_layout.specs.Record.{SampleFits, encoded_size, cost_of, history_size};
 ghost use Rattle.book_owned.specs.Marks.{last_mark, durable};
 ghost use Rattle.book_owned.specs.Kept.{IsShowing};
-ghost use Rattle.book_owned.specs.Answers.{ShowsAll};
+ghost use Rattle.book_owned.specs.Shared.{IsShared};
+ghost use Rattle.book_owned.specs.Answers.{ShowsUpto};
 ghost use Rattle.book_owned.specs.Halves.{IsCounted, IsPut};
 ghost use Rattle.book_owned.specs.Hand.{ShowTells};
 
 use crate::in_memory::InMemory;
 use crate::{Flush, Mark, Marks, Shown};
-use mdf_layout::Sample;
+use mdf_layout::{Sample, Samples, Shapes};
 use mdf_num::Memory;
 use std::sync::Wait;
 use std::thread::Threads;
@@ -19,6 +22,7 @@ use std::thread::Threads;
 pub(crate) fn reserve<V>(front: &mut InMemory<V>) -> Result<(), Memory>
     ensures rest { front.new ≡ record front.old { history = front.new.history; marks = front.new.marks } }
     ensures history { front.new.history.items ≡ front.old.history.items }
+    ensures chunks { front.new.history.chunks ≡ front.old.history.chunks }
     ensures marks { front.new.marks.items ≡ front.old.marks.items }
     ensures spare { front.old.marks.spare ≤ front.new.marks.spare }
     ensures room { OnOk result ((1 ≤ front.new.history.spare) × (2 ≤ front.new.marks.spare)) }
@@ -42,25 +46,71 @@ pub(crate) fn accept<V>(front: &mut InMemory<V>, sample: Sample)
     front.history.put(sample);
 }
 
-/// Publishes the durable samples that are not shown yet. Where the view finds no memory it shows what it showed.
-pub(crate) fn publish<V: Shown, R: Threads + Wait + Sync>(front: &mut InMemory<V>, rt: &R)
-    requires counted { IsCounted front.old }
-    requires shown { IsShowing V.Shown front.old.view front.old.history.items front.old.marks.items }
+/// Seals the durable samples. Where no memory is found the chunks stay.
+fn seal<V>(front: &mut InMemory<V>)
+    requires sealed { length (joined front.old.history.chunks) ≤ durable front.old.marks.items }
     requires within { durable front.old.marks.items ≤ length front.old.history.items }
-    ensures shown { IsShowing V.Shown front.new.view front.new.history.items front.new.marks.items }
-    ensures rest { front.new ≡ record front.old { view = front.new.view } }
-    ensures which { V.which front.new.view ≡ V.which front.old.view }
-    ensures count { ShowsAll V.Shown front.old.view front.new.view (durable front.old.marks.items) }
+    ensures rest { front.new ≡ record front.old { history = front.new.history } }
+    ensures history { front.new.history.items ≡ front.old.history.items }
+    ensures room { front.old.history.spare ≤ front.new.history.spare }
+    ensures stay { IsPrefix front.old.history.chunks front.new.history.chunks }
+    ensures durable { length (joined front.new.history.chunks) ≤ durable front.old.marks.items }
+    ensures sealed { AreSealed front.new.history.chunks front.new.history.items }
+    ensures few { length (joined front.new.history.chunks) < 2 ^ 64 }
 {
-    let shown = front.view.shown();
-    let more = last_mark(&front.marks).through - shown;
-    match front
-        .view
-        .publish(rt, &front.history.rest(shown)[..more as usize])
-    {
+    let through = last_mark(&front.marks).through;
+    match front.history.seal(through) {
         Ok(()) => {}
         Err(_) => {}
     }
+}
+
+/// Shows the chunk behind those that are shown. Answers whether there was one that found memory.
+fn show_next<V: Shown, R: Threads + Wait + Sync>(history: &Samples, view: &mut V, rt: &R) -> bool
+    requires shared { IsShared V.Shown view.old history.now.chunks }
+    requires few { length (joined history.now.chunks) < 2 ^ 64 }
+    ensures shared { IsShared V.Shown view.new history.now.chunks }
+    ensures which { V.which view.new ≡ V.which view.old }
+    ensures more { MatchBool result (V.count view.old < V.count view.new) (V.count view.new ≡ V.count view.old) }
+    ensures within { V.count view.new ≤ length (joined history.now.chunks) }
+{
+    match history.chunk_from(view.shown()) {
+        Some(chunk) => match view.publish(rt, chunk) {
+            Ok(()) => true,
+            Err(_) => false,
+        },
+        None => false,
+    }
+}
+
+/// Shows the chunks that are not shown yet, one after the other, until one finds no memory.
+fn show_all<V: Shown, R: Threads + Wait + Sync>(history: &Samples, view: &mut V, rt: &R)
+    requires shared { IsShared V.Shown view.old history.now.chunks }
+    requires few { length (joined history.now.chunks) < 2 ^ 64 }
+    ensures shared { IsShared V.Shown view.new history.now.chunks }
+    ensures which { V.which view.new ≡ V.which view.old }
+    ensures more { V.count view.old ≤ V.count view.new }
+{
+    while show_next(history, view, rt) {}
+}
+
+/// Seals the durable samples, and publishes the chunks that are not shown yet. Where sealing or the view finds no memory the
+/// view shows what it showed then.
+pub(crate) fn publish<V: Shown, R: Threads + Wait + Sync>(front: &mut InMemory<V>, rt: &R)
+    requires shared { IsShared V.Shown front.old.view front.old.history.chunks }
+    requires sealed { length (joined front.old.history.chunks) ≤ durable front.old.marks.items }
+    requires within { durable front.old.marks.items ≤ length front.old.history.items }
+    ensures shown { IsShowing V.Shown front.new.view front.new.history.items front.new.marks.items }
+    ensures shared { IsShared V.Shown front.new.view front.new.history.chunks }
+    ensures sealed { length (joined front.new.history.chunks) ≤ durable front.new.marks.items }
+    ensures rest { front.new ≡ record front.old { history = front.new.history; view = front.new.view } }
+    ensures history { front.new.history.items ≡ front.old.history.items }
+    ensures room { front.old.history.spare ≤ front.new.history.spare }
+    ensures which { V.which front.new.view ≡ V.which front.old.view }
+    ensures count { ShowsUpto V.Shown front.old.view front.new.view (durable front.old.marks.items) }
+{
+    seal(front);
+    show_all(&front.history, &mut front.view, rt);
 }
 
 /// Publishes the durable samples, and answers how many are durable and how many are shown.
@@ -68,11 +118,15 @@ pub(crate) fn show<V: Shown, R: Threads + Wait + Sync>(
     front: &mut InMemory<V>,
     rt: &R,
 ) -> Flush<V::Note>
-    requires counted { IsCounted front.old }
-    requires shown { IsShowing V.Shown front.old.view front.old.history.items front.old.marks.items }
+    requires shared { IsShared V.Shown front.old.view front.old.history.chunks }
+    requires sealed { length (joined front.old.history.chunks) ≤ durable front.old.marks.items }
     requires within { durable front.old.marks.items ≤ length front.old.history.items }
     ensures shown { IsShowing V.Shown front.new.view front.new.history.items front.new.marks.items }
-    ensures rest { front.new ≡ record front.old { view = front.new.view } }
+    ensures shared { IsShared V.Shown front.new.view front.new.history.chunks }
+    ensures sealed { length (joined front.new.history.chunks) ≤ durable front.new.marks.items }
+    ensures rest { front.new ≡ record front.old { history = front.new.history; view = front.new.view } }
+    ensures history { front.new.history.items ≡ front.old.history.items }
+    ensures room { front.old.history.spare ≤ front.new.history.spare }
     ensures which { V.which front.new.view ≡ V.which front.old.view }
     ensures tells { ShowTells V.Shown front.old front.new result }
 {
@@ -84,16 +138,32 @@ pub(crate) fn show<V: Shown, R: Threads + Wait + Sync>(
     }
 }
 
+/// How many bytes the records of these samples have.
+fn size_of(shapes: &Shapes, samples: &[Sample]) -> u64
+    requires fit { All (SampleFits shapes.now) samples.now }
+    requires few { history_size shapes.now samples.now < 2 ^ 64 }
+    ensures { result ≡ history_size shapes.now samples.now }
+{
+    let mut size = 0;
+    for sample in samples {
+        size += shapes.encoded_size(sample);
+    }
+    size
+}
+
 /// How many bytes the records of the samples from there on have.
 pub(crate) fn size_behind<V>(front: &InMemory<V>, from: u64) -> u64
     requires counted { IsCounted front.now }
     requires within { from ≤ length front.now.history.items }
     ensures { result ≡ history_size front.now.shapes (drop from front.now.history.items) }
 {
-    let behind = front.history.rest(from);
+    let len = front.history.len();
     let mut size = 0;
-    for sample in behind {
-        size += front.shapes.encoded_size(sample);
+    let mut at = from;
+    while at < len {
+        let part = front.history.part_from(at);
+        size += size_of(&front.shapes, part);
+        at += part.len() as u64;
     }
     size
 }

@@ -83,7 +83,8 @@ impl<V: Shown> Front<V> {
     }
 
     /// Takes in what became of the block that was handed over, or `Nothing` where none was. The block is cleared and is the
-    /// spare one. A mark is added and the durable samples are shown, or the front is stopped. It takes no memory for itself.
+    /// spare one. A mark is added, and the durable samples are sealed and shown, or the front is stopped. It takes no memory
+    /// but for sealing and showing, and where none is found fewer samples are shown.
     pub fn finish<R: Threads + Wait + Sync>(&mut self, rt: &R, written: Written) -> Flush<V::Note>
         requires awaited { IsAwaited self.old written }
         ensures tells { FinishTells V.Shown self.old self.new written result }

@@ -1,11 +1,12 @@
 ghost use Rattle.std.specs.Prelude.{◌≡◌, ◌+◌, ◌^◌, ◌<◌, ℕ, Bool, true, List, [], ◌++◌, length, OnOk, OnErr};
+ghost use Rattle.std.specs.Arc.{arc_value};
 ghost use mathlib.Core.List.{IsPrefix};
 ghost use Rattle.mdf_num.specs.Halt.{Wants};
 ghost use Rattle.mdf_layout.specs.declared.sample.Sample.{Sample};
 
-use mdf_layout::Sample;
+use mdf_layout::Chunk;
 use mdf_num::Memory;
-use std::sync::Wait;
+use std::sync::{Arc, Wait};
 use std::thread::Threads;
 
 /// Who is shown the samples that are kept.
@@ -31,25 +32,25 @@ pub trait Shown {
     /// What a note tells of: which view, and a list of samples that may be the one that was shown when it was made.
     ghost tells: { Self.Note → ℕ → List Sample → Type 0 };
 
-    /// Shows these samples too. What was handed to readers before has to begin what is shown with them.
+    /// Shows the samples of this chunk too. What was handed to readers before has to begin what is shown with them.
     ///
     /// # Errors
     /// Want of memory: what is shown is as before.
     fn publish<R: Threads + Wait + Sync>(
         &mut self,
         rt: &R,
-        samples: &[Sample],
+        chunk: &Arc<Chunk>,
     ) -> Result<(), Memory>
-        requires room { count self.old + length samples.now < 2 ^ 64 }
+        requires room { count self.old + length (arc_value chunk.now) < 2 ^ 64 }
         requires handed { (shown : List Sample) × shows self.old shown
-            × ((handed : List Sample) → hands self.old handed → IsPrefix handed (shown ++ samples.now)) }
-        ensures ok { OnOk result ((shown : List Sample) → shows self.old shown → shows self.new (shown ++ samples.now)) }
-        ensures counted { OnOk result (count self.new ≡ count self.old + length samples.now) }
+            × ((handed : List Sample) → hands self.old handed → IsPrefix handed (shown ++ arc_value chunk.now)) }
+        ensures ok { OnOk result ((shown : List Sample) → shows self.old shown → shows self.new (shown ++ arc_value chunk.now)) }
+        ensures counted { OnOk result (count self.new ≡ count self.old + length (arc_value chunk.now)) }
         ensures err { OnErr result ((shown : List Sample) → shows self.old shown → shows self.new shown) }
         ensures as_before { OnErr result (count self.new ≡ count self.old) }
         ensures handed { (shown : List Sample) → shows self.old shown
-            → ((handed : List Sample) → hands self.old handed → IsPrefix handed (shown ++ samples.now))
-            → (handed : List Sample) → hands self.new handed → IsPrefix handed (shown ++ samples.now) }
+            → ((handed : List Sample) → hands self.old handed → IsPrefix handed (shown ++ arc_value chunk.now))
+            → (handed : List Sample) → hands self.new handed → IsPrefix handed (shown ++ arc_value chunk.now) }
         ensures same { which self.new ≡ which self.old }
         ensures wants { OnErr result (Wants may_want) };
 
@@ -100,9 +101,9 @@ impl Shown for NoView {
     fn publish<R: Threads + Wait + Sync>(
         &mut self,
         _rt: &R,
-        samples: &[Sample],
+        chunk: &Arc<Chunk>,
     ) -> Result<(), Memory> {
-        self.count += samples.len() as u64;
+        self.count += chunk.len();
         Ok(())
     }
 

@@ -15,7 +15,7 @@ use Rattle.book_owned.proofs.book.Book.append.Goals.{After-reserve}
 reserved : (g : given.Over) (c : After-reserve g) → IsBook g.D.Disk g.V.Shown c.reserve.new.front c.self.inside.file
 reserved g c =
     book_reserved g.D.Disk g.V.Shown c.self.inside.front c.reserve.new.front c.self.inside.file
-    c.reserve.ensures.rest c.reserve.ensures.history c.reserve.ensures.marks c.reserve.ensures.spare c.self.invariant
+    c.reserve.ensures.rest c.reserve.ensures.history c.reserve.ensures.chunks c.reserve.ensures.marks c.reserve.ensures.spare c.self.invariant
 
 pub invariant_of-self-2 : goal.invariant_of-self-2
 invariant_of-self-2 g c =
@@ -71,7 +71,7 @@ pub returns-in-Err-clause-events : goal.returns-in-Err-clause-events
 returns-in-Err-clause-events g c =
     let answer = returns-in-Err-clause-answer g c in
     let new = account_of g.D.Disk g.V.Shown c.make_room.new.front c.make_room.new.file in
-    let history = ap (λ f. f.history.items) c.make_room.ensures.hands.rest ∙ c.reserve.ensures.history ∙ ap (λ a. a.history) c.self.view_is in (
+    let history = c.make_room.ensures.hands.history ∙ c.reserve.ensures.history ∙ ap (λ a. a.history) c.self.view_is in (
       answer.3,
       fault_happens g.D.Disk g.V.Shown c.args.self.now new history answer.2 answer.4 answer.1.stopped,
     )
@@ -80,7 +80,7 @@ pub returns-clause-events : goal.returns-clause-events
 returns-clause-events g c =
     let sample = c.args.sample in
     let new = account_of g.D.Disk g.V.Shown c.accept.new.front c.make_room.new.file in
-    let same = ap (λ f. f.history.items) c.make_room.ensures.hands.rest ∙ c.reserve.ensures.history ∙ ap (λ a. a.history) c.self.view_is in
+    let same = c.make_room.ensures.hands.history ∙ c.reserve.ensures.history ∙ ap (λ a. a.history) c.self.view_is in
     append_happens g.D.Disk g.V.Shown c.args.self.now new sample
     (c.accept.ensures.put.history ∙ ap (λ h. h ++ sample ∷ []) same)
     (subst (λ a. durable a.marks ≤ length a.history) c.self.view_is c.self.invariant.pending.through)

@@ -17,7 +17,7 @@ invariant_of-result g c =
     c.moment.ensures.moment (c.moment.ensures.leaves [] created.rests) in
     book_begun g.D.Disk g.V.Shown _ c.args.file created
     (subst (λ limit. IsAdmissible c.args.shapes limit c.args.session_limit) (sym c.in-Ok.ensures.block.1) c.requires.admissible)
-    c.empty.ensures
+    c.empty.ensures.items c.empty.ensures.chunks
     (c.put.ensures.items ∙ ap (λ ms. ms ++ record { moment = c.moment.result; through = 0 } ∷ []) c.in-Ok.ensures.marks.0
     ∙ ap (λ t. record { moment = t; through = 0 } ∷ []) c.moment.ensures.moment)
     refl c.in-Ok.ensures.block.0

@@ -13,7 +13,7 @@ returns-in-Err-clause-steps g c =
     let new = account_of g.D.Disk g.V.Shown c.write_pending.new.front c.write_pending.new.file in
     subst (λ a. Steps a new []) c.self.view_is
     (record {
-      history = ap (λ f. f.history.items) hands.rest ∙ sym (append-nil c.self.inside.front.history.items);
+      history = hands.history ∙ sym (append-nil c.self.inside.front.history.items);
       marks = hands.marks;
       stopped = λ stopped. c.in-Err.ensures.fault.fault_is.failed;
       terms = hands.terms;
@@ -31,7 +31,7 @@ pub returns-clause-events : goal.returns-clause-events
 returns-clause-events g c =
     let new = account_of g.D.Disk g.V.Shown c.show.new.front c.write_pending.new.file in
     flush_happens g.D.Disk g.V.Shown c.args.self.now new c.show.result
-    (ap (λ f. f.history.items) c.show.ensures.rest ∙ ap (λ f. f.history.items) c.write_pending.ensures.hands.rest ∙ ap (λ a. a.history) c.self.view_is)
+    (c.show.ensures.history ∙ c.write_pending.ensures.hands.history ∙ ap (λ a. a.history) c.self.view_is)
     (subst (λ a. durable a.marks ≤ length a.history) c.self.view_is c.self.invariant.pending.through)
     (subst (λ a. g.V.Shown.count a.view ≤ durable a.marks) c.self.view_is c.self.invariant.shown.most)
     (returns-clause-answer g c)

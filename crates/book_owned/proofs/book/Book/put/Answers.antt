@@ -12,7 +12,7 @@ use Rattle.book_owned.proofs.book.Book.put.Goals.{After-reserve}
 reserved : (g : given.Over) (c : After-reserve g) → IsBook g.D.Disk g.V.Shown c.reserve.new.front c.self.inside.file
 reserved g c =
     book_reserved g.D.Disk g.V.Shown c.self.inside.front c.reserve.new.front c.self.inside.file
-    c.reserve.ensures.rest c.reserve.ensures.history c.reserve.ensures.marks c.reserve.ensures.spare c.self.invariant
+    c.reserve.ensures.rest c.reserve.ensures.history c.reserve.ensures.chunks c.reserve.ensures.marks c.reserve.ensures.spare c.self.invariant
 
 -- the file has not failed, and the sample's record has room in the block
 not_failed : (g : given.Over) (c : After-reserve g) → c.self.inside.file.failed ≡ false

@@ -11,7 +11,7 @@ use Rattle.book_owned.proofs.front_half.Front.put.Goals.{After-reserve}
 reserved : (g : given.Over) (c : After-reserve g) → IsFront g.V.Shown c.reserve.new.front c.self.inside.spare c.self.inside.from c.self.inside.stopped
 reserved g c =
     front_reserved g.V.Shown c.self.inside.memory c.self.inside.spare c.self.inside.from c.self.inside.stopped c.self.invariant
-    c.reserve.new.front c.reserve.ensures.rest c.reserve.ensures.history c.reserve.ensures.marks c.reserve.ensures.spare
+    c.reserve.new.front c.reserve.ensures.rest c.reserve.ensures.history c.reserve.ensures.chunks c.reserve.ensures.marks c.reserve.ensures.spare
 
 -- it goes on, and the sample's records have room in the block
 goes : (g : given.Over) (c : After-reserve g) → c.self.inside.stopped ≡ false
