@@ -1,6 +1,9 @@
 ghost use Rattle.std.specs.Prelude.{◌≡◌, ◌≤◌, ◌<◌, ◌+◌, ◌^◌, List, [], ◌++◌, true, length, map, All, IfOk, IsOk, OnOk, OnErr, MatchBool, Some, None};
 ghost use mathlib.Core.List.{IsPrefix};
 ghost use Rattle.mdf_num.specs.Halt.{Wants};
+ghost use Rattle.std.specs.Option.{option_map};
+ghost use Rattle.std.specs.Arc.{arc_value};
+ghost use Rattle.mdf_layout.specs.Chunked.{joined};
 ghost use Rattle.mdf_layout.specs.declared.sample.Sample.{Sample};
 ghost use Rattle.acq_run.specs.Audience.{shows_in, hands_in, count_in, which_in, shown_to};
 ghost use Rattle.acq_run.specs.Watching.{IsFresh, Watches};
@@ -8,10 +11,10 @@ ghost use Rattle.acq_run.specs.Watching.{IsFresh, Watches};
 use crate::Watcher;
 use book_owned::{NoView, Shown};
 use book_view::{LiveReader, LiveView, Told};
-use mdf_layout::Sample;
-use mdf_num::{Memory, Rows};
+use mdf_layout::{Chunk, Chunks};
+use mdf_num::Memory;
 use std::alloc::Global;
-use std::sync::Wait;
+use std::sync::{Arc, Wait};
 use std::thread::Threads;
 
 /// Who looks at a recording. It is not `Drop`: end it by `end`.
@@ -79,10 +82,10 @@ impl Audience {
         }
     }
 
-    /// Ends the view that readers look at, and hands back the samples that were shown. It waits for those who still look. None
+    /// Ends the view that readers look at, and hands back the chunks that were shown. It waits for those who still look. None
     /// exactly where nobody looks.
-    pub fn end<R: Wait>(self, rt: &R) -> Option<Rows<Sample>>
-        ensures { result ≡ shown_to self }
+    pub fn end<R: Wait>(self, rt: &R) -> Option<Chunks>
+        ensures { option_map joined result ≡ shown_to self }
     {
         match self {
             Audience::Nobody(_view) => None,
@@ -109,25 +112,25 @@ impl Shown for Audience {
     fn publish<R: Threads + Wait + Sync>(
         &mut self,
         rt: &R,
-        samples: &[Sample],
+        chunk: &Arc<Chunk>,
     ) -> Result<(), Memory>
-        requires room { count_in self.old + length samples.now < 2 ^ 64 }
+        requires room { count_in self.old + length (arc_value chunk.now) < 2 ^ 64 }
         requires handed { (shown : List Sample) × shows_in self.old shown
-            × ((handed : List Sample) → hands_in self.old handed → IsPrefix handed (shown ++ samples.now)) }
-        ensures ok { OnOk result ((shown : List Sample) → shows_in self.old shown → shows_in self.new (shown ++ samples.now)) }
-        ensures counted { OnOk result (count_in self.new ≡ count_in self.old + length samples.now) }
+            × ((handed : List Sample) → hands_in self.old handed → IsPrefix handed (shown ++ arc_value chunk.now)) }
+        ensures ok { OnOk result ((shown : List Sample) → shows_in self.old shown → shows_in self.new (shown ++ arc_value chunk.now)) }
+        ensures counted { OnOk result (count_in self.new ≡ count_in self.old + length (arc_value chunk.now)) }
         ensures err { OnErr result ((shown : List Sample) → shows_in self.old shown → shows_in self.new shown) }
         ensures as_before { OnErr result (count_in self.new ≡ count_in self.old) }
         ensures handed { (shown : List Sample) → shows_in self.old shown
-            → ((handed : List Sample) → hands_in self.old handed → IsPrefix handed (shown ++ samples.now))
-            → (handed : List Sample) → hands_in self.new handed → IsPrefix handed (shown ++ samples.now) }
+            → ((handed : List Sample) → hands_in self.old handed → IsPrefix handed (shown ++ arc_value chunk.now))
+            → (handed : List Sample) → hands_in self.new handed → IsPrefix handed (shown ++ arc_value chunk.now) }
         ensures same { which_in self.new ≡ which_in self.old }
         ensures wants { OnErr result (Wants true) }
         ensures nobody { which_in self.old ≡ 0 → IsOk result }
     {
         match self {
-            Audience::Nobody(view) => view.publish(rt, samples),
-            Audience::Readers(view) => view.publish(rt, samples),
+            Audience::Nobody(view) => view.publish(rt, chunk),
+            Audience::Readers(view) => view.publish(rt, chunk),
         }
     }
 

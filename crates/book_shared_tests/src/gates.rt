@@ -2,7 +2,7 @@
 
 use book_owned::Shown;
 use mdf_disk::{Disk, Role};
-use mdf_layout::Sample;
+use mdf_layout::Chunk;
 use mdf_num::{Bytes, Failed, Memory};
 use std::alloc::Global;
 use std::sync::atomic::AtomicBool;
@@ -186,10 +186,10 @@ impl<V: Shown> Shown for SlowView<V> {
     fn publish<R: Threads + Wait + Sync>(
         &mut self,
         rt: &R,
-        samples: &[Sample],
+        chunk: &Arc<Chunk>,
     ) -> Result<(), Memory> {
         self.gate.pass_publish();
-        self.view.publish(rt, samples)
+        self.view.publish(rt, chunk)
     }
 
     fn shown(&self) -> u64 {

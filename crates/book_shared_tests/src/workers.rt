@@ -147,8 +147,10 @@ fn told(alloc: Global, all: &[Driven], history: &Samples, in_vain: bool) -> Resu
     for driven in all {
         write!(told, "{driven:?}\n")?;
     }
-    for sample in history.rest(0) {
-        write!(told, "{} ", sample.group)?;
+    for place in 0..history.len() {
+        if let Some(sample) = history.get(place) {
+            write!(told, "{} ", sample.group)?;
+        }
     }
     write!(told, "in vain {in_vain}")?;
     Ok(told)

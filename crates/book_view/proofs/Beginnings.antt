@@ -1,11 +1,10 @@
 -- Beginnings of one list.
-use Rattle.std.proofs.Common.{◌≡◌, ℕ, Bool, true, false, ◌+◌, ◌-◌, ◌<◌, ◌≤◌, List, [], ◌∷◌, ◌++◌, length, take, drop, get_or, refl, ap, sym, ◌∙◌, subst, arith, append_assoc, length-append, take-append-drop}
+use Rattle.std.proofs.Common.{◌≡◌, ℕ, Bool, true, false, ◌+◌, ◌-◌, ◌<◌, ◌≤◌, List, [], ◌∷◌, ◌++◌, length, take, drop, get_or, refl, ap, sym, ◌∙◌, arith, append_assoc, length-append, take-append-drop}
 use Rattle.std.proofs.lemmas.List.{append_cancel_left, take_more}
 use Rattle.std.proofs.Math.Seq.{drop-append_seam}
 use Rattle.std.proofs.lemmas.Bool.Decides.{nat_tests}
 use Rattle.std.specs.Prelude.{nat_le, MatchBool}
 use mathlib.Core.List.{IsPrefix}
-use Rattle.mdf_gate.proofs.Carrying.{prefix_trans}
 
 -- of two beginnings of one list the shorter begins the longer
 pub prefix_shorter : {A : Type 0} (xs ys zs : List A) → IsPrefix xs zs → IsPrefix ys zs → length xs ≤ length ys → IsPrefix xs ys
@@ -36,51 +35,32 @@ module _ {A : Type 0} (one other both : List A) (first : IsPrefix one both) (sec
 
 module _ {A : Type 0} (before samples : List A) where
   -- one more of the samples behind the first so many
-  pub one_more : (queued : List A) (i : ℕ) (sample : A) → i < length samples → sample ≡ get_or samples i sample → queued ≡ before ++ take i samples
-      → queued ++ sample ∷ [] ≡ before ++ take (i + 1) samples
-  one_more queued i sample less is whole =
+  pub one_more : (log : List A) (i : ℕ) (sample : A) → i < length samples → sample ≡ get_or samples i sample → log ≡ before ++ take i samples
+      → log ++ sample ∷ [] ≡ before ++ take (i + 1) samples
+  one_more log i sample less is whole =
       ap (λ xs. xs ++ sample ∷ []) whole ∙ append_assoc before (take i samples) (sample ∷ [])
       ∙ ap (λ x. before ++ (take i samples ++ x ∷ [])) is ∙ ap (λ xs. before ++ xs) (sym (take_more samples i sample less))
 
   pub part_begins : (n : ℕ) → IsPrefix (before ++ take n samples) (before ++ samples)
   part_begins n = (drop n samples, append_assoc before (take n samples) (drop n samples) ∙ ap (λ xs. before ++ xs) (take-append-drop n samples))
 
-  -- the log, which may have one sample more than is queued, goes on with that one
-  pub next_begun : (queued log : List A) (i : ℕ) (sample : A) → i < length samples → sample ≡ get_or samples i sample → queued ≡ before ++ take i samples
-      → IsPrefix log (before ++ samples) → length log ≤ length queued + 1 → IsPrefix log (queued ++ sample ∷ [])
-  next_begun queued log i sample less is whole begun more =
-      prefix_shorter log (queued ++ sample ∷ []) (before ++ samples) begun
-      (subst (λ xs. IsPrefix xs (before ++ samples)) (sym (one_more queued i sample less is whole)) (part_begins (i + 1)))
-      (omega (arith, more, length-append queued (sample ∷ [])))
+  -- a log that begins with the one and begins both
+  module _ (log : List A) (begins : IsPrefix before log) (begun : IsPrefix log (before ++ samples)) (n m : ℕ) (n_is : n ≡ length log) (m_is : m ≡ length before) where
+    log_length : length log ≡ length before + length begins.0
+    log_length = sym (ap length begins.1) ∙ length-append before begins.0
 
-  -- what begins the queued samples with the next one begins all of them
-  pub still_begun : (queued log : List A) (i : ℕ) (sample : A) → i < length samples → sample ≡ get_or samples i sample → queued ≡ before ++ take i samples
-      → IsPrefix log (queued ++ sample ∷ []) → IsPrefix log (before ++ samples)
-  still_begun queued log i sample less is whole begun =
-      prefix_trans log (queued ++ sample ∷ []) (before ++ samples) begun
-      (subst (λ xs. IsPrefix xs (before ++ samples)) (sym (one_more queued i sample less is whole)) (part_begins (i + 1)))
+    samples_are : begins.0 ++ begun.0 ≡ samples
+    samples_are = append_cancel_left before (begins.0 ++ begun.0) samples
+        (sym (append_assoc before begins.0 begun.0) ∙ ap (λ xs. xs ++ begun.0) begins.1 ∙ begun.1)
 
-  module _ (queued log : List A) (begins : IsPrefix before queued) (goes_on : IsPrefix queued log) (begun : IsPrefix log (before ++ samples)) where
-    -- what is behind the queued ones
-    behind : IsPrefix queued (before ++ samples)
-    behind = prefix_trans queued log (before ++ samples) goes_on begun
+    -- has so many of the samples
+    pub done_fit : n - m ≤ length samples
+    done_fit = omega (arith, n_is, m_is, log_length, ap length samples_are, length-append begins.0 begun.0)
 
-    queued_length : length queued ≡ length before + length begins.0
-    queued_length = sym (ap length begins.1) ∙ length-append before begins.0
-
-    samples_are : begins.0 ++ behind.0 ≡ samples
-    samples_are = append_cancel_left before (begins.0 ++ behind.0) samples
-        (sym (append_assoc before begins.0 behind.0) ∙ ap (λ xs. xs ++ behind.0) begins.1 ∙ behind.1)
-
-    module _ (n m : ℕ) (n_is : n ≡ length queued) (m_is : m ≡ length before) where
-      -- of these samples, so many are queued
-      pub queued_fit : n - m ≤ length samples
-      queued_fit = omega (arith, n_is, m_is, queued_length, ap length samples_are, length-append begins.0 behind.0)
-
-      -- and with the others they are all
-      pub queued_whole : (rest : List A) → rest ≡ drop (n - m) samples → queued ++ rest ≡ before ++ samples
-      queued_whole rest rest_is =
-          let many : n - m ≡ length begins.0 = omega (arith, n_is, m_is, queued_length) in
-          let rest_behind : rest ≡ behind.0 =
-          rest_is ∙ ap (λ k. drop k samples) many ∙ ap (drop (length begins.0)) (sym samples_are) ∙ drop-append_seam begins.0 behind.0 in
-          ap (λ xs. queued ++ xs) rest_behind ∙ behind.1
+    -- and with the others it has all
+    pub done_whole : (rest : List A) → rest ≡ drop (n - m) samples → log ++ rest ≡ before ++ samples
+    done_whole rest rest_is =
+        let many : n - m ≡ length begins.0 = omega (arith, n_is, m_is, log_length) in
+        let behind : rest ≡ begun.0 =
+        rest_is ∙ ap (λ k. drop k samples) many ∙ ap (drop (length begins.0)) (sym samples_are) ∙ drop-append_seam begins.0 begun.0 in
+        ap (λ xs. log ++ xs) behind ∙ begun.1

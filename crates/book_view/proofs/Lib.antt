@@ -4,3 +4,4 @@ pub mod Codes
 pub mod Rules
 pub mod Queueing
 pub mod Publishing
+pub mod Lasting

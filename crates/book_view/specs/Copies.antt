@@ -1,27 +1,24 @@
 -- The copies of what is shown: one that readers enter, and one that the writer changes.
-use Rattle.std.specs.Prelude.{ℕ, ◌≡◌, ◌⊎◌, List, [], ◌∷◌, ◌++◌}
+use Rattle.std.specs.Prelude.{ℕ, ◌≡◌, ◌⊎◌, List, [], ◌∷◌, ◌++◌, take}
+use Rattle.std.specs.Arc.{arc_value}
 use mathlib.Core.Option.{some}
 use lib.ListN.{get_elem?}
+use Rattle.mdf_layout.specs.Chunked.{joined}
 use Rattle.book_view.specs.Names.{name_of}
-use Rattle.book_view.specs.declared.front.Front.{Front}
 use Rattle.book_view.specs.declared.store.Store.{Store}
 use Rattle.book_view.specs.declared.store.Addition.{Addition}
 
--- the copy of this beginning of the log
-abbrev pub store_of : Front → Store
-store_of front = record { samples = front.seen.log; front = front }
-
--- a copy that took one sample more
+-- a copy that took one chunk more, behind the first so many of its own
 abbrev pub added : Store → Addition → Store
-added store addition = record { samples = store.samples ++ addition.sample ∷ []; front = addition.front }
+added store addition = record { chunks = take addition.keep store.chunks ++ arc_value addition.chunk ∷ []; front = addition.front }
 
 -- which log a copy is of
 abbrev pub log_of : Store → List ℕ
 log_of store = name_of store.front.seen.book
 
--- its samples are a beginning of the log
+-- the samples of its chunks are a beginning of the log
 abbrev pub IsWhole : Store → Type 0
-IsWhole store = store.samples ≡ store.front.seen.log
+IsWhole store = joined store.chunks ≡ store.front.seen.log
 
 -- who knows a log at all knows this one
 abbrev pub AllOf : List ℕ → List (List ℕ) → Type 0

@@ -72,9 +72,7 @@ pub(crate) struct Front {
 pub(crate) struct Fronts {
     /// What readers see.
     pub(crate) shown: Front,
-    /// What the copies have or will take in.
-    pub(crate) queued: Front,
-    /// All of the log.
+    /// All of the log: what the copies have or were to take in.
     pub(crate) log: Front,
 }
 

@@ -1,4 +1,5 @@
 ghost use Rattle.std.specs.Prelude.{◌≡◌, ◌≤◌, [], All, IfOk, drop, length};
+ghost use Rattle.mdf_layout.specs.Chunked.{joined};
 ghost use Rattle.left_right.specs.Sides.{view as knows};
 ghost use Rattle.book_view.specs.Names.{code_of, name_of};
 
@@ -9,17 +10,16 @@ use crate::store::Store;
 use crate::{LiveReader, Told};
 use book_owned::Shown;
 use left_right::writer::Writer;
-use mdf_layout::Sample;
-use mdf_num::{Memory, Rows};
+use mdf_layout::{Chunk, Chunks};
+use mdf_num::Memory;
 use std::alloc::Global;
 use std::marker::Model;
-use std::sync::Wait;
+use std::sync::{Arc, Wait};
 use std::thread::Threads;
 
 /// A view that readers look at while a book shows more. A publishing waits for the readers that still look at what was shown
 /// before the last one. It is not `Drop`: end it by `end`.
 pub struct LiveView {
-    alloc: Global,
     // None only while a publishing has it.
     writer: Option<StoreWriter>,
     head: Head,
@@ -77,10 +77,10 @@ fn readers_of(
 
 /// An empty copy at the beginning of the log.
 fn empty_copy(alloc: Global, front: &Front) -> Store
-    ensures { result ≡ record { samples = []; front = front.now } }
+    ensures { result ≡ record { chunks = []; front = front.now } }
 {
     Store {
-        samples: Rows::empty(alloc),
+        chunks: Chunks::empty(alloc),
         front: front.again(),
     }
 }
@@ -94,7 +94,7 @@ fn writer_of<R: Wait>(
 ) -> Result<StoreWriter, Memory>
     requires readers { (1 ≤ readers) × (readers ≤ 16) }
     requires empty { front.now.seen.log ≡ [] }
-    ensures shown { IfOk result (λ w. w.desk.shown.value ≡ record { samples = []; front = front.now }) }
+    ensures shown { IfOk result (λ w. w.desk.shown.value ≡ record { chunks = []; front = front.now }) }
     ensures nothing { IfOk result (λ w. drop w.behind w.log.items ≡ []) }
     ensures named { IfOk result (λ w. knows w.desk.place ≡ name_of front.now.seen.book) }
 {
@@ -134,11 +134,9 @@ impl LiveView {
             Ok(made) => {
                 let fronts = Fronts {
                     shown: front.again(),
-                    queued: front.again(),
                     log: front,
                 };
                 let view = LiveView {
-                    alloc,
                     writer: Some(writer),
                     head,
                     fronts,
@@ -152,18 +150,17 @@ impl LiveView {
         }
     }
 
-    /// Ends the view, and hands back the samples that were shown. It waits for the readers that still look.
-    pub fn end<R: Wait>(self, rt: &R) -> Rows<Sample>
-        ensures { result ≡ self.shown }
+    /// Ends the view, and hands back the chunks that were shown. It waits for the readers that still look.
+    pub fn end<R: Wait>(self, rt: &R) -> Chunks
+        ensures { joined result ≡ self.shown }
     {
         let LiveView {
-            alloc: _,
             writer,
             head: _,
             fronts: _,
         } = self;
         match writer {
-            Some(writer) => Box::into_inner(writer.take(rt)).samples,
+            Some(writer) => Box::into_inner(writer.take(rt)).chunks,
             None => unreachable!(),
         }
     }
@@ -187,17 +184,16 @@ impl Shown for LiveView {
     fn publish<R: Threads + Wait + Sync>(
         &mut self,
         rt: &R,
-        samples: &[Sample],
+        chunk: &Arc<Chunk>,
     ) -> Result<(), Memory> {
         match self.writer.take() {
             Some(writer) => {
                 let (writer, published) = publish_all(
-                    self.alloc,
                     rt,
                     writer,
                     &self.head,
                     &mut self.fronts,
-                    samples,
+                    chunk,
                 );
                 match self.writer.replace(writer) {
                     Some(spare) => drop(spare.take(rt)),

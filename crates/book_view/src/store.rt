@@ -1,22 +1,22 @@
 //! The copies of what is shown, and what they take in.
 use crate::front::Front;
 use left_right::Absorb;
-use mdf_layout::Sample;
-use mdf_num::Rows;
-use std::alloc::{AllocError, Global};
+use mdf_layout::{Chunk, Chunks};
+use std::alloc::AllocError;
+use std::sync::Arc;
 
-/// A copy of what is shown: the samples, and the beginning of the log that they are.
+/// A copy of what is shown: the chunks, and the beginning of the log that their samples are.
 #[derive(Drop)]
 pub(crate) struct Store {
-    pub(crate) samples: Rows<Sample>,
+    pub(crate) chunks: Chunks,
     pub(crate) front: Front,
 }
 
-/// What a copy takes in: a sample, and the beginning of the log that ends with it.
+/// What a copy takes in: a chunk behind the first so many, and the beginning of the log that ends with it.
 #[derive(Drop)]
 pub(crate) struct Addition {
-    pub(crate) alloc: Global,
-    pub(crate) sample: Sample,
+    pub(crate) keep: u64,
+    pub(crate) chunk: Arc<Chunk>,
     pub(crate) front: Front,
 }
 
@@ -30,10 +30,7 @@ impl Absorb<Addition> for Store {
     ghost applied = { added };
 
     fn absorb_first(&mut self, operation: &Addition, _other: &Store) -> Result<(), AllocError> {
-        let Ok(sample) = operation.sample.copy(operation.alloc) else {
-            return Err(AllocError);
-        };
-        let Ok(()) = self.samples.push(sample) else {
+        let Ok(()) = self.chunks.put_behind(operation.keep, &operation.chunk) else {
             return Err(AllocError);
         };
         self.front = operation.front.again();

@@ -330,6 +330,14 @@ fn blocks_in(file: &[u8]) -> char
                 next: 320,
             },
         ) => '2',
+        Ok(
+            Opened {
+                blocks: 3,
+                bytes: 36,
+                first: 232,
+                next: 360,
+            },
+        ) => '3',
         Err(GateFault::NotMdf) => 'x',
         _ => '?',
     }
@@ -537,23 +545,39 @@ fn a_sample_is_put_where_it_has_room(rt: HostRuntime) -> Result<(), Fail> {
     )
 }
 
-// The second flush finds no memory to show the third sample, and the next one, which makes no call of the disk and no mark,
-// shows it. The file is made by eight calls, and each hand-over makes four.
-const SHOWN_LATER: Recording = Recording {
-    failing: &[],
-    block: 65_536,
-    session: SESSION,
-    tasks: &[Some(1), Some(2), None, Some(3), None, None],
-};
-
-#[test]
-fn refused_publish_is_made_up_later(rt: HostRuntime) -> Result<(), Fail> {
-    let ended = record(&rt, &SHOWN_LATER, WantsOnce::new())?;
-    is_told(
-        &rt,
-        line(ended),
+// The second publishing finds no memory. The next flush, with or without a sample more, shows one chunk or two: where nothing is
+// pending it makes no call of the disk and no mark. The file is made by eight calls, and each hand-over makes four.
+const SHOWN_LATER: &[(Recording, &str)] = &[
+    (
+        Recording {
+            failing: &[],
+            block: 65_536,
+            session: SESSION,
+            tasks: &[Some(1), Some(2), None, Some(3), None, None],
+        },
         "Accepted { place: 0 }\nAccepted { place: 1 }\nDone { through: 2, shown: 2, note: () }\n\
          Accepted { place: 2 }\nDone { through: 3, shown: 2, note: () }\nDone { through: 3, shown: 3, note: () }\n\
          7:0 11:2 15:3 shown 3 pending 0 calls 16 bytes 321 blocks 2",
-    )
+    ),
+    (
+        Recording {
+            failing: &[],
+            block: 65_536,
+            session: SESSION,
+            tasks: &[Some(1), Some(2), None, Some(3), None, Some(4), None],
+        },
+        "Accepted { place: 0 }\nAccepted { place: 1 }\nDone { through: 2, shown: 2, note: () }\n\
+         Accepted { place: 2 }\nDone { through: 3, shown: 2, note: () }\n\
+         Accepted { place: 3 }\nDone { through: 4, shown: 4, note: () }\n\
+         7:0 11:2 15:3 19:4 shown 4 pending 0 calls 20 bytes 361 blocks 3",
+    ),
+];
+
+#[test]
+fn refused_publish_is_made_up_later(rt: HostRuntime) -> Result<(), Fail> {
+    for (recording, want) in SHOWN_LATER {
+        let ended = record(&rt, recording, WantsOnce::new())?;
+        is_told(&rt, line(ended), *want)?;
+    }
+    Ok(())
 }

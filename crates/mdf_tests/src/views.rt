@@ -9,11 +9,11 @@ use crate::layouts::sample;
 use book_owned::{Book, Flush, Shown};
 use book_view::{LiveReader, LiveView};
 use mdf_disk::MemoryDisk;
-use mdf_layout::{Sample, Shape, Shapes};
+use mdf_layout::{Chunk, Sample, Shape, Shapes};
 use mdf_num::Memory;
 use std::alloc::Global;
 use std::process::Abort;
-use std::sync::Wait;
+use std::sync::{Arc, Wait};
 use std::test::Fail;
 use std::thread::Threads;
 
@@ -53,13 +53,13 @@ impl Shown for WantsOnce {
     fn publish<R: Threads + Wait + Sync>(
         &mut self,
         _rt: &R,
-        samples: &[Sample],
+        chunk: &Arc<Chunk>,
     ) -> Result<(), Memory> {
         self.published = self.published.saturating_add(1);
         if self.published == 2 {
             return Err(Memory);
         }
-        self.count += samples.len() as u64;
+        self.count += chunk.len();
         Ok(())
     }
 
