@@ -19,7 +19,7 @@ use Rattle.book_shared.specs.Basis.{Basis, free, resting, writing}
 use Rattle.book_shared.specs.Plays.{Here, at_device, given, given_device, held_of, Holds}
 use Rattle.book_shared.specs.Place.{IsSingle}
 use Rattle.book_shared.specs.Turns.{OnlyDue, Took, Works}
-use Rattle.book_shared.specs.Told.{MarksThrough, Puts, WasBlocked, IsOneTurn}
+use Rattle.book_shared.specs.Told.{Announces, MarksThrough, Puts, WasBlocked, IsOneTurn}
 use Rattle.book_shared.specs.Causes.{IsAmong}
 use Rattle.book_shared.specs.Rounds.{wanted, met_in, HasSeized, HasTurned, HasFull, HasWritten, HasBoth, HasTried, IsOneRound, IsTried, WasFull}
 use Rattle.book_shared.specs.declared.answer.Try.{Try}
@@ -259,10 +259,15 @@ one_round v x sample (NeedsFlush held size limit back) blocked = blocked
 one_round v x sample (Answered answer) blocked = inr blocked
 
 -- a round that took the device
+pub round_full : {D V N : Type 0} (disk : DiskOf D) (view : ViewOf V N) (v x u : View) (sample : Sample) (held size limit : ℕ) (back : Sample) (answer : Try)
+    → IsTried V v x sample (NeedsFlush held size limit back) → HasTried disk view x u back answer → WasBlocked v u sample
+round_full disk view v x u sample held size limit back answer first then =
+    blocked_later v x u sample (round_seen disk view x u back answer then.round) (round_found disk view x u back answer then.round) then.marks then.rests.basis_is (blocked_once v x sample held size limit back first)
+
 pub round_blocked : {D V N : Type 0} (disk : DiskOf D) (view : ViewOf V N) (v x u : View) (sample : Sample) (held size limit : ℕ) (back : Sample) (answer : Try)
     → IsTried V v x sample (NeedsFlush held size limit back) → HasTried disk view x u back answer → IsOneRound v u sample answer
 round_blocked disk view v x u sample held size limit back answer first then =
-    one_round v u sample answer (blocked_later v x u sample (round_seen disk view x u back answer then.round) (round_found disk view x u back answer then.round) then.marks then.rests.basis_is (blocked_once v x sample held size limit back first))
+    one_round v u sample answer (round_full disk view v x u sample held size limit back answer first then)
 
 -- after rounds, if there were any, in the first of which the sample did not fit
 module _ (v y x : View) (sample left : Sample) (same : left ≡ sample) (before : (y ≡ v) ⊎ WasBlocked v y sample) (more : IsPrefix y.seen x.seen) (found : IsPrefix y.found x.found)
@@ -272,3 +277,6 @@ module _ (v y x : View) (sample left : Sample) (same : left ≡ sample) (before 
 
   pub one_on : IsOneTurn y x left → IsOneTurn v x sample
   one_on now = ⊎_elim (λ is. subst (λ w. IsOneTurn w x sample) is (subst (IsOneTurn y x) same now)) (λ was. inr (blocked_later v y x sample more found marks basis was)) before
+
+  pub announced_on : Announces y x left → Announces v x sample
+  announced_on now = ⊎_elim (λ is. subst (λ w. Announces w x sample) is (subst (Announces y x) same now)) (λ was. inr (blocked_later v y x sample more found marks basis was)) before

@@ -81,6 +81,10 @@ pub record WasBlocked (v u : View) (sample : Sample) : Type 0 where
 abbrev pub IsOneTurn : View → View → Sample → Type 0
 IsOneTurn v u sample = (u.turns ≡ v.turns + 1) ⊎ WasBlocked v u sample
 
+-- and it announces its sample only there
+abbrev pub Announces : View → View → Sample → Type 0
+Announces v u sample = (u.due ≡ v.due) ⊎ WasBlocked v u sample
+
 -- an answer that no call of the disk led to
 abbrev pub IsNoFault : Append → Type 0
 IsNoFault (Accepted place) = Unit {0}

@@ -4,7 +4,7 @@ ghost use Rattle.mdf_layout.specs.Record.{SampleFits, encoded_size};
 ghost use Rattle.book_shared.specs.Basis.{free};
 ghost use Rattle.book_shared.specs.Place.{IsSingle};
 ghost use Rattle.book_shared.specs.Rounds.{HasBoth, HasFull, HasTried, IsOneRound, round_answer, WasFull};
-ghost use Rattle.book_shared.specs.Told.{Appends, AppendsFront, IsOneTurn};
+ghost use Rattle.book_shared.specs.Told.{Announces, Appends, AppendsFront, IsOneTurn};
 ghost use Rattle.book_shared.specs.Turns.{HasTurnsFor, OnlyDue, Rests};
 ghost use Rattle.book_shared.specs.declared.view.View.{View};
 
@@ -141,6 +141,7 @@ impl<D: Disk, V: Shown> SharedBook<D, V> {
         ensures turns { seat.new.me.0.turns ≤ seat.old.me.0.turns + 3 }
         ensures due { OnlyDue seat.old.me.0 seat.new.me.0 sample }
         ensures one { IsOneRound seat.old.me.0 seat.new.me.0 sample result }
+        ensures announces { Announces seat.old.me.0 seat.new.me.0 sample }
         ensures tried { HasTried D.Disk V.Shown seat.old.me.0 seat.new.me.0 sample result }
     {
         let word = self.seize(rt, seat, None);
@@ -174,6 +175,7 @@ impl<D: Disk, V: Shown> SharedBook<D, V> {
         ensures turns { HasTurnsFor 3 seat.old.me.0 seat.new.me.0 }
         ensures due { OnlyDue seat.old.me.0 seat.new.me.0 sample }
         ensures one { IsOneTurn seat.old.me.0 seat.new.me.0 sample }
+        ensures announces { Announces seat.old.me.0 seat.new.me.0 sample }
         ensures rests { Rests seat.old.me.0 seat.new.me.0 }
         ensures appends { Appends seat.old.me.0 seat.new.me.0 sample result }
         ensures asked { seat.new.me.0.asked ≡ seat.old.me.0.asked }

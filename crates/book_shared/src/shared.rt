@@ -3,7 +3,7 @@ ghost use Rattle.std.specs.Prelude.{◌≡◌, ◌+◌, ◌≤◌, slice_index};
 ghost use Rattle.mdf_layout.specs.Record.{SampleFits, encoded_size};
 ghost use Rattle.book_shared.specs.Place.{IsSingle};
 ghost use Rattle.book_shared.specs.Turns.{HasTurnsFor, OnlyDue};
-ghost use Rattle.book_shared.specs.Told.{Appends, Tries, Flushes, FlushesFirst, FlushesSeen, HadTurn, Asks, IsNoted, IsOneTurn, AppendsFront, TriesFront, FlushesFront};
+ghost use Rattle.book_shared.specs.Told.{Announces, Appends, Tries, Flushes, FlushesFirst, FlushesSeen, HadTurn, Asks, IsNoted, IsOneTurn, AppendsFront, TriesFront, FlushesFront};
 
 use crate::Try;
 use crate::fixed::Fixed;
@@ -72,6 +72,7 @@ impl<D: Disk, V: Shown> SharedBook<D, V> {
         ensures appends { Appends seat.old.know seat.new.know sample result }
         ensures turns { HasTurnsFor 3 seat.old.know seat.new.know }
         ensures one { IsOneTurn seat.old.know seat.new.know sample }
+        ensures announces { Announces seat.old.know seat.new.know sample }
         ensures asked { seat.new.know.asked ≡ seat.old.know.asked }
         ensures due { OnlyDue seat.old.know seat.new.know sample }
         ensures front { AppendsFront D.Disk V.Shown seat.new.know sample result }

@@ -3,7 +3,7 @@ use Rattle.book_shared.specs.Rounds.{HasTried, IsOneRound}
 use Rattle.book_shared.specs.Turns.{OnlyDue}
 use Rattle.book_shared.specs.declared.answer.Try.TheVariants.{Answered}
 use Rattle.book_shared.proofs.Following.{follows_on, follows_self, follows_served, served_seen, round_found, round_seen}
-use Rattle.book_shared.proofs.Handing.{may_later, appended_now, blocked_on, one_on, only_on, only_same}
+use Rattle.book_shared.proofs.Handing.{announced_on, may_later, appended_now, blocked_on, one_on, only_on, only_same}
 use Rattle.book_shared.proofs.shared.SharedBook.append_at.Goals as goal
 
 pub append_once-requires-clause-owns : goal.append_once-requires-clause-owns
@@ -73,6 +73,14 @@ returns-in-Answered-clause-one g c =
     one_on c.args.seat.now.me.0 y x c.args.sample c.loop.left c.loop.invariant.3 c.loop.invariant.6 (round_seen g.D.Disk g.V.Shown y x c.loop.left (Answered c.in-Answered.answer) tried.round)
     (round_found g.D.Disk g.V.Shown y x c.loop.left (Answered c.in-Answered.answer) tried.round) tried.marks tried.rests.basis_is
     (subst (IsOneRound y x c.loop.left) c.in-Answered.is c.append_once.ensures.one)
+
+pub returns-in-Answered-clause-announces : goal.returns-in-Answered-clause-announces
+returns-in-Answered-clause-announces g c =
+    let y = c.loop.seat.me.0 in
+    let x = c.append_once.new.seat.me.0 in
+    let tried = subst (HasTried g.D.Disk g.V.Shown y x c.loop.left) c.in-Answered.is c.append_once.ensures.tried in
+    announced_on c.args.seat.now.me.0 y x c.args.sample c.loop.left c.loop.invariant.3 c.loop.invariant.6 (round_seen g.D.Disk g.V.Shown y x c.loop.left (Answered c.in-Answered.answer) tried.round)
+    (round_found g.D.Disk g.V.Shown y x c.loop.left (Answered c.in-Answered.answer) tried.round) tried.marks tried.rests.basis_is c.append_once.ensures.announces
 
 pub returns-in-Answered-clause-due : goal.returns-in-Answered-clause-due
 returns-in-Answered-clause-due g c =

@@ -1,4 +1,4 @@
-use Rattle.std.proofs.Common.{◌∙◌, ap, subst, inl, arith}
+use Rattle.std.proofs.Common.{◌∙◌, ap, subst, inl, inr, arith}
 use Rattle.book_shared.specs.Rounds.{HasTried, IsTried}
 use Rattle.book_shared.specs.Turns.{OnlyDue}
 use Rattle.book_shared.specs.declared.answer.Try.TheVariants.{NeedsFlush}
@@ -6,7 +6,7 @@ use Rattle.book_shared.specs.declared.view.View.{View}
 use Rattle.book_shared.proofs.Given.{taken_now}
 use Rattle.book_shared.proofs.Lists.{one_source}
 use Rattle.book_shared.proofs.Following.{Follows, tried_later}
-use Rattle.book_shared.proofs.Handing.{MayAppend, full_once, may_later, only_on, only_same, round_blocked, tried_once}
+use Rattle.book_shared.proofs.Handing.{MayAppend, full_once, may_later, only_on, only_same, round_blocked, round_full, tried_once}
 use Rattle.book_shared.proofs.shared.SharedBook.append_once.Given as given
 use Rattle.book_shared.proofs.shared.SharedBook.append_once.Goals as goal
 use Rattle.book_shared.proofs.shared.SharedBook.append_once.Goals.{In-NeedsFlush}
@@ -80,6 +80,14 @@ returns-in-NeedsFlush-clause-one g c =
 
 pub returns-in-Answered-clause-one : goal.returns-in-Answered-clause-one
 returns-in-Answered-clause-one g c = inl (c.try_turn.ensures.turns ∙ ap (λ (y : View). y.turns) c.seize-word.ensures.took.2.rest)
+
+pub returns-in-NeedsFlush-clause-announces : goal.returns-in-NeedsFlush-clause-announces
+returns-in-NeedsFlush-clause-announces g c =
+    inr (round_full g.D.Disk g.V.Shown c.args.seat.now.me.0 c.try_turn.new.seat.me.0 c.append_round.new.seat.me.0 c.args.sample c.in-NeedsFlush.held c.in-NeedsFlush.size c.in-NeedsFlush.limit
+    c.in-NeedsFlush.sample c.append_round.result (met g (goal.at.returns-in-NeedsFlush-clause-announces g c).In-NeedsFlush) c.append_round.ensures.tried)
+
+pub returns-in-Answered-clause-announces : goal.returns-in-Answered-clause-announces
+returns-in-Answered-clause-announces g c = inl (c.try_turn.ensures.due ∙ ap (λ (y : View). y.due) c.seize-word.ensures.took.2.rest)
 
 pub returns-in-NeedsFlush-clause-due : goal.returns-in-NeedsFlush-clause-due
 returns-in-NeedsFlush-clause-due g c =
