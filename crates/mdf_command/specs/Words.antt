@@ -3,50 +3,12 @@ use Rattle.std.specs.Prelude.{◌≡◌, ◌⊎◌, ◌≤◌, ◌<◌, ◌^◌,
 use Rattle.std.specs.Fmt.{decimal, signed_decimal}
 use Rattle.mdf_disk.specs.declared.role.Role.{Role}
 use Rattle.mdf_disk.specs.declared.role.Role.TheVariants.{Read, Create}
-use Rattle.mdf_command.specs.declared.command.Name.{Name}
-use Rattle.mdf_command.specs.declared.command.Name.TheVariants as name
-
--- what the words may ask for
-pub data Request : Type 0 where
-  opened : (input : List ℕ) → Request
-  recorded : (output : List ℕ) → Request
-  finalized : (input output : List ℕ) → Request
-  checked : (input : List ℕ) → Request
-  described : (input : List ℕ) → Request
-  sorted : (input output : List ℕ) → Request
-  cut : (input output : List ℕ) (from to : ℤ) → Request
-  exported : (input : List ℕ) (group : ℕ) → Request
-  joined : (input second output : List ℕ) → Request
-  generated : (samples : ℕ) (output : List ℕ) → Request
-
--- the first word of each command
-abbrev pub name_text : Name → List ℕ
-name_text name.Opened = codes "opened"
-name_text name.Record = codes "record"
-name_text name.Finalize = codes "finalize"
-name_text name.Check = codes "check"
-name_text name.Info = codes "info"
-name_text name.Sort = codes "sort"
-name_text name.Cut = codes "cut"
-name_text name.Export = codes "export"
-name_text name.Concat = codes "concat"
-name_text name.Gen = codes "gen"
-
--- the word is that of this command, and of none
-abbrev pub Names : List ℕ → Name → Type 0
-Names word name = word ≡ name_text name
-
-abbrev pub NamesNothing : List ℕ → Type 0
-NamesNothing word = (name : Name) → ¬ Names word name
-
--- the word is that of no command that makes a file, and of no other
-abbrev pub NamesNoMaking : List ℕ → Type 0
-NamesNoMaking word =
-    ¬ Names word name.Record × ¬ Names word name.Finalize × ¬ Names word name.Sort × ¬ Names word name.Cut × ¬ Names word name.Concat
-    × ¬ Names word name.Gen
-
-abbrev pub NamesNoTelling : List ℕ → Type 0
-NamesNoTelling word = ¬ Names word name.Opened × ¬ Names word name.Check × ¬ Names word name.Info × ¬ Names word name.Export
+use Rattle.mdf_command.specs.declared.command.Aspect.{Aspect}
+use Rattle.mdf_command.specs.declared.command.Aspect.TheVariants.{Opened, Verdict, Contents, Table}
+use Rattle.mdf_command.specs.declared.command.Product.{Product}
+use Rattle.mdf_command.specs.declared.command.Product.TheVariants.{Finalized, Sorted, Cut}
+use Rattle.mdf_command.specs.declared.command.Origin.{Origin}
+use Rattle.mdf_command.specs.declared.command.Origin.TheVariants.{Source, Generated}
 
 -- a word is this number, below 2 ^ 64, in decimal without a sign and without leading zeros; and it is none
 abbrev pub IsNumber : List ℕ → ℕ → Type 0
@@ -54,31 +16,6 @@ IsNumber word number = (word ≡ decimal number) × (number < 2 ^ 64)
 
 abbrev pub IsNoNumber : List ℕ → Type 0
 IsNoNumber word = (number : ℕ) → ¬ IsNumber word number
-
--- which command it is, and its arguments
-abbrev pub name_of : Request → Name
-name_of (opened input) = name.Opened
-name_of (recorded output) = name.Record
-name_of (finalized input output) = name.Finalize
-name_of (checked input) = name.Check
-name_of (described input) = name.Info
-name_of (sorted input output) = name.Sort
-name_of (cut input output from to) = name.Cut
-name_of (exported input group) = name.Export
-name_of (joined input second output) = name.Concat
-name_of (generated samples output) = name.Gen
-
-abbrev pub arguments_of : Request → List (List ℕ)
-arguments_of (opened input) = input ∷ []
-arguments_of (recorded output) = output ∷ []
-arguments_of (finalized input output) = input ∷ output ∷ []
-arguments_of (checked input) = input ∷ []
-arguments_of (described input) = input ∷ []
-arguments_of (sorted input output) = input ∷ output ∷ []
-arguments_of (cut input output from to) = input ∷ output ∷ signed_decimal from ∷ signed_decimal to ∷ []
-arguments_of (exported input group) = input ∷ decimal group ∷ []
-arguments_of (joined input second output) = input ∷ second ∷ output ∷ []
-arguments_of (generated samples output) = decimal samples ∷ output ∷ []
 
 -- an end of a range of numbers is from -2 ^ 63 to 2 ^ 64 - 1
 abbrev pub IsBound : ℤ → Type 0
@@ -103,90 +40,57 @@ IsCount word samples = (word ≡ decimal samples) × IsGenerable samples
 abbrev pub IsNoCount : List ℕ → Type 0
 IsNoCount word = (samples : ℕ) → ¬ IsCount word samples
 
+-- what the words may ask for: to show a file, to make one of another, to make one of two, or to record one
+pub data Request : Type 0 where
+  shown : (input : List ℕ) (aspect : Aspect) → Request
+  made : (input output : List ℕ) (product : Product) → Request
+  joined : (input second output : List ℕ) → Request
+  recorded : (output : List ℕ) (origin : Origin) → Request
+
+-- the words of each command
+abbrev pub words_of : Request → List (List ℕ)
+words_of (shown input Opened) = codes "opened" ∷ input ∷ []
+words_of (shown input Verdict) = codes "check" ∷ input ∷ []
+words_of (shown input Contents) = codes "info" ∷ input ∷ []
+words_of (shown input (Table group)) = codes "export" ∷ input ∷ decimal group ∷ []
+words_of (made input output Finalized) = codes "finalize" ∷ input ∷ output ∷ []
+words_of (made input output Sorted) = codes "sort" ∷ input ∷ output ∷ []
+words_of (made input output (Cut from to)) = codes "cut" ∷ input ∷ output ∷ signed_decimal from ∷ signed_decimal to ∷ []
+words_of (joined input second output) = codes "concat" ∷ input ∷ second ∷ output ∷ []
+words_of (recorded output Source) = codes "record" ∷ output ∷ []
+words_of (recorded output (Generated samples)) = codes "gen" ∷ decimal samples ∷ output ∷ []
+
 -- its numbers are such as it takes
 abbrev pub IsInRange : Request → Type 0
-IsInRange (cut input output from to) = IsBound from × IsBound to
-IsInRange (exported input group) = group < 2 ^ 64
-IsInRange (generated samples output) = IsGenerable samples
+IsInRange (shown input (Table group)) = group < 2 ^ 64
+IsInRange (made input output (Cut from to)) = IsBound from × IsBound to
+IsInRange (recorded output (Generated samples)) = IsGenerable samples
 IsInRange _ = Unit {0}
 
 -- the words that ask for it
 abbrev pub Asks : List (List ℕ) → Request → Type 0
-Asks words request = (words ≡ name_text (name_of request) ∷ arguments_of request) × IsInRange request
+Asks words request = (words ≡ words_of request) × IsInRange request
 
 -- no command of the table
 abbrev pub IsUsage : List (List ℕ) → Type 0
 IsUsage words = (request : Request) → ¬ Asks words request
 
--- `opened IN`
-abbrev pub AsksOpened : List (List ℕ) → List ℕ → Type 0
-AsksOpened words input = Asks words (opened input)
-
--- `record OUT`
-abbrev pub AsksRecord : List (List ℕ) → List ℕ → Type 0
-AsksRecord words output = Asks words (recorded output)
-
--- `finalize IN OUT`
-abbrev pub AsksFinalize : List (List ℕ) → List ℕ → List ℕ → Type 0
-AsksFinalize words input output = Asks words (finalized input output)
-
--- `check IN`
-abbrev pub AsksCheck : List (List ℕ) → List ℕ → Type 0
-AsksCheck words input = Asks words (checked input)
-
--- `info IN`
-abbrev pub AsksInfo : List (List ℕ) → List ℕ → Type 0
-AsksInfo words input = Asks words (described input)
-
--- `sort IN OUT`
-abbrev pub AsksSort : List (List ℕ) → List ℕ → List ℕ → Type 0
-AsksSort words input output = Asks words (sorted input output)
-
--- `cut IN OUT FROM TO`
-abbrev pub AsksCut : List (List ℕ) → List ℕ → List ℕ → ℤ → ℤ → Type 0
-AsksCut words input output from to = Asks words (cut input output from to)
-
--- `export IN GROUP`
-abbrev pub AsksExport : List (List ℕ) → List ℕ → ℕ → Type 0
-AsksExport words input group = Asks words (exported input group)
-
--- `concat A B OUT`
-abbrev pub AsksConcat : List (List ℕ) → List ℕ → List ℕ → List ℕ → Type 0
-AsksConcat words input second output = Asks words (joined input second output)
-
--- `gen N OUT`
-abbrev pub AsksGenerated : List (List ℕ) → ℕ → List ℕ → Type 0
-AsksGenerated words samples output = Asks words (generated samples output)
-
--- the file that it reads, and the file that it makes
+-- the file that it reads, the second one, and the file that it makes
 abbrev pub input_of : Request → Option (List ℕ)
-input_of (opened input) = Some input
-input_of (recorded output) = None
-input_of (finalized input output) = Some input
-input_of (checked input) = Some input
-input_of (described input) = Some input
-input_of (sorted input output) = Some input
-input_of (cut input output from to) = Some input
-input_of (exported input group) = Some input
+input_of (shown input aspect) = Some input
+input_of (made input output product) = Some input
 input_of (joined input second output) = Some input
-input_of (generated samples output) = None
+input_of (recorded output origin) = None
 
-abbrev pub output_of : Request → Option (List ℕ)
-output_of (opened input) = None
-output_of (recorded output) = Some output
-output_of (finalized input output) = Some output
-output_of (checked input) = None
-output_of (described input) = None
-output_of (sorted input output) = Some output
-output_of (cut input output from to) = Some output
-output_of (exported input group) = None
-output_of (joined input second output) = Some output
-output_of (generated samples output) = Some output
-
--- the second file that it reads
 abbrev pub second_of : Request → Option (List ℕ)
 second_of (joined input second output) = Some second
 second_of _ = None
+
+abbrev pub output_of : Request → Option (List ℕ)
+output_of (shown input aspect) = None
+output_of (made input output product) = Some output
+output_of (joined input second output) = Some output
+output_of (recorded output origin) = Some output
 
 -- the words ask for a file to be made
 abbrev pub AsksToMake : List (List ℕ) → List ℕ → Type 0

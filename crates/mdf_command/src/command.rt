@@ -1,5 +1,5 @@
 ghost use Rattle.std.specs.Prelude.{◌≡◌, ◌↔◌, ◌∷◌, [], true, MatchOption};
-ghost use Rattle.mdf_command.specs.Words.{Asks, IsCount, IsNoCount, IsUsage, Names, NamesNoMaking, NamesNoTelling, NamesNothing, name_text};
+ghost use Rattle.mdf_command.specs.Words.{Asks, IsCount, IsNoCount, IsUsage};
 ghost use Rattle.mdf_command.specs.Commands.{request_of};
 
 use crate::bound::bound_of;
@@ -9,19 +9,54 @@ use mdf_num::{Bytes, Rows};
 /// How many samples are generated at most.
 const MOST_GENERATED: u64 = 1_000_000;
 
-/// The first word of a command.
-#[derive(Clone, Copy)]
-pub enum Name {
+/// What is shown of a file.
+pub enum Aspect {
+    /// `opened IN`: how many opened blocks a recording has.
     Opened,
-    Record,
-    Finalize,
-    Check,
-    Info,
-    Sort,
-    Cut,
-    Export,
-    Concat,
-    Gen,
+    /// `check IN`: whether it is as the standard has a finalized file.
+    Verdict,
+    /// `info IN`: what it holds.
+    Contents,
+    /// `export IN GROUP`: the table of the group of this number, counted from 0.
+    Table { group: u64 },
+}
+
+/// What is made of a file.
+pub enum Product {
+    /// `finalize IN OUT`: the finished file of a recording.
+    Finalized,
+    /// `sort IN OUT`: the sorted file of a finished one.
+    Sorted,
+    /// `cut IN OUT FROM TO`: so, from a number on and below another, each from -2^63 to 2^64 - 1.
+    Cut { from: i128, to: i128 },
+}
+
+/// Where a script comes from.
+pub enum Origin {
+    /// `record OUT`: from the source.
+    Source,
+    /// `gen N OUT`: it is generated, for so many samples, from 1 to 1,000,000.
+    Generated { samples: u64 },
+}
+
+/// What the command words ask for.
+pub enum Command<'a> {
+    /// To show a file.
+    Show { input: &'a Bytes, aspect: Aspect },
+    /// To make a file of another one.
+    Make {
+        input: &'a Bytes,
+        output: &'a Bytes,
+        product: Product,
+    },
+    /// `concat A B OUT`: to make a file of two, the second behind the first.
+    Join {
+        input: &'a Bytes,
+        second: &'a Bytes,
+        output: &'a Bytes,
+    },
+    /// To record into a file.
+    Record { output: &'a Bytes, origin: Origin },
 }
 
 /// Whether a word is this text.
@@ -29,116 +64,6 @@ fn is(word: &[u8], text: &[u8]) -> bool
     ensures { (result ≡ true) ↔ (word.now ≡ text.now) }
 {
     word == text
-}
-
-impl Name {
-    /// The command that this word names, if any.
-    fn of(word: &[u8]) -> Option<Name>
-        ensures { MatchOption result (NamesNothing word.now) (Names word.now) }
-    {
-        match Name::making(word) {
-            Some(name) => Some(name),
-            None => Name::telling(word),
-        }
-    }
-
-    /// The command that this word names, if it is one that makes a file.
-    fn making(word: &[u8]) -> Option<Name>
-        ensures { MatchOption result (NamesNoMaking word.now) (Names word.now) }
-    {
-        if is(word, b"record") {
-            return Some(Name::Record);
-        }
-        if is(word, b"finalize") {
-            return Some(Name::Finalize);
-        }
-        if is(word, b"sort") {
-            return Some(Name::Sort);
-        }
-        if is(word, b"cut") {
-            return Some(Name::Cut);
-        }
-        if is(word, b"concat") {
-            return Some(Name::Concat);
-        }
-        if is(word, b"gen") {
-            return Some(Name::Gen);
-        }
-        None
-    }
-
-    /// The command that this word names, if it is one that makes no file.
-    fn telling(word: &[u8]) -> Option<Name>
-        ensures { MatchOption result (NamesNoTelling word.now) (Names word.now) }
-    {
-        if is(word, b"opened") {
-            return Some(Name::Opened);
-        }
-        if is(word, b"check") {
-            return Some(Name::Check);
-        }
-        if is(word, b"info") {
-            return Some(Name::Info);
-        }
-        if is(word, b"export") {
-            return Some(Name::Export);
-        }
-        None
-    }
-}
-
-/// What the command words ask for.
-#[derive(Clone, Copy)]
-pub enum Command<'a> {
-    /// `opened IN`
-    Opened {
-        input: &'a Bytes,
-    },
-    /// `record OUT`
-    Record {
-        output: &'a Bytes,
-    },
-    /// `finalize IN OUT`
-    Finalize {
-        input: &'a Bytes,
-        output: &'a Bytes,
-    },
-    /// `check IN`
-    Check {
-        input: &'a Bytes,
-    },
-    /// `info IN`
-    Info {
-        input: &'a Bytes,
-    },
-    /// `sort IN OUT`
-    Sort {
-        input: &'a Bytes,
-        output: &'a Bytes,
-    },
-    /// `cut IN OUT FROM TO`: from a number on and below another, each from -2^63 to 2^64 - 1.
-    Cut {
-        input: &'a Bytes,
-        output: &'a Bytes,
-        from: i128,
-        to: i128,
-    },
-    /// `concat A B OUT`
-    Concat {
-        input: &'a Bytes,
-        second: &'a Bytes,
-        output: &'a Bytes,
-    },
-    /// `export IN GROUP`: the group of this number, counted from 0.
-    Export {
-        input: &'a Bytes,
-        group: u64,
-    },
-    /// `gen N OUT`: how many samples, from 1 to 1,000,000.
-    Gen {
-        samples: u64,
-        output: &'a Bytes,
-    },
 }
 
 /// How many samples are to be generated, if this word is a number of 1 to 1,000,000.
@@ -152,82 +77,111 @@ fn samples_of(word: &[u8]) -> Option<u64>
     Some(samples)
 }
 
-/// The command of this name with one argument, if it takes one.
-fn with_one(name: Name, only: &Bytes) -> Option<Command<'_>>
-    ensures { MatchOption result (IsUsage (name_text name ∷ only.now ∷ [])) (λ command. Asks (name_text name ∷ only.now ∷ []) (request_of command)) }
+/// The command of this name with one argument, if there is one.
+fn with_one<'a>(name: &[u8], only: &'a Bytes) -> Option<Command<'a>>
+    ensures { MatchOption result (IsUsage (name.now ∷ only.now ∷ [])) (λ command. Asks (name.now ∷ only.now ∷ []) (request_of command)) }
 {
-    match name {
-        Name::Opened => Some(Command::Opened { input: only }),
-        Name::Record => Some(Command::Record { output: only }),
-        Name::Check => Some(Command::Check { input: only }),
-        Name::Info => Some(Command::Info { input: only }),
-        _ => None,
+    if is(name, b"opened") {
+        return Some(Command::Show {
+            input: only,
+            aspect: Aspect::Opened,
+        });
     }
+    if is(name, b"check") {
+        return Some(Command::Show {
+            input: only,
+            aspect: Aspect::Verdict,
+        });
+    }
+    if is(name, b"info") {
+        return Some(Command::Show {
+            input: only,
+            aspect: Aspect::Contents,
+        });
+    }
+    if is(name, b"record") {
+        return Some(Command::Record {
+            output: only,
+            origin: Origin::Source,
+        });
+    }
+    None
 }
 
-/// The command of this name with two arguments, if it takes two.
-fn with_two<'a>(name: Name, first: &'a Bytes, second: &'a Bytes) -> Option<Command<'a>>
-    ensures { MatchOption result (IsUsage (name_text name ∷ first.now ∷ second.now ∷ [])) (λ command. Asks (name_text name ∷ first.now ∷ second.now ∷ []) (request_of command)) }
+/// The command of this name with two arguments, if there is one.
+fn with_two<'a>(name: &[u8], first: &'a Bytes, second: &'a Bytes) -> Option<Command<'a>>
+    ensures { MatchOption result (IsUsage (name.now ∷ first.now ∷ second.now ∷ [])) (λ command. Asks (name.now ∷ first.now ∷ second.now ∷ []) (request_of command)) }
 {
-    match name {
-        Name::Finalize => Some(Command::Finalize {
+    if is(name, b"finalize") {
+        return Some(Command::Make {
             input: first,
             output: second,
-        }),
-        Name::Sort => Some(Command::Sort {
-            input: first,
-            output: second,
-        }),
-        Name::Export => Some(Command::Export {
-            input: first,
-            group: number_of(second.as_slice())?,
-        }),
-        Name::Gen => Some(Command::Gen {
-            samples: samples_of(first.as_slice())?,
-            output: second,
-        }),
-        _ => None,
+            product: Product::Finalized,
+        });
     }
+    if is(name, b"sort") {
+        return Some(Command::Make {
+            input: first,
+            output: second,
+            product: Product::Sorted,
+        });
+    }
+    if is(name, b"export") {
+        let group = number_of(second.as_slice())?;
+        return Some(Command::Show {
+            input: first,
+            aspect: Aspect::Table { group },
+        });
+    }
+    if is(name, b"gen") {
+        let samples = samples_of(first.as_slice())?;
+        return Some(Command::Record {
+            output: second,
+            origin: Origin::Generated { samples },
+        });
+    }
+    None
 }
 
-/// The command of this name with three arguments, if it takes three.
+/// The command of this name with three arguments, if there is one.
 fn with_three<'a>(
-    name: Name,
+    name: &[u8],
     input: &'a Bytes,
     second: &'a Bytes,
     output: &'a Bytes,
 ) -> Option<Command<'a>>
-    ensures { MatchOption result (IsUsage (name_text name ∷ input.now ∷ second.now ∷ output.now ∷ [])) (λ command. Asks (name_text name ∷ input.now ∷ second.now ∷ output.now ∷ []) (request_of command)) }
+    ensures { MatchOption result (IsUsage (name.now ∷ input.now ∷ second.now ∷ output.now ∷ [])) (λ command. Asks (name.now ∷ input.now ∷ second.now ∷ output.now ∷ []) (request_of command)) }
 {
-    match name {
-        Name::Concat => Some(Command::Concat {
+    if is(name, b"concat") {
+        return Some(Command::Join {
             input,
             second,
             output,
-        }),
-        _ => None,
+        });
     }
+    None
 }
 
-/// The command of this name with four arguments, if it takes four.
+/// The command of this name with four arguments, if there is one.
 fn with_four<'a>(
-    name: Name,
+    name: &[u8],
     input: &'a Bytes,
     output: &'a Bytes,
     from: &Bytes,
     to: &Bytes,
 ) -> Option<Command<'a>>
-    ensures { MatchOption result (IsUsage (name_text name ∷ input.now ∷ output.now ∷ from.now ∷ to.now ∷ [])) (λ command. Asks (name_text name ∷ input.now ∷ output.now ∷ from.now ∷ to.now ∷ []) (request_of command)) }
+    ensures { MatchOption result (IsUsage (name.now ∷ input.now ∷ output.now ∷ from.now ∷ to.now ∷ [])) (λ command. Asks (name.now ∷ input.now ∷ output.now ∷ from.now ∷ to.now ∷ []) (request_of command)) }
 {
-    match name {
-        Name::Cut => Some(Command::Cut {
+    if is(name, b"cut") {
+        let from = bound_of(from.as_slice())?;
+        let to = bound_of(to.as_slice())?;
+        return Some(Command::Make {
             input,
             output,
-            from: bound_of(from.as_slice())?,
-            to: bound_of(to.as_slice())?,
-        }),
-        _ => None,
+            product: Product::Cut { from, to },
+        });
     }
+    None
 }
 
 /// The command that the words name, if any.
@@ -237,7 +191,7 @@ pub fn command_of(words: &Rows<Bytes>) -> Option<Command<'_>>
     let [first, arguments @ ..] = words.as_slice() else {
         return None;
     };
-    let name = Name::of(first.as_slice())?;
+    let name = first.as_slice();
     match arguments {
         [only] => with_one(name, only),
         [first, second] => with_two(name, first, second),

@@ -10,7 +10,7 @@ mod number;
 mod parts;
 mod report;
 
-pub use command::{Command, command_of};
+pub use command::{Aspect, Command, Origin, Product, command_of};
 pub use fault::Fault;
 pub use input::{load, open};
 pub use report::{Piece, give_line, status_after};
