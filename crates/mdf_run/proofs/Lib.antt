@@ -6,6 +6,7 @@ mod Keeps
 pub mod Leaving
 mod Recovered
 mod Requests
+mod Runs
 mod Scripts
 mod Sound
 mod Words

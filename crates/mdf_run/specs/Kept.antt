@@ -14,7 +14,8 @@ use Rattle.acq_script.specs.Script.{script_of}
 use Rattle.acq_script.specs.Tasks.{samples_of}
 use Rattle.acq_script.specs.declared.script.Script.{Script}
 use Rattle.acq_script.specs.Generated.{generated_script}
-use Rattle.mdf_command.specs.Words.{AsksConcat, AsksGenerated, AsksRecord}
+use Rattle.mdf_command.specs.Words.{Asks, joined, recorded}
+use Rattle.mdf_command.specs.declared.command.Origin.TheVariants.{Source, Generated}
 use Rattle.mdf_model.specs.Measurement.{Measured, measurement}
 use Rattle.tool_concat.specs.Difference.{AreAlike}
 use Rattle.tool_concat.specs.Wide.{NoneWideTo}
@@ -27,22 +28,22 @@ use Rattle.mdf_record.specs.Sources.{AreOwnMarked}
 -- one, or the generated one.
 abbrev pub OfRecording : List (List ℕ) → Option (List ℕ) → (Script → Type 0) → Type 0
 OfRecording words left P =
-    ((name : List ℕ) → AsksRecord words name → (text : List ℕ) → left ≡ Some text → (script : Script) → script_of text ≡ Ok script → P script)
-    × ((samples : ℕ) (name : List ℕ) → AsksGenerated words samples name → P (generated_script samples))
+    ((name : List ℕ) → Asks words (recorded name Source) → (text : List ℕ) → left ≡ Some text → (script : Script) → script_of text ≡ Ok script → P script)
+    × ((samples : ℕ) (name : List ℕ) → Asks words (recorded name (Generated samples)) → P (generated_script samples))
 
 -- the words ask for files to be joined
 abbrev pub AsksToJoin : List (List ℕ) → Type 0
-AsksToJoin words = (input second output : List ℕ) × AsksConcat words input second output
+AsksToJoin words = (input second output : List ℕ) × Asks words (joined input second output)
 
 -- this holds where the words ask for a recording
 abbrev pub IfRecorded : List (List ℕ) → Type 0 → Type 0
 IfRecorded words P =
-    ((name : List ℕ) → AsksRecord words name → P) × ((samples : ℕ) (name : List ℕ) → AsksGenerated words samples name → P)
+    ((name : List ℕ) → Asks words (recorded name Source) → P) × ((samples : ℕ) (name : List ℕ) → Asks words (recorded name (Generated samples)) → P)
 
 -- they ask for none
 abbrev pub RecordsNothing : List (List ℕ) → Type 0
 RecordsNothing words =
-    ((name : List ℕ) → ¬ AsksRecord words name) × ((samples : ℕ) (name : List ℕ) → ¬ AsksGenerated words samples name)
+    ((name : List ℕ) → ¬ Asks words (recorded name Source)) × ((samples : ℕ) (name : List ℕ) → ¬ Asks words (recorded name (Generated samples)))
 
 -- the status of a command that did what it was asked for, though the sink may have failed
 abbrev pub IsDone : ℕ → Type 0

@@ -1,6 +1,8 @@
 pub mod Kept
 pub mod Asked
+pub mod Told
 pub mod Ends
+pub mod Run
 pub mod Tool
 pub mod Making
 pub mod Finalize

@@ -1,20 +1,20 @@
 // What the words ask for is answered.
 ghost use Rattle.std.specs.Prelude.{◌≡◌, None};
-ghost use Rattle.mdf_port.specs.State.{sink_state, source_state};
-ghost use Rattle.mdf_disk.specs.State.{state_of};
+ghost use Rattle.mdf_port.specs.State.{sink_state};
 ghost use Rattle.mdf_command.specs.Texts.{Prints, usage_line};
-ghost use Rattle.mdf_record.specs.Record.{outcome};
-ghost use Rattle.mdf_run.specs.Asked.{HasNumbers, IsOnlyMade, IsOnlyRead, TakesNothing, input_asked, output_asked, second_asked};
+ghost use Rattle.mdf_command.specs.Words.{input_of, output_of, second_of};
+ghost use Rattle.mdf_run.specs.Asked.{HasNumbers, IsOnlyMade, IsOnlyRead, TakesNothing, asked_by, file_asked};
 ghost use Rattle.mdf_run.specs.Ends.{HasEnded};
+ghost use Rattle.mdf_run.specs.Told.{told};
 
-use crate::asked::Asked;
 use crate::blamed::of_one;
 use crate::finished::{Finished, without_recording};
+use crate::joining::run_concat;
 use crate::making::make;
 use crate::recording::record;
 use crate::showing::show;
 use mdf_command::Piece::Text;
-use mdf_command::{give_line, status_after};
+use mdf_command::{Command, give_line, status_after};
 use mdf_disk::Disk;
 use mdf_inspect::Shown;
 use mdf_port::{Sink, Source};
@@ -39,7 +39,7 @@ fn run_usage<K: Sink>(sink: &mut K) -> u8
 pub(crate) fn answer<R, S, K, A, B, C, G>(
     rt: &R,
     alloc: Global,
-    asked: Option<Asked<'_>>,
+    command: Option<Command<'_>>,
     now_ns: u64,
     source: &mut S,
     sink: &mut K,
@@ -56,50 +56,51 @@ where
     B: Disk,
     C: Disk + Send,
     G: Gate + Sync,
-    requires numbers { HasNumbers asked }
+    requires numbers { HasNumbers (asked_by command) }
     requires first { A.asked first ≡ None }
     requires second { B.asked second.old ≡ None }
     requires out { C.asked out ≡ None }
-    ensures ended { HasEnded asked.entry (record {
-      now = now_ns;
-      source = source_state S.Source source.old;
-      source' = source_state S.Source source.new;
-      sink = sink_state K.Sink sink.old;
-      sink' = sink_state K.Sink sink.new;
-      first = state_of A.Disk first;
-      first' = state_of A.Disk result.first;
-      second = state_of B.Disk second.old;
-      second' = state_of B.Disk second.new;
-      out = state_of C.Disk out;
-      left = outcome C.Disk result.out result.history.items result.marks.items;
-      status = result.status;
-      blamed = result.blamed;
-    }) }
-    ensures input { IsOnlyRead A.Disk (input_asked asked.entry) first result.first }
-    ensures second { IsOnlyRead B.Disk (second_asked asked.entry) second.old second.new }
-    ensures output { IsOnlyMade C.Disk (output_asked asked.entry) out result.out }
-    ensures source { TakesNothing asked.entry → source.new ≡ source.old }
+    ensures ended { HasEnded (asked_by command.entry)
+        (told S.Source K.Sink A.Disk B.Disk C.Disk now_ns source.old source.new sink.old sink.new first second.old second.new out result) }
+    ensures input { IsOnlyRead A.Disk (file_asked input_of (asked_by command.entry)) first result.first }
+    ensures second { IsOnlyRead B.Disk (file_asked second_of (asked_by command.entry)) second.old second.new }
+    ensures output { IsOnlyMade C.Disk (file_asked output_of (asked_by command.entry)) out result.out }
+    ensures source { TakesNothing (asked_by command.entry) → source.new ≡ source.old }
 {
-    match asked {
-        Some(Asked::Show(input, view)) => {
-            let Shown { status, first } = show(alloc, view, input, sink, first);
+    match command {
+        Some(Command::Show { input, aspect }) => {
+            let Shown { status, first } = show(alloc, aspect, input, sink, first);
             without_recording(alloc, of_one(status), first, out)
         }
         Some(
-            Asked::Make {
+            Command::Make {
                 input,
                 output,
-                tool,
+                product,
             },
         ) => {
             let mut first = first;
             let mut out = out;
-            let verdict = make(
-                alloc, tool, input, output, now_ns, sink, &mut first, second, &mut out,
+            let status = make(
+                alloc, product, input, output, now_ns, sink, &mut first, &mut out,
+            );
+            without_recording(alloc, of_one(status), first, out)
+        }
+        Some(
+            Command::Join {
+                input,
+                second: other,
+                output,
+            },
+        ) => {
+            let mut first = first;
+            let mut out = out;
+            let verdict = run_concat(
+                alloc, input, other, output, now_ns, sink, &mut first, second, &mut out,
             );
             without_recording(alloc, verdict, first, out)
         }
-        Some(Asked::Record(output, origin)) => record(
+        Some(Command::Record { output, origin }) => record(
             rt, alloc, origin, output, now_ns, source, sink, first, out, gate,
         ),
         None => {

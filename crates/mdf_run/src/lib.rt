@@ -3,11 +3,10 @@
 //! The sources, sinks and disks are handed in, so the program's `main` gives the real ones and a test those over memory.
 //! Each command has a call of its own, here or in the crates below, whose contract says what that command prints and leaves: the
 //! commands that make a file of another, `finalize`, `sort` and `cut`, and `concat`, which makes one of two, have theirs here. The
-//! words are sorted by what they ask for, and each kind has a function: to show a file, to make one, and to record.
+//! words are sorted by what they ask for, and each kind has a function: to show a file, to make one of another or of two, and to record.
 #![tactic(auto)]
 
 mod answer;
-mod asked;
 mod blamed;
 mod by_tool;
 mod cutting;

@@ -9,12 +9,13 @@ ghost use Rattle.acq_script.specs.Generated.{generated_script};
 ghost use Rattle.mdf_record.specs.Record.{outcome};
 ghost use Rattle.mdf_record.specs.Recorded.{EndsGenerated, EndsRecord};
 ghost use Rattle.mdf_record.specs.Recovers.{AreRecovered};
-ghost use Rattle.mdf_run.specs.Asked.{HasCount, IsOnlyMade, TakesNone};
+ghost use Rattle.mdf_command.specs.Words.{IsInRange, recorded};
+ghost use Rattle.mdf_run.specs.Asked.{IsOnlyMade, TakesNone};
 ghost use Rattle.mdf_run.specs.Ends.{EndsRecording};
 ghost use Rattle.mdf_run.specs.Kept.{IsDurable, Keeps};
 
-use crate::asked::Origin;
 use crate::finished::{Finished, with_recording};
+use mdf_command::Origin;
 use mdf_disk::Disk;
 use mdf_num::Bytes;
 use mdf_port::{Sink, Source};
@@ -120,7 +121,7 @@ where
     C: Disk + Send,
     G: Gate + Sync,
     requires asked { C.asked out ≡ None }
-    requires count { HasCount origin }
+    requires numbers { IsInRange (recorded output.now origin) }
     ensures ends { EndsRecording origin output.now now_ns (source_state S.Source source.old) (source_state S.Source source.new) (state_of C.Disk out)
         (outcome C.Disk result.out result.history.items result.marks.items)
         (sink_state K.Sink sink.old) (sink_state K.Sink sink.new) result.status }
