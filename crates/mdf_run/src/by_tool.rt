@@ -1,11 +1,11 @@
 // Making a file of another one with a tool.
-ghost use Rattle.std.specs.Prelude.{◌≡◌, ◌⊎◌, Some, None};
+ghost use Rattle.std.specs.Prelude.{◌≡◌, Some, None};
 ghost use Rattle.mdf_disk.specs.Crash.{HoldsSince};
 ghost use Rattle.mdf_disk.specs.State.{state_of};
-ghost use Rattle.mdf_disk.specs.declared.role.Role.TheVariants.{Create, Read};
 ghost use Rattle.mdf_port.specs.State.{sink_state};
 ghost use Rattle.mdf_command.specs.Load.{IsLoaded};
 ghost use Rattle.mdf_command.specs.Texts.{Gives, Prints};
+ghost use Rattle.mdf_run.specs.Asked.{IsOnlyMade, IsOnlyRead};
 ghost use Rattle.mdf_run.specs.Making.{EndsMaking, LeavesOf, MakeComes, MakingComes, one_input, making_status, making_text, report_line};
 ghost use Rattle.mdf_run.specs.Tool.{IsImage};
 
@@ -29,8 +29,7 @@ pub(crate) fn make<T: Tool + Drop, C: Disk>(
     requires { C.asked out.old ≡ None }
     ensures comes { MakeComes (T.makes tool file) (T.refuses tool file) (state_of C.Disk out.old) (state_of C.Disk out.new) result }
     ensures any_moment { HoldsSince (C.story out.new) (C.moment out.old) (IsImage (T.makes tool file)) }
-    ensures asked { (C.asked out.new ≡ None) ⊎ (C.asked out.new ≡ Some (output.now, Create)) }
-    ensures untouched { C.asked out.new ≡ None → out.new ≡ out.old }
+    ensures output { IsOnlyMade C.Disk (Some output.now) out.old out.new }
 {
     out.attach(output.copy()?, Role::Create)?;
     tool.make(alloc, file, out)
@@ -49,11 +48,8 @@ fn make_of<T: Tool + Drop, A: Disk, C: Disk>(
     requires out { C.asked out.old ≡ None }
     ensures comes { MakingComes (one_input (state_of A.Disk first.old) (state_of A.Disk first.new)) (T.makes tool) (T.refuses tool) (state_of C.Disk out.old) (state_of C.Disk out.new) result }
     ensures any_moment { LeavesOf (IsLoaded (state_of A.Disk first.old)) (λ file. IsImage (T.makes tool file)) (state_of C.Disk out.old) (state_of C.Disk out.new) }
-    ensures input { (A.asked first.new ≡ None) ⊎ (A.asked first.new ≡ Some (input.now, Read)) }
-    ensures input_content { A.content first.new ≡ A.content first.old }
-    ensures input_untouched { A.asked first.new ≡ None → first.new ≡ first.old }
-    ensures output { (C.asked out.new ≡ None) ⊎ (C.asked out.new ≡ Some (output.now, Create)) }
-    ensures output_untouched { C.asked out.new ≡ None → out.new ≡ out.old }
+    ensures input { IsOnlyRead A.Disk (Some input.now) first.old first.new }
+    ensures output { IsOnlyMade C.Disk (Some output.now) out.old out.new }
 {
     let file = load(alloc, input, first)?;
     make(alloc, tool, file, output, out)
@@ -119,11 +115,8 @@ pub(crate) fn run_tool<T: Tool + Drop, K: Sink, A: Disk, C: Disk>(
     ensures ends { EndsMaking (one_input (state_of A.Disk first.old) (state_of A.Disk first.new)) (T.makes tool) (T.refuses tool) (state_of C.Disk out.old) (state_of C.Disk out.new)
         (sink_state K.Sink sink.old) (sink_state K.Sink sink.new) result }
     ensures any_moment { LeavesOf (IsLoaded (state_of A.Disk first.old)) (λ file. IsImage (T.makes tool file)) (state_of C.Disk out.old) (state_of C.Disk out.new) }
-    ensures input { (A.asked first.new ≡ None) ⊎ (A.asked first.new ≡ Some (input.now, Read)) }
-    ensures input_content { A.content first.new ≡ A.content first.old }
-    ensures input_untouched { A.asked first.new ≡ None → first.new ≡ first.old }
-    ensures output { (C.asked out.new ≡ None) ⊎ (C.asked out.new ≡ Some (output.now, Create)) }
-    ensures output_untouched { C.asked out.new ≡ None → out.new ≡ out.old }
+    ensures input { IsOnlyRead A.Disk (Some input.now) first.old first.new }
+    ensures output { IsOnlyMade C.Disk (Some output.now) out.old out.new }
 {
     let end = make_of(alloc, tool, input, output, first, out);
     report(sink, &end)

@@ -1,8 +1,8 @@
-ghost use Rattle.std.specs.Prelude.{◌≡◌, ◌⊎◌, Some, None};
+ghost use Rattle.std.specs.Prelude.{◌≡◌, Some, None};
 ghost use Rattle.mdf_disk.specs.State.{state_of};
-ghost use Rattle.mdf_disk.specs.declared.role.Role.TheVariants.{Create, Read};
 ghost use Rattle.mdf_port.specs.State.{sink_state};
 ghost use Rattle.mdf_command.specs.Load.{IsLoaded};
+ghost use Rattle.mdf_run.specs.Asked.{IsOnlyMade, IsOnlyRead};
 ghost use Rattle.mdf_run.specs.Making.{LeavesOf};
 ghost use Rattle.tool_cut.specs.Cut.{IsCutImage};
 ghost use Rattle.mdf_run.specs.Sort.{IsNotMeasured};
@@ -57,11 +57,8 @@ pub fn run_cut<K: Sink, A: Disk, C: Disk>(
     ensures ends { EndsCut (record { from = from; to = to; now = now_ns }) (state_of A.Disk first.old) (state_of A.Disk first.new) (state_of C.Disk out.old) (state_of C.Disk out.new)
         (sink_state K.Sink sink.old) (sink_state K.Sink sink.new) result }
     ensures any_moment { LeavesOf (IsLoaded (state_of A.Disk first.old)) (λ file. IsCutImage file (record { from = from; to = to; now = now_ns })) (state_of C.Disk out.old) (state_of C.Disk out.new) }
-    ensures input { (A.asked first.new ≡ None) ⊎ (A.asked first.new ≡ Some (input.now, Read)) }
-    ensures input_content { A.content first.new ≡ A.content first.old }
-    ensures input_untouched { A.asked first.new ≡ None → first.new ≡ first.old }
-    ensures output { (C.asked out.new ≡ None) ⊎ (C.asked out.new ≡ Some (output.now, Create)) }
-    ensures output_untouched { C.asked out.new ≡ None → out.new ≡ out.old }
+    ensures input { IsOnlyRead A.Disk (Some input.now) first.old first.new }
+    ensures output { IsOnlyMade C.Disk (Some output.now) out.old out.new }
 {
     run_tool(
         alloc,

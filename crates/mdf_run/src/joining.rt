@@ -1,10 +1,10 @@
-ghost use Rattle.std.specs.Prelude.{◌≡◌, ◌⊎◌, Some, None, IfErr};
+ghost use Rattle.std.specs.Prelude.{◌≡◌, Some, None, IfErr};
 ghost use Rattle.mdf_disk.specs.Crash.{HoldsSince};
 ghost use Rattle.mdf_disk.specs.State.{state_of};
-ghost use Rattle.mdf_disk.specs.declared.role.Role.TheVariants.{Create, Read};
 ghost use Rattle.mdf_port.specs.State.{sink_state};
 ghost use Rattle.tool_concat.specs.Concat.{IsConcatImage};
 ghost use Rattle.mdf_command.specs.declared.fault.Fault.TheVariants as faults;
+ghost use Rattle.mdf_run.specs.Asked.{IsOnlyMade, IsOnlyRead};
 ghost use Rattle.mdf_run.specs.Blamed.{BlamesJoined, IsOfEnd, IsOfJoining, concat_blamed, joining_blamed, joining_end, unread_blamed};
 ghost use Rattle.mdf_run.specs.Concat.{AreBothLoaded, AreNotJoined, EndsConcat, Joins, fault_of_concat, two_inputs};
 ghost use Rattle.mdf_run.specs.Making.{LeavesOf, MakeComes, MakingComes};
@@ -112,8 +112,7 @@ fn make_joined<C: Disk>(
         (state_of C.Disk out.old) (state_of C.Disk out.new) (joining_end result) }
     ensures blames { IfErr result (λ unjoined. IsOfJoining (record { first = one; second = two; now = now_ns }) unjoined.blamed unjoined.fault) }
     ensures any_moment { HoldsSince (C.story out.new) (C.moment out.old) (IsConcatImage (record { first = one; second = two; now = now_ns })) }
-    ensures asked { (C.asked out.new ≡ None) ⊎ (C.asked out.new ≡ Some (output.now, Create)) }
-    ensures untouched { C.asked out.new ≡ None → out.new ≡ out.old }
+    ensures output { IsOnlyMade C.Disk (Some output.now) out.old out.new }
 {
     out.attach(output.copy()?, Role::Create)?;
     Ok(concat(alloc, one, two, now_ns, out)?)
@@ -137,14 +136,9 @@ fn join<A: Disk, B: Disk, C: Disk>(
         Joins AreNotJoined (state_of C.Disk out.old) (state_of C.Disk out.new) (joining_end result) }
     ensures blames { IsOfEnd now_ns (state_of A.Disk first.old) (state_of B.Disk second.old) (joining_blamed result) (joining_end result) }
     ensures any_moment { LeavesOf (AreBothLoaded now_ns (state_of A.Disk first.old) (state_of B.Disk second.old)) IsConcatImage (state_of C.Disk out.old) (state_of C.Disk out.new) }
-    ensures input { (A.asked first.new ≡ None) ⊎ (A.asked first.new ≡ Some (input.now, Read)) }
-    ensures input_content { A.content first.new ≡ A.content first.old }
-    ensures input_untouched { A.asked first.new ≡ None → first.new ≡ first.old }
-    ensures other { (B.asked second.new ≡ None) ⊎ (B.asked second.new ≡ Some (other.now, Read)) }
-    ensures other_content { B.content second.new ≡ B.content second.old }
-    ensures other_untouched { B.asked second.new ≡ None → second.new ≡ second.old }
-    ensures output { (C.asked out.new ≡ None) ⊎ (C.asked out.new ≡ Some (output.now, Create)) }
-    ensures output_untouched { C.asked out.new ≡ None → out.new ≡ out.old }
+    ensures input { IsOnlyRead A.Disk (Some input.now) first.old first.new }
+    ensures other { IsOnlyRead B.Disk (Some other.now) second.old second.new }
+    ensures output { IsOnlyMade C.Disk (Some output.now) out.old out.new }
 {
     let one = match load(alloc, input, first) {
         Ok(one) => one,
@@ -198,14 +192,9 @@ pub fn run_concat<K: Sink, A: Disk, B: Disk, C: Disk>(
     ensures blames { BlamesJoined now_ns (state_of A.Disk first.old) (state_of B.Disk second.old)
         (sink_state K.Sink sink.old) (sink_state K.Sink sink.new) result.status result.blamed }
     ensures any_moment { LeavesOf (AreBothLoaded now_ns (state_of A.Disk first.old) (state_of B.Disk second.old)) IsConcatImage (state_of C.Disk out.old) (state_of C.Disk out.new) }
-    ensures input { (A.asked first.new ≡ None) ⊎ (A.asked first.new ≡ Some (input.now, Read)) }
-    ensures input_content { A.content first.new ≡ A.content first.old }
-    ensures input_untouched { A.asked first.new ≡ None → first.new ≡ first.old }
-    ensures other { (B.asked second.new ≡ None) ⊎ (B.asked second.new ≡ Some (other.now, Read)) }
-    ensures other_content { B.content second.new ≡ B.content second.old }
-    ensures other_untouched { B.asked second.new ≡ None → second.new ≡ second.old }
-    ensures output { (C.asked out.new ≡ None) ⊎ (C.asked out.new ≡ Some (output.now, Create)) }
-    ensures output_untouched { C.asked out.new ≡ None → out.new ≡ out.old }
+    ensures input { IsOnlyRead A.Disk (Some input.now) first.old first.new }
+    ensures other { IsOnlyRead B.Disk (Some other.now) second.old second.new }
+    ensures output { IsOnlyMade C.Disk (Some output.now) out.old out.new }
 {
     let joined = join(alloc, input, other, output, now_ns, first, second, out);
     let status = report(sink, &end_of(joined));
