@@ -42,7 +42,10 @@ pub enum Origin {
 /// What the command words ask for.
 pub enum Command<'a> {
     /// To show a file.
-    Show { input: &'a Bytes, aspect: Aspect },
+    Show {
+        input: &'a Bytes,
+        aspect: Aspect,
+    },
     /// To make a file of another one.
     Make {
         input: &'a Bytes,
@@ -56,7 +59,10 @@ pub enum Command<'a> {
         output: &'a Bytes,
     },
     /// To record into a file.
-    Record { output: &'a Bytes, origin: Origin },
+    Record {
+        output: &'a Bytes,
+        origin: Origin,
+    },
 }
 
 /// Whether a word is this text.
