@@ -58,13 +58,13 @@ bytes_front (suc k) (byte ∷ bytes) are = (are.0, bytes_front k bytes are.1)
 number_below : (k : ℕ) (body : List ℕ) (at : ℕ) → AreBytes body → le_number (bytes_at k body at) < bound k
 number_below k body at are = le_below k (drop at body) (bytes_behind at body are)
 
-below16 : (body : List ℕ) (at : ℕ) → AreBytes body → le_number (bytes_at 2 body at) < 2 ^ 16
+pub below16 : (body : List ℕ) (at : ℕ) → AreBytes body → le_number (bytes_at 2 body at) < 2 ^ 16
 below16 body at are = number_below 2 body at are
 
 below32 : (body : List ℕ) (at : ℕ) → AreBytes body → le_number (bytes_at 4 body at) < 2 ^ 32
 below32 body at are = number_below 4 body at are
 
-below64 : (body : List ℕ) (at : ℕ) → AreBytes body → le_number (bytes_at 8 body at) < 2 ^ 64
+pub below64 : (body : List ℕ) (at : ℕ) → AreBytes body → le_number (bytes_at 8 body at) < 2 ^ 64
 below64 body at are = number_below 8 body at are
 
 numbers_below : (body : List ℕ) (at count : ℕ) → AreBytes body → AllByRecursion (λ n. n < 2 ^ 64) (numbers_at body at count)
@@ -76,7 +76,7 @@ numbers_long body at zero = refl
 numbers_long body at (suc count) = ap suc (numbers_long body (at + 8) count)
 
 -- the body of a block
-body_bytes : (file : List ℕ) (at : ℕ) → AreBytes file → AreBytes (body_at file at)
+pub body_bytes : (file : List ℕ) (at : ℕ) → AreBytes file → AreBytes (body_at file at)
 body_bytes file at are = bytes_front _ _ (bytes_behind _ file are)
 
 -- a signed number

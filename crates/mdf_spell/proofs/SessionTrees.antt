@@ -14,7 +14,7 @@ use Rattle.mdf_group.specs.declared.row.DataRow.{DataRow}
 use Rattle.mdf_group.specs.Standing.{AreDistinct}
 use Rattle.mdf_tree.specs.Text.{note_blocks, IsText}
 use Rattle.mdf_tree.specs.Group.{past_group, past_groups, groups_blocks, data_groups, past_data_group, data_group_blocks}
-use Rattle.mdf_tree.specs.Head.{history_blocks, head_blocks, head_groups, entry_text, new_entry, IsEntryWritable}
+use Rattle.mdf_tree.specs.Head.{history_blocks, linked_head_blocks, head_blocks, head_groups, entry_text, new_entry, IsEntryWritable}
 use Rattle.mdf_tree.proofs.Has.{Has, has_left, has_right, has_more, here}
 use Rattle.mdf_tree.proofs.Heads.{history_long, head_stands}
 use Rattle.mdf_tree.proofs.Groups.{groups_long, data_group_stands}
@@ -51,10 +51,14 @@ counted_past n (count ∷ counts) (total ∷ totals) (row ∷ rows) same_counts 
     counted_past (past_group n row) counts totals rows (omega (arith, same_counts)) (omega (arith, same_totals))
 
 -- the block behind a head, and the one behind a data group
+pub linked_head_long : (head : Head) (entries : List History) (groups attached : Link)
+    → length (linked_head_blocks head entries groups attached) ≡ head_groups head entries
+linked_head_long head entries groups attached =
+    omega (arith, length-append (history_blocks 1 entries) (note_blocks head.comment), history_long 1 entries)
+
 pub head_long : (head : Head) (entries : List History) (groups : Link) → length (head_blocks head entries groups) ≡ head_groups head entries
 unfolding head_blocks
-head_long head entries groups =
-    omega (arith, length-append (history_blocks 1 entries) (note_blocks head.comment), history_long 1 entries)
+head_long head entries groups = linked_head_long head entries groups links.Nothing
 
 pub data_long : (n : ℕ) (next content : Link) (values : List Link) (row : DataRow)
     → n + length (data_group_blocks n next content values row) ≡ past_data_group n row

@@ -8,13 +8,14 @@ use Rattle.mdf_format.specs.Field.{signed_number}
 use Rattle.mdf_format.specs.Block.{IsChain}
 use Rattle.mdf_format.specs.declared.kind.Kind.TheVariants.{Fh}
 use Rattle.mdf_block.specs.declared.link.Link.{Link}
+use Rattle.mdf_block.specs.declared.link.Link.TheVariants as links
 use Rattle.mdf_block.specs.Draft.{Placed, address_of, link_number, AllStand}
 use Rattle.mdf_head.specs.declared.entry.Head.{Head}
 use Rattle.mdf_head.specs.declared.entry.History.{History}
 use Rattle.mdf_head.specs.Head.{the_head, the_history, IsHistory, IsHead}
 use Rattle.mdf_tree.specs.Text.{note_blocks}
 use Rattle.mdf_tree.specs.Group.{next_link}
-use Rattle.mdf_tree.specs.Head.{signed_bytes, entry_body, entry_block, past_entry, past_history, history_blocks, placed_history, head_body, head_blocks, IsSigned16, IsEntryWritable, IsHeadWritable}
+use Rattle.mdf_tree.specs.Head.{signed_bytes, entry_body, entry_block, past_entry, past_history, history_blocks, placed_history, head_body, linked_head_blocks, head_blocks, IsSigned16, IsEntryWritable, IsHeadWritable}
 use Rattle.mdf_tree.proofs.Has.{Has, has_left, has_right, has_more, here}
 use Rattle.mdf_tree.proofs.Texts.{linked_note}
 use Rattle.mdf_tree.proofs.Numbers.{back64}
@@ -103,11 +104,11 @@ module _ (file : List ℕ) (blocks : List Placed) (all : AllStand file blocks) w
         );
       }
 
-  pub head_stands : (head : Head) (entries : List History) (groups : Link) → IsHeadWritable head → AllByRecursion IsEntryWritable entries
-      → Has blocks 0 (head_blocks head entries groups)
+  -- the head, whatever attachments it names
+  pub linked_head_stands : (head : Head) (entries : List History) (groups attached : Link) → IsHeadWritable head
+      → AllByRecursion IsEntryWritable entries → Has blocks 0 (linked_head_blocks head entries groups attached)
       → IsHead file (record head { first_dg = link_number blocks groups }) (placed_history blocks 1 entries)
-  unfolding head_blocks
-  head_stands head entries groups is are has =
+  linked_head_stands head entries groups attached is are has =
       let s = here file blocks 0 _ _ all has in
       let parts = has_more blocks 0 _ _ has in
       let entries_has = has_left blocks 1 (history_blocks 1 entries) (note_blocks head.comment) parts in
@@ -123,3 +124,9 @@ module _ (file : List ℕ) (blocks : List Placed) (all : AllStand file blocks) w
             (sym (s.link 1 (omega arith))) along.chain;
         entries = along.each;
       }
+
+  pub head_stands : (head : Head) (entries : List History) (groups : Link) → IsHeadWritable head → AllByRecursion IsEntryWritable entries
+      → Has blocks 0 (head_blocks head entries groups)
+      → IsHead file (record head { first_dg = link_number blocks groups }) (placed_history blocks 1 entries)
+  unfolding head_blocks
+  head_stands head entries groups is are has = linked_head_stands head entries groups links.Nothing is are has

@@ -50,19 +50,27 @@ head_body head =
     ++ (signed_bytes head.daylight
     ++ (head.time_flags ∷ head.time_class ∷ head.flags ∷ 0 ∷ (to_le_bytes w64 head.angle ++ to_le_bytes w64 head.distance))))
 
--- HD, with its links to its comment, to the history and to the data groups; it names no chronology, attachment or event
-abbrev pub header_block : ℕ → Link → Link → Head → Placed
-header_block comment entries groups head = record {
+-- HD, with its links to its comment, to the history, to the data groups and to the attachments; it names no chronology or event
+abbrev pub linked_header : ℕ → Link → Link → Link → Head → Placed
+linked_header comment entries groups attached head = record {
   kind = Hd;
-  links = groups ∷ entries ∷ links.Nothing ∷ links.Nothing ∷ links.Nothing ∷ note_link comment head.comment ∷ [];
+  links = groups ∷ entries ∷ links.Nothing ∷ attached ∷ links.Nothing ∷ note_link comment head.comment ∷ [];
   body = head_body head;
 }
 
+-- the same without attachments
+abbrev pub header_block : ℕ → Link → Link → Head → Placed
+header_block comment entries groups head = linked_header comment entries groups links.Nothing head
+
 -- the head: HD at block 0, the history, and then the comment of HD
-unfoldable pub head_blocks : Head → List History → Link → List Placed
-head_blocks head entries groups =
-    header_block (past_history 1 entries) (next_link 1 entries) groups head
+abbrev pub linked_head_blocks : Head → List History → Link → Link → List Placed
+linked_head_blocks head entries groups attached =
+    linked_header (past_history 1 entries) (next_link 1 entries) groups attached head
     ∷ (history_blocks 1 entries ++ note_blocks head.comment)
+
+-- the same without attachments
+unfoldable pub head_blocks : Head → List History → Link → List Placed
+head_blocks head entries groups = linked_head_blocks head entries groups links.Nothing
 
 -- the block behind the head
 abbrev pub head_groups : Head → List History → ℕ

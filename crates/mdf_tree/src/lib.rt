@@ -15,7 +15,7 @@ mod value;
 
 pub use group::{group_places, group_values_behind, past_groups, place_group};
 pub use head::{place_entry, place_header};
-pub use number::{next_number, plus};
+pub use number::{joined, next_number, plus};
 pub use places::{Counted, GroupPlaces};
-pub use text::{note_count, note_link, place_note};
+pub use text::{note_count, note_link, place_note, place_notes};
 pub use value::next_if;

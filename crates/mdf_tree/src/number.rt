@@ -34,7 +34,10 @@ pub fn plus(a: u32, b: u32) -> Result<u32, Memory>
 }
 
 /// The bytes of the parts, one behind the other.
-pub(crate) fn joined(alloc: Global, parts: &[&[u8]]) -> Result<Bytes, Memory>
+///
+/// # Errors
+/// `Memory` where memory runs out.
+pub fn joined(alloc: Global, parts: &[&[u8]]) -> Result<Bytes, Memory>
     ensures { IfOk result (λ bytes. bytes ≡ joined parts.now) }
 {
     let mut bytes = Bytes::empty(alloc);

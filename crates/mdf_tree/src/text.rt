@@ -38,7 +38,10 @@ pub fn place_note(alloc: Global, draft: &mut Draft, note: &Note) -> Result<(), M
 }
 
 /// Places the blocks of three texts, one behind the other.
-pub(crate) fn place_notes(
+///
+/// # Errors
+/// `Memory` where memory runs out; some of the blocks may be placed then.
+pub fn place_notes(
     alloc: Global,
     draft: &mut Draft,
     first: &Note,
