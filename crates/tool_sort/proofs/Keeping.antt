@@ -1,9 +1,10 @@
 -- A sorted file is valid, and has the measurement of which it is made.
-use Rattle.std.proofs.Common.{◌≡◌, ◌^◌, ◌<◌, ℕ, List, [], ◌∷◌, ◌++◌, map, refl, sym, ◌∙◌, ap, subst, inl, inr, arith, append-nil}
+use Rattle.std.proofs.Common.{◌≡◌, ◌^◌, ◌<◌, ℕ, List, [], ◌∷◌, ◌++◌, length, map, refl, sym, ◌∙◌, ap, subst, inl, inr, arith, append-nil, append_assoc}
 use Rattle.std.specs.Prelude.{codes}
 use Rattle.std.specs.List.{flat_map, AllByRecursion, AllZip}
 use Rattle.mdf_format.specs.Identification.{standard_flags, custom_flags}
 use Rattle.mdf_block.specs.Draft.{Placed, link_number, block_bytes, written, AllStand}
+use Rattle.mdf_head.specs.Head.{IsHead}
 use Rattle.mdf_group.specs.declared.row.GroupRow.{GroupRow}
 use Rattle.mdf_group.proofs.Nested.{without_limit}
 use Rattle.mdf_tree.specs.Text.{IsText}
@@ -26,7 +27,7 @@ use Rattle.tool_sort.proofs.Standing.{placed_one, placed_rows, part_writable, me
 use Rattle.tool_sort.proofs.Holding.{all_contents, placed_measures, all_hold, groups_are}
 
 -- the identification is that of a finalized file
-ident_is : (rest : List ℕ) → IsFinalizedMdf (finalized_ident ++ rest) × (standard_flags (finalized_ident ++ rest) ≡ 0)
+pub ident_is : (rest : List ℕ) → IsFinalizedMdf (finalized_ident ++ rest) × (standard_flags (finalized_ident ++ rest) ≡ 0)
     × (custom_flags (finalized_ident ++ rest) ≡ 0)
 ident_is rest = (
   record {
@@ -44,8 +45,17 @@ title_clean title (inl is) =
     let clean : IsText (entry_text (codes "sort")) = grind arith in subst (λ (t : List ℕ). IsText (entry_text t)) (sym is) clean
 title_clean title (inr (inl is)) =
     let clean : IsText (entry_text (codes "cut")) = grind arith in subst (λ (t : List ℕ). IsText (entry_text t)) (sym is) clean
-title_clean title (inr (inr is)) =
+title_clean title (inr (inr (inl is))) =
     let clean : IsText (entry_text (codes "concat")) = grind arith in subst (λ (t : List ℕ). IsText (entry_text t)) (sym is) clean
+title_clean title (inr (inr (inr is))) =
+    let clean : IsText (entry_text (codes "attach")) = grind arith in subst (λ (t : List ℕ). IsText (entry_text t)) (sym is) clean
+
+-- all entries of the history can be written
+pub entries_clean : (source : List ℕ) (m : Measured) (title : List ℕ) (now : ℕ) → IsTitle title → now < 2 ^ 64 → StandsIn source m
+    → AllByRecursion IsEntryWritable (sorted_history m title now)
+entries_clean source m title now named in_time is =
+    all_with IsEntryWritable m.history (new_entry title now) (history_clean source is.bytes m.history is.head.entries)
+    (entry_writable title now (title_clean title named) in_time)
 
 -- all groups can be written
 all_writable : (file : List ℕ) (groups : List Measure) → AreBytes file → AllByRecursion (IsMeasureIn file) groups
@@ -71,23 +81,23 @@ records_same blocks n (m ∷ rest) = (
   records_same blocks (past_part n m.part) rest,
 )
 
-sorted_kept : (source rest : List ℕ) (m : Measured) (title : List ℕ) (now : ℕ) → IsTitle title → now < 2 ^ 64 → StandsIn source m
-    → AllByRecursion (λ (one : Measure). one.count < 2 ^ 64) m.groups
-    → AllStand (finalized_ident ++ rest) (sorted_blocks m title now) → IsSortedOf m title now (finalized_ident ++ rest)
-unfolding sorted_blocks
-sorted_kept source rest m title now named in_time is fit all =
+-- a head that stands in a file, with the groups behind it, and maybe more blocks
+pub kept_behind : (source rest : List ℕ) (m : Measured) (title : List ℕ) (now : ℕ) (hd more : List Placed) → length hd ≡ first_measure m title now
+    → StandsIn source m → AllByRecursion (λ (one : Measure). one.count < 2 ^ 64) m.groups
+    → AllStand (finalized_ident ++ rest) (hd ++ (measures_blocks (first_measure m title now) m.groups ++ more))
+    → IsHead (finalized_ident ++ rest) (record m.head {
+      first_dg = link_number (hd ++ (measures_blocks (first_measure m title now) m.groups ++ more)) (next_link (first_measure m title now) m.groups);
+    }) (placed_history (hd ++ (measures_blocks (first_measure m title now) m.groups ++ more)) 1 (sorted_history m title now))
+    → IsSortedOf m title now (finalized_ident ++ rest)
+kept_behind source rest m title now hd more long is fit all head =
     let file = finalized_ident ++ rest in
-    let blocks = sorted_blocks m title now in
     let entries = sorted_history m title now in
     let n = first_measure m title now in
     let link = next_link n m.groups in
-    let hd = head_blocks m.head entries link in
     let groups = measures_blocks n m.groups in
-    let whole : Has blocks 0 (hd ++ groups) = record { front = []; rest = []; split = sym (append-nil (hd ++ groups)); number = refl } in
-    let behind = subst (λ (k : ℕ). Has blocks k groups) (omega (arith, head_long m.head entries link)) (has_right blocks 0 hd groups whole) in
-    let clean = all_with IsEntryWritable m.history (new_entry title now) (history_clean source is.bytes m.history is.head.entries)
-    (entry_writable title now (title_clean title named) in_time) in
-    let head = head_stands file blocks all m.head entries link (head_clean source is.bytes m.head m.history is.head) clean (has_left blocks 0 hd groups whole) in
+    let blocks = hd ++ (groups ++ more) in
+    let whole : Has blocks 0 (hd ++ groups) = record { front = []; rest = more; split = sym (append_assoc hd groups more); number = refl } in
+    let behind = subst (λ (k : ℕ). Has blocks k groups) (omega (arith, long)) (has_right blocks 0 hd groups whole) in
     let tree = measures_stand file blocks all n m.groups (all_writable source m.groups is.bytes is.groups fit) behind in
     let hold = all_hold source file blocks n m.groups is.groups tree.1 in
     let ident = ident_is rest in
@@ -119,6 +129,25 @@ sorted_kept source rest m title now named in_time is fit all =
       same_rows = rows_same blocks n m.groups;
       same_records = records_same blocks n m.groups;
     }
+
+sorted_kept : (source rest : List ℕ) (m : Measured) (title : List ℕ) (now : ℕ) → IsTitle title → now < 2 ^ 64 → StandsIn source m
+    → AllByRecursion (λ (one : Measure). one.count < 2 ^ 64) m.groups
+    → AllStand (finalized_ident ++ rest) (sorted_blocks m title now) → IsSortedOf m title now (finalized_ident ++ rest)
+unfolding sorted_blocks
+sorted_kept source rest m title now named in_time is fit all =
+    let file = finalized_ident ++ rest in
+    let entries = sorted_history m title now in
+    let n = first_measure m title now in
+    let link = next_link n m.groups in
+    let hd = head_blocks m.head entries link in
+    let groups = measures_blocks n m.groups in
+    let blocks = hd ++ (groups ++ []) in
+    let same : hd ++ groups ≡ blocks = ap (λ (xs : List Placed). hd ++ xs) (sym (append-nil groups)) in
+    let stand : AllStand file blocks = subst (λ (given : List Placed). AllStand file given) same all in
+    let has : Has blocks 0 hd = record { front = []; rest = groups ++ []; split = refl; number = refl } in
+    kept_behind source rest m title now hd [] (head_long m.head entries link) is fit stand
+    (head_stands file blocks stand m.head entries link (head_clean source is.bytes m.head m.history is.head)
+    (entries_clean source m title now named in_time is) has)
 
 -- so are the bytes that are written of its blocks
 pub spelled_kept : (source bytes : List ℕ) (blocks : List Placed) (m : Measured) (title : List ℕ) (now : ℕ) → IsTitle title → now < 2 ^ 64

@@ -3,7 +3,7 @@ mod Ends
 mod Fields
 mod Holding
 pub mod Indexes
-mod Keeping
+pub mod Keeping
 mod Parts
 mod Reading
 mod Records

@@ -11,8 +11,8 @@ mod sorted;
 mod sorting;
 
 pub use law::{a_measurement_stands, one_sorted_file, other_records_stand};
-pub use made::make_sorted;
+pub use made::{make_sorted, report_of};
 pub use mdf_tool::{Report, ToolFault};
 pub use read::take_standing;
-pub use sorted::spell_sorted;
+pub use sorted::{sorted_draft, spell_sorted};
 pub use sorting::sort;

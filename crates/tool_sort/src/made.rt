@@ -31,7 +31,7 @@ fn sample_count(measurement: &Measurement) -> Result<u64, Memory>
 ///
 /// # Errors
 /// `Memory` where there are more samples than a u64 counts.
-fn report_of(measurement: &Measurement) -> Result<Report, Memory>
+pub fn report_of(measurement: &Measurement) -> Result<Report, Memory>
     ensures report { IfOk result (λ report. report ≡ report_for measurement.now) }
     ensures past { OnErr result (2 ^ 64 ≤ sample_count measurement.now.groups) }
 {

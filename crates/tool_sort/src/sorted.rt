@@ -75,8 +75,12 @@ fn blocks_of(
     Ok(draft)
 }
 
-/// The same, where what is left of the measurement is given back to the allocator.
-fn blocks_from(
+/// The blocks of the sorted file of a measurement, as `spell_sorted` writes them. The records are moved into them, and the rest of
+/// the measurement is given back to the allocator.
+///
+/// # Errors
+/// `Memory` where memory runs out, or where there are more than 2^30 blocks.
+pub fn sorted_draft(
     alloc: Global,
     measurement: Measurement,
     title: &str,
@@ -107,6 +111,6 @@ pub fn spell_sorted(
     ensures written { IfOk result (λ bytes. bytes ≡ sorted_file measurement title.now now_ns) }
     ensures keeps { (file : List ℕ) → StandsIn file measurement → IfOk result (IsSortedOf measurement title.now now_ns) }
 {
-    let blocks = blocks_from(alloc, measurement, title, now_ns)?;
+    let blocks = sorted_draft(alloc, measurement, title, now_ns)?;
     blocks.into_pieces(&FINALIZED_IDENT)
 }
