@@ -11,6 +11,7 @@ use Rattle.mdf_block.specs.Chain.{AreAlong}
 use Rattle.mdf_attach.specs.declared.attachment.Attachment.{Attachment}
 use Rattle.mdf_attach.specs.declared.fault.AttachFault.{AttachFault}
 use Rattle.mdf_attach.specs.declared.fault.AttachFault.TheVariants as faults
+use Rattle.mdf_attach.specs.Listed.{attachments, IsFirst}
 use Rattle.mdf_attach.specs.Stands.{BeginsFinalized, IsAttachment, IsWhole, embedded_size, texts_size, contents_size}
 
 -- the header stands, and these attachments behind it, and this address other than 0 is the link behind them
@@ -72,3 +73,8 @@ LacksAttachments file (faults.Bad at want) = BeginsFinalized file × IsMissing f
 LacksAttachments file (faults.TooMany at) =
     BeginsFinalized file × (IsPastMost file at ⊎ (IsPastContents file at ⊎ IsPastTexts file at))
 LacksAttachments file faults.Memory = BeginsFinalized file × IsBlock file 64 Hd
+
+-- they are refused, for the first fault; want of memory is none of the file's
+abbrev pub AreRefused : List ℕ → AttachFault → Type 0
+AreRefused file faults.Memory = ⊥
+AreRefused file fault = IsFirst fault (attachments file) × LacksAttachments file fault

@@ -1,0 +1,6 @@
+mod Placing
+mod Bodies
+mod Standing
+mod Keeping
+mod Taking
+mod Ends

@@ -1,0 +1,15 @@
+//! Carries attachments: writes the sorted file of a finalized MDF 4 file with the attachments of another one behind it.
+#![tactic(auto)]
+
+mod attaching;
+mod draft;
+mod fault;
+mod law;
+mod made;
+mod place;
+mod read;
+
+pub use attaching::attach;
+pub use fault::CarryFault;
+pub use law::none_is_the_sorted_file;
+pub use mdf_tool::Report;
