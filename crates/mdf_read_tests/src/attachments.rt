@@ -10,7 +10,7 @@ use std::alloc::Global;
 // of `abc` as md5sum prints it, the original size 3 and the embedded size 3.
 const HEADER: Piece = (64, b"##HD", &[0, 0, 0, 168, 0, 0], &[0; 32]);
 
-const ONE: &[Piece] = &[
+pub(crate) const ONE: &[Piece] = &[
     HEADER,
     (
         168,
@@ -27,7 +27,7 @@ const ONE: &[Piece] = &[
 
 // Two attachments: the first with a link more, a comment, eight embedded bytes and eight behind them; the second compressed,
 // without texts.
-const TWO: &[Piece] = &[
+pub(crate) const TWO: &[Piece] = &[
     HEADER,
     (
         168,
@@ -163,7 +163,7 @@ fn line(alloc: Global, row: &Attachment) -> Result<String, Memory> {
     Ok(format!(in alloc; "{name} {original} {len} {says:?}\n")?)
 }
 
-fn lines(alloc: Global, rows: &[Attachment]) -> Result<String, Memory> {
+pub(crate) fn lines(alloc: Global, rows: &[Attachment]) -> Result<String, Memory> {
     let mut text = String::new(alloc);
     for row in rows {
         let told = line(alloc, row)?;

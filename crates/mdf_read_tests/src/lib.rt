@@ -7,6 +7,8 @@ mod attachments;
 #[cfg(test)]
 mod blocks;
 #[cfg(test)]
+mod carried;
+#[cfg(test)]
 mod concats;
 #[cfg(test)]
 mod convs;

@@ -10,16 +10,17 @@ use std::alloc::Global;
 use tool_sort::spell_sorted;
 
 // The body of the new entry of the history, whose time is 0x1112131415161718 ns, and its comments.
-const NOW: &[u8; 16] = b"\x18\x17\x16\x15\x14\x13\x12\x11\0\0\0\0\0\0\0\0";
+pub(crate) const NOW: &[u8; 16] = b"\x18\x17\x16\x15\x14\x13\x12\x11\0\0\0\0\0\0\0\0";
 
-const SORTED: &[u8; 128] =
+pub(crate) const SORTED: &[u8; 128] =
     b"<FHcomment><TX>sort</TX><tool_id>mdf4rec</tool_id><tool_vendor>none</tool_vendor><tool_version>1</tool_version></FHcomment>\0\0\0\0\0";
 
 const JOINED: &[u8; 128] =
     b"<FHcomment><TX>concat</TX><tool_id>mdf4rec</tool_id><tool_vendor>none</tool_vendor><tool_version>1</tool_version></FHcomment>\0\0\0";
 
 // Groups without record ids: of three records of 8 data bytes, of two of 4, and of two of 8.
-const THREE: &[u8; 32] = b"\0\0\0\0\0\0\0\0\x03\0\0\0\0\0\0\0\0\0\0\0\0\0\0\0\x08\0\0\0\0\0\0\0";
+pub(crate) const THREE: &[u8; 32] =
+    b"\0\0\0\0\0\0\0\0\x03\0\0\0\0\0\0\0\0\0\0\0\0\0\0\0\x08\0\0\0\0\0\0\0";
 
 const SHORT: &[u8; 32] = b"\0\0\0\0\0\0\0\0\x02\0\0\0\0\0\0\0\0\0\0\0\0\0\0\0\x04\0\0\0\0\0\0\0";
 
