@@ -1,5 +1,6 @@
 -- What is said of the MD5 of an attachment.
-use Rattle.std.specs.Prelude.{ℕ, ◌≡◌, ◌≢◌, ◌/◌, ◌%◌}
+use Rattle.std.specs.Prelude.{ℕ, ◌≡◌, ◌≢◌, ◌/◌, ◌%◌, Bool, ◌&&◌, nat_eq, if◌then◌else◌}
+use Rattle.std.specs.Str.{bytes_eq}
 use Rattle.md5.specs.Md5.{md5}
 use Rattle.mdf_attach.specs.declared.attachment.Attachment.{Attachment}
 use Rattle.mdf_attach.specs.declared.answer.Verdict.{Verdict}
@@ -13,3 +14,11 @@ abbrev pub HasVerdict : Attachment → Verdict → Type 0
 HasVerdict attachment says.Ok = IsChecked attachment.flags × (md5 attachment.content ≡ attachment.md5)
 HasVerdict attachment says.Differs = IsChecked attachment.flags × (md5 attachment.content ≢ attachment.md5)
 HasVerdict attachment says.Unchecked = ¬ IsChecked attachment.flags
+
+-- the same as a value, which is printed
+abbrev pub is_checked : ℕ → Bool
+is_checked flags = nat_eq (flags % 2) 1 && nat_eq (flags / 2 % 2) 0 && nat_eq (flags / 4 % 2) 1
+
+abbrev pub the_verdict : Attachment → Verdict
+the_verdict attachment =
+    if is_checked attachment.flags then (if bytes_eq (md5 attachment.content) attachment.md5 then says.Ok else says.Differs) else says.Unchecked

@@ -1,4 +1,5 @@
-ghost use Rattle.mdf_attach.specs.Says.{HasVerdict};
+ghost use Rattle.std.specs.Prelude.{◌≡◌};
+ghost use Rattle.mdf_attach.specs.Says.{HasVerdict, the_verdict};
 
 use crate::{Attachment, Verdict};
 use md5::{Digest, Md5};
@@ -6,7 +7,8 @@ use md5::{Digest, Md5};
 /// Whether the MD5 that was stored is that of the embedded data: `Ok` or `Differs` where the data is embedded, is not
 /// compressed, and the MD5 is said to be valid, and `Unchecked` otherwise.
 pub fn verdict(attachment: &Attachment) -> Verdict
-    ensures { HasVerdict attachment.now result }
+    ensures says { HasVerdict attachment.now result }
+    ensures is { result ≡ the_verdict attachment.now }
 {
     let flags = attachment.flags;
     if flags % 2 != 1 || flags / 2 % 2 != 0 || flags / 4 % 2 != 1 {
