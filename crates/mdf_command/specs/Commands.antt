@@ -6,5 +6,5 @@ use Rattle.mdf_command.specs.declared.command.Command.TheVariants.{Show, Make, J
 abbrev pub request_of : Command → Request
 request_of (Show input aspect) = shown input.now aspect
 request_of (Make input output product) = made input.now output.now product
-request_of (Join input second output) = joined input.now second.now output.now
+request_of (Join input second output union) = joined input.now second.now output.now union
 request_of (Record output origin) = recorded output.now origin

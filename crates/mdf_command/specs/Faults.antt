@@ -19,7 +19,7 @@ use Rattle.mdf_tool.specs.declared.fault.ToolFault.TheVariants as tool
 use Rattle.acq_script.specs.declared.fault.ScriptFault.TheVariants as script
 use Rattle.mdf_command.specs.Texts.{line}
 use Rattle.mdf_command.specs.declared.fault.Fault.{Fault}
-use Rattle.mdf_command.specs.declared.fault.Fault.TheVariants.{Gate, Source, Device, InputOver, ScriptOver, SessionFull, Memory, Script, Read, NoGroup, Differs, Wide}
+use Rattle.mdf_command.specs.declared.fault.Fault.TheVariants.{Gate, Source, Device, InputOver, ScriptOver, SessionFull, Memory, Script, Read, NoGroup, Differs, Wide, Attached}
 
 -- the status of a file that is refused, and of one for which there was no memory
 abbrev pub refused_status : Option Refusal → ℕ
@@ -39,6 +39,7 @@ fault_status (Read fault) = refused_status (read_refusal fault)
 fault_status (NoGroup said groups) = 3
 fault_status (Differs group) = 3
 fault_status (Wide group channel) = 3
+fault_status (Attached at) = 3
 
 abbrev pub gate_line : GateFault → List ℕ
 gate_line gates.NotMdf = line (codes "not MDF" ∷ [])
@@ -106,6 +107,7 @@ fault_line (Read fault) = read_line (read_refusal fault)
 fault_line (NoGroup said groups) = texts_line (codes "no group ") said (codes " of ") groups
 fault_line (Differs group) = text_line (codes "differs group ") group
 fault_line (Wide group channel) = texts_line (codes "wide group ") group (codes " channel ") channel
+fault_line (Attached at) = text_line (codes "too many AT at ") at
 
 -- how many bytes an input file has at most that is held whole
 abbrev pub INPUT_LIMIT : ℕ

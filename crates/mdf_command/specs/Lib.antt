@@ -4,3 +4,4 @@ pub mod Texts
 pub mod Faults
 pub mod Parts
 pub mod Load
+pub mod Attached

@@ -4,9 +4,11 @@ use Rattle.std.specs.Fmt.{decimal, signed_decimal}
 use Rattle.mdf_disk.specs.declared.role.Role.{Role}
 use Rattle.mdf_disk.specs.declared.role.Role.TheVariants.{Read, Create}
 use Rattle.mdf_command.specs.declared.command.Aspect.{Aspect}
-use Rattle.mdf_command.specs.declared.command.Aspect.TheVariants.{Opened, Verdict, Contents, Table}
+use Rattle.mdf_command.specs.declared.command.Aspect.TheVariants.{Opened, Verdict, Contents, Table, Attachments}
 use Rattle.mdf_command.specs.declared.command.Product.{Product}
 use Rattle.mdf_command.specs.declared.command.Product.TheVariants.{Finalized, Sorted, Cut}
+use Rattle.mdf_command.specs.declared.command.Union.{Union}
+use Rattle.mdf_command.specs.declared.command.Union.TheVariants.{Concat, Attach}
 use Rattle.mdf_command.specs.declared.command.Origin.{Origin}
 use Rattle.mdf_command.specs.declared.command.Origin.TheVariants.{Source, Generated}
 
@@ -44,7 +46,7 @@ IsNoCount word = (samples : ℕ) → ¬ IsCount word samples
 pub data Request : Type 0 where
   shown : (input : List ℕ) (aspect : Aspect) → Request
   made : (input output : List ℕ) (product : Product) → Request
-  joined : (input second output : List ℕ) → Request
+  joined : (input second output : List ℕ) (union : Union) → Request
   recorded : (output : List ℕ) (origin : Origin) → Request
 
 -- the words of each command
@@ -53,10 +55,12 @@ words_of (shown input Opened) = codes "opened" ∷ input ∷ []
 words_of (shown input Verdict) = codes "check" ∷ input ∷ []
 words_of (shown input Contents) = codes "info" ∷ input ∷ []
 words_of (shown input (Table group)) = codes "export" ∷ input ∷ decimal group ∷ []
+words_of (shown input Attachments) = codes "attachments" ∷ input ∷ []
 words_of (made input output Finalized) = codes "finalize" ∷ input ∷ output ∷ []
 words_of (made input output Sorted) = codes "sort" ∷ input ∷ output ∷ []
 words_of (made input output (Cut from to)) = codes "cut" ∷ input ∷ output ∷ signed_decimal from ∷ signed_decimal to ∷ []
-words_of (joined input second output) = codes "concat" ∷ input ∷ second ∷ output ∷ []
+words_of (joined input second output Concat) = codes "concat" ∷ input ∷ second ∷ output ∷ []
+words_of (joined input second output Attach) = codes "attach" ∷ input ∷ second ∷ output ∷ []
 words_of (recorded output Source) = codes "record" ∷ output ∷ []
 words_of (recorded output (Generated samples)) = codes "gen" ∷ decimal samples ∷ output ∷ []
 
@@ -79,17 +83,17 @@ IsUsage words = (request : Request) → ¬ Asks words request
 abbrev pub input_of : Request → Option (List ℕ)
 input_of (shown input aspect) = Some input
 input_of (made input output product) = Some input
-input_of (joined input second output) = Some input
+input_of (joined input second output union) = Some input
 input_of (recorded output origin) = None
 
 abbrev pub second_of : Request → Option (List ℕ)
-second_of (joined input second output) = Some second
+second_of (joined input second output union) = Some second
 second_of _ = None
 
 abbrev pub output_of : Request → Option (List ℕ)
 output_of (shown input aspect) = None
 output_of (made input output product) = Some output
-output_of (joined input second output) = Some output
+output_of (joined input second output union) = Some output
 output_of (recorded output origin) = Some output
 
 -- the words ask for a file to be made

@@ -19,6 +19,8 @@ pub enum Aspect {
     Contents,
     /// `export IN GROUP`: the table of the group of this number, counted from 0.
     Table { group: u64 },
+    /// `attachments IN`: its attachments.
+    Attachments,
 }
 
 /// What is made of a file.
@@ -29,6 +31,14 @@ pub enum Product {
     Sorted,
     /// `cut IN OUT FROM TO`: so, from a number on and below another, each from -2^63 to 2^64 - 1.
     Cut { from: i128, to: i128 },
+}
+
+/// What is made of two files.
+pub enum Union {
+    /// `concat A B OUT`: the sorted file of two finished ones, the second behind the first.
+    Concat,
+    /// `attach A B OUT`: the sorted file of the second, with the attachments of the first.
+    Attach,
 }
 
 /// Where a script comes from.
@@ -52,11 +62,12 @@ pub enum Command<'a> {
         output: &'a Bytes,
         product: Product,
     },
-    /// `concat A B OUT`: to make a file of two, the second behind the first.
+    /// To make a file of two.
     Join {
         input: &'a Bytes,
         second: &'a Bytes,
         output: &'a Bytes,
+        union: Union,
     },
     /// To record into a file.
     Record {
@@ -103,6 +114,12 @@ fn with_one<'a>(name: &[u8], only: &'a Bytes) -> Option<Command<'a>>
         return Some(Command::Show {
             input: only,
             aspect: Aspect::Contents,
+        });
+    }
+    if is(name, b"attachments") {
+        return Some(Command::Show {
+            input: only,
+            aspect: Aspect::Attachments,
         });
     }
     if is(name, b"record") {
@@ -163,6 +180,15 @@ fn with_three<'a>(
             input,
             second,
             output,
+            union: Union::Concat,
+        });
+    }
+    if is(name, b"attach") {
+        return Some(Command::Join {
+            input,
+            second,
+            output,
+            union: Union::Attach,
         });
     }
     None

@@ -44,6 +44,8 @@ pub enum Fault {
     Differs { group: u32 },
     /// An offset of this channel of this group is not held by its bits once it is moved.
     Wide { group: u32, channel: u32 },
+    /// The attachment at the address is one too many.
+    Attached { at: u64 },
 }
 
 impl Fault {
@@ -61,8 +63,11 @@ impl Fault {
             Fault::Memory => 7,
             Fault::Script { .. } => 8,
             Fault::Read(ReadFault::Memory) => 7,
-            Fault::Read(_) | Fault::NoGroup { .. } | Fault::Differs { .. } | Fault::Wide { .. } =>
-                3,
+            Fault::Read(_)
+            | Fault::NoGroup { .. }
+            | Fault::Differs { .. }
+            | Fault::Wide { .. }
+            | Fault::Attached { .. } => 3,
         }
     }
 
@@ -99,6 +104,7 @@ impl Fault {
                 b" channel ",
                 u64::from(channel),
             ),
+            Fault::Attached { at } => Parts::One(b"too many AT at ", at),
         }
     }
 }

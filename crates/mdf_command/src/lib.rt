@@ -2,6 +2,7 @@
 //! the faults with their lines and statuses.
 #![tactic(auto)]
 
+mod attached;
 mod bound;
 mod command;
 mod fault;
@@ -10,7 +11,8 @@ mod number;
 mod parts;
 mod report;
 
-pub use command::{Aspect, Command, Origin, Product, command_of};
+pub use attached::attach_fault;
+pub use command::{Aspect, Command, Origin, Product, Union, command_of};
 pub use fault::Fault;
 pub use input::{load, open};
 pub use report::{Piece, give_line, status_after};
