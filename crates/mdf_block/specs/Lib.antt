@@ -1,4 +1,5 @@
 pub mod Refusal
+pub mod Reads
 pub mod Block
 pub mod Text
 pub mod Chain
