@@ -1,6 +1,5 @@
-ghost use Rattle.std.specs.Prelude.{◌≡◌, ℕ, List, Some, true, IfErr};
-ghost use Rattle.mdf_num.specs.Halt.{HaltCause};
-ghost use Rattle.mdf_block.specs.Refusal.{Gives, IsPlain};
+ghost use Rattle.std.specs.Prelude.{true};
+ghost use Rattle.mdf_block.specs.Reads.{Reads};
 ghost use Rattle.mdf_head.specs.Head.{history, histories, head_refusal};
 
 use crate::field::entry_in;
@@ -65,11 +64,7 @@ pub(crate) fn histories_in<P: Span>(
     first: u64,
     budget: u64,
 ) -> Result<(Rows<History>, u64, u64), Halt<HeadFault>>
-    ensures found { (f : List ℕ) → P.bytes span.old ≡ Some f → Gives head_refusal result (histories f first budget) }
-    ensures plain { IfErr result (IsPlain head_refusal) }
-    ensures same { P.bytes span.new ≡ P.bytes span.old }
-    ensures size { P.size span.new ≡ P.size span.old }
-    ensures cause { HaltCause true (P.faults span.old) (P.faults span.new) result }
+    ensures reads { Reads P.Span span.old span.new true head_refusal result (λ file. histories file first budget) }
 {
     chain_in(alloc, &Entries, span, first, MOST_ENTRIES, budget)
 }

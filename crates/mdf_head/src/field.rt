@@ -1,8 +1,8 @@
-ghost use Rattle.std.specs.Prelude.{◌≡◌, ◌+◌, ◌≤◌, ◌<◌, ℕ, List, Some, length, IfOk};
+ghost use Rattle.std.specs.Prelude.{◌≡◌, ◌+◌, ◌≤◌, ◌<◌, length};
 ghost use Rattle.mdf_format.specs.Field.{signed_number};
 ghost use Rattle.mdf_format.specs.declared.kind.Kind.TheVariants.{Hd, Fh};
-ghost use Rattle.mdf_num.specs.Halt.{StopCause};
 ghost use Rattle.mdf_block.specs.Block.{body_of, IsInside, IsFilled};
+ghost use Rattle.mdf_block.specs.Reads.{Looks};
 ghost use Rattle.mdf_head.specs.Head.{signed_at, the_head, the_history};
 
 use crate::{Head, History};
@@ -37,10 +37,7 @@ pub(crate) fn head_in<P: Span>(
 ) -> Result<Head, Stop>
     requires inside { IsInside (P.size span.old) block.now }
     requires filled { IsFilled Hd block.now }
-    ensures fields { IfOk result (λ head. (f : List ℕ) → P.bytes span.old ≡ Some f → head ≡ the_head (body_of f block.now) comment first_dg) }
-    ensures same { P.bytes span.new ≡ P.bytes span.old }
-    ensures size { P.size span.new ≡ P.size span.old }
-    ensures cause { StopCause P.may_want (P.faults span.old) (P.faults span.new) result }
+    ensures reads { Looks P.Span span.old span.new P.may_want result (λ file head. head ≡ the_head (body_of file block.now) comment first_dg) }
 {
     let mut body = [0u8; 32];
     body_in(span, block, &mut body)?;
@@ -66,10 +63,7 @@ pub(crate) fn entry_in<P: Span>(
 ) -> Result<History, Stop>
     requires inside { IsInside (P.size span.old) block.now }
     requires filled { IsFilled Fh block.now }
-    ensures fields { IfOk result (λ entry. (f : List ℕ) → P.bytes span.old ≡ Some f → entry ≡ the_history block.now.at (body_of f block.now) comment) }
-    ensures same { P.bytes span.new ≡ P.bytes span.old }
-    ensures size { P.size span.new ≡ P.size span.old }
-    ensures cause { StopCause P.may_want (P.faults span.old) (P.faults span.new) result }
+    ensures reads { Looks P.Span span.old span.new P.may_want result (λ file entry. entry ≡ the_history block.now.at (body_of file block.now) comment) }
 {
     let mut body = [0u8; 16];
     body_in(span, block, &mut body)?;

@@ -1,6 +1,6 @@
 ghost use Rattle.std.specs.Prelude.{◌≡◌, ◌+◌, ◌≤◌, ℕ, List, Some, true, length, IfOk, IfErr, IfSome, OnErr};
-ghost use Rattle.mdf_num.specs.Halt.{HaltCause};
-ghost use Rattle.mdf_block.specs.Refusal.{Gives, GivesAnd, GivesSlice, HidesNone, IsPlain};
+ghost use Rattle.mdf_block.specs.Refusal.{GivesSlice, HidesNone};
+ghost use Rattle.mdf_block.specs.Reads.{Reads, with_left};
 ghost use Rattle.mdf_head.specs.Head.{header, head, head_refusal, text_size, IsHead, HasHeader, LacksHead};
 
 use crate::chain::histories_in;
@@ -20,12 +20,8 @@ fn header_in<P: Span>(
     span: &mut P,
     left: u64,
 ) -> Result<(Head, u64, u64), Halt<HeadFault>>
-    ensures found { (f : List ℕ) → P.bytes span.old ≡ Some f → Gives head_refusal result (header f left) }
+    ensures reads { Reads P.Span span.old span.new true head_refusal result (λ file. header file left) }
     ensures first { (f : List ℕ) → P.bytes span.old ≡ Some f → HidesNone P.may_want result (header f left) }
-    ensures plain { IfErr result (IsPlain head_refusal) }
-    ensures same { P.bytes span.new ≡ P.bytes span.old }
-    ensures size { P.size span.new ≡ P.size span.old }
-    ensures cause { HaltCause true (P.faults span.old) (P.faults span.new) result }
 {
     let block = block_of(span, HEADER_AT, Kind::Hd)?;
     let comment = link_in(span, &block, 5)?;
@@ -43,12 +39,8 @@ fn headed_in<P: Span>(
     span: &mut P,
     left: u64,
 ) -> Result<((Head, Rows<History>), u64), Halt<HeadFault>>
-    ensures found { (f : List ℕ) → P.bytes span.old ≡ Some f → Gives head_refusal result (head f left) }
+    ensures reads { Reads P.Span span.old span.new true head_refusal result (λ file. head file left) }
     ensures first { (f : List ℕ) → P.bytes span.old ≡ Some f → HidesNone P.may_want result (header f left) }
-    ensures plain { IfErr result (IsPlain head_refusal) }
-    ensures same { P.bytes span.new ≡ P.bytes span.old }
-    ensures size { P.size span.new ≡ P.size span.old }
-    ensures cause { HaltCause true (P.faults span.old) (P.faults span.new) result }
 {
     let (head, first, left) = header_in(alloc, span, left)?;
     let (rows, _, left) = histories_in(alloc, span, first, left)?;
@@ -65,14 +57,10 @@ pub fn read_head_in<P: Span>(
     span: &mut P,
     budget: &mut u64,
 ) -> Result<(Head, Rows<History>), Halt<HeadFault>>
-    ensures exact { (f : List ℕ) → P.bytes span.old ≡ Some f → GivesAnd head_refusal result budget.new (head f budget.old) }
+    ensures reads { Reads P.Span span.old span.new true head_refusal (with_left result budget.new) (λ file. head file budget.old) }
     ensures found { (f : List ℕ) → P.bytes span.old ≡ Some f → IfOk result (λ found. IsHead f found.0 found.1) }
     ensures first { (f : List ℕ) → P.bytes span.old ≡ Some f → HidesNone P.may_want result (header f budget.old) }
-    ensures plain { IfErr result (IsPlain head_refusal) }
     ensures budget { OnErr result (budget.new ≡ budget.old) }
-    ensures same { P.bytes span.new ≡ P.bytes span.old }
-    ensures size { P.size span.new ≡ P.size span.old }
-    ensures cause { HaltCause true (P.faults span.old) (P.faults span.new) result }
 {
     let (found, left) = headed_in(alloc, span, *budget)?;
     *budget = left;

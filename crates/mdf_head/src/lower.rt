@@ -1,6 +1,6 @@
-ghost use Rattle.std.specs.Prelude.{◌≡◌, ℕ, List, Some, false, true, IfOk, IfErr};
-ghost use Rattle.mdf_num.specs.Halt.{HaltCause};
-ghost use Rattle.mdf_block.specs.Refusal.{Gives, HidesNone, IsPlain};
+ghost use Rattle.std.specs.Prelude.{◌≡◌, ℕ, List, Some, false, true, IfOk};
+ghost use Rattle.mdf_block.specs.Refusal.{HidesNone};
+ghost use Rattle.mdf_block.specs.Reads.{Reads};
 ghost use Rattle.mdf_block.specs.Block.{block, is_data, IsInside, IsFilled};
 ghost use Rattle.mdf_block.specs.Text.{note};
 ghost use Rattle.mdf_head.specs.Head.{head_refusal};
@@ -17,13 +17,9 @@ pub(crate) fn block_of<P: Span>(
     want: Kind,
 ) -> Result<BlockAt, Halt<HeadFault>>
     requires { is_data want ≡ false }
-    ensures found { (f : List ℕ) → P.bytes span.old ≡ Some f → Gives head_refusal result (block f at want) }
-    ensures plain { IfErr result (IsPlain head_refusal) }
+    ensures reads { Reads P.Span span.old span.new P.may_want head_refusal result (λ file. block file at want) }
     ensures inside { IfOk result (IsInside (P.size span.old)) }
     ensures filled { IfOk result (IsFilled want) }
-    ensures same { P.bytes span.new ≡ P.bytes span.old }
-    ensures size { P.size span.new ≡ P.size span.old }
-    ensures cause { HaltCause P.may_want (P.faults span.old) (P.faults span.new) result }
 {
     match block_in(span, at, want) {
         Ok(block) => Ok(block),
@@ -44,12 +40,8 @@ pub(crate) fn text_of<P: Span>(
     at: u64,
     left: u64,
 ) -> Result<(Note, u64), Halt<HeadFault>>
-    ensures found { (f : List ℕ) → P.bytes span.old ≡ Some f → Gives head_refusal result (note f at left) }
+    ensures reads { Reads P.Span span.old span.new true head_refusal result (λ file. note file at left) }
     ensures memory { (f : List ℕ) → P.bytes span.old ≡ Some f → HidesNone P.may_want result (note f at left) }
-    ensures plain { IfErr result (IsPlain head_refusal) }
-    ensures same { P.bytes span.new ≡ P.bytes span.old }
-    ensures size { P.size span.new ≡ P.size span.old }
-    ensures cause { HaltCause true (P.faults span.old) (P.faults span.new) result }
 {
     match noted_in(alloc, span, at, left) {
         Ok(found) => Ok(found),
