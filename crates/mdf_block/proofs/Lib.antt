@@ -3,6 +3,7 @@ pub mod Parts
 pub mod Wholes
 pub mod Zeros
 pub mod Refusals
+pub mod Readers
 pub mod Notes
 pub mod Chains
 pub mod Eachs

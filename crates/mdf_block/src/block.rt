@@ -1,7 +1,7 @@
-ghost use Rattle.std.specs.Prelude.{◌≡◌, ◌+◌, ◌≤◌, ◌↔◌, ℕ, List, [], Some, length, IfOk, IfErr, IfSome, MatchOption, IsTrue};
+ghost use Rattle.std.specs.Prelude.{◌≡◌, ◌+◌, ◌≤◌, ◌↔◌, [], Some, length, IfOk, IfErr, IfSome, MatchOption, IsTrue};
 ghost use Rattle.mdf_format.specs.Block.{header_size, least_links, least_body, body_at, body_size, IsBlock};
-ghost use Rattle.mdf_num.specs.Halt.{StopCause, HaltCause};
-ghost use Rattle.mdf_block.specs.Refusal.{Gives, GivesOf};
+ghost use Rattle.mdf_block.specs.Refusal.{GivesOf};
+ghost use Rattle.mdf_block.specs.Reads.{Looks, Reads};
 ghost use Rattle.mdf_block.specs.Block.{the_block, block, block_refusal, Begins, IsLaid, HasNoBlock, IsAboutData, IsInside, IsFilled};
 
 use crate::field::u16_field;
@@ -14,12 +14,8 @@ use mdf_num::{Halt, SliceSpan, Span, Stop};
 /// Whether the body has the least bytes of its kind, the values of a CCBLOCK among them.
 fn is_filled_in<P: Span>(span: &mut P, block: &BlockAt) -> Result<bool, Stop>
     requires { IsInside (P.size span.old) block.now }
-    ensures filled { IfOk result (λ b. (f : List ℕ) → P.bytes span.old ≡ Some f → block.now ≡ the_block f block.now.at block.now.kind →
-        (IsTrue b ↔ (least_body block.now.kind (body_at f block.now.at) ≤ body_size f block.now.at))) }
+    ensures reads { Looks P.Span span.old span.new P.may_want result (λ file b. block.now ≡ the_block file block.now.at block.now.kind → (IsTrue b ↔ (least_body block.now.kind (body_at file block.now.at) ≤ body_size file block.now.at))) }
     ensures least { IfOk result (λ b. IsTrue b → least_body block.now.kind [] ≤ block.now.body_len) }
-    ensures same { P.bytes span.new ≡ P.bytes span.old }
-    ensures size { P.size span.new ≡ P.size span.old }
-    ensures cause { StopCause P.may_want (P.faults span.old) (P.faults span.new) result }
 {
     if block.body_len < least_body(block.kind) {
         return Ok(false);
@@ -37,11 +33,8 @@ fn is_filled_in<P: Span>(span: &mut P, block: &BlockAt) -> Result<bool, Stop>
 
 /// Whether the header of a block of this kind begins at `at`.
 fn begins_in<P: Span>(span: &mut P, at: u64, want: Kind) -> Result<bool, Stop>
-    ensures begins { IfOk result (λ b. (f : List ℕ) → P.bytes span.old ≡ Some f → (IsTrue b ↔ Begins f at want)) }
+    ensures reads { Looks P.Span span.old span.new P.may_want result (λ file b. (IsTrue b ↔ Begins file at want)) }
     ensures there { IfOk result (λ b. IsTrue b → at + 24 ≤ P.size span.old) }
-    ensures same { P.bytes span.new ≡ P.bytes span.old }
-    ensures size { P.size span.new ≡ P.size span.old }
-    ensures cause { StopCause P.may_want (P.faults span.old) (P.faults span.new) result }
 {
     if at % 8 != 0 || !is_there(span.len(), at, 24) {
         return Ok(false);
@@ -62,14 +55,10 @@ fn is_laid(size: u64, links: u64, room: u64, want: Kind) -> bool
 /// The block whose header begins at `at`, if it lies inside and has the least links of its kind.
 fn laid_in<P: Span>(span: &mut P, at: u64, want: Kind) -> Result<Option<BlockAt>, Stop>
     requires { at + 24 ≤ P.size span.old }
-    ensures found { IfOk result (λ found. (f : List ℕ) → P.bytes span.old ≡ Some f →
-        MatchOption found (¬ IsLaid f at want) (λ b. IsLaid f at want × (b ≡ the_block f at want))) }
+    ensures reads { Looks P.Span span.old span.new P.may_want result (λ file found. MatchOption found (¬ IsLaid file at want) (λ b. IsLaid file at want × (b ≡ the_block file at want))) }
     ensures inside { IfOk result (λ found. IfSome found (IsInside (P.size span.old))) }
     ensures kind { IfOk result (λ found. IfSome found (λ b. b.kind ≡ want)) }
     ensures linked { IfOk result (λ found. IfSome found (λ b. least_links want ≤ b.links)) }
-    ensures same { P.bytes span.new ≡ P.bytes span.old }
-    ensures size { P.size span.new ≡ P.size span.old }
-    ensures cause { StopCause P.may_want (P.faults span.old) (P.faults span.new) result }
 {
     let room = span.len() - at;
     let size = u64_in(span, at + 8)?;
@@ -88,13 +77,9 @@ fn laid_in<P: Span>(span: &mut P, at: u64, want: Kind) -> Result<Option<BlockAt>
 
 /// The block of this kind that stands whole at `at`, if one does.
 pub(crate) fn whole_in<P: Span>(span: &mut P, at: u64, want: Kind) -> Result<Option<BlockAt>, Stop>
-    ensures found { IfOk result (λ found. (f : List ℕ) → P.bytes span.old ≡ Some f →
-        MatchOption found (¬ IsBlock f at want) (λ b. IsBlock f at want × (b ≡ the_block f at want))) }
+    ensures reads { Looks P.Span span.old span.new P.may_want result (λ file found. MatchOption found (¬ IsBlock file at want) (λ b. IsBlock file at want × (b ≡ the_block file at want))) }
     ensures inside { IfOk result (λ found. IfSome found (IsInside (P.size span.old))) }
     ensures filled { IfOk result (λ found. IfSome found (IsFilled want)) }
-    ensures same { P.bytes span.new ≡ P.bytes span.old }
-    ensures size { P.size span.new ≡ P.size span.old }
-    ensures cause { StopCause P.may_want (P.faults span.old) (P.faults span.new) result }
 {
     if !begins_in(span, at, want)? {
         return Ok(None);
@@ -117,13 +102,10 @@ pub(crate) fn whole_in<P: Span>(span: &mut P, at: u64, want: Kind) -> Result<Opt
 /// `Compressed` where a DZBLOCK or an HLBLOCK is named and data is wanted, else `Bad` where no block of that kind
 /// stands whole there with the least links and the least body of its kind; and the span's own.
 pub fn block_in<P: Span>(span: &mut P, at: u64, want: Kind) -> Result<BlockAt, Halt<BlockFault>>
-    ensures found { (f : List ℕ) → P.bytes span.old ≡ Some f → Gives block_refusal result (block f at want) }
+    ensures reads { Reads P.Span span.old span.new P.may_want block_refusal result (λ file. block file at want) }
     ensures data { IfErr result (IsAboutData want) }
     ensures inside { IfOk result (IsInside (P.size span.old)) }
     ensures filled { IfOk result (IsFilled want) }
-    ensures same { P.bytes span.new ≡ P.bytes span.old }
-    ensures size { P.size span.new ≡ P.size span.old }
-    ensures cause { HaltCause P.may_want (P.faults span.old) (P.faults span.new) result }
 {
     if is_compressed_in(span, at, want)? {
         return Err(Halt::Fault(BlockFault::Compressed { at }));

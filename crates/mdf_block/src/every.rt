@@ -1,8 +1,8 @@
-ghost use Rattle.std.specs.Prelude.{◌≡◌, ◌++◌, ℕ, List, Option, Some, true, IfOk, IfErr, IfSome, OnOk};
+ghost use Rattle.std.specs.Prelude.{◌≡◌, ◌++◌, ℕ, List, Option, Some, true, IfOk, IfSome, OnOk};
 ghost use Rattle.std.specs.List.{AllByRecursion};
 ghost use Rattle.std.specs.Option.{option_to_list};
-ghost use Rattle.mdf_num.specs.Halt.{HaltCause};
-ghost use Rattle.mdf_block.specs.Refusal.{Refusal, Read, Gives, IsPlain};
+ghost use Rattle.mdf_block.specs.Refusal.{Refusal, Read};
+ghost use Rattle.mdf_block.specs.Reads.{Reads};
 ghost use Rattle.mdf_block.specs.Every.{every, AllByNumber};
 
 use mdf_num::{Halt, Memory, Rows, Span};
@@ -56,13 +56,9 @@ pub trait Visit {
     ) -> Result<(Option<Self::Found>, Self::State), Halt<Self::Fault>>
         requires needs { needs self.now (P.size span.old) }
         requires admitted { admits self.now k item.now }
-        ensures found { (f : List ℕ) → P.bytes span.old ≡ Some f → Gives refusal result (read self.now f k item.now state) }
+        ensures reads { Reads P.Span span.old span.new true refusal result (λ file. read self.now file k item.now state) }
         ensures given { (f : List ℕ) → P.bytes span.old ≡ Some f → IfOk result (λ found. IfSome found.0 (gives self.now)) }
-        ensures kept { IfOk result (λ found. IfSome found.0 (keeps self.now (P.size span.old))) }
-        ensures plain { IfErr result (IsPlain refusal) }
-        ensures same { P.bytes span.new ≡ P.bytes span.old }
-        ensures size { P.size span.new ≡ P.size span.old }
-        ensures cause { HaltCause true (P.faults span.old) (P.faults span.new) result };
+        ensures kept { IfOk result (λ found. IfSome found.0 (keeps self.now (P.size span.old))) };
 }
 
 /// Adds an item at the end of a list, where there is one.
@@ -89,13 +85,9 @@ pub fn every_in<V: Visit, P: Span>(
 ) -> Result<(Rows<V::Found>, V::State), Halt<V::Fault>>
     requires needs { V.needs visit.now (P.size span.old) }
     requires admitted { AllByNumber (V.admits visit.now) items.now }
-    ensures found { (f : List ℕ) → P.bytes span.old ≡ Some f → Gives V.refusal result (every (V.read visit.now f) 0 items.now start) }
+    ensures reads { Reads P.Span span.old span.new true V.refusal result (λ file. every (V.read visit.now file) 0 items.now start) }
     ensures given { (f : List ℕ) → P.bytes span.old ≡ Some f → IfOk result (λ found. AllByRecursion (V.gives visit.now) found.0) }
     ensures kept { IfOk result (λ found. AllByRecursion (V.keeps visit.now (P.size span.old)) found.0) }
-    ensures plain { IfErr result (IsPlain V.refusal) }
-    ensures same { P.bytes span.new ≡ P.bytes span.old }
-    ensures size { P.size span.new ≡ P.size span.old }
-    ensures cause { HaltCause true (P.faults span.old) (P.faults span.new) result }
 {
     let mut all = Rows::empty(alloc);
     let mut state = start;

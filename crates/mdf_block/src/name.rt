@@ -1,7 +1,7 @@
-ghost use Rattle.std.specs.Prelude.{◌≡◌, MatchOption, ℕ, List, Some, IfOk, IsTrue, []};
+ghost use Rattle.std.specs.Prelude.{◌≡◌, MatchOption, Some, IfOk, IsTrue, []};
 ghost use Rattle.mdf_format.specs.Block.{name_of, least_links, least_body};
-ghost use Rattle.mdf_num.specs.Halt.{StopCause};
 ghost use Rattle.mdf_format.specs.declared.kind.Kind.{Kind};
+ghost use Rattle.mdf_block.specs.Reads.{Looks};
 ghost use Rattle.mdf_block.specs.Block.{has_name, is_data, is_compressed, IsKindAt};
 
 use crate::word::is_there;
@@ -85,10 +85,7 @@ fn is_data(kind: Kind) -> bool
 
 /// Whether these four bytes stand at `at`.
 pub(crate) fn has_name_in<P: Span>(span: &mut P, at: u64, name: &[u8; 4]) -> Result<bool, Stop>
-    ensures named { IfOk result (λ b. (f : List ℕ) → P.bytes span.old ≡ Some f → b ≡ has_name f at name.now) }
-    ensures same { P.bytes span.new ≡ P.bytes span.old }
-    ensures size { P.size span.new ≡ P.size span.old }
-    ensures cause { StopCause P.may_want (P.faults span.old) (P.faults span.new) result }
+    ensures reads { Looks P.Span span.old span.new P.may_want result (λ file b. b ≡ has_name file at name.now) }
 {
     if !is_there(span.len(), at, 4) {
         return Ok(false);
@@ -100,11 +97,8 @@ pub(crate) fn has_name_in<P: Span>(span: &mut P, at: u64, name: &[u8; 4]) -> Res
 
 /// Whether compressed data is named where a block of this kind is wanted.
 pub(crate) fn is_compressed_in<P: Span>(span: &mut P, at: u64, want: Kind) -> Result<bool, Stop>
-    ensures compressed { IfOk result (λ b. (f : List ℕ) → P.bytes span.old ≡ Some f → b ≡ is_compressed f at want) }
+    ensures reads { Looks P.Span span.old span.new P.may_want result (λ file b. b ≡ is_compressed file at want) }
     ensures data { IfOk result (λ b. IsTrue b → IsTrue (is_data want)) }
-    ensures same { P.bytes span.new ≡ P.bytes span.old }
-    ensures size { P.size span.new ≡ P.size span.old }
-    ensures cause { StopCause P.may_want (P.faults span.old) (P.faults span.new) result }
 {
     if !is_data(want) || at % 8 != 0 {
         return Ok(false);
@@ -132,10 +126,7 @@ fn kind_of(name: [u8; 4]) -> Option<Kind>
 /// # Errors
 /// The span's own. It is as before in what it tells.
 pub fn kind_in<P: Span>(span: &mut P, at: u64) -> Result<Option<Kind>, Stop>
-    ensures kind { IfOk result (λ kind. (f : List ℕ) → P.bytes span.old ≡ Some f → IsKindAt f at kind) }
-    ensures same { P.bytes span.new ≡ P.bytes span.old }
-    ensures size { P.size span.new ≡ P.size span.old }
-    ensures cause { StopCause P.may_want (P.faults span.old) (P.faults span.new) result }
+    ensures reads { Looks P.Span span.old span.new P.may_want result (λ file kind. IsKindAt file at kind) }
 {
     if !is_there(span.len(), at, 4) {
         return Ok(None);

@@ -1,5 +1,5 @@
-ghost use Rattle.std.specs.Prelude.{◌≡◌, ℕ, List, Some, IfOk};
-ghost use Rattle.mdf_num.specs.Halt.{StopCause};
+ghost use Rattle.std.specs.Prelude.{◌≡◌};
+ghost use Rattle.mdf_block.specs.Reads.{Looks};
 ghost use Rattle.mdf_block.specs.Block.{is_named};
 
 use crate::name::{has_name_in, name_of};
@@ -11,10 +11,7 @@ use mdf_num::{Span, Stop};
 /// # Errors
 /// The span's own. It is as before in what it tells.
 pub fn is_named_in<P: Span>(span: &mut P, at: u64, kind: Kind) -> Result<bool, Stop>
-    ensures named { IfOk result (λ b. (f : List ℕ) → P.bytes span.old ≡ Some f → b ≡ is_named f at kind) }
-    ensures same { P.bytes span.new ≡ P.bytes span.old }
-    ensures size { P.size span.new ≡ P.size span.old }
-    ensures cause { StopCause P.may_want (P.faults span.old) (P.faults span.new) result }
+    ensures reads { Looks P.Span span.old span.new P.may_want result (λ file b. b ≡ is_named file at kind) }
 {
     has_name_in(span, at, &name_of(kind))
 }

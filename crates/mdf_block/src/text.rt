@@ -1,8 +1,8 @@
 ghost use Rattle.std.specs.Prelude.{◌≡◌, ◌+◌, ◌≤◌, ℕ, List, Some, length, true, IfOk, IfErr, OnErr};
 ghost use Rattle.std.specs.List.{position_or_len};
 ghost use Rattle.mdf_format.specs.Number.{bytes_at};
-ghost use Rattle.mdf_num.specs.Halt.{StopCause, HaltCause};
-ghost use Rattle.mdf_block.specs.Refusal.{Gives, GivesAnd, GivesSlice, HidesNone, IsPlain};
+ghost use Rattle.mdf_block.specs.Refusal.{GivesAnd, GivesSlice, HidesNone};
+ghost use Rattle.mdf_block.specs.Reads.{Looks, Reads, Says};
 ghost use Rattle.mdf_block.specs.Block.{IsInside};
 ghost use Rattle.mdf_block.specs.Text.{is_zero, text, note, note_refusal, note_size, IsNote, HasNoNote};
 
@@ -33,11 +33,8 @@ fn zero_of(bytes: &[u8]) -> usize
 fn zero_in<P: Span>(span: &mut P, at: u64, count: u64) -> Result<u64, Stop>
     requires chunk { count ≤ CHUNK }
     requires there { at + count ≤ P.size span.old }
-    ensures place { IfOk result (λ n. (f : List ℕ) → P.bytes span.old ≡ Some f → n ≡ position_or_len is_zero (bytes_at count f at)) }
+    ensures reads { Looks P.Span span.old span.new P.may_want result (λ file n. n ≡ position_or_len is_zero (bytes_at count file at)) }
     ensures within { IfOk result (λ n. n ≤ count) }
-    ensures same { P.bytes span.new ≡ P.bytes span.old }
-    ensures size { P.size span.new ≡ P.size span.old }
-    ensures cause { StopCause P.may_want (P.faults span.old) (P.faults span.new) result }
 {
     let mut chunk = [0u8; CHUNK as usize];
     let part = &mut chunk[..count as usize];
@@ -48,12 +45,8 @@ fn zero_in<P: Span>(span: &mut P, at: u64, count: u64) -> Result<u64, Stop>
 /// How many bytes of the body come before its first zero byte.
 fn text_len_in<P: Span>(span: &mut P, block: &BlockAt) -> Result<u64, Stop>
     requires { IsInside (P.size span.old) block.now }
-    ensures len { IfOk result (λ n. (f : List ℕ) → P.bytes span.old ≡ Some f →
-        n ≡ position_or_len is_zero (bytes_at block.now.body_len f block.now.body_at)) }
+    ensures reads { Looks P.Span span.old span.new P.may_want result (λ file n. n ≡ position_or_len is_zero (bytes_at block.now.body_len file block.now.body_at)) }
     ensures within { IfOk result (λ n. n ≤ block.now.body_len) }
-    ensures same { P.bytes span.new ≡ P.bytes span.old }
-    ensures size { P.size span.new ≡ P.size span.old }
-    ensures cause { StopCause P.may_want (P.faults span.old) (P.faults span.new) result }
 {
     let start = block.body_at;
     let len = block.body_len;
@@ -72,10 +65,7 @@ fn text_len_in<P: Span>(span: &mut P, block: &BlockAt) -> Result<u64, Stop>
 /// A copy of the bytes from `at` on.
 fn bytes_in<P: Span>(alloc: Global, span: &mut P, at: u64, len: u64) -> Result<Bytes, Stop>
     requires { at + len ≤ P.size span.old }
-    ensures bytes { IfOk result (λ b. (f : List ℕ) → P.bytes span.old ≡ Some f → b ≡ bytes_at len f at) }
-    ensures same { P.bytes span.new ≡ P.bytes span.old }
-    ensures size { P.size span.new ≡ P.size span.old }
-    ensures cause { StopCause true (P.faults span.old) (P.faults span.new) result }
+    ensures reads { Looks P.Span span.old span.new true result (λ file b. b ≡ bytes_at len file at) }
 {
     let Ok(mut items) = vec![in alloc; 0u8; len as usize] else {
         return Err(Stop::Memory);
@@ -92,12 +82,8 @@ fn text_in<P: Span>(
     kind: Kind,
     left: u64,
 ) -> Result<(Bytes, u64), Halt<NoteFault>>
-    ensures found { (f : List ℕ) → P.bytes span.old ≡ Some f → Gives note_refusal result (text f at kind left) }
+    ensures reads { Reads P.Span span.old span.new true note_refusal result (λ file. text file at kind left) }
     ensures memory { (f : List ℕ) → P.bytes span.old ≡ Some f → HidesNone P.may_want result (text f at kind left) }
-    ensures plain { IfErr result (IsPlain note_refusal) }
-    ensures same { P.bytes span.new ≡ P.bytes span.old }
-    ensures size { P.size span.new ≡ P.size span.old }
-    ensures cause { HaltCause true (P.faults span.old) (P.faults span.new) result }
 {
     let block = match whole_in(span, at, kind)? {
         Some(block) => block,
@@ -122,12 +108,8 @@ pub fn noted_in<P: Span>(
     at: u64,
     left: u64,
 ) -> Result<(Note, u64), Halt<NoteFault>>
-    ensures found { (f : List ℕ) → P.bytes span.old ≡ Some f → Gives note_refusal result (note f at left) }
+    ensures reads { Reads P.Span span.old span.new true note_refusal result (λ file. note file at left) }
     ensures memory { (f : List ℕ) → P.bytes span.old ≡ Some f → HidesNone P.may_want result (note f at left) }
-    ensures plain { IfErr result (IsPlain note_refusal) }
-    ensures same { P.bytes span.new ≡ P.bytes span.old }
-    ensures size { P.size span.new ≡ P.size span.old }
-    ensures cause { HaltCause true (P.faults span.old) (P.faults span.new) result }
 {
     if at == 0 {
         return Ok((Note::Nothing, left));
@@ -151,13 +133,9 @@ pub fn note_in<P: Span>(
     at: u64,
     budget: &mut u64,
 ) -> Result<Note, Halt<NoteFault>>
-    ensures found { (f : List ℕ) → P.bytes span.old ≡ Some f → GivesAnd note_refusal result budget.new (note f at budget.old) }
+    ensures reads { Says P.Span span.old span.new true note_refusal result (λ file. GivesAnd note_refusal result budget.new (note file at budget.old)) }
     ensures memory { (f : List ℕ) → P.bytes span.old ≡ Some f → HidesNone P.may_want result (note f at budget.old) }
-    ensures plain { IfErr result (IsPlain note_refusal) }
     ensures budget { OnErr result (budget.new ≡ budget.old) }
-    ensures same { P.bytes span.new ≡ P.bytes span.old }
-    ensures size { P.size span.new ≡ P.size span.old }
-    ensures cause { HaltCause true (P.faults span.old) (P.faults span.new) result }
 {
     let (note, left) = noted_in(alloc, span, at, *budget)?;
     *budget = left;

@@ -1,7 +1,7 @@
-ghost use Rattle.std.specs.Prelude.{◌≡◌, ◌≤◌, ℕ, List, Option, Some, true, IfOk, IfErr};
+ghost use Rattle.std.specs.Prelude.{ℕ, List, Option, true, IfOk};
 ghost use Rattle.std.specs.List.{AllByRecursion};
-ghost use Rattle.mdf_num.specs.Halt.{HaltCause, HaltReason};
-ghost use Rattle.mdf_block.specs.Refusal.{Refusal, Read, Gives, Halts, IsPlain};
+ghost use Rattle.mdf_block.specs.Refusal.{Refusal, Read};
+ghost use Rattle.mdf_block.specs.Reads.{Reads};
 ghost use Rattle.mdf_block.specs.Chain.{Step, chain};
 
 use mdf_num::{Halt, Rows, Span};
@@ -39,21 +39,12 @@ pub trait Walk {
         at: u64,
         left: Self::State,
     ) -> Result<(Self::Item, u64, Self::State), Halt<Self::Fault>>
-        ensures found { (f : List ℕ) → P.bytes span.old ≡ Some f → Gives refusal result (step self.now f at left) }
-        ensures given { IfOk result (λ found. gives self.now (P.size span.old) found.0) }
-        ensures plain { IfErr result (IsPlain refusal) }
-        ensures same { P.bytes span.new ≡ P.bytes span.old }
-        ensures size { P.size span.new ≡ P.size span.old }
-        ensures cause { HaltCause true (P.faults span.old) (P.faults span.new) result };
+        ensures reads { Reads P.Span span.old span.new true refusal result (λ file. step self.now file at left) }
+        ensures given { IfOk result (λ found. gives self.now (P.size span.old) found.0) };
 
     /// Why the file is refused at `at`, where no more items may come. It takes no memory.
     fn full_in<P: Span>(&self, span: &mut P, at: u64) -> Halt<Self::Fault>
-        ensures found { (f : List ℕ) → P.bytes span.old ≡ Some f → Halts refusal result (full self.now f at) }
-        ensures plain { IsPlain refusal result }
-        ensures same { P.bytes span.new ≡ P.bytes span.old }
-        ensures size { P.size span.new ≡ P.size span.old }
-        ensures later { P.faults span.old ≤ P.faults span.new }
-        ensures reason { HaltReason P.may_want (P.faults span.old) (P.faults span.new) result };
+        ensures reads { Reads P.Span span.old span.new P.may_want refusal (Err result) (λ file. full self.now file at) };
 }
 
 /// The items along their links from `first` on up to the link 0, how many more might come, and what is left. At most so
@@ -69,12 +60,8 @@ pub fn chain_in<W: Walk, P: Span>(
     most: u64,
     start: W::State,
 ) -> Result<(Rows<W::Item>, u64, W::State), Halt<W::Fault>>
-    ensures found { (f : List ℕ) → P.bytes span.old ≡ Some f → Gives W.refusal result (chain (W.step walk.now f) (W.full walk.now f) most first start) }
+    ensures reads { Reads P.Span span.old span.new true W.refusal result (λ file. chain (W.step walk.now file) (W.full walk.now file) most first start) }
     ensures given { IfOk result (λ found. AllByRecursion (W.gives walk.now (P.size span.old)) found.0) }
-    ensures plain { IfErr result (IsPlain W.refusal) }
-    ensures same { P.bytes span.new ≡ P.bytes span.old }
-    ensures size { P.size span.new ≡ P.size span.old }
-    ensures cause { HaltCause true (P.faults span.old) (P.faults span.new) result }
 {
     let mut rows = Rows::empty(alloc);
     let mut at = first;

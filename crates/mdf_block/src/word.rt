@@ -1,7 +1,7 @@
-ghost use Rattle.std.specs.Prelude.{◌≡◌, ◌+◌, ◌*◌, ◌≤◌, ◌<◌, ◌↔◌, IsTrue, ℕ, List, Some, length, IfOk, OnOk};
+ghost use Rattle.std.specs.Prelude.{◌≡◌, ◌+◌, ◌*◌, ◌≤◌, ◌<◌, ◌↔◌, IsTrue, length};
 ghost use Rattle.mdf_format.specs.Number.{le_number, bytes_at};
 ghost use Rattle.mdf_format.specs.Block.{link_at};
-ghost use Rattle.mdf_num.specs.Halt.{StopCause};
+ghost use Rattle.mdf_block.specs.Reads.{Looks};
 ghost use Rattle.mdf_block.specs.Block.{IsInside};
 
 use crate::BlockAt;
@@ -17,10 +17,7 @@ pub(crate) fn is_there(len: u64, at: u64, count: u64) -> bool
 /// The number in the 8 bytes from `at` on.
 pub(crate) fn u64_in<P: Span>(span: &mut P, at: u64) -> Result<u64, Stop>
     requires { at + 8 ≤ P.size span.old }
-    ensures number { IfOk result (λ n. (f : List ℕ) → P.bytes span.old ≡ Some f → n ≡ le_number (bytes_at 8 f at)) }
-    ensures same { P.bytes span.new ≡ P.bytes span.old }
-    ensures size { P.size span.new ≡ P.size span.old }
-    ensures cause { StopCause P.may_want (P.faults span.old) (P.faults span.new) result }
+    ensures reads { Looks P.Span span.old span.new P.may_want result (λ file n. n ≡ le_number (bytes_at 8 file at)) }
 {
     let mut word = [0u8; 8];
     span.fill(at, &mut word)?;
@@ -31,10 +28,7 @@ pub(crate) fn u64_in<P: Span>(span: &mut P, at: u64) -> Result<u64, Stop>
 pub fn link_in<P: Span>(span: &mut P, block: &BlockAt, k: u64) -> Result<u64, Stop>
     requires inside { IsInside (P.size span.old) block.now }
     requires number { k < block.now.links }
-    ensures link { IfOk result (λ n. (f : List ℕ) → P.bytes span.old ≡ Some f → n ≡ link_at f block.now.at k) }
-    ensures same { P.bytes span.new ≡ P.bytes span.old }
-    ensures size { P.size span.new ≡ P.size span.old }
-    ensures cause { StopCause P.may_want (P.faults span.old) (P.faults span.new) result }
+    ensures reads { Looks P.Span span.old span.new P.may_want result (λ file n. n ≡ link_at file block.now.at k) }
 {
     u64_in(span, block.at + 24 + 8 * k)
 }
@@ -56,10 +50,7 @@ pub fn link_of(bytes: &[u8], block: &BlockAt, k: u64) -> u64
 pub fn body_in<P: Span>(span: &mut P, block: &BlockAt, buf: &mut [u8]) -> Result<(), Stop>
     requires inside { IsInside (P.size span.old) block.now }
     requires room { length buf.old ≤ block.now.body_len }
-    ensures filled { OnOk result ((f : List ℕ) → P.bytes span.old ≡ Some f → buf.new ≡ bytes_at (length buf.old) f block.now.body_at) }
-    ensures same { P.bytes span.new ≡ P.bytes span.old }
-    ensures size { P.size span.new ≡ P.size span.old }
-    ensures cause { StopCause P.may_want (P.faults span.old) (P.faults span.new) result }
+    ensures reads { Looks P.Span span.old span.new P.may_want result (λ file _. buf.new ≡ bytes_at (length buf.old) file block.now.body_at) }
 {
     span.fill(block.body_at, buf)
 }

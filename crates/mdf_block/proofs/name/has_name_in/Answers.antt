@@ -1,8 +1,12 @@
+use Rattle.std.proofs.Common.{rules}
 use Rattle.mdf_block.proofs.Names.{past_end, short_name}
+use Rattle.mdf_block.proofs.Readers.{looks_of}
 use Rattle.mdf_block.proofs.name.has_name_in.Goals as goal
 
-pub returns-then-not-is_there-clause-named : goal.returns-then-not-is_there-clause-named
-returns-then-not-is_there-clause-named g c = λ f told.
-    let whole = rw told at (g.met.P.Span.whole c.args.span.now) in
-    short_name f c.args.at c.args.name.now c.told-name
-    (past_end f c.args.at 4 _ _ _ whole c.len.ensures c.is_there.ensures c.if-not-is_there.true)
+pub returns-then-not-is_there : goal.returns-then-not-is_there
+returns-then-not-is_there g c = record {
+  reads = looks_of (search rules) (λ f told.
+      let whole = rw told at (g.met.P.Span.whole c.args.span.now) in
+      short_name f c.args.at c.args.name.now c.told-name
+      (past_end f c.args.at 4 _ _ _ whole c.len.ensures c.is_there.ensures c.if-not-is_there.true));
+}
