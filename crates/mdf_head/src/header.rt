@@ -1,6 +1,6 @@
 ghost use Rattle.std.specs.Prelude.{◌≡◌, ◌+◌, ◌≤◌, ℕ, List, Some, true, length, IfOk, IfErr, IfSome, OnErr};
-ghost use Rattle.mdf_block.specs.Refusal.{GivesSlice, HidesNone};
-ghost use Rattle.mdf_block.specs.Reads.{Reads, with_left};
+ghost use Rattle.mdf_block.specs.Refusal.{GivesAnd, GivesSlice, HidesNone};
+ghost use Rattle.mdf_block.specs.Reads.{Reads, Says};
 ghost use Rattle.mdf_head.specs.Head.{header, head, head_refusal, text_size, IsHead, HasHeader, LacksHead};
 
 use crate::chain::histories_in;
@@ -57,7 +57,7 @@ pub fn read_head_in<P: Span>(
     span: &mut P,
     budget: &mut u64,
 ) -> Result<(Head, Rows<History>), Halt<HeadFault>>
-    ensures reads { Reads P.Span span.old span.new true head_refusal (with_left result budget.new) (λ file. head file budget.old) }
+    ensures reads { Says P.Span span.old span.new true head_refusal result (λ file. GivesAnd head_refusal result budget.new (head file budget.old)) }
     ensures found { (f : List ℕ) → P.bytes span.old ≡ Some f → IfOk result (λ found. IsHead f found.0 found.1) }
     ensures first { (f : List ℕ) → P.bytes span.old ≡ Some f → HidesNone P.may_want result (header f budget.old) }
     ensures budget { OnErr result (budget.new ≡ budget.old) }
