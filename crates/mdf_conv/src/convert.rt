@@ -1,8 +1,8 @@
-ghost use Rattle.std.specs.Prelude.{◌≡◌, ◌-◌, ℕ, List, Some, Ok, true, IfOk, IfErr};
+ghost use Rattle.std.specs.Prelude.{◌≡◌, ◌-◌, ℕ, List, Some, Ok, true, IfOk};
 ghost use Rattle.mdf_format.specs.Block.{link_at};
 ghost use Rattle.mdf_format.specs.declared.kind.Kind.TheVariants.{Cc};
-ghost use Rattle.mdf_num.specs.Halt.{HaltCause};
-ghost use Rattle.mdf_block.specs.Refusal.{Gives, IsPlain};
+ghost use Rattle.mdf_block.specs.Refusal.{Gives};
+ghost use Rattle.mdf_block.specs.Reads.{Reads, Says};
 ghost use Rattle.mdf_block.specs.Block.{body_of, IsInside, IsFilled};
 ghost use Rattle.mdf_block.specs.Each.{each};
 ghost use Rattle.mdf_conv.specs.Left.{with_dropped, link_count};
@@ -31,11 +31,7 @@ fn ref_in<P: Span>(
     budget: Budget,
     levels: u64,
 ) -> Result<(Ref, Budget), Halt<ConvFault>>
-    ensures found { (f : List ℕ) → P.bytes span.old ≡ Some f → Gives conv_refusal result (ref_by (conv levels f) f at budget) }
-    ensures plain { IfErr result (IsPlain conv_refusal) }
-    ensures same { P.bytes span.new ≡ P.bytes span.old }
-    ensures size { P.size span.new ≡ P.size span.old }
-    ensures cause { HaltCause true (P.faults span.old) (P.faults span.new) result }
+    ensures reads { Reads P.Span span.old span.new true conv_refusal result (λ file. ref_by (conv levels file) file at budget) }
 {
     if at == 0 {
         return Ok((Ref::Nothing, budget));
@@ -61,12 +57,7 @@ fn refs_in<P: Span>(
     levels: u64,
 ) -> Result<(Rows<Ref>, Budget), Halt<ConvFault>>
     requires inside { IsInside (P.size span.old) block.now }
-    ensures found { (f : List ℕ) → P.bytes span.old ≡ Some f →
-        Gives conv_refusal result (each (item_by (conv levels f) f block.now.at) 4 (block.now.links - 4) budget) }
-    ensures plain { IfErr result (IsPlain conv_refusal) }
-    ensures same { P.bytes span.new ≡ P.bytes span.old }
-    ensures size { P.size span.new ≡ P.size span.old }
-    ensures cause { HaltCause true (P.faults span.old) (P.faults span.new) result }
+    ensures reads { Reads P.Span span.old span.new true conv_refusal result (λ file. each (item_by (conv levels file) file block.now.at) 4 (block.now.links - 4) budget) }
 {
     let mut refs = Rows::empty(alloc);
     let mut left = budget;
@@ -93,12 +84,7 @@ fn finished_in<P: Span>(
 ) -> Result<(Conversion, Budget), Halt<ConvFault>>
     requires inside { IsInside (P.size span.old) block.now }
     requires filled { IsFilled Cc block.now }
-    ensures found { (f : List ℕ) → P.bytes span.old ≡ Some f → HoldsValues f block.now →
-        Gives conv_refusal result (Ok (the_conversion (body_of f block.now) texts refs, with_dropped (link_count (link_at f block.now.at 3)) budget)) }
-    ensures plain { IfErr result (IsPlain conv_refusal) }
-    ensures same { P.bytes span.new ≡ P.bytes span.old }
-    ensures size { P.size span.new ≡ P.size span.old }
-    ensures cause { HaltCause true (P.faults span.old) (P.faults span.new) result }
+    ensures reads { Says P.Span span.old span.new true conv_refusal result (λ file. HoldsValues file block.now → Gives conv_refusal result (Ok (the_conversion (body_of file block.now) texts refs, with_dropped (link_count (link_at file block.now.at 3)) budget))) }
 {
     let found = conv_numbers_in(alloc, span, block)?;
     let left = budget.with_dropped(found.inverse);
@@ -117,12 +103,7 @@ fn held_in<P: Span>(
 ) -> Result<(Conversion, Budget), Halt<ConvFault>>
     requires inside { IsInside (P.size span.old) block.now }
     requires filled { IsFilled Cc block.now }
-    ensures found { (f : List ℕ) → P.bytes span.old ≡ Some f → HoldsValues f block.now →
-        Gives conv_refusal result (conv_of_block (conv levels f) f block.now budget) }
-    ensures plain { IfErr result (IsPlain conv_refusal) }
-    ensures same { P.bytes span.new ≡ P.bytes span.old }
-    ensures size { P.size span.new ≡ P.size span.old }
-    ensures cause { HaltCause true (P.faults span.old) (P.faults span.new) result }
+    ensures reads { Says P.Span span.old span.new true conv_refusal result (λ file. HoldsValues file block.now → Gives conv_refusal result (conv_of_block (conv levels file) file block.now budget)) }
 {
     let (texts, left) = texts_in(alloc, span, block, budget)?;
     let (refs, left) = refs_in(alloc, span, block, left, levels)?;
@@ -140,11 +121,7 @@ fn whole_in<P: Span>(
     budget: Budget,
     levels: u64,
 ) -> Result<(Conversion, Budget), Halt<ConvFault>>
-    ensures found { (f : List ℕ) → P.bytes span.old ≡ Some f → Gives conv_refusal result (conv_by (conv levels f) f at budget) }
-    ensures plain { IfErr result (IsPlain conv_refusal) }
-    ensures same { P.bytes span.new ≡ P.bytes span.old }
-    ensures size { P.size span.new ≡ P.size span.old }
-    ensures cause { HaltCause true (P.faults span.old) (P.faults span.new) result }
+    ensures reads { Reads P.Span span.old span.new true conv_refusal result (λ file. conv_by (conv levels file) file at budget) }
 {
     let block = conv_block_of(span, at)?;
     if budget.conversions == 0 {
@@ -171,11 +148,7 @@ fn level_in<P: Span>(
     budget: Budget,
     levels: u64,
 ) -> Result<(Conversion, Budget), Halt<ConvFault>>
-    ensures found { (f : List ℕ) → P.bytes span.old ≡ Some f → Gives conv_refusal result (conv levels f at budget) }
-    ensures plain { IfErr result (IsPlain conv_refusal) }
-    ensures same { P.bytes span.new ≡ P.bytes span.old }
-    ensures size { P.size span.new ≡ P.size span.old }
-    ensures cause { HaltCause true (P.faults span.old) (P.faults span.new) result }
+    ensures reads { Reads P.Span span.old span.new true conv_refusal result (λ file. conv levels file at budget) }
 {
     if levels == 0 {
         block_with(span, at, Kind::Cc)?;
@@ -194,12 +167,8 @@ pub fn conv_in<P: Span>(
     at: u64,
     budget: Budget,
 ) -> Result<(Conversion, Budget), Halt<ConvFault>>
-    ensures found { (f : List ℕ) → P.bytes span.old ≡ Some f → Gives conv_refusal result (conversion f at budget) }
+    ensures reads { Reads P.Span span.old span.new true conv_refusal result (λ file. conversion file at budget) }
     ensures spent { (f : List ℕ) → P.bytes span.old ≡ Some f → IfOk result (λ found. Spends budget (conv_cost 4 f at) found.1) }
-    ensures plain { IfErr result (IsPlain conv_refusal) }
-    ensures same { P.bytes span.new ≡ P.bytes span.old }
-    ensures size { P.size span.new ≡ P.size span.old }
-    ensures cause { HaltCause true (P.faults span.old) (P.faults span.new) result }
 {
     level_in(alloc, span, at, budget, LEVELS)
 }

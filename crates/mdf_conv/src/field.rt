@@ -1,7 +1,7 @@
-ghost use Rattle.std.specs.Prelude.{◌≡◌, ◌+◌, ◌*◌, ◌≤◌, ◌<◌, ◌^◌, ℕ, List, Some, Ok, true, IfOk, IfErr};
+ghost use Rattle.std.specs.Prelude.{◌≡◌, ◌+◌, ◌*◌, ◌≤◌, ◌<◌, ◌^◌, Ok, true};
 ghost use Rattle.mdf_format.specs.declared.kind.Kind.TheVariants.{Cc, Si};
-ghost use Rattle.mdf_num.specs.Halt.{StopCause, HaltCause};
-ghost use Rattle.mdf_block.specs.Refusal.{Gives, IsPlain};
+ghost use Rattle.mdf_block.specs.Refusal.{Gives};
+ghost use Rattle.mdf_block.specs.Reads.{Looks, Says};
 ghost use Rattle.mdf_block.specs.Block.{body_of, IsInside, IsFilled};
 ghost use Rattle.mdf_conv.specs.Conv.{HoldsValues, numbers_at, source_front, source_with, the_front, conv_numbers, conversion_with, conv_refusal};
 
@@ -16,10 +16,7 @@ use std::alloc::Global;
 pub(crate) fn source_front_in<P: Span>(span: &mut P, block: &BlockAt) -> Result<SourceFront, Stop>
     requires inside { IsInside (P.size span.old) block.now }
     requires filled { IsFilled Si block.now }
-    ensures front { IfOk result (λ front. (f : List ℕ) → P.bytes span.old ≡ Some f → front ≡ source_front (body_of f block.now)) }
-    ensures same { P.bytes span.new ≡ P.bytes span.old }
-    ensures size { P.size span.new ≡ P.size span.old }
-    ensures cause { StopCause P.may_want (P.faults span.old) (P.faults span.new) result }
+    ensures reads { Looks P.Span span.old span.new P.may_want result (λ file front. front ≡ source_front (body_of file block.now)) }
 {
     let mut body = [0u8; 8];
     body_in(span, block, &mut body)?;
@@ -48,10 +45,7 @@ pub(crate) fn source_of(front: SourceFront, texts: Texts) -> SourceInfo
 fn numbers_in<P: Span>(alloc: Global, span: &mut P, start: u64, count: u64) -> Result<Numbers, Stop>
     requires there { start + 8 * count ≤ P.size span.old }
     requires fits { start + 8 * count < 2 ^ 64 }
-    ensures numbers { IfOk result (λ numbers. (f : List ℕ) → P.bytes span.old ≡ Some f → numbers ≡ numbers_at f start count) }
-    ensures same { P.bytes span.new ≡ P.bytes span.old }
-    ensures size { P.size span.new ≡ P.size span.old }
-    ensures cause { StopCause true (P.faults span.old) (P.faults span.new) result }
+    ensures reads { Looks P.Span span.old span.new true result (λ file numbers. numbers ≡ numbers_at file start count) }
 {
     let mut numbers = Numbers::empty(alloc);
     let mut k = 0;
@@ -70,10 +64,7 @@ fn numbers_in<P: Span>(alloc: Global, span: &mut P, start: u64, count: u64) -> R
 fn front_in<P: Span>(span: &mut P, block: &BlockAt) -> Result<ConvFront, Stop>
     requires inside { IsInside (P.size span.old) block.now }
     requires filled { IsFilled Cc block.now }
-    ensures front { IfOk result (λ front. (f : List ℕ) → P.bytes span.old ≡ Some f → front ≡ the_front (body_of f block.now)) }
-    ensures same { P.bytes span.new ≡ P.bytes span.old }
-    ensures size { P.size span.new ≡ P.size span.old }
-    ensures cause { StopCause P.may_want (P.faults span.old) (P.faults span.new) result }
+    ensures reads { Looks P.Span span.old span.new P.may_want result (λ file front. front ≡ the_front (body_of file block.now)) }
 {
     let mut body = [0u8; 24];
     body_in(span, block, &mut body)?;
@@ -98,12 +89,7 @@ pub(crate) fn conv_numbers_in<P: Span>(
 ) -> Result<ConvNumbers, Halt<ConvFault>>
     requires inside { IsInside (P.size span.old) block.now }
     requires filled { IsFilled Cc block.now }
-    ensures held { (f : List ℕ) → P.bytes span.old ≡ Some f → HoldsValues f block.now →
-        Gives conv_refusal result (Ok (conv_numbers f block.now)) }
-    ensures plain { IfErr result (IsPlain conv_refusal) }
-    ensures same { P.bytes span.new ≡ P.bytes span.old }
-    ensures size { P.size span.new ≡ P.size span.old }
-    ensures cause { HaltCause true (P.faults span.old) (P.faults span.new) result }
+    ensures reads { Says P.Span span.old span.new true conv_refusal result (λ file. HoldsValues file block.now → Gives conv_refusal result (Ok (conv_numbers file block.now))) }
 {
     let inverse = link_in(span, block, 3)?;
     let front = front_in(span, block)?;

@@ -1,7 +1,6 @@
-ghost use Rattle.std.specs.Prelude.{◌≡◌, ◌<◌, ℕ, List, Some, true, IfErr};
+ghost use Rattle.std.specs.Prelude.{◌<◌, true};
 ghost use Rattle.mdf_format.specs.Block.{link_at};
-ghost use Rattle.mdf_num.specs.Halt.{HaltCause};
-ghost use Rattle.mdf_block.specs.Refusal.{Gives, IsPlain};
+ghost use Rattle.mdf_block.specs.Reads.{Reads};
 ghost use Rattle.mdf_block.specs.Block.{IsInside};
 ghost use Rattle.mdf_conv.specs.Conv.{words, conv_refusal};
 ghost use Rattle.mdf_conv.specs.Link.{source_of_link, conv_of_link};
@@ -27,11 +26,7 @@ pub fn words_at<P: Span>(
 ) -> Result<(Note, Budget), Halt<ConvFault>>
     requires inside { IsInside (P.size span.old) block.now }
     requires number { k < block.now.links }
-    ensures found { (f : List ℕ) → P.bytes span.old ≡ Some f → Gives conv_refusal result (words f (link_at f block.now.at k) budget) }
-    ensures plain { IfErr result (IsPlain conv_refusal) }
-    ensures same { P.bytes span.new ≡ P.bytes span.old }
-    ensures size { P.size span.new ≡ P.size span.old }
-    ensures cause { HaltCause true (P.faults span.old) (P.faults span.new) result }
+    ensures reads { Reads P.Span span.old span.new true conv_refusal result (λ file. words file (link_at file block.now.at k) budget) }
 {
     let at = link_in(span, block, k)?;
     words_in(alloc, span, at, budget)
@@ -51,11 +46,7 @@ pub fn source_at<P: Span>(
 ) -> Result<(Option<SourceInfo>, Budget), Halt<ConvFault>>
     requires inside { IsInside (P.size span.old) block.now }
     requires number { k < block.now.links }
-    ensures found { (f : List ℕ) → P.bytes span.old ≡ Some f → Gives conv_refusal result (source_of_link f (link_at f block.now.at k) budget) }
-    ensures plain { IfErr result (IsPlain conv_refusal) }
-    ensures same { P.bytes span.new ≡ P.bytes span.old }
-    ensures size { P.size span.new ≡ P.size span.old }
-    ensures cause { HaltCause true (P.faults span.old) (P.faults span.new) result }
+    ensures reads { Reads P.Span span.old span.new true conv_refusal result (λ file. source_of_link file (link_at file block.now.at k) budget) }
 {
     let at = link_in(span, block, k)?;
     if at == 0 {
@@ -79,11 +70,7 @@ pub fn conv_at<P: Span>(
 ) -> Result<(Option<Conversion>, Budget), Halt<ConvFault>>
     requires inside { IsInside (P.size span.old) block.now }
     requires number { k < block.now.links }
-    ensures found { (f : List ℕ) → P.bytes span.old ≡ Some f → Gives conv_refusal result (conv_of_link f (link_at f block.now.at k) budget) }
-    ensures plain { IfErr result (IsPlain conv_refusal) }
-    ensures same { P.bytes span.new ≡ P.bytes span.old }
-    ensures size { P.size span.new ≡ P.size span.old }
-    ensures cause { HaltCause true (P.faults span.old) (P.faults span.new) result }
+    ensures reads { Reads P.Span span.old span.new true conv_refusal result (λ file. conv_of_link file (link_at file block.now.at k) budget) }
 {
     let at = link_in(span, block, k)?;
     if at == 0 {

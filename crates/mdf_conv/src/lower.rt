@@ -1,8 +1,7 @@
-ghost use Rattle.std.specs.Prelude.{◌≡◌, ℕ, List, Some, false, true, IfOk, IfErr};
-ghost use Rattle.mdf_num.specs.Halt.{StopCause, HaltCause};
+ghost use Rattle.std.specs.Prelude.{◌≡◌, ℕ, List, Some, false, true, IfOk};
 ghost use Rattle.mdf_format.specs.declared.kind.Kind.{Kind};
 ghost use Rattle.mdf_format.specs.declared.kind.Kind.TheVariants as kinds;
-ghost use Rattle.mdf_block.specs.Refusal.{Gives, IsPlain};
+ghost use Rattle.mdf_block.specs.Reads.{Looks, Reads};
 ghost use Rattle.mdf_block.specs.Block.{block, is_data, is_named, IsInside, IsFilled};
 ghost use Rattle.mdf_conv.specs.Conv.{words, HoldsValues, conv_refusal};
 ghost use Rattle.mdf_conv.specs.Lift.{text_read};
@@ -18,13 +17,9 @@ use std::alloc::Global;
 /// `Bad` exactly where no block of that kind stands whole at the address; and the span's own.
 pub fn block_with<P: Span>(span: &mut P, at: u64, want: Kind) -> Result<BlockAt, Halt<ConvFault>>
     requires { is_data want ≡ false }
-    ensures found { (f : List ℕ) → P.bytes span.old ≡ Some f → Gives conv_refusal result (block f at want) }
+    ensures reads { Reads P.Span span.old span.new P.may_want conv_refusal result (λ file. block file at want) }
     ensures inside { IfOk result (IsInside (P.size span.old)) }
     ensures filled { IfOk result (IsFilled want) }
-    ensures plain { IfErr result (IsPlain conv_refusal) }
-    ensures same { P.bytes span.new ≡ P.bytes span.old }
-    ensures size { P.size span.new ≡ P.size span.old }
-    ensures cause { HaltCause P.may_want (P.faults span.old) (P.faults span.new) result }
 {
     match block_in(span, at, want) {
         Ok(block) => Ok(block),
@@ -40,24 +35,17 @@ pub fn block_with<P: Span>(span: &mut P, at: u64, want: Kind) -> Result<BlockAt,
 
 /// The block of a conversion.
 pub(crate) fn conv_block_of<P: Span>(span: &mut P, at: u64) -> Result<BlockAt, Halt<ConvFault>>
-    ensures found { (f : List ℕ) → P.bytes span.old ≡ Some f → Gives conv_refusal result (block f at kinds.Cc) }
+    ensures reads { Reads P.Span span.old span.new P.may_want conv_refusal result (λ file. block file at kinds.Cc) }
     ensures values { IfOk result (λ b. (f : List ℕ) → P.bytes span.old ≡ Some f → HoldsValues f b) }
     ensures inside { IfOk result (IsInside (P.size span.old)) }
     ensures filled { IfOk result (IsFilled kinds.Cc) }
-    ensures plain { IfErr result (IsPlain conv_refusal) }
-    ensures same { P.bytes span.new ≡ P.bytes span.old }
-    ensures size { P.size span.new ≡ P.size span.old }
-    ensures cause { HaltCause P.may_want (P.faults span.old) (P.faults span.new) result }
 {
     block_with(span, at, Kind::Cc)
 }
 
 /// Whether the first four bytes of a conversion stand at `at`.
 pub(crate) fn is_conv_in<P: Span>(span: &mut P, at: u64) -> Result<bool, Stop>
-    ensures named { IfOk result (λ b. (f : List ℕ) → P.bytes span.old ≡ Some f → b ≡ is_named f at kinds.Cc) }
-    ensures same { P.bytes span.new ≡ P.bytes span.old }
-    ensures size { P.size span.new ≡ P.size span.old }
-    ensures cause { StopCause P.may_want (P.faults span.old) (P.faults span.new) result }
+    ensures reads { Looks P.Span span.old span.new P.may_want result (λ file b. b ≡ is_named file at kinds.Cc) }
 {
     match kind_in(span, at)? {
         Some(kind) => Ok(kind == Kind::Cc),
@@ -99,11 +87,7 @@ pub fn words_in<P: Span>(
     at: u64,
     budget: Budget,
 ) -> Result<(Note, Budget), Halt<ConvFault>>
-    ensures found { (f : List ℕ) → P.bytes span.old ≡ Some f → Gives conv_refusal result (words f at budget) }
-    ensures plain { IfErr result (IsPlain conv_refusal) }
-    ensures same { P.bytes span.new ≡ P.bytes span.old }
-    ensures size { P.size span.new ≡ P.size span.old }
-    ensures cause { HaltCause true (P.faults span.old) (P.faults span.new) result }
+    ensures reads { Reads P.Span span.old span.new true conv_refusal result (λ file. words file at budget) }
 {
     text_read(noted_in(alloc, span, at, budget.text), budget)
 }

@@ -1,6 +1,6 @@
 ghost use Rattle.std.specs.Prelude.{◌≡◌, ℕ, List, Some, true, IfOk, IfErr, IfSome, OnErr};
-ghost use Rattle.mdf_num.specs.Halt.{HaltCause};
-ghost use Rattle.mdf_block.specs.Refusal.{GivesAnd, GivesSlice, IsPlain};
+ghost use Rattle.mdf_block.specs.Refusal.{GivesAnd, GivesSlice};
+ghost use Rattle.mdf_block.specs.Reads.{Says};
 ghost use Rattle.mdf_block.specs.Truth.{IsTrueOf};
 ghost use Rattle.mdf_conv.specs.Conv.{conversion, source, conv_refusal};
 ghost use Rattle.mdf_conv.specs.Cost.{Spends, source_cost, conv_cost};
@@ -23,14 +23,10 @@ pub fn read_conv_in<P: Span>(
     at: u64,
     budget: &mut Budget,
 ) -> Result<Conversion, Halt<ConvFault>>
-    ensures exact { (f : List ℕ) → P.bytes span.old ≡ Some f → GivesAnd conv_refusal result budget.new (conversion f at budget.old) }
+    ensures reads { Says P.Span span.old span.new true conv_refusal result (λ file. GivesAnd conv_refusal result budget.new (conversion file at budget.old)) }
     ensures found { (f : List ℕ) → P.bytes span.old ≡ Some f → IfOk result (IsConversion 4 f at) }
     ensures spent { (f : List ℕ) → P.bytes span.old ≡ Some f → IfOk result (λ _. Spends budget.old (conv_cost 4 f at) budget.new) }
     ensures budget { OnErr result (budget.new ≡ budget.old) }
-    ensures plain { IfErr result (IsPlain conv_refusal) }
-    ensures same { P.bytes span.new ≡ P.bytes span.old }
-    ensures size { P.size span.new ≡ P.size span.old }
-    ensures cause { HaltCause true (P.faults span.old) (P.faults span.new) result }
 {
     let (found, left) = conv_in(alloc, span, at, *budget)?;
     *budget = left;
@@ -78,14 +74,10 @@ pub fn read_source_in<P: Span>(
     at: u64,
     budget: &mut Budget,
 ) -> Result<SourceInfo, Halt<ConvFault>>
-    ensures exact { (f : List ℕ) → P.bytes span.old ≡ Some f → GivesAnd conv_refusal result budget.new (source f at budget.old) }
+    ensures reads { Says P.Span span.old span.new true conv_refusal result (λ file. GivesAnd conv_refusal result budget.new (source file at budget.old)) }
     ensures found { (f : List ℕ) → P.bytes span.old ≡ Some f → IfOk result (IsSource f at) }
     ensures spent { (f : List ℕ) → P.bytes span.old ≡ Some f → IfOk result (λ found. Spends budget.old (source_cost found) budget.new) }
     ensures budget { OnErr result (budget.new ≡ budget.old) }
-    ensures plain { IfErr result (IsPlain conv_refusal) }
-    ensures same { P.bytes span.new ≡ P.bytes span.old }
-    ensures size { P.size span.new ≡ P.size span.old }
-    ensures cause { HaltCause true (P.faults span.old) (P.faults span.new) result }
 {
     let (found, left) = source_in(alloc, span, at, *budget)?;
     *budget = left;

@@ -1,6 +1,5 @@
-ghost use Rattle.std.specs.Prelude.{◌≡◌, ℕ, List, Some, true, IfOk, IfErr};
-ghost use Rattle.mdf_num.specs.Halt.{HaltCause};
-ghost use Rattle.mdf_block.specs.Refusal.{Gives, IsPlain};
+ghost use Rattle.std.specs.Prelude.{◌≡◌, ℕ, List, Some, true, IfOk};
+ghost use Rattle.mdf_block.specs.Reads.{Reads};
 ghost use Rattle.mdf_conv.specs.Cost.{Spends, source_cost};
 ghost use Rattle.mdf_conv.specs.Conv.{source, conv_refusal};
 
@@ -20,11 +19,7 @@ fn whole_in<P: Span>(
     at: u64,
     budget: Budget,
 ) -> Result<(SourceInfo, Budget), Halt<ConvFault>>
-    ensures found { (f : List ℕ) → P.bytes span.old ≡ Some f → Gives conv_refusal result (source f at budget) }
-    ensures plain { IfErr result (IsPlain conv_refusal) }
-    ensures same { P.bytes span.new ≡ P.bytes span.old }
-    ensures size { P.size span.new ≡ P.size span.old }
-    ensures cause { HaltCause true (P.faults span.old) (P.faults span.new) result }
+    ensures reads { Reads P.Span span.old span.new true conv_refusal result (λ file. source file at budget) }
 {
     let block = block_with(span, at, Kind::Si)?;
     let front = source_front_in(span, &block)?;
@@ -42,12 +37,8 @@ pub fn source_in<P: Span>(
     at: u64,
     budget: Budget,
 ) -> Result<(SourceInfo, Budget), Halt<ConvFault>>
-    ensures found { (f : List ℕ) → P.bytes span.old ≡ Some f → Gives conv_refusal result (source f at budget) }
+    ensures reads { Reads P.Span span.old span.new true conv_refusal result (λ file. source file at budget) }
     ensures spent { (f : List ℕ) → P.bytes span.old ≡ Some f → IfOk result (λ found. Spends budget (source_cost found.0) found.1) }
-    ensures plain { IfErr result (IsPlain conv_refusal) }
-    ensures same { P.bytes span.new ≡ P.bytes span.old }
-    ensures size { P.size span.new ≡ P.size span.old }
-    ensures cause { HaltCause true (P.faults span.old) (P.faults span.new) result }
 {
     whole_in(alloc, span, at, budget)
 }

@@ -1,6 +1,5 @@
-ghost use Rattle.std.specs.Prelude.{◌≡◌, ◌≤◌, ℕ, List, Some, true, IfErr};
-ghost use Rattle.mdf_num.specs.Halt.{HaltCause};
-ghost use Rattle.mdf_block.specs.Refusal.{Gives, IsPlain};
+ghost use Rattle.std.specs.Prelude.{◌≤◌, true};
+ghost use Rattle.mdf_block.specs.Reads.{Reads};
 ghost use Rattle.mdf_block.specs.Block.{IsInside};
 ghost use Rattle.mdf_conv.specs.Conv.{texts, conv_refusal};
 
@@ -31,11 +30,7 @@ pub(crate) fn texts_in<P: Span>(
 ) -> Result<(Texts, Budget), Halt<ConvFault>>
     requires inside { IsInside (P.size span.old) block.now }
     requires linked { 3 ≤ block.now.links }
-    ensures found { (f : List ℕ) → P.bytes span.old ≡ Some f → Gives conv_refusal result (texts f block.now.at budget) }
-    ensures plain { IfErr result (IsPlain conv_refusal) }
-    ensures same { P.bytes span.new ≡ P.bytes span.old }
-    ensures size { P.size span.new ≡ P.size span.old }
-    ensures cause { HaltCause true (P.faults span.old) (P.faults span.new) result }
+    ensures reads { Reads P.Span span.old span.new true conv_refusal result (λ file. texts file block.now.at budget) }
 {
     let (name, left) = words_at(alloc, span, block, 0, budget)?;
     let (unit, left) = words_at(alloc, span, block, 1, left)?;

@@ -6,4 +6,4 @@ use Rattle.mdf_conv.proofs.convert.conv_in.Goals as goal
 pub returns-clause-spent : goal.returns-clause-spent
 returns-clause-spent g c = λ f told.
     if_ok_from c.level_in.result (λ found is.
-    spends _ _ _ (conv_falls 4 f c.args.at c.args.budget found (rw is at (c.level_in.ensures.found f told))) (omega arith))
+    spends _ _ _ (conv_falls 4 f c.args.at c.args.budget found (rw is at (c.level_in.ensures.reads.found f told))) (omega arith))

@@ -2,4 +2,4 @@ use Rattle.mdf_conv.proofs.Founds.{source_found}
 use Rattle.mdf_conv.proofs.read.read_source_in.Goals as goal
 
 pub returns-clause-found : goal.returns-clause-found
-returns-clause-found g c = λ f told. source_found f c.args.at c.args.budget.now _ (c.in_ok-found.ensures.found f told)
+returns-clause-found g c = λ f told. source_found f c.args.at c.args.budget.now _ (c.in_ok-found.ensures.reads.found f told)
