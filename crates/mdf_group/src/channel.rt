@@ -1,7 +1,6 @@
-ghost use Rattle.std.specs.Prelude.{◌≡◌, ◌+◌, ◌≤◌, ℕ, List, Some, true, slice_index, IfOk, IfErr};
+ghost use Rattle.std.specs.Prelude.{◌≡◌, ◌+◌, ◌≤◌, true, slice_index, IfOk};
 ghost use Rattle.mdf_format.specs.declared.kind.Kind.TheVariants.{Cn};
-ghost use Rattle.mdf_num.specs.Halt.{StopCause, HaltCause};
-ghost use Rattle.mdf_block.specs.Refusal.{Gives, IsPlain};
+ghost use Rattle.mdf_block.specs.Reads.{Looks, Reads};
 ghost use Rattle.mdf_block.specs.Block.{body_of, IsInside, IsFilled};
 ghost use Rattle.mdf_group.specs.Link.{channel_origin, channel_texts, channel_links, group_refusal};
 ghost use Rattle.mdf_group.specs.Channel.{accepted, passed_of, channel_of_block, channel, channels_from};
@@ -26,11 +25,7 @@ fn channel_origin_in<P: Span>(
 ) -> Result<(ChannelOrigin, Budget), Halt<GroupFault>>
     requires inside { IsInside (P.size span.old) block.now }
     requires linked { 8 ≤ block.now.links }
-    ensures found { (f : List ℕ) → P.bytes span.old ≡ Some f → Gives group_refusal result (channel_origin f block.now.at budget) }
-    ensures plain { IfErr result (IsPlain group_refusal) }
-    ensures same { P.bytes span.new ≡ P.bytes span.old }
-    ensures size { P.size span.new ≡ P.size span.old }
-    ensures cause { HaltCause true (P.faults span.old) (P.faults span.new) result }
+    ensures reads { Reads P.Span span.old span.new true group_refusal result (λ file. channel_origin file block.now.at budget) }
 {
     let (label, left) = label_in(alloc, span, block, budget)?;
     let conv = conv_of(alloc, span, block, 4, left);
@@ -53,11 +48,7 @@ fn channel_texts_in<P: Span>(
 ) -> Result<(ChannelTexts, Budget), Halt<GroupFault>>
     requires inside { IsInside (P.size span.old) block.now }
     requires linked { 8 ≤ block.now.links }
-    ensures found { (f : List ℕ) → P.bytes span.old ≡ Some f → Gives group_refusal result (channel_texts f block.now.at budget) }
-    ensures plain { IfErr result (IsPlain group_refusal) }
-    ensures same { P.bytes span.new ≡ P.bytes span.old }
-    ensures size { P.size span.new ≡ P.size span.old }
-    ensures cause { HaltCause true (P.faults span.old) (P.faults span.new) result }
+    ensures reads { Reads P.Span span.old span.new true group_refusal result (λ file. channel_texts file block.now.at budget) }
 {
     let (unit, left) = words_of(alloc, span, block, 6, budget)?;
     let comment = words_of(alloc, span, block, 7, left);
@@ -75,11 +66,7 @@ fn channel_links_in<P: Span>(
 ) -> Result<(ChannelLinks, Budget), Halt<GroupFault>>
     requires inside { IsInside (P.size span.old) block.now }
     requires linked { 8 ≤ block.now.links }
-    ensures found { (f : List ℕ) → P.bytes span.old ≡ Some f → Gives group_refusal result (channel_links f block.now.at budget) }
-    ensures plain { IfErr result (IsPlain group_refusal) }
-    ensures same { P.bytes span.new ≡ P.bytes span.old }
-    ensures size { P.size span.new ≡ P.size span.old }
-    ensures cause { HaltCause true (P.faults span.old) (P.faults span.new) result }
+    ensures reads { Reads P.Span span.old span.new true group_refusal result (λ file. channel_links file block.now.at budget) }
 {
     let (origin, left) = channel_origin_in(alloc, span, block, budget)?;
     let texts = channel_texts_in(alloc, span, block, left);
@@ -92,12 +79,7 @@ fn channel_links_in<P: Span>(
 fn accepted_in<P: Span>(span: &mut P, block: &BlockAt) -> Result<(), Halt<GroupFault>>
     requires inside { IsInside (P.size span.old) block.now }
     requires filled { IsFilled Cn block.now }
-    ensures found { (f : List ℕ) → P.bytes span.old ≡ Some f →
-        Gives group_refusal result (accepted block.now.at (slice_index (body_of f block.now) 0) (slice_index (body_of f block.now) 2)) }
-    ensures plain { IfErr result (IsPlain group_refusal) }
-    ensures same { P.bytes span.new ≡ P.bytes span.old }
-    ensures size { P.size span.new ≡ P.size span.old }
-    ensures cause { HaltCause P.may_want (P.faults span.old) (P.faults span.new) result }
+    ensures reads { Reads P.Span span.old span.new P.may_want group_refusal result (λ file. accepted block.now.at (slice_index (body_of file block.now) 0) (slice_index (body_of file block.now) 2)) }
 {
     let at = block.at;
     let (kind, data_type) = kinds_in(span, block)?;
@@ -117,11 +99,8 @@ fn accepted_in<P: Span>(span: &mut P, block: &BlockAt) -> Result<(), Halt<GroupF
 fn passed_in<P: Span>(span: &mut P, block: &BlockAt) -> Result<Passed, Stop>
     requires inside { IsInside (P.size span.old) block.now }
     requires linked { 8 ≤ block.now.links }
-    ensures passed { IfOk result (λ passed. (f : List ℕ) → P.bytes span.old ≡ Some f → passed ≡ passed_of f block.now) }
+    ensures reads { Looks P.Span span.old span.new P.may_want result (λ file passed. passed ≡ passed_of file block.now) }
     ensures few { IfOk result (λ passed. passed.composed + passed.extra ≤ block.now.links + 1) }
-    ensures same { P.bytes span.new ≡ P.bytes span.old }
-    ensures size { P.size span.new ≡ P.size span.old }
-    ensures cause { StopCause P.may_want (P.faults span.old) (P.faults span.new) result }
 {
     let next = link_in(span, block, 0)?;
     let composition = link_in(span, block, 1)?;
@@ -145,11 +124,7 @@ fn channel_of_block<P: Span>(
 ) -> Result<(ChannelRow, u64, Budget), Halt<GroupFault>>
     requires inside { IsInside (P.size span.old) block.now }
     requires filled { IsFilled Cn block.now }
-    ensures found { (f : List ℕ) → P.bytes span.old ≡ Some f → Gives group_refusal result (channel_of_block f block.now budget) }
-    ensures plain { IfErr result (IsPlain group_refusal) }
-    ensures same { P.bytes span.new ≡ P.bytes span.old }
-    ensures size { P.size span.new ≡ P.size span.old }
-    ensures cause { HaltCause true (P.faults span.old) (P.faults span.new) result }
+    ensures reads { Reads P.Span span.old span.new true group_refusal result (λ file. channel_of_block file block.now budget) }
 {
     let passed = passed_in(span, block)?;
     let front = channel_front_in(span, block)?;
@@ -209,11 +184,7 @@ pub(crate) fn channels_in<P: Span>(
     most: u64,
     budget: Budget,
 ) -> Result<(Rows<ChannelRow>, u64, Budget), Halt<GroupFault>>
-    ensures found { (f : List ℕ) → P.bytes span.old ≡ Some f → Gives group_refusal result (channels_from f most first budget) }
-    ensures plain { IfErr result (IsPlain group_refusal) }
-    ensures same { P.bytes span.new ≡ P.bytes span.old }
-    ensures size { P.size span.new ≡ P.size span.old }
-    ensures cause { HaltCause true (P.faults span.old) (P.faults span.new) result }
+    ensures reads { Reads P.Span span.old span.new true group_refusal result (λ file. channels_from file most first budget) }
 {
     chain_in(alloc, &Channels, span, first, most, budget)
 }

@@ -1,7 +1,6 @@
-ghost use Rattle.std.specs.Prelude.{◌≡◌, ◌≤◌, ℕ, List, Some, Ok, true, IfOk, IfErr};
+ghost use Rattle.std.specs.Prelude.{◌≡◌, ◌≤◌, Ok, true};
 ghost use Rattle.mdf_format.specs.declared.kind.Kind.TheVariants.{Dg};
-ghost use Rattle.mdf_num.specs.Halt.{StopCause, HaltCause};
-ghost use Rattle.mdf_block.specs.Refusal.{Gives, IsPlain};
+ghost use Rattle.mdf_block.specs.Reads.{Looks, Reads};
 ghost use Rattle.mdf_block.specs.Block.{IsInside, IsFilled};
 ghost use Rattle.mdf_group.specs.Link.{group_refusal};
 ghost use Rattle.mdf_group.specs.Group.{data_numbers, data_contents, finished_data_group, data_group, data_groups_from};
@@ -34,11 +33,7 @@ fn data_contents_in<P: Span>(
 ) -> Result<(DataContents, DataRoom), Halt<GroupFault>>
     requires inside { IsInside (P.size span.old) block.now }
     requires linked { 4 ≤ block.now.links }
-    ensures found { (f : List ℕ) → P.bytes span.old ≡ Some f → Gives group_refusal result (data_contents f block.now left) }
-    ensures plain { IfErr result (IsPlain group_refusal) }
-    ensures same { P.bytes span.new ≡ P.bytes span.old }
-    ensures size { P.size span.new ≡ P.size span.old }
-    ensures cause { HaltCause true (P.faults span.old) (P.faults span.new) result }
+    ensures reads { Reads P.Span span.old span.new true group_refusal result (λ file. data_contents file block.now left) }
 {
     let first = link_in(span, block, 1)?;
     let (comment, budget) = words_of(alloc, span, block, 3, left.room.budget)?;
@@ -54,10 +49,7 @@ fn data_contents_in<P: Span>(
 fn data_numbers_in<P: Span>(span: &mut P, block: &BlockAt) -> Result<DataNumbers, Stop>
     requires inside { IsInside (P.size span.old) block.now }
     requires filled { IsFilled Dg block.now }
-    ensures numbers { IfOk result (λ numbers. (f : List ℕ) → P.bytes span.old ≡ Some f → numbers ≡ data_numbers f block.now) }
-    ensures same { P.bytes span.new ≡ P.bytes span.old }
-    ensures size { P.size span.new ≡ P.size span.old }
-    ensures cause { StopCause P.may_want (P.faults span.old) (P.faults span.new) result }
+    ensures reads { Looks P.Span span.old span.new P.may_want result (λ file numbers. numbers ≡ data_numbers file block.now) }
 {
     let next = link_in(span, block, 0)?;
     let content = link_in(span, block, 2)?;
@@ -79,11 +71,7 @@ fn finished_in<P: Span>(
 ) -> Result<(DataRow, u64, DataRoom), Halt<GroupFault>>
     requires inside { IsInside (P.size span.old) block.now }
     requires filled { IsFilled Dg block.now }
-    ensures finished { (f : List ℕ) → P.bytes span.old ≡ Some f → Gives group_refusal result (Ok (finished_data_group f block.now contents left)) }
-    ensures plain { IfErr result (IsPlain group_refusal) }
-    ensures same { P.bytes span.new ≡ P.bytes span.old }
-    ensures size { P.size span.new ≡ P.size span.old }
-    ensures cause { HaltCause true (P.faults span.old) (P.faults span.new) result }
+    ensures reads { Reads P.Span span.old span.new true group_refusal result (λ file. Ok (finished_data_group file block.now contents left)) }
 {
     let numbers = data_numbers_in(span, block)?;
     let unnamed = unnamed_count(alloc, contents.rows.as_slice())?;
@@ -151,11 +139,7 @@ pub(crate) fn data_groups_in<P: Span>(
     first: u64,
     budget: Budget,
 ) -> Result<(Rows<DataRow>, u64, DataRoom), Halt<GroupFault>>
-    ensures found { (f : List ℕ) → P.bytes span.old ≡ Some f → Gives group_refusal result (data_groups_from f first budget) }
-    ensures plain { IfErr result (IsPlain group_refusal) }
-    ensures same { P.bytes span.new ≡ P.bytes span.old }
-    ensures size { P.size span.new ≡ P.size span.old }
-    ensures cause { HaltCause true (P.faults span.old) (P.faults span.new) result }
+    ensures reads { Reads P.Span span.old span.new true group_refusal result (λ file. data_groups_from file first budget) }
 {
     let start = DataRoom {
         groups: MOST_GROUPS,

@@ -1,5 +1,5 @@
-ghost use Rattle.std.specs.Prelude.{◌≡◌, ◌-◌, ◌≤◌, ℕ, List, Some, IfOk};
-ghost use Rattle.mdf_num.specs.Halt.{StopCause};
+ghost use Rattle.std.specs.Prelude.{◌≡◌, ◌-◌, ◌≤◌, IfOk};
+ghost use Rattle.mdf_block.specs.Reads.{Looks};
 ghost use Rattle.mdf_block.specs.Block.{IsInside};
 ghost use Rattle.mdf_group.specs.Link.{links_named};
 
@@ -11,11 +11,8 @@ use mdf_num::{Span, Stop};
 pub(crate) fn extra_in<P: Span>(span: &mut P, block: &BlockAt) -> Result<u64, Stop>
     requires inside { IsInside (P.size span.old) block.now }
     requires linked { 8 ≤ block.now.links }
-    ensures extra { IfOk result (λ n. (f : List ℕ) → P.bytes span.old ≡ Some f → n ≡ links_named f block.now.at 8 (block.now.links - 8)) }
+    ensures reads { Looks P.Span span.old span.new P.may_want result (λ file n. n ≡ links_named file block.now.at 8 (block.now.links - 8)) }
     ensures few { IfOk result (λ n. n ≤ block.now.links) }
-    ensures same { P.bytes span.new ≡ P.bytes span.old }
-    ensures size { P.size span.new ≡ P.size span.old }
-    ensures cause { StopCause P.may_want (P.faults span.old) (P.faults span.new) result }
 {
     let links = block.links;
     let mut extra = 0;

@@ -1,6 +1,6 @@
 ghost use Rattle.std.specs.Prelude.{◌≡◌, ◌≤◌, ℕ, List, Some, length, slice_index, IfOk};
 ghost use Rattle.mdf_format.specs.declared.kind.Kind.TheVariants.{Dg, Cg, Cn};
-ghost use Rattle.mdf_num.specs.Halt.{StopCause};
+ghost use Rattle.mdf_block.specs.Reads.{Looks};
 ghost use Rattle.mdf_block.specs.Block.{body_of, IsInside, IsFilled};
 ghost use Rattle.mdf_conv.specs.Conv.{numbers_at};
 ghost use Rattle.mdf_group.specs.Link.{links_of};
@@ -18,11 +18,8 @@ use mdf_num::{Rows, Span, Stop};
 pub(crate) fn kinds_in<P: Span>(span: &mut P, block: &BlockAt) -> Result<(u8, u8), Stop>
     requires inside { IsInside (P.size span.old) block.now }
     requires filled { IsFilled Cn block.now }
-    ensures kind { IfOk result (λ kinds. (f : List ℕ) → P.bytes span.old ≡ Some f → kinds.0 ≡ slice_index (body_of f block.now) 0) }
+    ensures reads { Looks P.Span span.old span.new P.may_want result (λ file kinds. kinds.0 ≡ slice_index (body_of file block.now) 0) }
     ensures data_type { IfOk result (λ kinds. (f : List ℕ) → P.bytes span.old ≡ Some f → kinds.1 ≡ slice_index (body_of f block.now) 2) }
-    ensures same { P.bytes span.new ≡ P.bytes span.old }
-    ensures size { P.size span.new ≡ P.size span.old }
-    ensures cause { StopCause P.may_want (P.faults span.old) (P.faults span.new) result }
 {
     let mut front = [0u8; 3];
     body_in(span, block, &mut front)?;
@@ -48,10 +45,7 @@ fn ranges_of(body: &[u8]) -> [u64; 6]
 pub(crate) fn channel_front_in<P: Span>(span: &mut P, block: &BlockAt) -> Result<ChannelFront, Stop>
     requires inside { IsInside (P.size span.old) block.now }
     requires filled { IsFilled Cn block.now }
-    ensures front { IfOk result (λ front. (f : List ℕ) → P.bytes span.old ≡ Some f → front ≡ channel_front (body_of f block.now)) }
-    ensures same { P.bytes span.new ≡ P.bytes span.old }
-    ensures size { P.size span.new ≡ P.size span.old }
-    ensures cause { StopCause P.may_want (P.faults span.old) (P.faults span.new) result }
+    ensures reads { Looks P.Span span.old span.new P.may_want result (λ file front. front ≡ channel_front (body_of file block.now)) }
 {
     let mut body = [0u8; 72];
     body_in(span, block, &mut body)?;
@@ -119,10 +113,7 @@ pub(crate) fn channel_of(
 pub(crate) fn group_front_in<P: Span>(span: &mut P, block: &BlockAt) -> Result<GroupFront, Stop>
     requires inside { IsInside (P.size span.old) block.now }
     requires filled { IsFilled Cg block.now }
-    ensures front { IfOk result (λ front. (f : List ℕ) → P.bytes span.old ≡ Some f → front ≡ group_front (body_of f block.now)) }
-    ensures same { P.bytes span.new ≡ P.bytes span.old }
-    ensures size { P.size span.new ≡ P.size span.old }
-    ensures cause { StopCause P.may_want (P.faults span.old) (P.faults span.new) result }
+    ensures reads { Looks P.Span span.old span.new P.may_want result (λ file front. front ≡ group_front (body_of file block.now)) }
 {
     let mut body = [0u8; 32];
     body_in(span, block, &mut body)?;
@@ -164,10 +155,7 @@ pub(crate) fn group_of(
 pub(crate) fn id_size_in<P: Span>(span: &mut P, block: &BlockAt) -> Result<u8, Stop>
     requires inside { IsInside (P.size span.old) block.now }
     requires filled { IsFilled Dg block.now }
-    ensures size_of_id { IfOk result (λ size. (f : List ℕ) → P.bytes span.old ≡ Some f → size ≡ slice_index (body_of f block.now) 0) }
-    ensures same { P.bytes span.new ≡ P.bytes span.old }
-    ensures size { P.size span.new ≡ P.size span.old }
-    ensures cause { StopCause P.may_want (P.faults span.old) (P.faults span.new) result }
+    ensures reads { Looks P.Span span.old span.new P.may_want result (λ file size. size ≡ slice_index (body_of file block.now) 0) }
 {
     let mut body = [0u8; 8];
     body_in(span, block, &mut body)?;

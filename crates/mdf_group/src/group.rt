@@ -1,7 +1,6 @@
-ghost use Rattle.std.specs.Prelude.{◌≡◌, ◌≤◌, ℕ, List, Some, true, IfOk, IfErr};
+ghost use Rattle.std.specs.Prelude.{◌≡◌, ◌≤◌, true};
 ghost use Rattle.mdf_format.specs.declared.kind.Kind.TheVariants.{Cg};
-ghost use Rattle.mdf_num.specs.Halt.{StopCause, HaltCause};
-ghost use Rattle.mdf_block.specs.Refusal.{Gives, IsPlain};
+ghost use Rattle.mdf_block.specs.Reads.{Looks, Reads};
 ghost use Rattle.mdf_block.specs.Block.{IsInside, IsFilled};
 ghost use Rattle.mdf_group.specs.Link.{group_links, group_refusal};
 ghost use Rattle.mdf_group.specs.Group.{group_numbers, group_contents, group_with, group, groups_from};
@@ -26,11 +25,7 @@ fn group_links_in<P: Span>(
 ) -> Result<(GroupLinks, Budget), Halt<GroupFault>>
     requires inside { IsInside (P.size span.old) block.now }
     requires linked { 6 ≤ block.now.links }
-    ensures found { (f : List ℕ) → P.bytes span.old ≡ Some f → Gives group_refusal result (group_links f block.now.at budget) }
-    ensures plain { IfErr result (IsPlain group_refusal) }
-    ensures same { P.bytes span.new ≡ P.bytes span.old }
-    ensures size { P.size span.new ≡ P.size span.old }
-    ensures cause { HaltCause true (P.faults span.old) (P.faults span.new) result }
+    ensures reads { Reads P.Span span.old span.new true group_refusal result (λ file. group_links file block.now.at budget) }
 {
     let (label, left) = label_in(alloc, span, block, budget)?;
     let comment = words_of(alloc, span, block, 5, left);
@@ -53,11 +48,7 @@ fn group_contents_in<P: Span>(
 ) -> Result<(GroupContents, Room), Halt<GroupFault>>
     requires inside { IsInside (P.size span.old) block.now }
     requires linked { 6 ≤ block.now.links }
-    ensures found { (f : List ℕ) → P.bytes span.old ≡ Some f → Gives group_refusal result (group_contents f block.now room) }
-    ensures plain { IfErr result (IsPlain group_refusal) }
-    ensures same { P.bytes span.new ≡ P.bytes span.old }
-    ensures size { P.size span.new ≡ P.size span.old }
-    ensures cause { HaltCause true (P.faults span.old) (P.faults span.new) result }
+    ensures reads { Reads P.Span span.old span.new true group_refusal result (λ file. group_contents file block.now room) }
 {
     let first = link_in(span, block, 1)?;
     let (links, left) = group_links_in(alloc, span, block, room.budget)?;
@@ -70,10 +61,7 @@ fn group_contents_in<P: Span>(
 fn group_numbers_in<P: Span>(span: &mut P, block: &BlockAt) -> Result<GroupNumbers, Stop>
     requires inside { IsInside (P.size span.old) block.now }
     requires filled { IsFilled Cg block.now }
-    ensures numbers { IfOk result (λ numbers. (f : List ℕ) → P.bytes span.old ≡ Some f → numbers ≡ group_numbers f block.now) }
-    ensures same { P.bytes span.new ≡ P.bytes span.old }
-    ensures size { P.size span.new ≡ P.size span.old }
-    ensures cause { StopCause P.may_want (P.faults span.old) (P.faults span.new) result }
+    ensures reads { Looks P.Span span.old span.new P.may_want result (λ file numbers. numbers ≡ group_numbers file block.now) }
 {
     let next = link_in(span, block, 0)?;
     let reduction = link_in(span, block, 4)?;
@@ -154,11 +142,7 @@ pub(crate) fn groups_in<P: Span>(
     most: u64,
     start: Room,
 ) -> Result<(Rows<GroupRow>, u64, Room), Halt<GroupFault>>
-    ensures found { (f : List ℕ) → P.bytes span.old ≡ Some f → Gives group_refusal result (groups_from f most first start) }
-    ensures plain { IfErr result (IsPlain group_refusal) }
-    ensures same { P.bytes span.new ≡ P.bytes span.old }
-    ensures size { P.size span.new ≡ P.size span.old }
-    ensures cause { HaltCause true (P.faults span.old) (P.faults span.new) result }
+    ensures reads { Reads P.Span span.old span.new true group_refusal result (λ file. groups_from file most first start) }
 {
     chain_in(alloc, &Groups, span, first, most, start)
 }

@@ -1,7 +1,6 @@
-ghost use Rattle.std.specs.Prelude.{◌≡◌, ◌≤◌, ◌<◌, ℕ, List, Some, Ok, Err, false, true, IfOk, IfErr, MatchResult};
+ghost use Rattle.std.specs.Prelude.{◌≡◌, ◌≤◌, ◌<◌, Ok, Err, false, true, IfOk, MatchResult};
 ghost use Rattle.mdf_format.specs.Block.{link_at};
-ghost use Rattle.mdf_num.specs.Halt.{HaltCause};
-ghost use Rattle.mdf_block.specs.Refusal.{Gives, IsPlain};
+ghost use Rattle.mdf_block.specs.Reads.{Reads};
 ghost use Rattle.mdf_block.specs.Block.{block, is_data, IsInside, IsFilled};
 ghost use Rattle.mdf_conv.specs.Conv.{words};
 ghost use Rattle.mdf_conv.specs.Link.{source_of_link, conv_of_link};
@@ -58,13 +57,9 @@ pub(crate) fn block_of<P: Span>(
     want: Kind,
 ) -> Result<BlockAt, Halt<GroupFault>>
     requires { is_data want ≡ false }
-    ensures found { (f : List ℕ) → P.bytes span.old ≡ Some f → Gives group_refusal result (block f at want) }
+    ensures reads { Reads P.Span span.old span.new P.may_want group_refusal result (λ file. block file at want) }
     ensures inside { IfOk result (IsInside (P.size span.old)) }
     ensures filled { IfOk result (IsFilled want) }
-    ensures plain { IfErr result (IsPlain group_refusal) }
-    ensures same { P.bytes span.new ≡ P.bytes span.old }
-    ensures size { P.size span.new ≡ P.size span.old }
-    ensures cause { HaltCause P.may_want (P.faults span.old) (P.faults span.new) result }
 {
     lifted(block_with(span, at, want))
 }
@@ -79,11 +74,7 @@ pub(crate) fn words_of<P: Span>(
 ) -> Result<(Note, Budget), Halt<GroupFault>>
     requires inside { IsInside (P.size span.old) block.now }
     requires number { k < block.now.links }
-    ensures found { (f : List ℕ) → P.bytes span.old ≡ Some f → Gives group_refusal result (words f (link_at f block.now.at k) budget) }
-    ensures plain { IfErr result (IsPlain group_refusal) }
-    ensures same { P.bytes span.new ≡ P.bytes span.old }
-    ensures size { P.size span.new ≡ P.size span.old }
-    ensures cause { HaltCause true (P.faults span.old) (P.faults span.new) result }
+    ensures reads { Reads P.Span span.old span.new true group_refusal result (λ file. words file (link_at file block.now.at k) budget) }
 {
     lifted(words_at(alloc, span, block, k, budget))
 }
@@ -98,11 +89,7 @@ pub(crate) fn source_of<P: Span>(
 ) -> Result<(Option<SourceInfo>, Budget), Halt<GroupFault>>
     requires inside { IsInside (P.size span.old) block.now }
     requires number { k < block.now.links }
-    ensures found { (f : List ℕ) → P.bytes span.old ≡ Some f → Gives group_refusal result (source_of_link f (link_at f block.now.at k) budget) }
-    ensures plain { IfErr result (IsPlain group_refusal) }
-    ensures same { P.bytes span.new ≡ P.bytes span.old }
-    ensures size { P.size span.new ≡ P.size span.old }
-    ensures cause { HaltCause true (P.faults span.old) (P.faults span.new) result }
+    ensures reads { Reads P.Span span.old span.new true group_refusal result (λ file. source_of_link file (link_at file block.now.at k) budget) }
 {
     lifted(source_at(alloc, span, block, k, budget))
 }
@@ -117,11 +104,7 @@ pub(crate) fn conv_of<P: Span>(
 ) -> Result<(Option<Conversion>, Budget), Halt<GroupFault>>
     requires inside { IsInside (P.size span.old) block.now }
     requires number { k < block.now.links }
-    ensures found { (f : List ℕ) → P.bytes span.old ≡ Some f → Gives group_refusal result (conv_of_link f (link_at f block.now.at k) budget) }
-    ensures plain { IfErr result (IsPlain group_refusal) }
-    ensures same { P.bytes span.new ≡ P.bytes span.old }
-    ensures size { P.size span.new ≡ P.size span.old }
-    ensures cause { HaltCause true (P.faults span.old) (P.faults span.new) result }
+    ensures reads { Reads P.Span span.old span.new true group_refusal result (λ file. conv_of_link file (link_at file block.now.at k) budget) }
 {
     lifted(conv_at(alloc, span, block, k, budget))
 }
@@ -136,11 +119,7 @@ pub(crate) fn label_in<P: Span>(
 ) -> Result<(Label, Budget), Halt<GroupFault>>
     requires inside { IsInside (P.size span.old) block.now }
     requires linked { 4 ≤ block.now.links }
-    ensures found { (f : List ℕ) → P.bytes span.old ≡ Some f → Gives group_refusal result (label f block.now.at budget) }
-    ensures plain { IfErr result (IsPlain group_refusal) }
-    ensures same { P.bytes span.new ≡ P.bytes span.old }
-    ensures size { P.size span.new ≡ P.size span.old }
-    ensures cause { HaltCause true (P.faults span.old) (P.faults span.new) result }
+    ensures reads { Reads P.Span span.old span.new true group_refusal result (λ file. label file block.now.at budget) }
 {
     let (name, left) = words_of(alloc, span, block, 2, budget)?;
     let source = source_of(alloc, span, block, 3, left);

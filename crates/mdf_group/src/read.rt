@@ -1,6 +1,6 @@
 ghost use Rattle.std.specs.Prelude.{◌≡◌, ℕ, List, Some, true, IfOk, IfErr, IfSome, OnErr};
-ghost use Rattle.mdf_num.specs.Halt.{HaltCause};
-ghost use Rattle.mdf_block.specs.Refusal.{Gives, GivesAnd, GivesSlice, IsPlain};
+ghost use Rattle.mdf_block.specs.Refusal.{GivesAnd, GivesSlice};
+ghost use Rattle.mdf_block.specs.Reads.{Reads, Says};
 ghost use Rattle.mdf_block.specs.Truth.{IsTrueOf};
 ghost use Rattle.mdf_conv.specs.Cost.{Spends};
 ghost use Rattle.mdf_group.specs.Link.{group_refusal};
@@ -22,13 +22,9 @@ fn all_in<P: Span>(
     first: u64,
     budget: Budget,
 ) -> Result<(Rows<DataRow>, Budget), Halt<GroupFault>>
-    ensures found { (f : List ℕ) → P.bytes span.old ≡ Some f → Gives group_refusal result (groups f first budget) }
+    ensures reads { Reads P.Span span.old span.new true group_refusal result (λ file. groups file first budget) }
     ensures few { (f : List ℕ) → P.bytes span.old ≡ Some f → IfOk result (λ found. AreFew found.0) }
     ensures spent { (f : List ℕ) → P.bytes span.old ≡ Some f → IfOk result (λ found. Spends budget (rows_cost f found.0) found.1) }
-    ensures plain { IfErr result (IsPlain group_refusal) }
-    ensures same { P.bytes span.new ≡ P.bytes span.old }
-    ensures size { P.size span.new ≡ P.size span.old }
-    ensures cause { HaltCause true (P.faults span.old) (P.faults span.new) result }
 {
     let (rows, _, left) = data_groups_in(alloc, span, first, budget)?;
     Ok((rows, left.room.budget))
@@ -45,15 +41,11 @@ pub fn read_groups_in<P: Span>(
     first: u64,
     budget: &mut Budget,
 ) -> Result<Rows<DataRow>, Halt<GroupFault>>
-    ensures exact { (f : List ℕ) → P.bytes span.old ≡ Some f → GivesAnd group_refusal result budget.new (groups f first budget.old) }
+    ensures reads { Says P.Span span.old span.new true group_refusal result (λ file. GivesAnd group_refusal result budget.new (groups file first budget.old)) }
     ensures found { (f : List ℕ) → P.bytes span.old ≡ Some f → IfOk result (AreDataGroups f first) }
     ensures few { (f : List ℕ) → P.bytes span.old ≡ Some f → IfOk result AreFew }
     ensures spent { (f : List ℕ) → P.bytes span.old ≡ Some f → IfOk result (λ rows. Spends budget.old (rows_cost f rows) budget.new) }
     ensures budget { OnErr result (budget.new ≡ budget.old) }
-    ensures plain { IfErr result (IsPlain group_refusal) }
-    ensures same { P.bytes span.new ≡ P.bytes span.old }
-    ensures size { P.size span.new ≡ P.size span.old }
-    ensures cause { HaltCause true (P.faults span.old) (P.faults span.new) result }
 {
     let (rows, left) = all_in(alloc, span, first, *budget)?;
     *budget = left;

@@ -14,5 +14,5 @@ returns-in-Ok-clause-spent c = c.in-Ok.ensures.spent c.args.bytes.now (search ru
 
 pub returns-in-Err-Fault-clause-refused : goal.returns-in-Err-Fault-clause-refused
 returns-in-Err-Fault-clause-refused c =
-    let exact = rw c.in-Err-Fault.field-0-is at (c.in-Err-Fault.ensures.exact c.args.bytes.now (search rules)) in
+    let exact = rw c.in-Err-Fault.field-0-is at (c.in-Err-Fault.ensures.reads.found c.args.bytes.now (search rules)) in
     refuses_true c.args.bytes.now _ _ (rows_true c.args.bytes.now c.args.first c.args.budget.now) exact
