@@ -1,7 +1,7 @@
 ghost use Rattle.std.specs.Prelude.{◌≡◌, ◌≢◌, ◌+◌, ◌-◌, ◌^◌, ◌<◌, ◌↔◌, ◌++◌, ◌∷◌, [], ℕ, List, Some, Ok, length, true, IsTrue, IfOk, IfErr, IfSome, IfNone, OnOk};
 ghost use Rattle.mdf_format.specs.declared.kind.Kind.TheVariants.{Dl};
-ghost use Rattle.mdf_num.specs.Halt.{HaltCause};
-ghost use Rattle.mdf_block.specs.Refusal.{Gives, GivesOf, HidesNone, IsPlain};
+ghost use Rattle.mdf_block.specs.Refusal.{GivesOf, HidesNone};
+ghost use Rattle.mdf_block.specs.Reads.{Reads};
 ghost use Rattle.mdf_block.specs.Block.{block, IsInside, IsFilled};
 ghost use Rattle.mdf_block.specs.Each.{each};
 ghost use Rattle.mdf_stream.specs.Parts.{IsPartInside, ArePartsInside, stream_of, stream_size};
@@ -22,13 +22,9 @@ const LONGEST: u64 = 1 << 62;
 
 /// A block, with the faults of this crate.
 fn block_of<P: Span>(span: &mut P, at: u64, want: Kind) -> Result<BlockAt, Halt<DataFault>>
-    ensures found { (f : List ℕ) → P.bytes span.old ≡ Some f → Gives data_refusal result (block f at want) }
-    ensures plain { IfErr result (IsPlain data_refusal) }
+    ensures reads { Reads P.Span span.old span.new P.may_want data_refusal result (λ file. block file at want) }
     ensures inside { IfOk result (IsInside (P.size span.old)) }
     ensures filled { IfOk result (IsFilled want) }
-    ensures same { P.bytes span.new ≡ P.bytes span.old }
-    ensures size { P.size span.new ≡ P.size span.old }
-    ensures cause { HaltCause P.may_want (P.faults span.old) (P.faults span.new) result }
 {
     match block_in(span, at, want) {
         Ok(block) => Ok(block),
@@ -62,12 +58,8 @@ fn data_block_in<P: Span>(
     want: Kind,
     left: u64,
 ) -> Result<(Part, u64), Halt<DataFault>>
-    ensures found { (f : List ℕ) → P.bytes span.old ≡ Some f → Gives data_refusal result (data_block f want at left) }
-    ensures plain { IfErr result (IsPlain data_refusal) }
+    ensures reads { Reads P.Span span.old span.new P.may_want data_refusal result (λ file. data_block file want at left) }
     ensures inside { IfOk result (λ found. IsPartInside (P.size span.old) found.0) }
-    ensures same { P.bytes span.new ≡ P.bytes span.old }
-    ensures size { P.size span.new ≡ P.size span.old }
-    ensures cause { HaltCause P.may_want (P.faults span.old) (P.faults span.new) result }
 {
     let block = block_of(span, at, want)?;
     if left == 0 {
@@ -85,13 +77,8 @@ fn named_in<P: Span>(
     most: u64,
 ) -> Result<(Rows<Part>, u64), Halt<DataFault>>
     requires inside { IsInside (P.size span.old) block.now }
-    ensures found { (f : List ℕ) → P.bytes span.old ≡ Some f →
-        Gives data_refusal result (each (named_block f want block.now.at) 1 (block.now.links - 1) most) }
-    ensures plain { IfErr result (IsPlain data_refusal) }
+    ensures reads { Reads P.Span span.old span.new true data_refusal result (λ file. each (named_block file want block.now.at) 1 (block.now.links - 1) most) }
     ensures inside { IfOk result (λ found. ArePartsInside (P.size span.old) found.0) }
-    ensures same { P.bytes span.new ≡ P.bytes span.old }
-    ensures size { P.size span.new ≡ P.size span.old }
-    ensures cause { HaltCause true (P.faults span.old) (P.faults span.new) result }
 {
     let mut parts = Rows::empty(alloc);
     let mut left = most;
@@ -219,13 +206,9 @@ fn listed_in<P: Span>(
     want: Kind,
 ) -> Result<DataView, Halt<DataFault>>
     requires some { at ≢ 0 }
-    ensures found { (f : List ℕ) → P.bytes span.old ≡ Some f → Gives data_refusal result (listed_parts f want at) }
+    ensures reads { Reads P.Span span.old span.new true data_refusal result (λ file. listed_parts file want at) }
     ensures first { (f : List ℕ) → P.bytes span.old ≡ Some f → HidesNone P.may_want result (block f at Dl) }
-    ensures plain { IfErr result (IsPlain data_refusal) }
     ensures inside { IfOk result (ArePartsInside (P.size span.old)) }
-    ensures same { P.bytes span.new ≡ P.bytes span.old }
-    ensures size { P.size span.new ≡ P.size span.old }
-    ensures cause { HaltCause true (P.faults span.old) (P.faults span.new) result }
 {
     block_of(span, at, Kind::Dl)?;
     let (lists, _, _) = chain_in(alloc, &Lists { want }, span, at, MOST_BLOCKS, MOST_BLOCKS)?;
@@ -240,13 +223,9 @@ fn one_in<P: Span>(
     at: u64,
     want: Kind,
 ) -> Result<DataView, Halt<DataFault>>
-    ensures found { (f : List ℕ) → P.bytes span.old ≡ Some f → Gives data_refusal result (one_part f want at) }
+    ensures reads { Reads P.Span span.old span.new true data_refusal result (λ file. one_part file want at) }
     ensures first { (f : List ℕ) → P.bytes span.old ≡ Some f → HidesNone P.may_want result (block f at want) }
-    ensures plain { IfErr result (IsPlain data_refusal) }
     ensures inside { IfOk result (ArePartsInside (P.size span.old)) }
-    ensures same { P.bytes span.new ≡ P.bytes span.old }
-    ensures size { P.size span.new ≡ P.size span.old }
-    ensures cause { HaltCause true (P.faults span.old) (P.faults span.new) result }
 {
     let block = block_of(span, at, want)?;
     let mut view = DataView::empty(alloc);
@@ -268,14 +247,10 @@ pub fn view_data_in<P: Span>(
     at: u64,
     want: Kind,
 ) -> Result<DataView, Halt<DataFault>>
-    ensures found { (f : List ℕ) → P.bytes span.old ≡ Some f → Gives data_refusal result (data_parts f want at) }
+    ensures reads { Reads P.Span span.old span.new true data_refusal result (λ file. data_parts file want at) }
     ensures first { (f : List ℕ) → P.bytes span.old ≡ Some f → HidesNone P.may_want result (block f at (first_kind f want at)) }
     ensures refused { (f : List ℕ) → P.bytes span.old ≡ Some f → IfErr result (IfFault (IsTrueOfLink f want at)) }
-    ensures plain { IfErr result (IsPlain data_refusal) }
     ensures inside { IfOk result (ArePartsInside (P.size span.old)) }
-    ensures same { P.bytes span.new ≡ P.bytes span.old }
-    ensures size { P.size span.new ≡ P.size span.old }
-    ensures cause { HaltCause true (P.faults span.old) (P.faults span.new) result }
 {
     if at == 0 {
         return Ok(DataView::empty(alloc));

@@ -1,7 +1,7 @@
-ghost use Rattle.std.specs.Prelude.{◌≡◌, ◌+◌, ◌-◌, ◌^◌, ◌≤◌, ◌<◌, ◌↔◌, ◌++◌, ◌∷◌, ℕ, List, Some, length, drop, slice_index_or, IsTrue, IfOk, OnOk};
+ghost use Rattle.std.specs.Prelude.{◌≡◌, ◌+◌, ◌-◌, ◌^◌, ◌≤◌, ◌<◌, ◌↔◌, ◌++◌, ◌∷◌, ℕ, List, length, drop, slice_index_or, IsTrue, IfOk};
 ghost use Rattle.std.specs.List.Sorted.{IsNonDecreasingBy};
 ghost use Rattle.mdf_format.specs.Number.{le_number, bytes_at};
-ghost use Rattle.mdf_num.specs.Halt.{StopCause};
+ghost use Rattle.mdf_block.specs.Reads.{Looks};
 ghost use Rattle.mdf_stream.specs.declared.stretch.Stretch.{Stretch};
 ghost use Rattle.mdf_stream.specs.Parts.{AreBehind, stream_of, ArePartsInside};
 ghost use Rattle.mdf_stream.specs.Stretch.{parts_of, AreJoined, front_len, front_part};
@@ -111,13 +111,9 @@ fn front_in<P: Span>(
     requires inside { ArePartsInside (P.size span.old) (parts_of items.now) }
     requires some { 0 < length buf.old }
     requires within { at + length buf.old ≤ end }
+    ensures reads { Looks P.Span span.old span.new P.may_want result (λ file n. buf.new ≡ bytes_at n (stream_of file (parts_of items.now)) at ++ drop n buf.old) }
     ensures some { IfOk result (λ n. 0 < n) }
     ensures most { IfOk result (λ n. n ≤ length buf.old) }
-    ensures filled { IfOk result (λ n. (f : List ℕ) → P.bytes span.old ≡ Some f →
-        buf.new ≡ bytes_at n (stream_of f (parts_of items.now)) at ++ drop n buf.old) }
-    ensures same { P.bytes span.new ≡ P.bytes span.old }
-    ensures size { P.size span.new ≡ P.size span.old }
-    ensures cause { StopCause P.may_want (P.faults span.old) (P.faults span.new) result }
 {
     let part = front_of(items, end, at, buf.len() as u64, near);
     let count = part.len as usize;
@@ -138,11 +134,7 @@ pub(crate) fn fill_in<P: Span>(
     requires joined { AreJoined 0 items.now end }
     requires inside { ArePartsInside (P.size span.old) (parts_of items.now) }
     requires within { at + length buf.old ≤ end }
-    ensures filled { OnOk result ((f : List ℕ) → P.bytes span.old ≡ Some f →
-        buf.new ≡ bytes_at (length buf.old) (stream_of f (parts_of items.now)) at) }
-    ensures same { P.bytes span.new ≡ P.bytes span.old }
-    ensures size { P.size span.new ≡ P.size span.old }
-    ensures cause { StopCause P.may_want (P.faults span.old) (P.faults span.new) result }
+    ensures reads { Looks P.Span span.old span.new P.may_want result (λ file _. buf.new ≡ bytes_at (length buf.old) (stream_of file (parts_of items.now)) at) }
 {
     let mut done = 0;
     while done < buf.len() {
@@ -181,12 +173,8 @@ fn number_across<P: Span>(
     requires some { 0 < count }
     requires most { count ≤ 8 }
     requires within { at + count ≤ end }
-    ensures number { IfOk result (λ n. (f : List ℕ) → P.bytes span.old ≡ Some f →
-        n ≡ le_number (bytes_at count (stream_of f (parts_of items.now)) at)) }
+    ensures reads { Looks P.Span span.old span.new P.may_want result (λ file n. n ≡ le_number (bytes_at count (stream_of file (parts_of items.now)) at)) }
     ensures fits { IfOk result (λ n. n < 256 ^ count) }
-    ensures same { P.bytes span.new ≡ P.bytes span.old }
-    ensures size { P.size span.new ≡ P.size span.old }
-    ensures cause { StopCause P.may_want (P.faults span.old) (P.faults span.new) result }
 {
     let mut word = [0u8; 8];
     let bytes = &mut word[..count as usize];
@@ -210,12 +198,8 @@ pub(crate) fn number_in<P: Span>(
     requires some { 0 < count }
     requires most { count ≤ 8 }
     requires within { at + count ≤ end }
-    ensures number { IfOk result (λ n. (f : List ℕ) → P.bytes span.old ≡ Some f →
-        n ≡ le_number (bytes_at count (stream_of f (parts_of items.now)) at)) }
+    ensures reads { Looks P.Span span.old span.new P.may_want result (λ file n. n ≡ le_number (bytes_at count (stream_of file (parts_of items.now)) at)) }
     ensures fits { IfOk result (λ n. n < 256 ^ count) }
-    ensures same { P.bytes span.new ≡ P.bytes span.old }
-    ensures size { P.size span.new ≡ P.size span.old }
-    ensures cause { StopCause P.may_want (P.faults span.old) (P.faults span.new) result }
 {
     let part = front_of(items, end, at, count as u64, near);
     if part.len == count as u64 {

@@ -1,6 +1,6 @@
-ghost use Rattle.std.specs.Prelude.{◌≡◌, ◌+◌, ◌-◌, ◌^◌, ◌≤◌, ◌<◌, ◌↔◌, ◌++◌, ◌∷◌, [], ℕ, List, Some, length, IsTrue, IfOk, OnOk, OnErr};
+ghost use Rattle.std.specs.Prelude.{◌≡◌, ◌+◌, ◌-◌, ◌^◌, ◌≤◌, ◌<◌, ◌↔◌, ◌++◌, ◌∷◌, [], ℕ, List, length, IsTrue, IfOk, OnOk, OnErr};
 ghost use Rattle.mdf_format.specs.Number.{le_number, bytes_at};
-ghost use Rattle.mdf_num.specs.Halt.{StopCause};
+ghost use Rattle.mdf_block.specs.Reads.{Looks};
 ghost use Rattle.mdf_stream.specs.Parts.{AreBehind, stream_of, stream_size, ArePartsInside};
 ghost use Rattle.mdf_stream.specs.Range.{parts_between};
 
@@ -116,11 +116,7 @@ impl DataView {
     ) -> Result<(), Stop>
         requires inside { ArePartsInside (P.size span.old) self.now }
         requires within { at + length buf.old ≤ stream_size self.now }
-        ensures filled { OnOk result ((f : List ℕ) → P.bytes span.old ≡ Some f →
-            buf.new ≡ bytes_at (length buf.old) (stream_of f self.now) at) }
-        ensures same { P.bytes span.new ≡ P.bytes span.old }
-        ensures size { P.size span.new ≡ P.size span.old }
-        ensures cause { StopCause P.may_want (P.faults span.old) (P.faults span.new) result }
+        ensures reads { Looks P.Span span.old span.new P.may_want result (λ file _. buf.new ≡ bytes_at (length buf.old) (stream_of file self.now) at) }
     {
         fill_in(span, self.items.as_slice(), self.end, at, buf, near)
     }
@@ -132,11 +128,7 @@ impl DataView {
     pub fn read_in<P: Span>(&self, span: &mut P, at: u64, buf: &mut [u8]) -> Result<(), Stop>
         requires inside { ArePartsInside (P.size span.old) self.now }
         requires within { at + length buf.old ≤ stream_size self.now }
-        ensures filled { OnOk result ((f : List ℕ) → P.bytes span.old ≡ Some f →
-            buf.new ≡ bytes_at (length buf.old) (stream_of f self.now) at) }
-        ensures same { P.bytes span.new ≡ P.bytes span.old }
-        ensures size { P.size span.new ≡ P.size span.old }
-        ensures cause { StopCause P.may_want (P.faults span.old) (P.faults span.new) result }
+        ensures reads { Looks P.Span span.old span.new P.may_want result (λ file _. buf.new ≡ bytes_at (length buf.old) (stream_of file self.now) at) }
     {
         let mut near = 0;
         self.read_near(span, at, buf, &mut near)
@@ -163,10 +155,7 @@ impl DataView {
     pub fn u32_near<P: Span>(&self, span: &mut P, at: u64, near: &mut usize) -> Result<u32, Stop>
         requires inside { ArePartsInside (P.size span.old) self.now }
         requires within { at + 4 ≤ stream_size self.now }
-        ensures number { IfOk result (λ n. (f : List ℕ) → P.bytes span.old ≡ Some f → n ≡ le_number (bytes_at 4 (stream_of f self.now) at)) }
-        ensures same { P.bytes span.new ≡ P.bytes span.old }
-        ensures size { P.size span.new ≡ P.size span.old }
-        ensures cause { StopCause P.may_want (P.faults span.old) (P.faults span.new) result }
+        ensures reads { Looks P.Span span.old span.new P.may_want result (λ file n. n ≡ le_number (bytes_at 4 (stream_of file self.now) at)) }
     {
         let number = self.number_near(span, at, 4, near)?;
         Ok(number as u32)
@@ -190,11 +179,8 @@ impl DataView {
         requires most { count ≤ 8 }
         requires inside { ArePartsInside (P.size span.old) self.now }
         requires within { at + count ≤ stream_size self.now }
-        ensures number { IfOk result (λ n. (f : List ℕ) → P.bytes span.old ≡ Some f → n ≡ le_number (bytes_at count (stream_of f self.now) at)) }
+        ensures reads { Looks P.Span span.old span.new P.may_want result (λ file n. n ≡ le_number (bytes_at count (stream_of file self.now) at)) }
         ensures fits { IfOk result (λ n. n < 256 ^ count) }
-        ensures same { P.bytes span.new ≡ P.bytes span.old }
-        ensures size { P.size span.new ≡ P.size span.old }
-        ensures cause { StopCause P.may_want (P.faults span.old) (P.faults span.new) result }
     {
         number_in(span, self.items.as_slice(), self.end, at, count, near)
     }

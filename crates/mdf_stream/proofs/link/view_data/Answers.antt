@@ -4,7 +4,7 @@ use Rattle.mdf_stream.proofs.link.view_data.Goals as goal
 
 pub returns-in-Ok-clause-stream : goal.returns-in-Ok-clause-stream
 returns-in-Ok-clause-stream c =
-    stream_found c.args.bytes.now c.args.want c.args.at _ (c.in-Ok.ensures.found c.args.bytes.now (search rules))
+    stream_found c.args.bytes.now c.args.want c.args.at _ (c.in-Ok.ensures.reads.found c.args.bytes.now (search rules))
 
 pub returns-in-Err-Memory-clause-first : goal.returns-in-Err-Memory-clause-first
 returns-in-Err-Memory-clause-first c =

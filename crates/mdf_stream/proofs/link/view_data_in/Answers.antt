@@ -9,11 +9,11 @@ returns-then-branch-clause-refused g c = λ f told.
     let want = c.args.want in
     let at = c.args.at in
     gives_with (IsTrueOfLink f want at) c.listed_in.result (listed_parts f want at) (listed_true f want at)
-    (c.listed_in.ensures.found f (c.in_ok-is_named_in.ensures.same ∙ told))
+    (c.listed_in.ensures.reads.found f (c.in_ok-is_named_in.ensures.reads.same ∙ told))
 
 pub returns-clause-refused : goal.returns-clause-refused
 returns-clause-refused g c = λ f told.
     let want = c.args.want in
     let at = c.args.at in
     gives_with (IsTrueOfLink f want at) c.one_in.result (one_part f want at) (one_true f want at)
-    (c.one_in.ensures.found f (c.in_ok-is_named_in.ensures.same ∙ told))
+    (c.one_in.ensures.reads.found f (c.in_ok-is_named_in.ensures.reads.same ∙ told))

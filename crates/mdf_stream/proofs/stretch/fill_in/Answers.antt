@@ -17,9 +17,9 @@ loop-done-preserved g c =
           let size = length-stream f (parts_of c.args.items.now) inside in
           let ends = joined_ends c.args.items.now c.args.end c.requires.joined in
           filled_more (stream_of f (parts_of c.args.items.now)) loop.buf c.front_in.new.buf c.args.buf.now c.args.at loop.done c.in_ok-done.field-0
-          (omega arith) loop.auto.buf (loop.invariant.filled f told) (c.in_ok-done.ensures.filled f (loop.invariant.same ∙ told))
+          (omega arith) loop.auto.buf (loop.invariant.filled f told) (c.in_ok-done.ensures.reads.seen f (loop.invariant.same ∙ told))
           (omega (arith, size, ends));
-      same = c.in_ok-done.ensures.same ∙ loop.invariant.same;
-      size = c.in_ok-done.ensures.size ∙ loop.invariant.size;
-      later = omega (arith, c.in_ok-done.ensures.cause.later);
+      same = c.in_ok-done.ensures.reads.same ∙ loop.invariant.same;
+      size = c.in_ok-done.ensures.reads.size ∙ loop.invariant.size;
+      later = omega (arith, c.in_ok-done.ensures.reads.cause.later);
     }
