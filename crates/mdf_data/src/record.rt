@@ -1,7 +1,6 @@
-ghost use Rattle.std.specs.Prelude.{◌≡◌, ◌+◌, ◌-◌, ◌^◌, ◌≤◌, ◌<◌, ℕ, List, Some, length, IfOk, IfSome};
+ghost use Rattle.std.specs.Prelude.{◌≡◌, ◌+◌, ◌-◌, ◌^◌, ◌≤◌, ◌<◌, Some, length, IfOk, IfSome};
 ghost use Rattle.mdf_format.specs.Number.{le_number, bytes_at};
-ghost use Rattle.mdf_num.specs.Halt.{StopCause, HaltCause};
-ghost use Rattle.mdf_block.specs.Refusal.{Gives};
+ghost use Rattle.mdf_block.specs.Reads.{Looks, Reads};
 ghost use Rattle.mdf_data.specs.declared.known.Size.{Size};
 ghost use Rattle.mdf_stream.specs.Parts.{stream_of, stream_size, ArePartsInside};
 ghost use Rattle.mdf_data.specs.Record.{IsIdSize, least_size, group_of, body_size, id_at, group_piece, split_refusal};
@@ -40,10 +39,7 @@ fn id_in<P: Span>(
     requires id_size { IsIdSize id_size }
     requires inside { ArePartsInside (P.size span.old) view.now }
     requires within { at + id_size ≤ stream_size view.now }
-    ensures id { IfOk result (λ id. (f : List ℕ) → P.bytes span.old ≡ Some f → id ≡ le_number (bytes_at id_size (stream_of f view.now) at)) }
-    ensures same { P.bytes span.new ≡ P.bytes span.old }
-    ensures size { P.size span.new ≡ P.size span.old }
-    ensures cause { StopCause P.may_want (P.faults span.old) (P.faults span.new) result }
+    ensures reads { Looks P.Span span.old span.new P.may_want result (λ file id. id ≡ le_number (bytes_at id_size (stream_of file view.now) at)) }
 {
     view.number_near(span, at, id_size, near)
 }
@@ -60,12 +56,9 @@ fn body_size_in<P: Span>(
 ) -> Result<Option<u64>, Stop>
     requires inside { ArePartsInside (P.size span.old) view.now }
     requires within { at + rest ≤ stream_size view.now }
-    ensures found { IfOk result (λ found. (f : List ℕ) → P.bytes span.old ≡ Some f → found ≡ body_size (stream_of f view.now) at rest size) }
+    ensures reads { Looks P.Span span.old span.new P.may_want result (λ file found. found ≡ body_size (stream_of file view.now) at rest size) }
     ensures most { IfOk result (λ found. IfSome found (λ len. len ≤ rest)) }
     ensures least { IfOk result (λ found. IfSome found (λ len. least_size size ≤ len)) }
-    ensures same { P.bytes span.new ≡ P.bytes span.old }
-    ensures size { P.size span.new ≡ P.size span.old }
-    ensures cause { StopCause P.may_want (P.faults span.old) (P.faults span.new) result }
 {
     match size {
         Size::Fixed(size) => {
@@ -100,12 +93,8 @@ pub(crate) fn id_here_in<P: Span>(
     requires id_size { IsIdSize id_size }
     requires inside { ArePartsInside (P.size span.old) view.now }
     requires within { at ≤ stream_size view.now }
-    ensures found { (f : List ℕ) → P.bytes span.old ≡ Some f →
-        Gives split_refusal result (id_at (stream_of f view.now) id_size at (stream_size view.now - at)) }
+    ensures reads { Reads P.Span span.old span.new P.may_want split_refusal result (λ file. id_at (stream_of file view.now) id_size at (stream_size view.now - at)) }
     ensures there { IfOk result (λ found. IfSome found (λ id. at + id_size ≤ stream_size view.now)) }
-    ensures same { P.bytes span.new ≡ P.bytes span.old }
-    ensures size { P.size span.new ≡ P.size span.old }
-    ensures cause { HaltCause P.may_want (P.faults span.old) (P.faults span.new) result }
 {
     let rest = view.len() - at;
     if rest == 0 {
@@ -132,15 +121,11 @@ pub(crate) fn group_piece_in<P: Span>(
 ) -> Result<Piece, Halt<SplitFault>>
     requires inside { ArePartsInside (P.size span.old) view.now }
     requires within { at + id_size ≤ stream_size view.now }
-    ensures found { (f : List ℕ) → P.bytes span.old ≡ Some f →
-        Gives split_refusal result (group_piece (stream_of f view.now) id_size at (stream_size view.now - at) id group) }
+    ensures reads { Reads P.Span span.old span.new P.may_want split_refusal result (λ file. group_piece (stream_of file view.now) id_size at (stream_size view.now - at) id group) }
     ensures place { IfOk result (λ piece. piece.at ≡ at) }
     ensures within { IfOk result (λ piece. at + piece.len ≤ stream_size view.now) }
     ensures fits { IfOk result (λ piece. at + piece.len < 2 ^ 62) }
     ensures group { IfOk result (λ piece. (size : Size) × ((group ≡ Some (record { which = piece.which; size = size })) × (id_size + least_size size ≤ piece.len))) }
-    ensures same { P.bytes span.new ≡ P.bytes span.old }
-    ensures size { P.size span.new ≡ P.size span.old }
-    ensures cause { HaltCause P.may_want (P.faults span.old) (P.faults span.new) result }
 {
     let Some(group) = group else {
         return Err(Halt::Fault(SplitFault::UnknownId { id, at }));

@@ -1,6 +1,6 @@
-ghost use Rattle.std.specs.Prelude.{◌≡◌, ◌-◌, ◌^◌, ◌≤◌, ◌<◌, ℕ, List, Some, length, IfOk, IfSome, OnErr};
-ghost use Rattle.mdf_num.specs.Halt.{HaltCause};
-ghost use Rattle.mdf_block.specs.Refusal.{Gives, GivesOf};
+ghost use Rattle.std.specs.Prelude.{◌≡◌, ◌-◌, ◌^◌, ◌≤◌, ◌<◌, length, IfOk, IfSome, OnErr};
+ghost use Rattle.mdf_block.specs.Refusal.{GivesOf};
+ghost use Rattle.mdf_block.specs.Reads.{Reads};
 ghost use Rattle.mdf_stream.specs.Parts.{stream_of, stream_size, ArePartsInside};
 ghost use Rattle.mdf_data.specs.Record.{IsIdSize, piece_at, split_refusal, IsPieceAt};
 ghost use Rattle.mdf_data.specs.Splitting.{advanced};
@@ -58,15 +58,12 @@ impl Splitter {
     ) -> Result<Option<Piece>, Halt<SplitFault>>
         requires inside { ArePartsInside (P.size span.old) view.now }
         requires within { self.old.place ≤ stream_size view.now }
-        ensures found { (f : List ℕ) → P.bytes span.old ≡ Some f → Gives split_refusal result
-            (piece_at (stream_of f view.now) self.old.id_size self.old.known self.old.place (stream_size view.now - self.old.place)) }
+        ensures reads { Reads P.Span span.old span.new P.may_want split_refusal result
+            (λ file. piece_at (stream_of file view.now) self.old.id_size self.old.known self.old.place (stream_size view.now - self.old.place)) }
         ensures piece { IfOk result (λ found. IfSome found (IsPieceAt (stream_size view.now) self.old.id_size self.old.known self.old.place)) }
         ensures next { IfOk result (λ found. self.new ≡ advanced self.old found) }
         ensures err { OnErr result (self.new ≡ self.old) }
         ensures within { self.new.place ≤ stream_size view.now }
-        ensures same { P.bytes span.new ≡ P.bytes span.old }
-        ensures size { P.size span.new ≡ P.size span.old }
-        ensures cause { HaltCause P.may_want (P.faults span.old) (P.faults span.new) result }
     {
         let mut near = 0;
         let Some(id) = id_here_in(span, view, self.id_size, self.place, &mut near)? else {

@@ -1,8 +1,8 @@
-ghost use Rattle.std.specs.Prelude.{◌≡◌, ◌+◌, ◌-◌, ◌^◌, ◌≤◌, ◌<◌, [], ℕ, List, Some, length, replicate, slice_index_or, true, false, IfOk, IfSome, OnOk};
+ghost use Rattle.std.specs.Prelude.{◌≡◌, ◌+◌, ◌-◌, ◌^◌, ◌≤◌, ◌<◌, [], List, length, replicate, slice_index_or, true, false, IfOk, IfSome, OnOk};
 ghost use Rattle.std.specs.BTreeMap.{get};
 ghost use Rattle.std.specs.Ordering.{nat_cmp};
-ghost use Rattle.mdf_num.specs.Halt.{HaltCause};
 ghost use Rattle.mdf_block.specs.Refusal.{Gives};
+ghost use Rattle.mdf_block.specs.Reads.{Reads, Says};
 ghost use Rattle.mdf_data.specs.declared.known.Known.{Known};
 ghost use Rattle.mdf_stream.specs.Parts.{stream_of, stream_size, ArePartsInside};
 ghost use Rattle.mdf_data.specs.Record.{IsIdSize, piece_at, split_refusal, IsPieceAt};
@@ -32,13 +32,10 @@ fn piece_by<P: Span>(
     requires id_size { IsIdSize id_size }
     requires inside { ArePartsInside (P.size span.old) view.now }
     requires within { at ≤ stream_size view.now }
-    ensures found { (f : List ℕ) (known : List Known) → P.bytes span.old ≡ Some f → IsTable known (get nat_cmp table.now) →
-        Gives split_refusal result (piece_at (stream_of f view.now) id_size known at (stream_size view.now - at)) }
+    ensures reads { Says P.Span span.old span.new P.may_want split_refusal result (λ file. (known : List Known) → IsTable known (get nat_cmp table.now) →
+        Gives split_refusal result (piece_at (stream_of file view.now) id_size known at (stream_size view.now - at))) }
     ensures piece { IfOk result (λ found. IfSome found (λ piece. (known : List Known) → IsTable known (get nat_cmp table.now) →
         IsPieceAt (stream_size view.now) id_size known at piece)) }
-    ensures same { P.bytes span.new ≡ P.bytes span.old }
-    ensures size { P.size span.new ≡ P.size span.old }
-    ensures cause { HaltCause P.may_want (P.faults span.old) (P.faults span.new) result }
 {
     let Some(id) = id_here_in(span, view, id_size, at, near)? else {
         return Ok(None);
@@ -115,13 +112,10 @@ pub fn places_in<P: Span>(
     requires id_size { IsIdSize id_size }
     requires few { length known.now < 2 ^ 32 }
     requires inside { ArePartsInside (P.size span.old) view.now }
-    ensures found { (f : List ℕ) → P.bytes span.old ≡ Some f →
-        Gives split_refusal result (kept_places (stream_of f view.now) (stream_size view.now) id_size known.now counted.now) }
+    ensures reads { Reads P.Span span.old span.new true split_refusal result
+        (λ file. kept_places (stream_of file view.now) (stream_size view.now) id_size known.now counted.now) }
     ensures count { IfOk result (λ lists. length lists ≡ length known.now) }
     ensures room { IfOk result (HaveRoom (stream_size view.now) known.now) }
-    ensures same { P.bytes span.new ≡ P.bytes span.old }
-    ensures size { P.size span.new ≡ P.size span.old }
-    ensures cause { HaltCause true (P.faults span.old) (P.faults span.new) result }
 {
     let table = table_of(alloc, known)?;
     let mut lists = empties(alloc, known.len())?;

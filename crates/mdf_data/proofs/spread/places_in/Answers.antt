@@ -1,10 +1,11 @@
-use Rattle.std.proofs.Common.{◌≡◌, ◌+◌, ◌≤◌, ℕ, Bool, false, List, Ok, length, get_or, refl, sym, ◌∙◌, ap, subst, arith}
+use Rattle.std.proofs.Common.{◌≡◌, ◌+◌, ◌≤◌, ℕ, Bool, false, List, Ok, length, get_or, refl, sym, ◌∙◌, ap, subst, arith, rules}
 use Rattle.std.proofs.lemmas.List.{length-replicate}
 use Rattle.std.specs.BTreeMap.{get}
 use Rattle.std.specs.Ordering.{nat_cmp}
 use Rattle.std.proofs.lemmas.Result.{err_from_is_err_and}
 use Rattle.mdf_block.specs.Refusal.{Read, ◌>>=◌}
 use Rattle.mdf_block.proofs.Refusals.{halts_then}
+use Rattle.mdf_block.proofs.Readers.{says_of}
 use Rattle.mdf_stream.specs.Parts.{stream_of, stream_size}
 use Rattle.mdf_data.specs.Record.{split_refusal}
 use Rattle.mdf_data.specs.Places.{places, HaveRoom}
@@ -25,19 +26,19 @@ records-init g c = record {
   later = omega arith;
 }
 
-pub returns-in_err-piece-clause-found : goal.returns-in_err-piece-clause-found
+pub returns-in_err-piece-clause-reads : goal.returns-in_err-piece-clause-reads
 unfolding kept_places
-returns-in_err-piece-clause-found g c = λ f told.
+returns-in_err-piece-clause-reads g c = says_of (search rules) (λ f told.
     let p = err_from_is_err_and c.from_residual-in_err-piece.result c.from_residual-in_err-piece.ensures.1 in
     let loop = c.records in
     let stream = stream_of f c.args.view.now in
     let total = stream_size c.args.view.now in
-    let halted = c.in_err-piece.ensures.found f c.args.known.now (loop.invariant.same ∙ told) c.in_ok-table.ensures in
+    let halted = c.in_err-piece.ensures.reads.found f (loop.invariant.same ∙ told) c.args.known.now c.in_ok-table.ensures in
     let so_far = loop.invariant.found f told in
     rw (p.1, p.2) (
     halts_then split_refusal _ (places stream total c.args.id_size c.args.known.now) (λ lists. Ok (kept lists c.args.counted.now))
     (ends stream total c.args.id_size c.args.known.now split_refusal _ so_far.all loop.at _ halted so_far.leads)
-    )
+    ))
 
 pub records-smaller : goal.records-smaller
 records-smaller g c =
@@ -67,7 +68,7 @@ records-preserved g c =
       found = λ f told.
           let stream = stream_of f c.args.view.now in
           let whole = places stream total c.args.id_size known in
-          let found = c.in_ok-piece.ensures.found f known (loop.invariant.same ∙ told) c.in_ok-table.ensures ∙ ap Ok c.in-Some.is in
+          let found = c.in_ok-piece.ensures.reads.found f (loop.invariant.same ∙ told) known c.in_ok-table.ensures ∙ ap Ok c.in-Some.is in
           subst (λ (lists : List (List ℕ)). LeadsKept stream total c.args.id_size known counted lists (piece.at + piece.len) whole) (sym added)
           (kept_goes_on stream total c.args.id_size known counted loop.lists.items loop.at piece whole found ends more (loop.invariant.found f told));
       count =
@@ -76,24 +77,24 @@ records-preserved g c =
           subst (HaveRoom total known) (sym added)
           (room_kept (get_or counted piece.which false) total c.args.id_size known loop.lists.items loop.at piece loop.invariant.room loop.invariant.count stands);
       within = ends;
-      same = c.in_ok-piece.ensures.same ∙ loop.invariant.same;
-      size = c.in_ok-piece.ensures.size ∙ loop.invariant.size;
-      later = omega (arith, c.in_ok-piece.ensures.cause.later);
+      same = c.in_ok-piece.ensures.reads.same ∙ loop.invariant.same;
+      size = c.in_ok-piece.ensures.reads.size ∙ loop.invariant.size;
+      later = omega (arith, c.in_ok-piece.ensures.reads.cause.later);
     }
 
-pub returns-clause-found : goal.returns-clause-found
+pub returns-clause-reads : goal.returns-clause-reads
 unfolding kept_places
-returns-clause-found g c = λ f told.
+returns-clause-reads g c = says_of (search rules) (λ f told.
     let loop = c.records in
     let stream = stream_of f c.args.view.now in
     let total = stream_size c.args.view.now in
     let so_far = loop.invariant.found f told in
     let found =
-    c.in_ok-piece.ensures.found f c.args.known.now (loop.invariant.same ∙ told) c.in_ok-table.ensures
+    c.in_ok-piece.ensures.reads.found f (loop.invariant.same ∙ told) c.args.known.now c.in_ok-table.ensures
     ∙ ap Ok (none_of c.in_ok-piece.field-0 c.in_default.not-Some) in
     ap (λ (read : Read (List (List ℕ))). read >>= λ lists. Ok (kept lists c.args.counted.now))
     (is_done stream total c.args.id_size c.args.known.now so_far.all loop.at _ found so_far.leads)
-    ∙ ap Ok (sym so_far.kept_are ∙ sym c.from_vec.ensures)
+    ∙ ap Ok (sym so_far.kept_are ∙ sym c.from_vec.ensures))
 
 pub returns-clause-room : goal.returns-clause-room
 returns-clause-room g c = λ k d e below. rw c.from_vec.ensures (c.records.invariant.room k d e below)
