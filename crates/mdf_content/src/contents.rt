@@ -1,9 +1,9 @@
-ghost use Rattle.std.specs.Prelude.{◌≡◌, ◌+◌, ◌*◌, ◌≤◌, ◌<◌, ◌++◌, ◌||◌, not, nat_eq, ℕ, List, Some, length, map, reverse, take, true, false, IfOk, OnOk};
+ghost use Rattle.std.specs.Prelude.{◌≡◌, ◌+◌, ◌*◌, ◌≤◌, ◌<◌, ◌++◌, ◌||◌, not, nat_eq, ℕ, Some, length, map, reverse, take, true, false, IfOk, OnOk};
 ghost use Rattle.std.specs.List.{AllByRecursion};
 ghost use Rattle.std.specs.Ordering.{nat_cmp};
 ghost use Rattle.std.specs.BTreeSet.{contains};
 ghost use Rattle.mdf_format.specs.Number.{bytes_at};
-ghost use Rattle.mdf_num.specs.Halt.{StopCause};
+ghost use Rattle.mdf_block.specs.Reads.{Looks};
 ghost use Rattle.mdf_stream.specs.Parts.{stream_of, stream_size, ArePartsInside};
 ghost use Rattle.mdf_data.specs.Places.{steps};
 ghost use Rattle.mdf_content.specs.Contents.{are_ids_apart, are_said, content_of, is_strict, leaves_nothing, taken};
@@ -57,11 +57,7 @@ pub(crate) fn put_record<P: Span>(
     requires inside { ArePartsInside (P.size span.old) view.now }
     requires room { place + size ≤ stream_size view.now }
     requires fits { start + size ≤ length content.old }
-    ensures put { OnOk result ((f : List ℕ) → P.bytes span.old ≡ Some f →
-        take (start + size) content.new ≡ take start content.old ++ bytes_at size (stream_of f view.now) place) }
-    ensures same { P.bytes span.new ≡ P.bytes span.old }
-    ensures size { P.size span.new ≡ P.size span.old }
-    ensures cause { StopCause P.may_want (P.faults span.old) (P.faults span.new) result }
+    ensures reads { Looks P.Span span.old span.new P.may_want result (λ file _. take (start + size) content.new ≡ take start content.old ++ bytes_at size (stream_of file view.now) place) }
 {
     view.read_near(span, place, &mut content[start..start + size], near)
 }
@@ -79,10 +75,7 @@ fn put_records<P: Span>(
     requires room { AllByRecursion (λ place. place + size ≤ stream_size view.now) places.now }
     requires few { count ≤ length places.now }
     requires long { length content.old ≡ count * size }
-    ensures put { OnOk result ((f : List ℕ) → P.bytes span.old ≡ Some f → content.new ≡ content_of (stream_of f view.now) size (take count places.now)) }
-    ensures same { P.bytes span.new ≡ P.bytes span.old }
-    ensures size { P.size span.new ≡ P.size span.old }
-    ensures cause { StopCause P.may_want (P.faults span.old) (P.faults span.new) result }
+    ensures reads { Looks P.Span span.old span.new P.may_want result (λ file _. content.new ≡ content_of (stream_of file view.now) size (take count places.now)) }
 {
     let mut row = 0;
     let mut done = 0;
@@ -109,10 +102,7 @@ fn listed_content_in<P: Span>(
     requires inside { ArePartsInside (P.size span.old) view.now }
     requires room { AllByRecursion (λ place. place + size ≤ stream_size view.now) places.now }
     requires few { count ≤ length places.now }
-    ensures content { IfOk result (λ content. (f : List ℕ) → P.bytes span.old ≡ Some f → content ≡ content_of (stream_of f view.now) size (take count places.now)) }
-    ensures same { P.bytes span.new ≡ P.bytes span.old }
-    ensures size { P.size span.new ≡ P.size span.old }
-    ensures cause { StopCause true (P.faults span.old) (P.faults span.new) result }
+    ensures reads { Looks P.Span span.old span.new true result (λ file content. content ≡ content_of (stream_of file view.now) size (take count places.now)) }
 {
     let Some(total) = count.checked_mul(size) else {
         return Err(Stop::Memory);
@@ -145,10 +135,7 @@ fn even_content_in<P: Span>(
     requires inside { ArePartsInside (P.size span.old) view.now }
     requires room { AllByRecursion (λ place. place + size ≤ stream_size view.now) places.now }
     requires few { count ≤ length places.now }
-    ensures content { IfOk result (λ content. (f : List ℕ) → P.bytes span.old ≡ Some f → content ≡ content_of (stream_of f view.now) size (take count places.now)) }
-    ensures same { P.bytes span.new ≡ P.bytes span.old }
-    ensures size { P.size span.new ≡ P.size span.old }
-    ensures cause { StopCause true (P.faults span.old) (P.faults span.new) result }
+    ensures reads { Looks P.Span span.old span.new true result (λ file content. content ≡ content_of (stream_of file view.now) size (take count places.now)) }
 {
     let _total = view.len();
     bytes_in(alloc, span, view, count * size, room)
@@ -167,10 +154,7 @@ pub(crate) fn content_in<P: Span>(
     requires inside { ArePartsInside (P.size span.old) view.now }
     requires room { AllByRecursion (λ place. place + size ≤ stream_size view.now) places.now }
     requires few { count ≤ length places.now }
-    ensures content { IfOk result (λ content. (f : List ℕ) → P.bytes span.old ≡ Some f → content ≡ content_of (stream_of f view.now) size (take count places.now)) }
-    ensures same { P.bytes span.new ≡ P.bytes span.old }
-    ensures size { P.size span.new ≡ P.size span.old }
-    ensures cause { StopCause true (P.faults span.old) (P.faults span.new) result }
+    ensures reads { Looks P.Span span.old span.new true result (λ file content. content ≡ content_of (stream_of file view.now) size (take count places.now)) }
 {
     if places.step() == Some(size) {
         return even_content_in(alloc, span, view, size, places, count, room);
@@ -261,10 +245,7 @@ fn group_fetched_in<P: Span>(
 ) -> Result<Contents, Stop>
     requires view { ArePartsInside (P.size span.old) view.now }
     requires inside { IsGroupInside (P.size span.old) view.now lists.now found }
-    ensures fetched { IfOk result (λ contents. (f : List ℕ) → P.bytes span.old ≡ Some f → contents ≡ fetched f view.now lists.now found) }
-    ensures same { P.bytes span.new ≡ P.bytes span.old }
-    ensures size { P.size span.new ≡ P.size span.old }
-    ensures cause { StopCause true (P.faults span.old) (P.faults span.new) result }
+    ensures reads { Looks P.Span span.old span.new true result (λ file contents. contents ≡ fetched file view.now lists.now found) }
 {
     let Found {
         shape,
@@ -297,10 +278,7 @@ pub(crate) fn add_fetched_in<P: Span>(
 ) -> Result<(), Stop>
     requires view { ArePartsInside (P.size span.old) view.now }
     requires inside { AllByRecursion (IsGroupInside (P.size span.old) view.now lists.now) groups.items }
-    ensures fetched { OnOk result ((f : List ℕ) → P.bytes span.old ≡ Some f → all.new ≡ all.old ++ map (fetched f view.now lists.now) (reverse groups.items)) }
-    ensures same { P.bytes span.new ≡ P.bytes span.old }
-    ensures size { P.size span.new ≡ P.size span.old }
-    ensures cause { StopCause true (P.faults span.old) (P.faults span.new) result }
+    ensures reads { Looks P.Span span.old span.new true result (λ file _. all.new ≡ all.old ++ map (fetched file view.now lists.now) (reverse groups.items)) }
 {
     let mut groups = groups;
     'groups: while let Some(found) = groups.pop() {
@@ -323,10 +301,7 @@ pub fn fetch_in<P: Span>(
     room: &mut Room,
 ) -> Result<DataContents, Stop>
     requires inside { IsFoundInside (P.size span.old) found }
-    ensures fetched { IfOk result (λ contents. (f : List ℕ) → P.bytes span.old ≡ Some f → contents ≡ data_fetched f found) }
-    ensures same { P.bytes span.new ≡ P.bytes span.old }
-    ensures size { P.size span.new ≡ P.size span.old }
-    ensures cause { StopCause true (P.faults span.old) (P.faults span.new) result }
+    ensures reads { Looks P.Span span.old span.new true result (λ file contents. contents ≡ data_fetched file found) }
 {
     let DataFound {
         view,

@@ -1,7 +1,6 @@
-ghost use Rattle.std.specs.Prelude.{◌≡◌, ◌+◌, ◌≤◌, ℕ, List, Some, [], map, slice_index_or, true, false, IfOk, IfErr};
+ghost use Rattle.std.specs.Prelude.{◌≡◌, ◌+◌, ◌≤◌, Some, [], map, slice_index_or, true, false, IfOk};
 ghost use Rattle.std.specs.List.{AllByRecursion};
-ghost use Rattle.mdf_num.specs.Halt.{HaltCause};
-ghost use Rattle.mdf_block.specs.Refusal.{Gives, IsPlain};
+ghost use Rattle.mdf_block.specs.Reads.{Reads};
 ghost use Rattle.mdf_stream.specs.Parts.{stream_size, ArePartsInside};
 ghost use Rattle.mdf_data.specs.Places.{HaveRoom};
 ghost use Rattle.mdf_group.specs.Group.{is_variable};
@@ -70,12 +69,8 @@ fn group_found_in<P: Span>(
     requires other { is_variable group.now ≡ false }
     requires listed { places.now ≡ slice_index_or held.now.lists.now k [] }
     requires room { AllByRecursion (λ place. place + record_size group.now ≤ stream_size held.now.view.now) places.now }
-    ensures found { (f : List ℕ) → P.bytes span.old ≡ Some f → Gives read_refusal result (group_found f (held_of held.now) k group.now places.now) }
+    ensures reads { Reads P.Span span.old span.new true read_refusal result (λ file. group_found file (held_of held.now) k group.now places.now) }
     ensures inside { IfOk result (IsGroupInside (P.size span.old) held.now.view.now held.now.lists.now) }
-    ensures plain { IfErr result (IsPlain read_refusal) }
-    ensures same { P.bytes span.new ≡ P.bytes span.old }
-    ensures size { P.size span.new ≡ P.size span.old }
-    ensures cause { HaltCause true (P.faults span.old) (P.faults span.new) result }
 {
     let shape = layout_in(alloc, group)?;
     let count = group.cycles.min(places.len());
@@ -157,13 +152,8 @@ fn groups_found_in<P: Span>(
 ) -> Result<Rows<Found>, Halt<ReadFault>>
     requires inside { ArePartsInside (P.size span.old) view.now }
     requires room { HaveRoom (stream_size view.now) (map known_of groups.now) lists.now }
-    ensures found { (f : List ℕ) → P.bytes span.old ≡ Some f → Gives read_refusal result
-        (groups_found f (record { parts = view.now; groups = groups.now; lists = lists.now })) }
+    ensures reads { Reads P.Span span.old span.new true read_refusal result (λ file. groups_found file (record { parts = view.now; groups = groups.now; lists = lists.now })) }
     ensures inside { IfOk result (AllByRecursion (IsGroupInside (P.size span.old) view.now lists.now)) }
-    ensures plain { IfErr result (IsPlain read_refusal) }
-    ensures same { P.bytes span.new ≡ P.bytes span.old }
-    ensures size { P.size span.new ≡ P.size span.old }
-    ensures cause { HaltCause true (P.faults span.old) (P.faults span.new) result }
 {
     let table = values_table(alloc, groups)?;
     let held = Held {
@@ -188,12 +178,8 @@ fn data_at_in<P: Span>(
 ) -> Result<DataFound, Halt<ReadFault>>
     requires inside { ArePartsInside (P.size span.old) view }
     requires room { HaveRoom (stream_size view) (map known_of row.now.groups) lists }
-    ensures found { (f : List ℕ) → P.bytes span.old ≡ Some f → Gives read_refusal result (data_at f view row.now lists) }
+    ensures reads { Reads P.Span span.old span.new true read_refusal result (λ file. data_at file view row.now lists) }
     ensures inside { IfOk result (IsFoundInside (P.size span.old)) }
-    ensures plain { IfErr result (IsPlain read_refusal) }
-    ensures same { P.bytes span.new ≡ P.bytes span.old }
-    ensures size { P.size span.new ≡ P.size span.old }
-    ensures cause { HaltCause true (P.faults span.old) (P.faults span.new) result }
 {
     let groups = groups_found_in(
         alloc,
@@ -232,12 +218,8 @@ pub fn data_found_in<P: Span>(
     number: u32,
     room: &mut Room,
 ) -> Result<(DataFound, u32), Halt<ReadFault>>
-    ensures found { (f : List ℕ) → P.bytes span.old ≡ Some f → Gives read_refusal result (data_kept wanted f row.now number) }
+    ensures reads { Reads P.Span span.old span.new true read_refusal result (λ file. data_kept wanted file row.now number) }
     ensures inside { IfOk result (λ found. IsFoundInside (P.size span.old) found.0) }
-    ensures plain { IfErr result (IsPlain read_refusal) }
-    ensures same { P.bytes span.new ≡ P.bytes span.old }
-    ensures size { P.size span.new ≡ P.size span.old }
-    ensures cause { HaltCause true (P.faults span.old) (P.faults span.new) result }
 {
     layouts_in(alloc, span, row)?;
     let view = view_of(alloc, span, row.content, Kind::Dt)?;

@@ -1,6 +1,7 @@
-ghost use Rattle.std.specs.Prelude.{◌≡◌, ℕ, List, Some, map, true, false, IsTrue, IfOk, IfErr};
+ghost use Rattle.std.specs.Prelude.{◌≡◌, map, true, false, IsTrue, IfOk, IfErr};
 ghost use Rattle.mdf_num.specs.Halt.{HaltCause};
 ghost use Rattle.mdf_block.specs.Refusal.{Gives, IsPlain, Refuses};
+ghost use Rattle.mdf_block.specs.Reads.{Reads};
 ghost use Rattle.mdf_block.specs.Every.{AllByNumber};
 ghost use Rattle.mdf_group.specs.Group.{is_variable};
 ghost use Rattle.mdf_layout.specs.Rule.{IsFirstBad};
@@ -146,12 +147,8 @@ pub fn layouts_in<P: Span>(
     span: &mut P,
     row: &DataRow,
 ) -> Result<(), Halt<ReadFault>>
-    ensures found { (f : List ℕ) → P.bytes span.old ≡ Some f → Gives read_refusal result (layouts row.now) }
+    ensures reads { Reads P.Span span.old span.new true read_refusal result (λ file. layouts row.now) }
     ensures ids { IfOk result (λ _. IsTrue (has_id_size row.now)) }
-    ensures plain { IfErr result (IsPlain read_refusal) }
-    ensures same { P.bytes span.new ≡ P.bytes span.old }
-    ensures size { P.size span.new ≡ P.size span.old }
-    ensures cause { HaltCause true (P.faults span.old) (P.faults span.new) result }
 {
     if !has_id_size(row) {
         return Err(Halt::Fault(ReadFault::Layout { at: row.at }));

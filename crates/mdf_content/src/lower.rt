@@ -1,6 +1,7 @@
-ghost use Rattle.std.specs.Prelude.{◌≡◌, ◌+◌, ◌*◌, ◌^◌, ◌<◌, ◌↔◌, ℕ, List, Some, length, true, IsTrue, IfOk, IfErr};
-ghost use Rattle.mdf_num.specs.Halt.{HaltCause, HaltReason};
-ghost use Rattle.mdf_block.specs.Refusal.{Gives, Halts, IsPlain, Read, Refuses};
+ghost use Rattle.std.specs.Prelude.{◌≡◌, ◌+◌, ◌*◌, ◌^◌, ◌<◌, ◌↔◌, ℕ, List, length, true, IsTrue, IfOk};
+ghost use Rattle.mdf_num.specs.Halt.{HaltReason};
+ghost use Rattle.mdf_block.specs.Refusal.{Halts, IsPlain, Read, Refuses};
+ghost use Rattle.mdf_block.specs.Reads.{Reads};
 ghost use Rattle.mdf_stream.specs.Parts.{stream_of, stream_size, ArePartsInside};
 ghost use Rattle.mdf_stream.specs.declared.part.Part.{Part};
 ghost use Rattle.mdf_stream.specs.Link.{data_parts, data_refusal};
@@ -47,12 +48,8 @@ pub(crate) fn view_of<P: Span>(
     at: u64,
     want: Kind,
 ) -> Result<DataView, Halt<ReadFault>>
-    ensures found { (f : List ℕ) → P.bytes span.old ≡ Some f → Gives read_refusal result (data_parts f want at) }
+    ensures reads { Reads P.Span span.old span.new true read_refusal result (λ file. data_parts file want at) }
     ensures inside { IfOk result (ArePartsInside (P.size span.old)) }
-    ensures plain { IfErr result (IsPlain read_refusal) }
-    ensures same { P.bytes span.new ≡ P.bytes span.old }
-    ensures size { P.size span.new ≡ P.size span.old }
-    ensures cause { HaltCause true (P.faults span.old) (P.faults span.new) result }
 {
     match view_data_in(alloc, span, at, want) {
         Ok(view) => {
@@ -80,14 +77,9 @@ pub(crate) fn places_with<P: Span>(
     requires id_size { IsIdSize id_size }
     requires few { length known.now < 2 ^ 32 }
     requires inside { ArePartsInside (P.size span.old) view.now }
-    ensures found { (f : List ℕ) → P.bytes span.old ≡ Some f →
-        Gives read_refusal result (kept_places (stream_of f view.now) (stream_size view.now) id_size known.now counted.now) }
+    ensures reads { Reads P.Span span.old span.new true read_refusal result (λ file. kept_places (stream_of file view.now) (stream_size view.now) id_size known.now counted.now) }
     ensures count { IfOk result (λ lists. length lists ≡ length known.now) }
     ensures room { IfOk result (HaveRoom (stream_size view.now) known.now) }
-    ensures plain { IfErr result (IsPlain read_refusal) }
-    ensures same { P.bytes span.new ≡ P.bytes span.old }
-    ensures size { P.size span.new ≡ P.size span.old }
-    ensures cause { HaltCause true (P.faults span.old) (P.faults span.new) result }
 {
     match places_in(alloc, span, view, id_size, known, counted) {
         Ok(lists) => Ok(lists),

@@ -1,6 +1,7 @@
-ghost use Rattle.std.specs.Prelude.{◌≡◌, ◌+◌, ◌^◌, ◌<◌, [], ℕ, List, Some, length, map, slice_index_or, true, IsTrue, IfOk, IfErr};
+ghost use Rattle.std.specs.Prelude.{◌≡◌, ◌+◌, ◌^◌, ◌<◌, [], length, map, slice_index_or, true, IsTrue, IfOk, IfErr};
 ghost use Rattle.mdf_num.specs.Halt.{HaltCause};
 ghost use Rattle.mdf_block.specs.Refusal.{Gives, IsPlain};
+ghost use Rattle.mdf_block.specs.Reads.{Reads};
 ghost use Rattle.mdf_stream.specs.Parts.{stream_of, stream_size, ArePartsInside};
 ghost use Rattle.mdf_data.specs.Places.{HaveRoom};
 ghost use Rattle.mdf_content.specs.Fault.{read_refusal};
@@ -134,13 +135,8 @@ pub fn records_in<P: Span>(
 ) -> Result<Rows<Places>, Halt<ReadFault>>
     requires ids { IsTrue (has_id_size row.now) }
     requires inside { ArePartsInside (P.size span.old) view.now }
-    ensures found { (f : List ℕ) → P.bytes span.old ≡ Some f →
-        Gives read_refusal result (places_of (stream_of f view.now) (stream_size view.now) believed row.now) }
+    ensures reads { Reads P.Span span.old span.new true read_refusal result (λ file. places_of (stream_of file view.now) (stream_size view.now) believed row.now) }
     ensures room { IfOk result (HaveRoom (stream_size view.now) (map known_of row.now.groups)) }
-    ensures plain { IfErr result (IsPlain read_refusal) }
-    ensures same { P.bytes span.new ≡ P.bytes span.old }
-    ensures size { P.size span.new ≡ P.size span.old }
-    ensures cause { HaltCause true (P.faults span.old) (P.faults span.new) result }
 {
     kept_records_in(alloc, span, view, believed, Wanted::Every, row)
 }
@@ -160,13 +156,8 @@ pub(crate) fn kept_records_in<P: Span>(
 ) -> Result<Rows<Places>, Halt<ReadFault>>
     requires ids { IsTrue (has_id_size row.now) }
     requires inside { ArePartsInside (P.size span.old) view.now }
-    ensures found { (f : List ℕ) → P.bytes span.old ≡ Some f →
-        Gives read_refusal result (kept_of wanted (stream_of f view.now) (stream_size view.now) believed row.now) }
+    ensures reads { Reads P.Span span.old span.new true read_refusal result (λ file. kept_of wanted (stream_of file view.now) (stream_size view.now) believed row.now) }
     ensures room { IfOk result (HaveRoom (stream_size view.now) (map known_of row.now.groups)) }
-    ensures plain { IfErr result (IsPlain read_refusal) }
-    ensures same { P.bytes span.new ≡ P.bytes span.old }
-    ensures size { P.size span.new ≡ P.size span.old }
-    ensures cause { HaltCause true (P.faults span.old) (P.faults span.new) result }
 {
     let groups = row.groups.as_slice();
     if row.id_size == 0 {
@@ -263,11 +254,7 @@ pub fn counted_in<P: Span>(
     groups: &[GroupRow],
     number: u32,
 ) -> Result<u32, Halt<ReadFault>>
-    ensures found { (f : List ℕ) → P.bytes span.old ≡ Some f → Gives read_refusal result (counted lists.now groups.now number) }
-    ensures plain { IfErr result (IsPlain read_refusal) }
-    ensures same { P.bytes span.new ≡ P.bytes span.old }
-    ensures size { P.size span.new ≡ P.size span.old }
-    ensures cause { HaltCause true (P.faults span.old) (P.faults span.new) result }
+    ensures reads { Reads P.Span span.old span.new true read_refusal result (λ file. counted lists.now groups.now number) }
 {
     let (_, next) = every_in(alloc, &Counts { lists }, span, groups, number, &mut ())?;
     Ok(next)

@@ -1,9 +1,8 @@
-ghost use Rattle.std.specs.Prelude.{◌≡◌, ◌+◌, ◌-◌, ◌^◌, ◌≤◌, ◌++◌, [], ℕ, List, Some, length, min, slice_index_or, sum_by, take, true, IfOk, IfErr, OnOk};
+ghost use Rattle.std.specs.Prelude.{◌≡◌, ◌+◌, ◌-◌, ◌^◌, ◌≤◌, ◌++◌, [], Some, length, min, slice_index_or, sum_by, take, true, IfOk};
 ghost use Rattle.std.specs.List.{AllByRecursion};
 ghost use Rattle.mdf_format.specs.declared.kind.Kind.TheVariants.{Sd};
-ghost use Rattle.mdf_num.specs.Halt.{HaltCause, StopCause};
+ghost use Rattle.mdf_block.specs.Reads.{Looks, Reads};
 ghost use Rattle.mdf_block.specs.Every.{AllByNumber};
-ghost use Rattle.mdf_block.specs.Refusal.{Gives, IsPlain};
 ghost use Rattle.mdf_stream.specs.Link.{data_parts};
 ghost use Rattle.mdf_stream.specs.Parts.{stream_of, stream_size, ArePartsInside};
 ghost use Rattle.mdf_content.specs.Fault.{read_refusal};
@@ -40,11 +39,7 @@ use std::alloc::Global;
 fn values_len_in<P: Span>(span: &mut P, view: &DataView, places: &Places) -> Result<u64, Stop>
     requires inside { ArePartsInside (P.size span.old) view.now }
     requires room { AllByRecursion (λ place. place + 4 ≤ stream_size view.now) places.now }
-    ensures total { IfOk result (λ total. (f : List ℕ) → P.bytes span.old ≡ Some f →
-        total ≡ min (sum_by (value_size (stream_of f view.now) (stream_size view.now)) places.now) (2 ^ 64 - 1)) }
-    ensures same { P.bytes span.new ≡ P.bytes span.old }
-    ensures size { P.size span.new ≡ P.size span.old }
-    ensures cause { StopCause P.may_want (P.faults span.old) (P.faults span.new) result }
+    ensures reads { Looks P.Span span.old span.new P.may_want result (λ file total. total ≡ min (sum_by (value_size (stream_of file view.now) (stream_size view.now)) places.now) (2 ^ 64 - 1)) }
 {
     let mut total: u64 = 0;
     let mut k = 0;
@@ -73,12 +68,8 @@ fn put_value<P: Span>(
     requires inside { ArePartsInside (P.size span.old) view.now }
     requires room { place + 4 ≤ stream_size view.now }
     requires within { start ≤ length bytes.old }
-    ensures put { IfOk result (λ end. (f : List ℕ) → P.bytes span.old ≡ Some f →
-        take end bytes.new ≡ take start bytes.old ++ value_there f view.now place) }
+    ensures reads { Looks P.Span span.old span.new true result (λ file end. take end bytes.new ≡ take start bytes.old ++ value_there file view.now place) }
     ensures within { IfOk result (λ end. end ≤ length bytes.new) }
-    ensures same { P.bytes span.new ≡ P.bytes span.old }
-    ensures size { P.size span.new ≡ P.size span.old }
-    ensures cause { StopCause true (P.faults span.old) (P.faults span.new) result }
 {
     let len = value_len_in(span, view, place, near)?;
     if len > (bytes.len() - start) as u64 {
@@ -100,10 +91,7 @@ fn put_values<P: Span>(
 ) -> Result<(), Stop>
     requires inside { ArePartsInside (P.size span.old) view.now }
     requires room { AllByRecursion (λ place. place + 4 ≤ stream_size view.now) places.now }
-    ensures put { OnOk result ((f : List ℕ) → P.bytes span.old ≡ Some f → bytes.new ≡ stream_of f (values_at f view.now places.now)) }
-    ensures same { P.bytes span.new ≡ P.bytes span.old }
-    ensures size { P.size span.new ≡ P.size span.old }
-    ensures cause { StopCause true (P.faults span.old) (P.faults span.new) result }
+    ensures reads { Looks P.Span span.old span.new true result (λ file _. bytes.new ≡ stream_of file (values_at file view.now places.now)) }
 {
     let mut k = 0;
     let mut done = 0;
@@ -129,10 +117,7 @@ fn values_stream_in<P: Span>(
 ) -> Result<Bytes, Stop>
     requires inside { ArePartsInside (P.size span.old) view.now }
     requires room { AllByRecursion (λ place. place + 4 ≤ stream_size view.now) places.now }
-    ensures bytes { IfOk result (λ bytes. (f : List ℕ) → P.bytes span.old ≡ Some f → bytes ≡ stream_of f (values_at f view.now places.now)) }
-    ensures same { P.bytes span.new ≡ P.bytes span.old }
-    ensures size { P.size span.new ≡ P.size span.old }
-    ensures cause { StopCause true (P.faults span.old) (P.faults span.new) result }
+    ensures reads { Looks P.Span span.old span.new true result (λ file bytes. bytes ≡ stream_of file (values_at file view.now places.now)) }
 {
     let len = values_len_in(span, view, places)?;
     let Ok(mut bytes) = room.zeros(alloc, len) else {
@@ -152,11 +137,7 @@ fn group_stream_in<P: Span>(
 ) -> Result<Bytes, Stop>
     requires held { IsHeld (P.size span.old) held.now }
     requires room { AllByRecursion (λ place. place + 4 ≤ stream_size held.now.view.now) (slice_index_or held.now.lists.now k []) }
-    ensures bytes { IfOk result (λ bytes. (f : List ℕ) → P.bytes span.old ≡ Some f →
-        bytes ≡ stream_of f (values_at f held.now.view.now (slice_index_or held.now.lists.now k []))) }
-    ensures same { P.bytes span.new ≡ P.bytes span.old }
-    ensures size { P.size span.new ≡ P.size span.old }
-    ensures cause { StopCause true (P.faults span.old) (P.faults span.new) result }
+    ensures reads { Looks P.Span span.old span.new true result (λ file bytes. bytes ≡ stream_of file (values_at file held.now.view.now (slice_index_or held.now.lists.now k []))) }
 {
     let none = Places::empty(alloc);
     let places = places_or(held.lists, k as usize, &none);
@@ -170,11 +151,7 @@ fn linked_stream_in<P: Span>(
     at: u64,
     room: &mut Room,
 ) -> Result<Bytes, Halt<ReadFault>>
-    ensures found { (f : List ℕ) → P.bytes span.old ≡ Some f → Gives read_refusal result (bytes_of f (data_parts f Sd at)) }
-    ensures plain { IfErr result (IsPlain read_refusal) }
-    ensures same { P.bytes span.new ≡ P.bytes span.old }
-    ensures size { P.size span.new ≡ P.size span.old }
-    ensures cause { HaltCause true (P.faults span.old) (P.faults span.new) result }
+    ensures reads { Reads P.Span span.old span.new true read_refusal result (λ file. bytes_of file (data_parts file Sd at)) }
 {
     let view = view_of(alloc, span, at, Kind::Sd)?;
     let bytes = stream_in(alloc, span, &view, room)?;
@@ -192,12 +169,7 @@ fn channel_bytes_in<P: Span>(
     room: &mut Room,
 ) -> Result<Bytes, Halt<ReadFault>>
     requires held { IsHeld (P.size span.old) held.now }
-    ensures found { (f : List ℕ) → P.bytes span.old ≡ Some f →
-        Gives read_refusal result (bytes_of f (channel_values f (held_of held.now) at)) }
-    ensures plain { IfErr result (IsPlain read_refusal) }
-    ensures same { P.bytes span.new ≡ P.bytes span.old }
-    ensures size { P.size span.new ≡ P.size span.old }
-    ensures cause { HaltCause true (P.faults span.old) (P.faults span.new) result }
+    ensures reads { Reads P.Span span.old span.new true read_refusal result (λ file. bytes_of file (channel_values file (held_of held.now) at)) }
 {
     let Some(k) = values_group(held, at) else {
         return linked_stream_in(alloc, span, at, room);
@@ -246,12 +218,7 @@ fn channel_stream_in<P: Span>(
     requires placed { HasOffset records.now.data_bytes channel.now }
     requires held { IsHeld (P.size span.old) held.now }
     requires within { AreWithin (stream_size held.now.view.now) (records_of records.now) }
-    ensures found { (f : List ℕ) → P.bytes span.old ≡ Some f → Gives read_refusal result
-        (channel_stream f (held_of held.now) (records_of records.now) channel.now c) }
-    ensures plain { IfErr result (IsPlain read_refusal) }
-    ensures same { P.bytes span.new ≡ P.bytes span.old }
-    ensures size { P.size span.new ≡ P.size span.old }
-    ensures cause { HaltCause true (P.faults span.old) (P.faults span.new) result }
+    ensures reads { Reads P.Span span.old span.new true read_refusal result (λ file. channel_stream file (held_of held.now) (records_of records.now) channel.now c) }
 {
     let bytes = channel_bytes_in(alloc, span, held, channel.values, room)?;
     let stream = ValueStream::from_bytes(bytes);
@@ -329,11 +296,7 @@ pub fn streams_in<P: Span>(
     requires held { IsHeld (P.size span.old) held.now }
     requires within { AreWithin (stream_size held.now.view.now) (records_of records.now) }
     requires placed { AllByNumber (λ _. HasOffset records.now.data_bytes) channels.now }
-    ensures found { (f : List ℕ) → P.bytes span.old ≡ Some f → Gives read_refusal result (streams f (held_of held.now) (records_of records.now) channels.now) }
-    ensures plain { IfErr result (IsPlain read_refusal) }
-    ensures same { P.bytes span.new ≡ P.bytes span.old }
-    ensures size { P.size span.new ≡ P.size span.old }
-    ensures cause { HaltCause true (P.faults span.old) (P.faults span.new) result }
+    ensures reads { Reads P.Span span.old span.new true read_refusal result (λ file. streams file (held_of held.now) (records_of records.now) channels.now) }
 {
     let (streams, _) = every_in(alloc, &Channels { held, records }, span, channels, (), room)?;
     Ok(streams)

@@ -1,12 +1,11 @@
-ghost use Rattle.std.specs.Prelude.{◌≡◌, ◌+◌, ◌-◌, ◌≤◌, ◌<◌, ◌++◌, if◌then◌else◌, ◌&&◌, nat_eq, [], ℕ, Bool, List, Some, length, map, slice_index_or, true, false, None, IfOk, IfErr, OnOk};
+ghost use Rattle.std.specs.Prelude.{◌≡◌, ◌+◌, ◌-◌, ◌≤◌, ◌<◌, ◌++◌, if◌then◌else◌, ◌&&◌, nat_eq, [], ℕ, Bool, List, Some, length, map, slice_index_or, true, false, None, IfOk, OnOk};
 ghost use Rattle.std.specs.List.{AllByRecursion};
 ghost use Rattle.std.specs.BTreeMap.{get};
 ghost use Rattle.std.specs.Ordering.{nat_cmp};
 ghost use Rattle.mdf_format.specs.Number.{bytes_at};
 ghost use Rattle.mdf_format.specs.Field.{covered_end, covered_size, field_number};
+ghost use Rattle.mdf_block.specs.Reads.{Looks, Reads};
 ghost use Rattle.mdf_bits.specs.Field.{spot_of};
-ghost use Rattle.mdf_num.specs.Halt.{HaltCause, StopCause};
-ghost use Rattle.mdf_block.specs.Refusal.{Gives, IsPlain};
 ghost use Rattle.mdf_block.specs.Every.{AllByNumber};
 ghost use Rattle.mdf_stream.specs.Parts.{stream_of, stream_size, ArePartsInside};
 ghost use Rattle.mdf_stream.specs.Range.{parts_between};
@@ -112,12 +111,8 @@ pub(crate) fn value_len_in<P: Span>(
 ) -> Result<u64, Stop>
     requires inside { ArePartsInside (P.size span.old) view.now }
     requires room { place + 4 ≤ stream_size view.now }
-    ensures len { IfOk result (λ len. (f : List ℕ) → P.bytes span.old ≡ Some f →
-        len ≡ value_size (stream_of f view.now) (stream_size view.now) place) }
+    ensures reads { Looks P.Span span.old span.new P.may_want result (λ file len. len ≡ value_size (stream_of file view.now) (stream_size view.now) place) }
     ensures within { IfOk result (λ len. place + len ≤ stream_size view.now) }
-    ensures same { P.bytes span.new ≡ P.bytes span.old }
-    ensures size { P.size span.new ≡ P.size span.old }
-    ensures cause { StopCause P.may_want (P.faults span.old) (P.faults span.new) result }
 {
     let len = 4 + view.u32_near(span, place, near)? as u64;
     Ok(len.min(view.len() - place))
@@ -157,12 +152,8 @@ fn add_value<P: Span>(
 ) -> Result<(), Stop>
     requires inside { ArePartsInside (P.size span.old) view.now }
     requires room { place + 4 ≤ stream_size view.now }
-    ensures added { OnOk result ((f : List ℕ) → P.bytes span.old ≡ Some f → values.new
-        ≡ values.old ++ parts_between view.now place (value_size (stream_of f view.now) (stream_size view.now) place)) }
+    ensures reads { Looks P.Span span.old span.new true result (λ file _. values.new ≡ values.old ++ parts_between view.now place (value_size (stream_of file view.now) (stream_size view.now) place)) }
     ensures lies { ArePartsInside (P.size span.old) values.old → OnOk result (ArePartsInside (P.size span.old) values.new) }
-    ensures same { P.bytes span.new ≡ P.bytes span.old }
-    ensures size { P.size span.new ≡ P.size span.old }
-    ensures cause { StopCause true (P.faults span.old) (P.faults span.new) result }
 {
     let len = value_len_in(span, view, place, near)?;
     let Ok(()) = add_range(values, view, place, len, near) else {
@@ -180,11 +171,8 @@ fn values_in<P: Span>(
 ) -> Result<DataView, Stop>
     requires inside { ArePartsInside (P.size span.old) view.now }
     requires room { AllByRecursion (λ place. place + 4 ≤ stream_size view.now) places.now }
-    ensures values { IfOk result (λ values. (f : List ℕ) → P.bytes span.old ≡ Some f → values ≡ values_at f view.now places.now) }
+    ensures reads { Looks P.Span span.old span.new true result (λ file values. values ≡ values_at file view.now places.now) }
     ensures inside { IfOk result (ArePartsInside (P.size span.old)) }
-    ensures same { P.bytes span.new ≡ P.bytes span.old }
-    ensures size { P.size span.new ≡ P.size span.old }
-    ensures cause { StopCause true (P.faults span.old) (P.faults span.new) result }
 {
     let mut values = DataView::empty(alloc);
     let mut k = 0;
@@ -220,12 +208,8 @@ fn group_values_in<P: Span>(
 ) -> Result<DataView, Stop>
     requires held { IsHeld (P.size span.old) held.now }
     requires room { AllByRecursion (λ place. place + 4 ≤ stream_size held.now.view.now) (slice_index_or held.now.lists.now k []) }
-    ensures values { IfOk result (λ values. (f : List ℕ) → P.bytes span.old ≡ Some f →
-        values ≡ values_at f held.now.view.now (slice_index_or held.now.lists.now k [])) }
+    ensures reads { Looks P.Span span.old span.new true result (λ file values. values ≡ values_at file held.now.view.now (slice_index_or held.now.lists.now k [])) }
     ensures inside { IfOk result (ArePartsInside (P.size span.old)) }
-    ensures same { P.bytes span.new ≡ P.bytes span.old }
-    ensures size { P.size span.new ≡ P.size span.old }
-    ensures cause { StopCause true (P.faults span.old) (P.faults span.new) result }
 {
     let none = Places::empty(alloc);
     let places = places_or(held.lists, k as usize, &none);
@@ -242,13 +226,8 @@ fn channel_values_in<P: Span>(
     at: u64,
 ) -> Result<DataView, Halt<ReadFault>>
     requires held { IsHeld (P.size span.old) held.now }
-    ensures found { (f : List ℕ) → P.bytes span.old ≡ Some f →
-        Gives read_refusal result (channel_values f (held_of held.now) at) }
+    ensures reads { Reads P.Span span.old span.new true read_refusal result (λ file. channel_values file (held_of held.now) at) }
     ensures inside { IfOk result (ArePartsInside (P.size span.old)) }
-    ensures plain { IfErr result (IsPlain read_refusal) }
-    ensures same { P.bytes span.new ≡ P.bytes span.old }
-    ensures size { P.size span.new ≡ P.size span.old }
-    ensures cause { HaltCause true (P.faults span.old) (P.faults span.new) result }
 {
     let Some(k) = values_group(held, at) else {
         return view_of(alloc, span, at, Kind::Sd);
@@ -265,10 +244,7 @@ fn has_value_in<P: Span>(
     near: &mut usize,
 ) -> Result<bool, Stop>
     requires inside { ArePartsInside (P.size span.old) values.now }
-    ensures has { IfOk result (λ has. (f : List ℕ) → P.bytes span.old ≡ Some f → has ≡ has_value (stream_of f values.now) offset) }
-    ensures same { P.bytes span.new ≡ P.bytes span.old }
-    ensures size { P.size span.new ≡ P.size span.old }
-    ensures cause { StopCause P.may_want (P.faults span.old) (P.faults span.new) result }
+    ensures reads { Looks P.Span span.old span.new P.may_want result (λ file has. has ≡ has_value (stream_of file values.now) offset) }
 {
     let total = values.len();
     let Some(place) = offset.checked_add(4) else {
@@ -296,10 +272,7 @@ pub(crate) trait Met {
     /// The span's own.
     fn meets_in<P: Span>(&self, span: &mut P, offset: u64, near: &mut usize) -> Result<bool, Stop>
         requires needs { needs self.now (P.size span.old) }
-        ensures has { IfOk result (λ has. (f : List ℕ) → P.bytes span.old ≡ Some f → has ≡ meets self.now f offset) }
-        ensures same { P.bytes span.new ≡ P.bytes span.old }
-        ensures size { P.size span.new ≡ P.size span.old }
-        ensures cause { StopCause P.may_want (P.faults span.old) (P.faults span.new) result };
+        ensures reads { Looks P.Span span.old span.new P.may_want result (λ file has. has ≡ meets self.now file offset) };
 }
 
 /// Values that stand in the file.
@@ -346,11 +319,7 @@ fn number_by<P: Span>(
     requires covered { covered_end (spot_of field) ≤ data_bytes }
     requires inside { ArePartsInside (P.size span.old) view.now }
     requires within { place + data_bytes ≤ stream_size view.now }
-    ensures number { IfOk result (λ number. (f : List ℕ) → P.bytes span.old ≡ Some f →
-        number ≡ field_number (spot_of field) (bytes_at data_bytes (stream_of f view.now) place)) }
-    ensures same { P.bytes span.new ≡ P.bytes span.old }
-    ensures size { P.size span.new ≡ P.size span.old }
-    ensures cause { StopCause P.may_want (P.faults span.old) (P.faults span.new) result }
+    ensures reads { Looks P.Span span.old span.new P.may_want result (λ file number. number ≡ field_number (spot_of field) (bytes_at data_bytes (stream_of file view.now) place)) }
 {
     let _total = view.len();
     let front = Field {
@@ -376,11 +345,7 @@ fn number_in<P: Span>(
     requires covered { covered_end (spot_of field) ≤ data_bytes }
     requires inside { ArePartsInside (P.size span.old) view.now }
     requires within { place + data_bytes ≤ stream_size view.now }
-    ensures number { IfOk result (λ number. (f : List ℕ) → P.bytes span.old ≡ Some f →
-        number ≡ field_number (spot_of field) (bytes_at data_bytes (stream_of f view.now) place)) }
-    ensures same { P.bytes span.new ≡ P.bytes span.old }
-    ensures size { P.size span.new ≡ P.size span.old }
-    ensures cause { StopCause P.may_want (P.faults span.old) (P.faults span.new) result }
+    ensures reads { Looks P.Span span.old span.new P.may_want result (λ file number. number ≡ field_number (spot_of field) (bytes_at data_bytes (stream_of file view.now) place)) }
 {
     let size = (field.bit as usize + field.bits as usize + 7) / 8;
     let mut bytes = [0u8; 9];
@@ -412,12 +377,7 @@ fn offset_met_in<V: Met, P: Span>(
     requires inside { ArePartsInside (P.size span.old) view.now }
     requires values { V.needs values.now (P.size span.old) }
     requires within { slice_index_or records.now.places.now row 0 + records.now.data_bytes ≤ stream_size view.now }
-    ensures found { (f : List ℕ) → P.bytes span.old ≡ Some f → Gives read_refusal result
-        (offset_met (V.meets values.now f) (offset_in (stream_of f view.now) (records_of records.now) channel.now) c row) }
-    ensures plain { IfErr result (IsPlain read_refusal) }
-    ensures same { P.bytes span.new ≡ P.bytes span.old }
-    ensures size { P.size span.new ≡ P.size span.old }
-    ensures cause { HaltCause true (P.faults span.old) (P.faults span.new) result }
+    ensures reads { Reads P.Span span.old span.new true read_refusal result (λ file. offset_met (V.meets values.now file) (offset_in (stream_of file view.now) (records_of records.now) channel.now) c row) }
 {
     let place = place_at(records.places, row);
     let field = offset_field(channel, records.data_bytes);
@@ -447,12 +407,7 @@ pub(crate) fn offsets_met_in<V: Met, P: Span>(
     requires inside { ArePartsInside (P.size span.old) view.now }
     requires values { V.needs values.now (P.size span.old) }
     requires within { AreWithin (stream_size view.now) (records_of records.now) }
-    ensures found { (f : List ℕ) → P.bytes span.old ≡ Some f → Gives read_refusal result
-        (offsets_met (V.meets values.now f) (offset_in (stream_of f view.now) (records_of records.now) channel.now) c 0 records.now.count) }
-    ensures plain { IfErr result (IsPlain read_refusal) }
-    ensures same { P.bytes span.new ≡ P.bytes span.old }
-    ensures size { P.size span.new ≡ P.size span.old }
-    ensures cause { HaltCause true (P.faults span.old) (P.faults span.new) result }
+    ensures reads { Reads P.Span span.old span.new true read_refusal result (λ file. offsets_met (V.meets values.now file) (offset_in (stream_of file view.now) (records_of records.now) channel.now) c 0 records.now.count) }
 {
     let count = records.count;
     let mut row = 0;
@@ -485,10 +440,7 @@ pub(crate) fn bytes_in<P: Span>(
 ) -> Result<Bytes, Stop>
     requires inside { ArePartsInside (P.size span.old) view.now }
     requires within { len ≤ stream_size view.now }
-    ensures bytes { IfOk result (λ bytes. (f : List ℕ) → P.bytes span.old ≡ Some f → bytes ≡ bytes_at len (stream_of f view.now) 0) }
-    ensures same { P.bytes span.new ≡ P.bytes span.old }
-    ensures size { P.size span.new ≡ P.size span.old }
-    ensures cause { StopCause true (P.faults span.old) (P.faults span.new) result }
+    ensures reads { Looks P.Span span.old span.new true result (λ file bytes. bytes ≡ bytes_at len (stream_of file view.now) 0) }
 {
     let Ok(mut bytes) = room.zeros(alloc, len) else {
         return Err(Stop::Memory);
@@ -505,10 +457,7 @@ pub(crate) fn stream_in<P: Span>(
     room: &mut Room,
 ) -> Result<Bytes, Stop>
     requires inside { ArePartsInside (P.size span.old) view.now }
-    ensures bytes { IfOk result (λ bytes. (f : List ℕ) → P.bytes span.old ≡ Some f → bytes ≡ stream_of f view.now) }
-    ensures same { P.bytes span.new ≡ P.bytes span.old }
-    ensures size { P.size span.new ≡ P.size span.old }
-    ensures cause { StopCause true (P.faults span.old) (P.faults span.new) result }
+    ensures reads { Looks P.Span span.old span.new true result (λ file bytes. bytes ≡ stream_of file view.now) }
 {
     bytes_in(alloc, span, view, view.len(), room)
 }
@@ -528,13 +477,8 @@ fn channel_found_in<P: Span>(
     requires placed { HasOffset records.now.data_bytes channel.now }
     requires held { IsHeld (P.size span.old) held.now }
     requires within { AreWithin (stream_size held.now.view.now) (records_of records.now) }
-    ensures found { (f : List ℕ) → P.bytes span.old ≡ Some f → Gives read_refusal result
-        (channel_found f (held_of held.now) (records_of records.now) channel.now c) }
+    ensures reads { Reads P.Span span.old span.new true read_refusal result (λ file. channel_found file (held_of held.now) (records_of records.now) channel.now c) }
     ensures inside { IfOk result (ArePartsInside (P.size span.old)) }
-    ensures plain { IfErr result (IsPlain read_refusal) }
-    ensures same { P.bytes span.new ≡ P.bytes span.old }
-    ensures size { P.size span.new ≡ P.size span.old }
-    ensures cause { HaltCause true (P.faults span.old) (P.faults span.new) result }
 {
     let values = channel_values_in(alloc, span, held, channel.values)?;
     room.take_parts(values.count())?;
@@ -610,12 +554,8 @@ pub(crate) fn values_found_in<P: Span>(
     requires held { IsHeld (P.size span.old) held.now }
     requires within { AreWithin (stream_size held.now.view.now) (records_of records.now) }
     requires placed { AllByNumber (λ _. HasOffset records.now.data_bytes) channels.now }
-    ensures found { (f : List ℕ) → P.bytes span.old ≡ Some f → Gives read_refusal result (values_found f (held_of held.now) (records_of records.now) channels.now) }
+    ensures reads { Reads P.Span span.old span.new true read_refusal result (λ file. values_found file (held_of held.now) (records_of records.now) channels.now) }
     ensures inside { IfOk result (AllByRecursion (ArePartsInside (P.size span.old))) }
-    ensures plain { IfErr result (IsPlain read_refusal) }
-    ensures same { P.bytes span.new ≡ P.bytes span.old }
-    ensures size { P.size span.new ≡ P.size span.old }
-    ensures cause { HaltCause true (P.faults span.old) (P.faults span.new) result }
 {
     let (values, _) = every_in(alloc, &Channels { held, records }, span, channels, (), room)?;
     Ok(values)
@@ -629,10 +569,7 @@ pub(crate) fn fetch_streams_in<P: Span>(
     room: &mut Room,
 ) -> Result<Streams, Stop>
     requires inside { AllByRecursion (ArePartsInside (P.size span.old)) views.now }
-    ensures streams { IfOk result (λ streams. (f : List ℕ) → P.bytes span.old ≡ Some f → streams ≡ map (stream_of f) views.now) }
-    ensures same { P.bytes span.new ≡ P.bytes span.old }
-    ensures size { P.size span.new ≡ P.size span.old }
-    ensures cause { StopCause true (P.faults span.old) (P.faults span.new) result }
+    ensures reads { Looks P.Span span.old span.new true result (λ file streams. streams ≡ map (stream_of file) views.now) }
 {
     let mut streams = Rows::empty(alloc);
     let mut k = 0;

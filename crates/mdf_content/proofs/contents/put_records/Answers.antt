@@ -19,11 +19,11 @@ loop-row-preserved g c =
       put = λ f told.
           let there = bytes_at c.args.size (stream_of f c.args.view.now) in
           more_there there c.args.places.now (take loop.done loop.content) (take (loop.done + c.args.size) c.put_record.new.content)
-          (there c.place_at-place.result) loop.row below (ap there c.place_at-place.ensures) (read.put f (loop.invariant.same ∙ told))
+          (there c.place_at-place.result) loop.row below (ap there c.place_at-place.ensures) (read.reads.seen f (loop.invariant.same ∙ told))
           (loop.invariant.put f told);
       within = omega (arith, c.loop-row-test.true);
       done = grind (arith, common_steps);
-      same = read.same ∙ loop.invariant.same;
-      told = read.size ∙ loop.invariant.told;
-      later = omega (arith, read.cause.later, loop.invariant.later);
+      same = read.reads.same ∙ loop.invariant.same;
+      told = read.reads.size ∙ loop.invariant.told;
+      later = omega (arith, read.reads.cause.later, loop.invariant.later);
     }
