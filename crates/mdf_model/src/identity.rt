@@ -1,6 +1,7 @@
-ghost use Rattle.std.specs.Prelude.{◌≡◌, ℕ, List, Some, false, IfErr};
+ghost use Rattle.std.specs.Prelude.{false, IfErr};
 ghost use Rattle.mdf_num.specs.Halt.{HaltCause};
 ghost use Rattle.mdf_block.specs.Refusal.{Gives, IsPlain};
+ghost use Rattle.mdf_block.specs.Reads.{Reads};
 ghost use Rattle.mdf_head.specs.Ident.{identify};
 ghost use Rattle.mdf_content.specs.Fault.{read_refusal};
 ghost use Rattle.mdf_model.specs.Tree.{finalized};
@@ -27,11 +28,7 @@ fn ident_of(front: &[u8]) -> Result<Ident, Halt<ReadFault>>
 /// # Errors
 /// `NotMdf`, then `Version`, as `ident`; and the span's own.
 pub fn identity_in<P: Span>(span: &mut P) -> Result<Ident, Halt<ReadFault>>
-    ensures found { (f : List ℕ) → P.bytes span.old ≡ Some f → Gives read_refusal result (identify f) }
-    ensures plain { IfErr result (IsPlain read_refusal) }
-    ensures same { P.bytes span.new ≡ P.bytes span.old }
-    ensures size { P.size span.new ≡ P.size span.old }
-    ensures cause { HaltCause P.may_want (P.faults span.old) (P.faults span.new) result }
+    ensures reads { Reads P.Span span.old span.new P.may_want read_refusal result (λ file. identify file) }
 {
     if span.len() < 64 {
         return Err(Halt::Fault(ReadFault::NotMdf));
@@ -49,11 +46,7 @@ pub fn identity_in<P: Span>(span: &mut P) -> Result<Ident, Halt<ReadFault>>
 /// span's own.
 #[tactic(auto, unfolding(crate::specs::Tree::finalized))]
 pub fn finalized_in<P: Span>(span: &mut P) -> Result<Ident, Halt<ReadFault>>
-    ensures found { (f : List ℕ) → P.bytes span.old ≡ Some f → Gives read_refusal result (finalized f) }
-    ensures plain { IfErr result (IsPlain read_refusal) }
-    ensures same { P.bytes span.new ≡ P.bytes span.old }
-    ensures size { P.size span.new ≡ P.size span.old }
-    ensures cause { HaltCause P.may_want (P.faults span.old) (P.faults span.new) result }
+    ensures reads { Reads P.Span span.old span.new P.may_want read_refusal result (λ file. finalized file) }
 {
     let id = identity_in(span)?;
     if !id.finalized {

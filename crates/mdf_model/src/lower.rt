@@ -1,6 +1,7 @@
-ghost use Rattle.std.specs.Prelude.{◌≡◌, ℕ, List, Some, true, IfOk, IfErr};
-ghost use Rattle.mdf_num.specs.Halt.{HaltCause, HaltReason};
-ghost use Rattle.mdf_block.specs.Refusal.{Gives, Halts, IsPlain, Read, Refuses};
+ghost use Rattle.std.specs.Prelude.{ℕ, List, true, IfOk};
+ghost use Rattle.mdf_num.specs.Halt.{HaltReason};
+ghost use Rattle.mdf_block.specs.Refusal.{Halts, IsPlain, Read, Refuses};
+ghost use Rattle.mdf_block.specs.Reads.{Reads};
 ghost use Rattle.mdf_block.specs.Block.{block, IsInside, IsFilled};
 ghost use Rattle.mdf_conv.specs.declared.limits.Budget.{Budget};
 ghost use Rattle.mdf_group.specs.Group.{groups};
@@ -23,13 +24,9 @@ pub(crate) fn block_of<P: Span>(
     at: u64,
     want: Kind,
 ) -> Result<BlockAt, Halt<ReadFault>>
-    ensures found { (f : List ℕ) → P.bytes span.old ≡ Some f → Gives read_refusal result (block f at want) }
+    ensures reads { Reads P.Span span.old span.new P.may_want read_refusal result (λ file. block file at want) }
     ensures inside { IfOk result (IsInside (P.size span.old)) }
     ensures filled { IfOk result (IsFilled want) }
-    ensures plain { IfErr result (IsPlain read_refusal) }
-    ensures same { P.bytes span.new ≡ P.bytes span.old }
-    ensures size { P.size span.new ≡ P.size span.old }
-    ensures cause { HaltCause P.may_want (P.faults span.old) (P.faults span.new) result }
 {
     match block_in(span, at, want) {
         Ok(block) => Ok(block),
@@ -51,11 +48,7 @@ pub(crate) fn header_of<P: Span>(
     span: &mut P,
     budget: Budget,
 ) -> Result<(Head, Rows<History>, Budget), Halt<ReadFault>>
-    ensures found { (f : List ℕ) → P.bytes span.old ≡ Some f → Gives read_refusal result (header_of f budget) }
-    ensures plain { IfErr result (IsPlain read_refusal) }
-    ensures same { P.bytes span.new ≡ P.bytes span.old }
-    ensures size { P.size span.new ≡ P.size span.old }
-    ensures cause { HaltCause true (P.faults span.old) (P.faults span.new) result }
+    ensures reads { Reads P.Span span.old span.new true read_refusal result (λ file. header_of file budget) }
 {
     let mut text = budget.text;
     match read_head_in(alloc, span, &mut text) {
@@ -97,11 +90,7 @@ pub(crate) fn groups_of<P: Span>(
     first: u64,
     budget: Budget,
 ) -> Result<(Rows<DataRow>, Budget), Halt<ReadFault>>
-    ensures found { (f : List ℕ) → P.bytes span.old ≡ Some f → Gives read_refusal result (groups f first budget) }
-    ensures plain { IfErr result (IsPlain read_refusal) }
-    ensures same { P.bytes span.new ≡ P.bytes span.old }
-    ensures size { P.size span.new ≡ P.size span.old }
-    ensures cause { HaltCause true (P.faults span.old) (P.faults span.new) result }
+    ensures reads { Reads P.Span span.old span.new true read_refusal result (λ file. groups file first budget) }
 {
     let mut left = budget;
     match read_groups_in(alloc, span, first, &mut left) {

@@ -1,6 +1,6 @@
-ghost use Rattle.std.specs.Prelude.{◌≡◌, ◌≤◌, ℕ, List, Some, Ok, true, IfOk, IfErr};
-ghost use Rattle.mdf_num.specs.Halt.{HaltCause, StopCause};
-ghost use Rattle.mdf_block.specs.Refusal.{Gives, IsPlain};
+ghost use Rattle.std.specs.Prelude.{◌≡◌, ◌≤◌, Ok, true};
+ghost use Rattle.mdf_block.specs.Refusal.{Gives};
+ghost use Rattle.mdf_block.specs.Reads.{Looks, Reads, Says};
 ghost use Rattle.mdf_format.specs.declared.kind.Kind.TheVariants.{Hd};
 ghost use Rattle.mdf_block.specs.Block.{block, IsInside};
 ghost use Rattle.mdf_block.specs.declared.place.BlockAt.{BlockAt};
@@ -43,10 +43,7 @@ fn whole_budget() -> Budget
 fn passed_in<P: Span>(span: &mut P, block: &BlockAt) -> Result<u64, Stop>
     requires inside { IsInside (P.size span.old) block.now }
     requires linked { 6 ≤ block.now.links }
-    ensures passed { IfOk result (λ n. (f : List ℕ) → P.bytes span.old ≡ Some f → n ≡ passed_over f block.now.at) }
-    ensures same { P.bytes span.new ≡ P.bytes span.old }
-    ensures size { P.size span.new ≡ P.size span.old }
-    ensures cause { StopCause P.may_want (P.faults span.old) (P.faults span.new) result }
+    ensures reads { Looks P.Span span.old span.new P.may_want result (λ file n. n ≡ passed_over file block.now.at) }
 {
     let hierarchy = link_in(span, block, 2)?;
     let attachment = link_in(span, block, 3)?;
@@ -57,12 +54,8 @@ fn passed_in<P: Span>(span: &mut P, block: &BlockAt) -> Result<u64, Stop>
 /// The header, the file history and the data groups of a file, so many links of whose header are passed over.
 #[tactic(auto, unfolding(crate::specs::Tree::tree))]
 fn tree_behind<P: Span>(alloc: Global, span: &mut P, passed: u64) -> Result<Tree, Halt<ReadFault>>
-    ensures found { (f : List ℕ) (b : BlockAt) → P.bytes span.old ≡ Some f → block f 64 Hd ≡ Ok b → passed ≡ passed_over f b.at
-        → Gives read_refusal result (tree f) }
-    ensures plain { IfErr result (IsPlain read_refusal) }
-    ensures same { P.bytes span.new ≡ P.bytes span.old }
-    ensures size { P.size span.new ≡ P.size span.old }
-    ensures cause { HaltCause true (P.faults span.old) (P.faults span.new) result }
+    ensures reads { Says P.Span span.old span.new true read_refusal result (λ file. (b : BlockAt) → block file 64 Hd ≡ Ok b → passed ≡ passed_over file b.at
+        → Gives read_refusal result (tree file)) }
 {
     let (head, history, left) = header_of(alloc, span, whole_budget())?;
     let (rows, left) = groups_of(alloc, span, head.first_dg, left)?;
@@ -82,11 +75,7 @@ fn tree_behind<P: Span>(alloc: Global, span: &mut P, passed: u64) -> Result<Tree
 /// of the data groups. The span's own; and want of memory.
 #[tactic(auto, unfolding(crate::specs::Tree::tree))]
 pub fn tree_in<P: Span>(alloc: Global, span: &mut P) -> Result<Tree, Halt<ReadFault>>
-    ensures found { (f : List ℕ) → P.bytes span.old ≡ Some f → Gives read_refusal result (tree f) }
-    ensures plain { IfErr result (IsPlain read_refusal) }
-    ensures same { P.bytes span.new ≡ P.bytes span.old }
-    ensures size { P.size span.new ≡ P.size span.old }
-    ensures cause { HaltCause true (P.faults span.old) (P.faults span.new) result }
+    ensures reads { Reads P.Span span.old span.new true read_refusal result (λ file. tree file) }
 {
     let block = block_of(span, HEADER_AT, Kind::Hd)?;
     let passed = passed_in(span, &block)?;

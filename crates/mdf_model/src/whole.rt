@@ -1,7 +1,7 @@
-ghost use Rattle.std.specs.Prelude.{◌≡◌, ◌++◌, ℕ, List, Some, map, reverse, true, IfOk, IfErr, OnOk};
+ghost use Rattle.std.specs.Prelude.{◌≡◌, ◌++◌, ℕ, List, Some, map, reverse, true, IfOk};
 ghost use Rattle.std.specs.List.{AllByRecursion};
-ghost use Rattle.mdf_num.specs.Halt.{HaltCause, StopCause};
-ghost use Rattle.mdf_block.specs.Refusal.{Gives, HidesNone, IsPlain};
+ghost use Rattle.mdf_block.specs.Refusal.{HidesNone};
+ghost use Rattle.mdf_block.specs.Reads.{Looks, Reads};
 ghost use Rattle.mdf_content.specs.Fault.{read_refusal};
 ghost use Rattle.mdf_content.specs.Contents.{AllHaveSamples};
 ghost use Rattle.mdf_content.specs.Found.{IsFoundInside, data_fetched};
@@ -95,12 +95,8 @@ fn all_found_in<P: Span>(
     rows: &[DataRow],
     wanted: Wanted,
 ) -> Result<Rows<DataFound>, Halt<ReadFault>>
-    ensures found { (f : List ℕ) → P.bytes span.old ≡ Some f → Gives read_refusal result (all_kept wanted f rows.now) }
+    ensures reads { Reads P.Span span.old span.new true read_refusal result (λ file. all_kept wanted file rows.now) }
     ensures inside { IfOk result (AllByRecursion (IsFoundInside (P.size span.old))) }
-    ensures plain { IfErr result (IsPlain read_refusal) }
-    ensures same { P.bytes span.new ≡ P.bytes span.old }
-    ensures size { P.size span.new ≡ P.size span.old }
-    ensures cause { HaltCause true (P.faults span.old) (P.faults span.new) result }
 {
     let mut room = Room::of_file(span);
     let (found, _) = every_in(alloc, &DataGroups { wanted }, span, rows, 0, &mut room)?;
@@ -115,13 +111,9 @@ fn all_found_in<P: Span>(
 /// `data_found_in`. The span's own; and want of memory, which is answered too where the values have more parts than the file
 /// has bytes.
 pub fn whole_found_in<P: Span>(alloc: Global, span: &mut P) -> Result<WholeFound, Halt<ReadFault>>
-    ensures found { (f : List ℕ) → P.bytes span.old ≡ Some f → Gives read_refusal result (whole_found f) }
+    ensures reads { Reads P.Span span.old span.new true read_refusal result (λ file. whole_found file) }
     ensures first { (f : List ℕ) → P.bytes span.old ≡ Some f → HidesNone P.may_want result (finalized f) }
     ensures inside { IfOk result (λ all. AllByRecursion (IsFoundInside (P.size span.old)) all.found) }
-    ensures plain { IfErr result (IsPlain read_refusal) }
-    ensures same { P.bytes span.new ≡ P.bytes span.old }
-    ensures size { P.size span.new ≡ P.size span.old }
-    ensures cause { HaltCause true (P.faults span.old) (P.faults span.new) result }
 {
     whole_kept_in(alloc, span, Wanted::Every)
 }
@@ -136,13 +128,9 @@ pub fn whole_kept_in<P: Span>(
     span: &mut P,
     wanted: Wanted,
 ) -> Result<WholeFound, Halt<ReadFault>>
-    ensures found { (f : List ℕ) → P.bytes span.old ≡ Some f → Gives read_refusal result (whole_kept wanted f) }
+    ensures reads { Reads P.Span span.old span.new true read_refusal result (λ file. whole_kept wanted file) }
     ensures first { (f : List ℕ) → P.bytes span.old ≡ Some f → HidesNone P.may_want result (finalized f) }
     ensures inside { IfOk result (λ all. AllByRecursion (IsFoundInside (P.size span.old)) all.found) }
-    ensures plain { IfErr result (IsPlain read_refusal) }
-    ensures same { P.bytes span.new ≡ P.bytes span.old }
-    ensures size { P.size span.new ≡ P.size span.old }
-    ensures cause { HaltCause true (P.faults span.old) (P.faults span.new) result }
 {
     let ident = finalized_in(span)?;
     let tree = tree_in(alloc, span)?;
@@ -162,12 +150,8 @@ pub fn whole_for_in<P: Span>(
     span: &mut P,
     group: u64,
 ) -> Result<WholeFound, Halt<ReadFault>>
-    ensures found { (f : List ℕ) → P.bytes span.old ≡ Some f → Gives read_refusal result (whole_for group f) }
+    ensures reads { Reads P.Span span.old span.new true read_refusal result (λ file. whole_for group file) }
     ensures inside { IfOk result (λ all. AllByRecursion (IsFoundInside (P.size span.old)) all.found) }
-    ensures plain { IfErr result (IsPlain read_refusal) }
-    ensures same { P.bytes span.new ≡ P.bytes span.old }
-    ensures size { P.size span.new ≡ P.size span.old }
-    ensures cause { HaltCause true (P.faults span.old) (P.faults span.new) result }
 {
     let ident = finalized_in(span)?;
     let tree = tree_in(alloc, span)?;
@@ -185,10 +169,7 @@ pub(crate) fn add_fetched_in<P: Span>(
     room: &mut Room,
 ) -> Result<(), Stop>
     requires inside { AllByRecursion (IsFoundInside (P.size span.old)) found.items }
-    ensures fetched { OnOk result ((f : List ℕ) → P.bytes span.old ≡ Some f → all.new ≡ all.old ++ map (data_fetched f) (reverse found.items)) }
-    ensures same { P.bytes span.new ≡ P.bytes span.old }
-    ensures size { P.size span.new ≡ P.size span.old }
-    ensures cause { StopCause true (P.faults span.old) (P.faults span.new) result }
+    ensures reads { Looks P.Span span.old span.new true result (λ file _. all.new ≡ all.old ++ map (data_fetched file) (reverse found.items)) }
 {
     let mut found = found;
     'found: while let Some(one) = found.pop() {
@@ -208,10 +189,7 @@ fn all_fetched_in<P: Span>(
     room: &mut Room,
 ) -> Result<Rows<DataContents>, Stop>
     requires inside { AllByRecursion (IsFoundInside (P.size span.old)) found }
-    ensures fetched { IfOk result (λ all. (f : List ℕ) → P.bytes span.old ≡ Some f → all ≡ map (data_fetched f) found) }
-    ensures same { P.bytes span.new ≡ P.bytes span.old }
-    ensures size { P.size span.new ≡ P.size span.old }
-    ensures cause { StopCause true (P.faults span.old) (P.faults span.new) result }
+    ensures reads { Looks P.Span span.old span.new true result (λ file all. all ≡ map (data_fetched file) found) }
 {
     let mut found = found.into_vec();
     found.reverse();
@@ -226,13 +204,9 @@ fn all_fetched_in<P: Span>(
 /// As `whole_found_in`; and want of memory, which is answered too where the records and the values that are read have more than
 /// twice as many bytes as the file.
 pub fn whole_in<P: Span>(alloc: Global, span: &mut P) -> Result<Whole, Halt<ReadFault>>
-    ensures found { (f : List ℕ) → P.bytes span.old ≡ Some f → Gives read_refusal result (whole f) }
+    ensures reads { Reads P.Span span.old span.new true read_refusal result (λ file. whole file) }
     ensures first { (f : List ℕ) → P.bytes span.old ≡ Some f → HidesNone P.may_want result (finalized f) }
     ensures samples { (f : List ℕ) → P.bytes span.old ≡ Some f → IfOk result (λ all. AllByRecursion AllHaveSamples all.contents) }
-    ensures plain { IfErr result (IsPlain read_refusal) }
-    ensures same { P.bytes span.new ≡ P.bytes span.old }
-    ensures size { P.size span.new ≡ P.size span.old }
-    ensures cause { HaltCause true (P.faults span.old) (P.faults span.new) result }
 {
     let WholeFound { ident, tree, found } = whole_found_in(alloc, span)?;
     let mut room = Room::of_file(span);
