@@ -1,7 +1,6 @@
-ghost use Rattle.std.specs.Prelude.{◌≡◌, ◌+◌, ◌≤◌, ◌<◌, ◌++◌, ◌∷◌, [], ℕ, List, Some, length, map, reverse, false, true, IfOk, IfErr, OnOk};
+ghost use Rattle.std.specs.Prelude.{◌≡◌, ◌+◌, ◌≤◌, ◌<◌, ◌++◌, ◌∷◌, [], Some, length, map, reverse, false, true, IfOk, OnOk};
 ghost use Rattle.std.specs.List.{AllByRecursion};
-ghost use Rattle.mdf_num.specs.Halt.{HaltCause, StopCause};
-ghost use Rattle.mdf_block.specs.Refusal.{Gives, IsPlain};
+ghost use Rattle.mdf_block.specs.Reads.{Looks, Reads};
 ghost use Rattle.mdf_stream.specs.Parts.{ArePartsInside, stream_of, stream_size};
 ghost use Rattle.mdf_data.specs.Places.{HaveRoom};
 ghost use Rattle.mdf_content.specs.Fault.{read_refusal};
@@ -38,11 +37,7 @@ fn group_streams_in<P: Span>(
     requires held { IsHeld (P.size span.old) held.now }
     requires other { is_variable group.now ≡ false }
     requires room { AllByRecursion (λ place. place + least_size (size_of group.now) ≤ stream_size held.now.view.now) places.now }
-    ensures found { (f : List ℕ) → P.bytes span.old ≡ Some f → Gives read_refusal result (streams_at f (held_of held.now) group.now places.now) }
-    ensures plain { IfErr result (IsPlain read_refusal) }
-    ensures same { P.bytes span.new ≡ P.bytes span.old }
-    ensures size { P.size span.new ≡ P.size span.old }
-    ensures cause { HaltCause true (P.faults span.old) (P.faults span.new) result }
+    ensures reads { Reads P.Span span.old span.new true read_refusal result (λ file. streams_at file (held_of held.now) group.now places.now) }
 {
     layout_in(alloc, group)?;
     let records = Records {
@@ -140,12 +135,7 @@ pub(crate) fn all_streams_in<P: Span>(
 ) -> Result<Streams, Halt<ReadFault>>
     requires inside { ArePartsInside (P.size span.old) view.now }
     requires room { HaveRoom (stream_size view.now) (map known_of groups.now) lists.now }
-    ensures found { (f : List ℕ) → P.bytes span.old ≡ Some f → Gives read_refusal result
-        (all_streams f (record { parts = view.now; groups = groups.now; lists = lists.now })) }
-    ensures plain { IfErr result (IsPlain read_refusal) }
-    ensures same { P.bytes span.new ≡ P.bytes span.old }
-    ensures size { P.size span.new ≡ P.size span.old }
-    ensures cause { HaltCause true (P.faults span.old) (P.faults span.new) result }
+    ensures reads { Reads P.Span span.old span.new true read_refusal result (λ file. all_streams file (record { parts = view.now; groups = groups.now; lists = lists.now })) }
 {
     let table = values_table(alloc, groups)?;
     let held = Held {
@@ -183,10 +173,7 @@ pub(crate) fn counts_of(
 fn values_total_in<P: Span>(span: &mut P, view: &DataView, places: &Places) -> Result<u64, Stop>
     requires inside { ArePartsInside (P.size span.old) view.now }
     requires room { AllByRecursion (λ place. place + 4 ≤ stream_size view.now) places.now }
-    ensures total { IfOk result (λ total. (f : List ℕ) → P.bytes span.old ≡ Some f → total ≡ values_total (stream_of f view.now) places.now) }
-    ensures same { P.bytes span.new ≡ P.bytes span.old }
-    ensures size { P.size span.new ≡ P.size span.old }
-    ensures cause { StopCause true (P.faults span.old) (P.faults span.new) result }
+    ensures reads { Looks P.Span span.old span.new true result (λ file total. total ≡ values_total (stream_of file view.now) places.now) }
 {
     let mut total = 0u64;
     let mut row = 0;
@@ -211,10 +198,7 @@ fn total_in<P: Span>(
 ) -> Result<u64, Stop>
     requires inside { ArePartsInside (P.size span.old) view.now }
     requires room { AllByRecursion (λ place. place + least_size (size_of group.now) ≤ stream_size view.now) places.now }
-    ensures total { IfOk result (λ total. (f : List ℕ) → P.bytes span.old ≡ Some f → total ≡ total_of (stream_of f view.now) group.now places.now) }
-    ensures same { P.bytes span.new ≡ P.bytes span.old }
-    ensures size { P.size span.new ≡ P.size span.old }
-    ensures cause { StopCause true (P.faults span.old) (P.faults span.new) result }
+    ensures reads { Looks P.Span span.old span.new true result (λ file total. total ≡ total_of (stream_of file view.now) group.now places.now) }
 {
     if is_variable(group) {
         values_total_in(span, view, places)
@@ -233,12 +217,8 @@ fn add_total<P: Span>(
 ) -> Result<(), Stop>
     requires inside { ArePartsInside (P.size span.old) view.now }
     requires room { AllByRecursion (λ place. place + least_size (size_of group.now) ≤ stream_size view.now) places.now }
-    ensures added { OnOk result ((f : List ℕ) → P.bytes span.old ≡ Some f →
-        totals.new ≡ totals.old ++ total_of (stream_of f view.now) group.now places.now ∷ []) }
+    ensures reads { Looks P.Span span.old span.new true result (λ file _. totals.new ≡ totals.old ++ total_of (stream_of file view.now) group.now places.now ∷ []) }
     ensures longer { OnOk result (length totals.new ≡ length totals.old + 1) }
-    ensures same { P.bytes span.new ≡ P.bytes span.old }
-    ensures size { P.size span.new ≡ P.size span.old }
-    ensures cause { StopCause true (P.faults span.old) (P.faults span.new) result }
 {
     let total = total_in(span, view, group, places)?;
     match totals.push(total) {
@@ -257,11 +237,8 @@ pub(crate) fn totals_in<P: Span>(
 ) -> Result<Rows<u64>, Stop>
     requires inside { ArePartsInside (P.size span.old) view.now }
     requires room { HaveRoom (stream_size view.now) (map known_of groups.now) lists.now }
-    ensures totals { IfOk result (λ totals. (f : List ℕ) → P.bytes span.old ≡ Some f → totals ≡ totals_from (stream_of f view.now) lists.now 0 groups.now) }
+    ensures reads { Looks P.Span span.old span.new true result (λ file totals. totals ≡ totals_from (stream_of file view.now) lists.now 0 groups.now) }
     ensures count { IfOk result (λ totals. length totals ≡ length groups.now) }
-    ensures same { P.bytes span.new ≡ P.bytes span.old }
-    ensures size { P.size span.new ≡ P.size span.old }
-    ensures cause { StopCause true (P.faults span.old) (P.faults span.new) result }
 {
     let none = Places::empty(alloc);
     let mut totals = Rows::empty(alloc);

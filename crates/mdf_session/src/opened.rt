@@ -1,6 +1,5 @@
-ghost use Rattle.std.specs.Prelude.{◌≡◌, ◌+◌, ◌^◌, ◌≤◌, ◌<◌, ◌↔◌, ◌++◌, ◌∷◌, [], ℕ, List, Some, length, true, IsTrue, IfOk, IfErr, OnOk};
-ghost use Rattle.mdf_num.specs.Halt.{HaltCause, StopCause};
-ghost use Rattle.mdf_block.specs.Refusal.{Gives, IsPlain};
+ghost use Rattle.std.specs.Prelude.{◌≡◌, ◌+◌, ◌^◌, ◌≤◌, ◌<◌, ◌↔◌, ◌++◌, ◌∷◌, [], length, true, IsTrue, IfOk, OnOk};
+ghost use Rattle.mdf_block.specs.Reads.{Looks, Reads};
 ghost use Rattle.mdf_block.specs.Block.{IsInside};
 ghost use Rattle.mdf_stream.specs.Parts.{AreBehind, ArePartsInside, stream_size};
 ghost use Rattle.mdf_stream.specs.Link.{part_of};
@@ -18,11 +17,8 @@ const LONGEST: u64 = 1 << 62;
 
 /// Whether the gate at a place is open. Past the end of the file every place is closed.
 fn is_open_in<P: Span>(span: &mut P, place: u64) -> Result<bool, Stop>
-    ensures gate { IfOk result (λ opened. (f : List ℕ) → P.bytes span.old ≡ Some f → opened ≡ is_open f place) }
+    ensures reads { Looks P.Span span.old span.new P.may_want result (λ file opened. opened ≡ is_open file place) }
     ensures within { IfOk result (λ opened. opened ≡ true → place < P.size span.old) }
-    ensures same { P.bytes span.new ≡ P.bytes span.old }
-    ensures size { P.size span.new ≡ P.size span.old }
-    ensures cause { StopCause P.may_want (P.faults span.old) (P.faults span.new) result }
 {
     if place >= span.len() {
         return Ok(false);
@@ -38,12 +34,8 @@ fn is_open_in<P: Span>(span: &mut P, place: u64) -> Result<bool, Stop>
 /// `Block` with the place and `Dt` exactly where no whole DTBLOCK stands there; and the span's own.
 #[tactic(auto, unfolding(crate::specs::Opened::unit))]
 fn unit_in<P: Span>(span: &mut P, place: u64) -> Result<BlockAt, Halt<ReadFault>>
-    ensures found { (f : List ℕ) → P.bytes span.old ≡ Some f → Gives read_refusal result (unit f place) }
+    ensures reads { Reads P.Span span.old span.new P.may_want read_refusal result (λ file. unit file place) }
     ensures inside { IfOk result (IsInside (P.size span.old)) }
-    ensures plain { IfErr result (IsPlain read_refusal) }
-    ensures same { P.bytes span.new ≡ P.bytes span.old }
-    ensures size { P.size span.new ≡ P.size span.old }
-    ensures cause { HaltCause P.may_want (P.faults span.old) (P.faults span.new) result }
 {
     match block_in(span, place, Kind::Dt) {
         Ok(unit) => Ok(unit),
@@ -85,13 +77,9 @@ fn add_unit(view: &mut DataView, place: u64, unit: &BlockAt) -> Result<u64, Memo
 
 /// The bodies of the units from a place on, up to the first closed place.
 fn units_in<P: Span>(alloc: Global, span: &mut P, first: u64) -> Result<DataView, Halt<ReadFault>>
-    ensures found { (f : List ℕ) → P.bytes span.old ≡ Some f → Gives read_refusal result (opened_from f (length f) first) }
+    ensures reads { Reads P.Span span.old span.new true read_refusal result (λ file. opened_from file (length file) first) }
     ensures inside { IfOk result (ArePartsInside (P.size span.old)) }
     ensures behind { IfOk result (AreBehind 0) }
-    ensures plain { IfErr result (IsPlain read_refusal) }
-    ensures same { P.bytes span.new ≡ P.bytes span.old }
-    ensures size { P.size span.new ≡ P.size span.old }
-    ensures cause { HaltCause true (P.faults span.old) (P.faults span.new) result }
 {
     let mut view = DataView::empty(alloc);
     let mut place = first;
@@ -113,13 +101,9 @@ pub fn opened_in<P: Span>(
     span: &mut P,
     first: u64,
 ) -> Result<DataView, Halt<ReadFault>>
-    ensures found { (f : List ℕ) → P.bytes span.old ≡ Some f → Gives read_refusal result (opened_parts f first) }
+    ensures reads { Reads P.Span span.old span.new true read_refusal result (λ file. opened_parts file first) }
     ensures inside { IfOk result (ArePartsInside (P.size span.old)) }
     ensures behind { IfOk result (AreBehind 0) }
-    ensures plain { IfErr result (IsPlain read_refusal) }
-    ensures same { P.bytes span.new ≡ P.bytes span.old }
-    ensures size { P.size span.new ≡ P.size span.old }
-    ensures cause { HaltCause true (P.faults span.old) (P.faults span.new) result }
 {
     if first == 0 || first % 8 != 0 {
         return Err(Halt::Fault(ReadFault::Block {

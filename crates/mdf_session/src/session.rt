@@ -1,7 +1,7 @@
 ghost use Rattle.std.specs.Prelude.{◌≡◌, ◌≤◌, ◌<◌, ℕ, List, Some, Ok, length, slice_index_or, true, IfOk, IfErr, IfNone};
 ghost use Rattle.mdf_format.specs.Number.{bytes_at};
-ghost use Rattle.mdf_num.specs.Halt.{HaltCause, StopCause};
-ghost use Rattle.mdf_block.specs.Refusal.{Fails, Gives, GivesOf, Halts, HidesNone, IsPlain};
+ghost use Rattle.mdf_block.specs.Refusal.{Fails, GivesOf, Halts, HidesNone};
+ghost use Rattle.mdf_block.specs.Reads.{Looks, Reads, Says};
 ghost use Rattle.mdf_stream.specs.Parts.{ArePartsInside, stream_of, stream_size};
 ghost use Rattle.mdf_head.specs.declared.identity.Ident.{Ident};
 ghost use Rattle.mdf_content.specs.Fault.{read_refusal};
@@ -43,11 +43,7 @@ struct Found {
 /// and the span's own.
 #[tactic(auto, unfolding(crate::specs::Session::recording))]
 fn recording_in<P: Span>(span: &mut P) -> Result<Ident, Halt<ReadFault>>
-    ensures found { (f : List ℕ) → P.bytes span.old ≡ Some f → Gives read_refusal result (recording f) }
-    ensures plain { IfErr result (IsPlain read_refusal) }
-    ensures same { P.bytes span.new ≡ P.bytes span.old }
-    ensures size { P.size span.new ≡ P.size span.old }
-    ensures cause { HaltCause P.may_want (P.faults span.old) (P.faults span.new) result }
+    ensures reads { Reads P.Span span.old span.new P.may_want read_refusal result (λ file. recording file) }
 {
     let id = identity_in(span)?;
     if id.finalized || id.custom_flags != 1 {
@@ -63,10 +59,7 @@ fn recording_in<P: Span>(span: &mut P) -> Result<Ident, Halt<ReadFault>>
 fn front_in<P: Span>(alloc: Global, span: &mut P, view: &DataView, size: u64) -> Result<Bytes, Stop>
     requires inside { ArePartsInside (P.size span.old) view.now }
     requires within { size ≤ stream_size view.now }
-    ensures front { IfOk result (λ front. (f : List ℕ) → P.bytes span.old ≡ Some f → front ≡ bytes_at size (stream_of f view.now) 0) }
-    ensures same { P.bytes span.new ≡ P.bytes span.old }
-    ensures size { P.size span.new ≡ P.size span.old }
-    ensures cause { StopCause true (P.faults span.old) (P.faults span.new) result }
+    ensures reads { Looks P.Span span.old span.new true result (λ file front. front ≡ bytes_at size (stream_of file view.now) 0) }
 {
     let Ok(mut front) = vec![in alloc; 0u8; size as usize] else {
         return Err(Stop::Memory);
@@ -179,15 +172,11 @@ impl Session {
 /// As `session_in`.
 #[tactic(auto, unfolding(crate::specs::Session::session))]
 fn found_in<P: Span>(alloc: Global, span: &mut P) -> Result<Found, Halt<ReadFault>>
-    ensures found { (f : List ℕ) → P.bytes span.old ≡ Some f → IfOk result (λ found. session f ≡ Ok (session_from f found)) }
+    ensures reads { Says P.Span span.old span.new true read_refusal result (λ file. IfOk result (λ found. session file ≡ Ok (session_from file found))) }
     ensures refused { (f : List ℕ) → P.bytes span.old ≡ Some f → IfErr result (λ halt. Halts read_refusal halt (session f)) }
     ensures first { (f : List ℕ) → P.bytes span.old ≡ Some f → HidesNone P.may_want result (recording f) }
-    ensures plain { IfErr result (IsPlain read_refusal) }
     ensures stands { IfOk result (λ found. StandIn (P.size span.old) found.standing) }
     ensures counted { IfOk result (λ found. (content : List ℕ) → HasFirst found.tree.rows (with_content content found.standing)) }
-    ensures same { P.bytes span.new ≡ P.bytes span.old }
-    ensures size { P.size span.new ≡ P.size span.old }
-    ensures cause { HaltCause true (P.faults span.old) (P.faults span.new) result }
 {
     recording_in(span)?;
     let tree = tree_in(alloc, span)?;
@@ -243,12 +232,8 @@ fn session_with(content: Bytes, found: Found) -> Session
 /// data groups; `Block` with 0 and `Dg` where there is none; and of what the first of them holds: its layouts, its opened
 /// blocks, its records, and its values. The span's own; and want of memory.
 pub fn session_in<P: Span>(alloc: Global, span: &mut P) -> Result<Session, Halt<ReadFault>>
-    ensures found { (f : List ℕ) → P.bytes span.old ≡ Some f → Gives read_refusal result (session f) }
+    ensures reads { Reads P.Span span.old span.new true read_refusal result (λ file. session file) }
     ensures first { (f : List ℕ) → P.bytes span.old ≡ Some f → HidesNone P.may_want result (recording f) }
-    ensures plain { IfErr result (IsPlain read_refusal) }
-    ensures same { P.bytes span.new ≡ P.bytes span.old }
-    ensures size { P.size span.new ≡ P.size span.old }
-    ensures cause { HaltCause true (P.faults span.old) (P.faults span.new) result }
 {
     let found = found_in(alloc, span)?;
     let content = front_in(alloc, span, &found.standing.view, found.standing.size)?;

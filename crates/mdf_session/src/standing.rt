@@ -1,7 +1,7 @@
 ghost use Rattle.std.specs.Prelude.{◌≡◌, ◌≤◌, ℕ, List, Some, Ok, length, map, true, IfOk, IfErr};
 ghost use Rattle.mdf_format.specs.Number.{bytes_at};
-ghost use Rattle.mdf_num.specs.Halt.{HaltCause};
-ghost use Rattle.mdf_block.specs.Refusal.{Halts, IsPlain};
+ghost use Rattle.mdf_block.specs.Refusal.{Halts};
+ghost use Rattle.mdf_block.specs.Reads.{Says};
 ghost use Rattle.mdf_stream.specs.Parts.{AreBehind, ArePartsInside, stream_size};
 ghost use Rattle.mdf_content.specs.Fault.{read_refusal};
 ghost use Rattle.mdf_data.specs.Places.{HaveRoom};
@@ -62,14 +62,10 @@ fn counted_in<P: Span>(
     requires inside { ArePartsInside (P.size span.old) view }
     requires behind { AreBehind 0 view }
     requires room { HaveRoom (stream_size view) (map known_of row.now.groups) lists }
-    ensures found { (f : List ℕ) → P.bytes span.old ≡ Some f → IfOk result (λ found. kept_of f row.now view lists ≡ Ok (kept_from f found)) }
+    ensures reads { Says P.Span span.old span.new true read_refusal result (λ file. IfOk result (λ found. kept_of file row.now view lists ≡ Ok (kept_from file found))) }
     ensures refused { (f : List ℕ) → P.bytes span.old ≡ Some f → IfErr result (λ halt. Halts read_refusal halt (kept_of f row.now view lists)) }
-    ensures plain { IfErr result (IsPlain read_refusal) }
     ensures stands { IfOk result (StandIn (P.size span.old)) }
     ensures counted { IfOk result (λ found. (content : List ℕ) → IsCountedOf row.now (with_content content found)) }
-    ensures same { P.bytes span.new ≡ P.bytes span.old }
-    ensures size { P.size span.new ≡ P.size span.old }
-    ensures cause { HaltCause true (P.faults span.old) (P.faults span.new) result }
 {
     let groups = row.groups.as_slice();
     let streams = all_streams_in(alloc, span, &view, groups, lists.as_slice())?;
@@ -98,14 +94,10 @@ fn standing_in<P: Span>(
     span: &mut P,
     row: &DataRow,
 ) -> Result<Standing, Halt<ReadFault>>
-    ensures found { (f : List ℕ) → P.bytes span.old ≡ Some f → IfOk result (λ found. kept f row.now ≡ Ok (kept_from f found)) }
+    ensures reads { Says P.Span span.old span.new true read_refusal result (λ file. IfOk result (λ found. kept file row.now ≡ Ok (kept_from file found))) }
     ensures refused { (f : List ℕ) → P.bytes span.old ≡ Some f → IfErr result (λ halt. Halts read_refusal halt (kept f row.now)) }
-    ensures plain { IfErr result (IsPlain read_refusal) }
     ensures stands { IfOk result (StandIn (P.size span.old)) }
     ensures counted { IfOk result (λ found. (content : List ℕ) → IsCountedOf row.now (with_content content found)) }
-    ensures same { P.bytes span.new ≡ P.bytes span.old }
-    ensures size { P.size span.new ≡ P.size span.old }
-    ensures cause { HaltCause true (P.faults span.old) (P.faults span.new) result }
 {
     layouts_in(alloc, span, row)?;
     let view = opened_in(alloc, span, row.content)?;
@@ -123,14 +115,10 @@ pub(crate) fn first_standing_in<P: Span>(
     span: &mut P,
     rows: &[DataRow],
 ) -> Result<Standing, Halt<ReadFault>>
-    ensures found { (f : List ℕ) → P.bytes span.old ≡ Some f → IfOk result (λ found. first_kept f rows.now ≡ Ok (kept_from f found)) }
+    ensures reads { Says P.Span span.old span.new true read_refusal result (λ file. IfOk result (λ found. first_kept file rows.now ≡ Ok (kept_from file found))) }
     ensures refused { (f : List ℕ) → P.bytes span.old ≡ Some f → IfErr result (λ halt. Halts read_refusal halt (first_kept f rows.now)) }
-    ensures plain { IfErr result (IsPlain read_refusal) }
     ensures stands { IfOk result (StandIn (P.size span.old)) }
     ensures counted { IfOk result (λ found. (content : List ℕ) → HasFirst rows.now (with_content content found)) }
-    ensures same { P.bytes span.new ≡ P.bytes span.old }
-    ensures size { P.size span.new ≡ P.size span.old }
-    ensures cause { HaltCause true (P.faults span.old) (P.faults span.new) result }
 {
     if rows.is_empty() {
         return Err(Halt::Fault(ReadFault::Block {

@@ -1,8 +1,9 @@
-use Rattle.std.proofs.Common.{◌≡◌, ◌+◌, ◌<◌, ◌≤◌, ℕ, length, ◌∙◌, ap, arith}
+use Rattle.std.proofs.Common.{◌≡◌, ◌+◌, ◌<◌, ◌≤◌, ℕ, length, ◌∙◌, ap, arith, rules}
 use Rattle.mdf_format.specs.Number.{le_number, bytes_at}
 use Rattle.mdf_stream.specs.Parts.{stream_of, stream_size}
 use Rattle.mdf_content.proofs.Rooms.{one_fits}
 use Rattle.mdf_session.proofs.Counts.{values_more, values_done}
+use Rattle.mdf_block.proofs.Readers.{looks_of}
 use Rattle.mdf_session.proofs.counted.values_total_in.Goals as goal
 
 pub u32_near-requires-clause-within : goal.u32_near-requires-clause-within
@@ -19,14 +20,16 @@ loop-row-preserved g c =
       total = λ f told.
           let stream = stream_of f c.args.view.now in
           values_more stream c.args.places.now loop.row loop.total c.in_ok-len.field-0 c.in-Some.sum below
-          (read.number f (loop.invariant.same ∙ told) ∙ ap (λ (place : ℕ). le_number (bytes_at 4 stream place)) c.place_at.ensures) summed
+          (read.reads.seen f (loop.invariant.same ∙ told) ∙ ap (λ (place : ℕ). le_number (bytes_at 4 stream place)) c.place_at.ensures) summed
           (loop.invariant.total f told);
-      same = read.same ∙ loop.invariant.same;
-      size = read.size ∙ loop.invariant.size;
-      later = omega (arith, read.cause.later, loop.invariant.later);
+      same = read.reads.same ∙ loop.invariant.same;
+      size = read.reads.size ∙ loop.invariant.size;
+      later = omega (arith, read.reads.cause.later, loop.invariant.later);
     }
 
-pub returns-clause-total : goal.returns-clause-total
-returns-clause-total g c = λ f told.
-    let past : length c.args.places.now ≤ c.loop-row.row = omega (arith, c.loop-row-test.false, c.len.ensures) in
-    values_done (stream_of f c.args.view.now) c.args.places.now c.loop-row.row c.loop-row.total past (c.loop-row.invariant.total f told)
+pub returns : goal.returns
+returns g c = record {
+  reads = looks_of (search rules) (λ f told.
+      let past : length c.args.places.now ≤ c.loop-row.row = omega (arith, c.loop-row-test.false, c.len.ensures) in
+      values_done (stream_of f c.args.view.now) c.args.places.now c.loop-row.row c.loop-row.total past (c.loop-row.invariant.total f told));
+}

@@ -1,10 +1,11 @@
-use Rattle.std.proofs.Common.{◌+◌, ◌≤◌, ◌<◌, refl, sym, subst, ◌∙◌, arith, ℕ}
+use Rattle.std.proofs.Common.{◌+◌, ◌≤◌, ◌<◌, refl, sym, subst, ◌∙◌, arith, ℕ, rules}
 use Rattle.std.proofs.lemmas.Result.{err_from_is_err_and}
 use Rattle.mdf_stream.specs.Parts.{IsPartInside}
 use Rattle.mdf_stream.proofs.Links.{all_more}
 use Rattle.mdf_content.specs.Fault.{read_refusal}
 use Rattle.mdf_stream.proofs.Moves.{behind_more, none_behind}
 use Rattle.mdf_session.proofs.Units.{begins, is_done, goes_on, ends}
+use Rattle.mdf_block.proofs.Readers.{says_of}
 use Rattle.mdf_session.proofs.opened.units_in.Goals as goal
 
 pub loop-view-init : goal.loop-view-init
@@ -18,16 +19,16 @@ loop-view-init g c = record {
   later = omega arith;
 }
 
-pub returns-in_err-unit-clause-found : goal.returns-in_err-unit-clause-found
-returns-in_err-unit-clause-found g c = λ f told.
+pub returns-in_err-unit-clause-reads : goal.returns-in_err-unit-clause-reads
+returns-in_err-unit-clause-reads g c = says_of (search rules) (λ f told.
     let p = err_from_is_err_and c.from_residual-in_err-unit.result c.from_residual-in_err-unit.ensures.1 in
     let loop = c.loop-view in
     let gate = c.in_ok-is_open_in.ensures in
     let now = loop.invariant.same ∙ told in
     rw (p.1, p.2) (
-    ends f read_refusal _ loop.view loop.place _ (sym (gate.gate f now) ∙ c.if-branch.true) (c.in_err-unit.ensures.found f (gate.same ∙ now))
+    ends f read_refusal _ loop.view loop.place _ (sym (gate.reads.seen f now) ∙ c.if-branch.true) (c.in_err-unit.ensures.reads.found f (gate.reads.same ∙ now))
     (loop.invariant.found f told)
-    )
+    ))
 
 pub loop-view-preserved : goal.loop-view-preserved
 loop-view-preserved g c =
@@ -38,24 +39,24 @@ loop-view-preserved g c =
       found = λ f told.
           let now = loop.invariant.same ∙ told in
           rw (next.added, next.behind) (
-          goes_on f loop.view loop.place _ unit.unit (sym (gate.gate f now) ∙ c.if-branch.true) (unit.ensures.found f (gate.same ∙ now))
+          goes_on f loop.view loop.place _ unit.unit (sym (gate.reads.seen f now) ∙ c.if-branch.true) (unit.ensures.reads.found f (gate.reads.same ∙ now))
           (subst (λ (n : ℕ). loop.place < n) next.behind next.later) (loop.invariant.found f told)
           );
       inside =
-          let size = gate.size ∙ loop.invariant.size in
+          let size = gate.reads.size ∙ loop.invariant.size in
           rw next.added (
           all_more (IsPartInside (g.P.Span.size c.args.span.now)) loop.view _ loop.invariant.inside
           (subst (λ (n : ℕ). unit.unit.body_at + unit.unit.body_len ≤ n) size unit.ensures.inside.ends, tt)
           );
       behind = rw next.added (behind_more 0 loop.view _ loop.invariant.behind (omega (arith, loop.invariant.below, next.after)));
       below = next.below;
-      same = unit.ensures.same ∙ gate.same ∙ loop.invariant.same;
-      size = unit.ensures.size ∙ gate.size ∙ loop.invariant.size;
-      later = omega (arith, unit.ensures.cause.later, gate.cause.later, loop.invariant.later);
+      same = unit.ensures.reads.same ∙ gate.reads.same ∙ loop.invariant.same;
+      size = unit.ensures.reads.size ∙ gate.reads.size ∙ loop.invariant.size;
+      later = omega (arith, unit.ensures.reads.cause.later, gate.reads.cause.later, loop.invariant.later);
     }
 
-pub returns-clause-found : goal.returns-clause-found
-returns-clause-found g c = λ f told.
+pub returns-clause-reads : goal.returns-clause-reads
+returns-clause-reads g c = says_of (search rules) (λ f told.
     let loop = c.loop-view in
-    is_done f loop.view loop.place _ (sym (c.in_ok-is_open_in.ensures.gate f (loop.invariant.same ∙ told)) ∙ c.if-branch.false)
-    (loop.invariant.found f told)
+    is_done f loop.view loop.place _ (sym (c.in_ok-is_open_in.ensures.reads.seen f (loop.invariant.same ∙ told)) ∙ c.if-branch.false)
+    (loop.invariant.found f told))

@@ -7,4 +7,4 @@ session_with-requires g c = record { counted = c.in_ok-found.ensures.counted c.i
 
 pub returns-in_err-content-clause-first : goal.returns-in_err-content-clause-first
 returns-in_err-content-clause-first g c = λ f told.
-    let ident = ident_first f _ (c.in_ok-found.ensures.found f told) in hides_none _ _ _ _ ident.1
+    let ident = ident_first f _ (c.in_ok-found.ensures.reads.found f told) in hides_none _ _ _ _ ident.1
