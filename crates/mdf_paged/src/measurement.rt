@@ -1,7 +1,7 @@
-ghost use Rattle.std.specs.Prelude.{◌≡◌, ◌<◌, ℕ, List, Some, Ok, true, length, slice_get, slice_index_or, IfOk, IfErr};
+ghost use Rattle.std.specs.Prelude.{◌≡◌, ◌<◌, ℕ, List, Some, Ok, true, length, slice_get, slice_index_or, IfOk};
 ghost use Rattle.std.specs.List.{AllByRecursion, list_all};
-ghost use Rattle.mdf_num.specs.Halt.{HaltCause, StopCause};
-ghost use Rattle.mdf_block.specs.Refusal.{Gives, IsPlain};
+ghost use Rattle.mdf_num.specs.Halt.{StopCause};
+ghost use Rattle.mdf_block.specs.Reads.{Reads};
 ghost use Rattle.mdf_content.specs.Fault.{read_refusal};
 ghost use Rattle.mdf_content.specs.Found.{IsFoundInside, IsGroupInside};
 ghost use Rattle.mdf_stream.specs.Parts.{ArePartsInside};
@@ -87,13 +87,9 @@ impl PagedMeasurement {
     /// # Errors
     /// As `whole_found_in`. 2^32 groups and more count as want of memory.
     pub fn read<P: Span>(alloc: Global, span: &mut P) -> Result<PagedMeasurement, Halt<ReadFault>>
-        ensures found { (f : List ℕ) → P.bytes span.old ≡ Some f → Gives read_refusal result (whole_found f) }
+        ensures reads { Reads P.Span span.old span.new true read_refusal result (λ file. whole_found file) }
         ensures measured { (f : List ℕ) → P.bytes span.old ≡ Some f → GivesSeen read_refusal (measured_from f) result (measurement f) }
         ensures inside { IfOk result (λ m. AllByRecursion (IsFoundInside (P.size span.old)) m.found) }
-        ensures plain { IfErr result (IsPlain read_refusal) }
-        ensures same { P.bytes span.new ≡ P.bytes span.old }
-        ensures size { P.size span.new ≡ P.size span.old }
-        ensures cause { HaltCause true (P.faults span.old) (P.faults span.new) result }
     {
         let all = whole_found_in(alloc, span)?;
         let found = PagedMeasurement::numbered(alloc, all)?;
@@ -110,12 +106,8 @@ impl PagedMeasurement {
         alloc: Global,
         span: &mut P,
     ) -> Result<PagedMeasurement, Halt<ReadFault>>
-        ensures found { (f : List ℕ) → P.bytes span.old ≡ Some f → Gives read_refusal result (found_kept wants.Values f) }
+        ensures reads { Reads P.Span span.old span.new true read_refusal result (λ file. found_kept wants.Values file) }
         ensures inside { IfOk result (λ m. AllByRecursion (IsFoundInside (P.size span.old)) m.found) }
-        ensures plain { IfErr result (IsPlain read_refusal) }
-        ensures same { P.bytes span.new ≡ P.bytes span.old }
-        ensures size { P.size span.new ≡ P.size span.old }
-        ensures cause { HaltCause true (P.faults span.old) (P.faults span.new) result }
     {
         let all = whole_kept_in(alloc, span, Wanted::Values)?;
         let found = PagedMeasurement::numbered(alloc, all)?;
@@ -132,12 +124,8 @@ impl PagedMeasurement {
         span: &mut P,
         group: u64,
     ) -> Result<PagedMeasurement, Halt<ReadFault>>
-        ensures found { (f : List ℕ) → P.bytes span.old ≡ Some f → Gives read_refusal result (found_for group f) }
+        ensures reads { Reads P.Span span.old span.new true read_refusal result (λ file. found_for group file) }
         ensures inside { IfOk result (λ m. AllByRecursion (IsFoundInside (P.size span.old)) m.found) }
-        ensures plain { IfErr result (IsPlain read_refusal) }
-        ensures same { P.bytes span.new ≡ P.bytes span.old }
-        ensures size { P.size span.new ≡ P.size span.old }
-        ensures cause { HaltCause true (P.faults span.old) (P.faults span.new) result }
     {
         let all = whole_for_in(alloc, span, group)?;
         let found = PagedMeasurement::numbered(alloc, all)?;

@@ -1,5 +1,5 @@
-ghost use Rattle.std.specs.Prelude.{◌≡◌, ◌<◌, ℕ, List, Some, true, length, IfOk, OnOk};
-ghost use Rattle.mdf_num.specs.Halt.{StopCause};
+ghost use Rattle.std.specs.Prelude.{◌≡◌, ◌<◌, Some, true, length, OnOk};
+ghost use Rattle.mdf_block.specs.Reads.{Looks};
 ghost use Rattle.mdf_stream.specs.Parts.{ArePartsInside};
 ghost use Rattle.mdf_layout.specs.Layout.{record_size};
 ghost use Rattle.mdf_content.specs.Found.{IsGroupInside};
@@ -25,12 +25,8 @@ fn record_in<P: Span>(
     requires view { ArePartsInside (P.size span.old) parent.now.view }
     requires inside { IsGroupInside (P.size span.old) parent.now.view parent.now.lists group.now }
     requires index { i < group.now.count }
-    ensures record { OnOk result ((f : List ℕ) → P.bytes span.old ≡ Some f
-        → scratch.new.items ≡ record_at group.now.shape (held_at f (located parent.now group.now)).content i) }
+    ensures reads { Looks P.Span span.old span.new true result (λ file _. scratch.new.items ≡ record_at group.now.shape (held_at file (located parent.now group.now)).content i) }
     ensures long { OnOk result (length scratch.new.items ≡ record_size group.now.shape) }
-    ensures same { P.bytes span.new ≡ P.bytes span.old }
-    ensures size { P.size span.new ≡ P.size span.old }
-    ensures cause { StopCause true (P.faults span.old) (P.faults span.new) result }
 {
     let none = Places::empty(alloc);
     let places = places_or(parent.lists.as_slice(), group.which as usize, &none);
@@ -60,11 +56,7 @@ pub(crate) fn sample_of<P: Span>(
     requires view { ArePartsInside (P.size span.old) parent.now.view }
     requires inside { IsGroupInside (P.size span.old) parent.now.view parent.now.lists group.now }
     requires index { i < group.now.count }
-    ensures sample { IfOk result (λ entries. (f : List ℕ) → P.bytes span.old ≡ Some f
-        → sample_in f (located parent.now group.now) i ≡ Some entries) }
-    ensures same { P.bytes span.new ≡ P.bytes span.old }
-    ensures size { P.size span.new ≡ P.size span.old }
-    ensures cause { StopCause true (P.faults span.old) (P.faults span.new) result }
+    ensures reads { Looks P.Span span.old span.new true result (λ file entries. sample_in file (located parent.now group.now) i ≡ Some entries) }
 {
     record_in(alloc, span, parent, group, i, scratch)?;
     let values = Views {

@@ -2,6 +2,7 @@ ghost use Rattle.std.specs.Prelude.{◌≡◌, ◌+◌, ◌≤◌, ℕ, List, So
 ghost use Rattle.std.specs.List.{AllByRecursion};
 ghost use Rattle.mdf_format.specs.Number.{bytes_at};
 ghost use Rattle.mdf_num.specs.Halt.{StopCause};
+ghost use Rattle.mdf_block.specs.Reads.{Looks};
 ghost use Rattle.mdf_stream.specs.Parts.{stream_of, stream_size, ArePartsInside};
 ghost use Rattle.mdf_vlsd.specs.Value.{size_there, value_at};
 ghost use Rattle.mdf_content.specs.Values.{has_value};
@@ -23,11 +24,8 @@ pub(crate) fn read_into<P: Span>(
 ) -> Result<(), Stop>
     requires inside { ArePartsInside (P.size span.old) view.now }
     requires within { at + len ≤ stream_size view.now }
-    ensures bytes { OnOk result ((f : List ℕ) → P.bytes span.old ≡ Some f → scratch.new.items ≡ bytes_at len (stream_of f view.now) at) }
+    ensures reads { Looks P.Span span.old span.new true result (λ file _. scratch.new.items ≡ bytes_at len (stream_of file view.now) at) }
     ensures long { OnOk result (length scratch.new.items ≡ len) }
-    ensures same { P.bytes span.new ≡ P.bytes span.old }
-    ensures size { P.size span.new ≡ P.size span.old }
-    ensures cause { StopCause true (P.faults span.old) (P.faults span.new) result }
 {
     let Ok(()) = scratch.resize(len as usize, 0) else {
         return Err(Stop::Memory);
@@ -47,10 +45,7 @@ fn bytes_in<P: Span>(
 ) -> Result<Bytes, Stop>
     requires inside { ArePartsInside (P.size span.old) view.now }
     requires within { at + len ≤ stream_size view.now }
-    ensures bytes { IfOk result (λ bytes. (f : List ℕ) → P.bytes span.old ≡ Some f → bytes ≡ bytes_at len (stream_of f view.now) at) }
-    ensures same { P.bytes span.new ≡ P.bytes span.old }
-    ensures size { P.size span.new ≡ P.size span.old }
-    ensures cause { StopCause true (P.faults span.old) (P.faults span.new) result }
+    ensures reads { Looks P.Span span.old span.new true result (λ file bytes. bytes ≡ bytes_at len (stream_of file view.now) at) }
 {
     let Ok(mut bytes) = Vec::with_capacity(alloc, len as usize) else {
         return Err(Stop::Memory);
@@ -68,12 +63,8 @@ fn value_size_in<P: Span>(
     near: &mut usize,
 ) -> Result<Option<u32>, Stop>
     requires inside { ArePartsInside (P.size span.old) values.now }
-    ensures there { IfOk result (λ size. (f : List ℕ) → P.bytes span.old ≡ Some f
-        → size ≡ (if has_value (stream_of f values.now) offset then Some (size_there (stream_of f values.now) offset) else None)) }
+    ensures reads { Looks P.Span span.old span.new true result (λ file size. size ≡ (if has_value (stream_of file values.now) offset then Some (size_there (stream_of file values.now) offset) else None)) }
     ensures within { IfOk result (λ size. IfSome size (λ n. offset + 4 + n ≤ stream_size values.now)) }
-    ensures same { P.bytes span.new ≡ P.bytes span.old }
-    ensures size { P.size span.new ≡ P.size span.old }
-    ensures cause { StopCause true (P.faults span.old) (P.faults span.new) result }
 {
     let total = values.len();
     let Some(place) = offset.checked_add(4) else {

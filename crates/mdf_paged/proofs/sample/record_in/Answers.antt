@@ -5,11 +5,11 @@ use Rattle.mdf_format.specs.Number.{bytes_at}
 use Rattle.mdf_stream.specs.Parts.{stream_of}
 use Rattle.mdf_layout.specs.Layout.{record_size}
 use Rattle.mdf_paged.proofs.Placed.{record_read}
+use Rattle.mdf_block.proofs.Readers.{looks_of}
 use Rattle.mdf_paged.proofs.sample.record_in.Goals as goal
 
-pub returns-clause-record : goal.returns-clause-record
-returns-clause-record g c =
-    let parent = c.args.parent.now in
+pub returns-clause-reads : goal.returns-clause-reads
+returns-clause-reads g c = looks_of (search rules) (let parent = c.args.parent.now in
     let group = c.args.group.now in
     let told = g.P.Span.bytes c.args.span.now in
     let place : c.place_at-place.result ≡ slice_index_or (slice_index_or parent.lists group.which []) c.args.i 0 = search rules in
@@ -21,4 +21,4 @@ returns-clause-record g c =
     ∙ ap (bytes_at (record_size group.shape) (stream_of f parent.view))
     place
     ∙ record_read told (g.P.Span.size c.args.span.now) f parent group c.args.i (g.met.P.Span.whole c.args.span.now) is_told c.requires.view c.requires.inside c.requires.index)
-    c.read_into.ensures.bytes
+    c.read_into.ensures.reads.seen)

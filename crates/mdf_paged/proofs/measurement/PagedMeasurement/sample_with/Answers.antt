@@ -29,7 +29,7 @@ returns-clause-sample g c = λ f d told read.
     (λ (entries : List Entry). (f : List ℕ) → g.P.Span.bytes c.args.span.now ≡ Some f → sample_in f place c.args.i ≡ Some entries)
     (λ (entries : List Entry). sample_of (slice_index_or (measured_from f c.args.self.now).groups c.args.group d) c.args.i ≡ Some entries)
     (λ entries is. sample_is f c.args.self.now c.args.group d place c.args.i read c.place.ensures.place ∙ is f told)
-    c.sample_of.ensures.sample
+    c.sample_of.ensures.reads.seen
 
 pub returns-clause-asked : goal.returns-clause-asked
 returns-clause-asked g c = λ f m d told read measured.
@@ -38,4 +38,4 @@ returns-clause-asked g c = λ f m d told read measured.
     (λ (entries : List Entry). (f : List ℕ) → g.P.Span.bytes c.args.span.now ≡ Some f → sample_in f place c.args.i ≡ Some entries)
     (λ (entries : List Entry). sample_of (slice_index_or m.groups c.args.group d) c.args.i ≡ Some entries)
     (λ entries is. asked_sample f c.args.group c.args.self.now m read measured d place c.args.i c.place.ensures.place ∙ is f told)
-    c.sample_of.ensures.sample
+    c.sample_of.ensures.reads.seen
