@@ -1,8 +1,7 @@
-ghost use Rattle.std.specs.Prelude.{◌≡◌, ◌+◌, ◌≤◌, ℕ, List, Some, true, length, IfOk, IfErr};
+ghost use Rattle.std.specs.Prelude.{◌≡◌, ◌+◌, ◌≤◌, true, length, IfOk};
 ghost use Rattle.mdf_format.specs.Number.{bytes_at};
 ghost use Rattle.mdf_format.specs.declared.kind.Kind.TheVariants.{At};
-ghost use Rattle.mdf_num.specs.Halt.{StopCause, HaltCause};
-ghost use Rattle.mdf_block.specs.Refusal.{Gives, IsPlain};
+ghost use Rattle.mdf_block.specs.Reads.{Looks, Reads};
 ghost use Rattle.mdf_block.specs.Block.{body_of, IsInside, IsFilled};
 ghost use Rattle.mdf_attach.specs.Listed.{fields_of, whole, list_refusal};
 
@@ -37,10 +36,7 @@ fn md5_of(body: &[u8]) -> [u8; 16]
 fn fields_in<P: Span>(span: &mut P, block: &BlockAt) -> Result<Fields, Stop>
     requires inside { IsInside (P.size span.old) block.now }
     requires filled { IsFilled At block.now }
-    ensures fields { IfOk result (λ fields. (f : List ℕ) → P.bytes span.old ≡ Some f → fields ≡ fields_of (body_of f block.now)) }
-    ensures same { P.bytes span.new ≡ P.bytes span.old }
-    ensures size { P.size span.new ≡ P.size span.old }
-    ensures cause { StopCause P.may_want (P.faults span.old) (P.faults span.new) result }
+    ensures reads { Looks P.Span span.old span.new P.may_want result (λ file fields. fields ≡ fields_of (body_of file block.now)) }
 {
     let mut body = [0u8; 40];
     body_in(span, block, &mut body)?;
@@ -56,14 +52,10 @@ fn fields_in<P: Span>(span: &mut P, block: &BlockAt) -> Result<Fields, Stop>
 /// The block of the attachment at `at`, whose embedded data lies in its body, and its fields.
 #[tactic(auto, unfolding(crate::specs::Listed::whole, crate::specs::Listed::held))]
 pub(crate) fn whole_in<P: Span>(span: &mut P, at: u64) -> Result<(BlockAt, Fields), Halt<ListFault>>
-    ensures found { (f : List ℕ) → P.bytes span.old ≡ Some f → Gives list_refusal result (whole f at) }
-    ensures plain { IfErr result (IsPlain list_refusal) }
+    ensures reads { Reads P.Span span.old span.new P.may_want list_refusal result (λ file. whole file at) }
     ensures inside { IfOk result (λ found. IsInside (P.size span.old) found.0) }
     ensures filled { IfOk result (λ found. IsFilled At found.0) }
     ensures holds { IfOk result (λ found. 40 + found.1.embedded ≤ found.0.body_len) }
-    ensures same { P.bytes span.new ≡ P.bytes span.old }
-    ensures size { P.size span.new ≡ P.size span.old }
-    ensures cause { HaltCause P.may_want (P.faults span.old) (P.faults span.new) result }
 {
     let block = block_of(span, at, Kind::At)?;
     let fields = fields_in(span, &block)?;
@@ -82,10 +74,7 @@ pub(crate) fn content_in<P: Span>(
 ) -> Result<Bytes, Stop>
     requires inside { IsInside (P.size span.old) block.now }
     requires holds { 40 + len ≤ block.now.body_len }
-    ensures content { IfOk result (λ content. (f : List ℕ) → P.bytes span.old ≡ Some f → content ≡ bytes_at len f (block.now.body_at + 40)) }
-    ensures same { P.bytes span.new ≡ P.bytes span.old }
-    ensures size { P.size span.new ≡ P.size span.old }
-    ensures cause { StopCause true (P.faults span.old) (P.faults span.new) result }
+    ensures reads { Looks P.Span span.old span.new true result (λ file content. content ≡ bytes_at len file (block.now.body_at + 40)) }
 {
     let Ok(mut items) = vec![in alloc; 0u8; len as usize] else {
         return Err(Stop::Memory);

@@ -1,7 +1,7 @@
-ghost use Rattle.std.specs.Prelude.{◌≡◌, ◌+◌, ◌≤◌, ℕ, List, Some, true, IfErr};
+ghost use Rattle.std.specs.Prelude.{◌≡◌, ◌+◌, ◌≤◌, ℕ, List, Some, true};
 ghost use Rattle.mdf_format.specs.declared.kind.Kind.TheVariants.{At, Hd};
-ghost use Rattle.mdf_num.specs.Halt.{HaltCause};
-ghost use Rattle.mdf_block.specs.Refusal.{Gives, HidesNone, IsPlain};
+ghost use Rattle.mdf_block.specs.Refusal.{HidesNone};
+ghost use Rattle.mdf_block.specs.Reads.{Reads};
 ghost use Rattle.mdf_block.specs.Block.{block, IsInside, IsFilled};
 ghost use Rattle.mdf_attach.specs.Listed.{attachment_with, attachment_of_block, attachment, header_attachments, list_refusal};
 
@@ -57,11 +57,7 @@ fn attachment_in<P: Span>(
     requires inside { IsInside (P.size span.old) block.now }
     requires filled { IsFilled At block.now }
     requires holds { 40 + fields.embedded ≤ block.now.body_len }
-    ensures found { (f : List ℕ) → P.bytes span.old ≡ Some f → Gives list_refusal result (attachment_of_block f block.now fields left) }
-    ensures plain { IfErr result (IsPlain list_refusal) }
-    ensures same { P.bytes span.new ≡ P.bytes span.old }
-    ensures size { P.size span.new ≡ P.size span.old }
-    ensures cause { HaltCause true (P.faults span.old) (P.faults span.new) result }
+    ensures reads { Reads P.Span span.old span.new true list_refusal result (λ file. attachment_of_block file block.now fields left) }
 {
     let next = link_in(span, block, 0)?;
     let content = content_in(alloc, span, block, fields.embedded)?;
@@ -128,12 +124,8 @@ pub(crate) fn header_attachments_in<P: Span>(
     alloc: Global,
     span: &mut P,
 ) -> Result<Rows<Attachment>, Halt<ListFault>>
-    ensures found { (f : List ℕ) → P.bytes span.old ≡ Some f → Gives list_refusal result (header_attachments f) }
+    ensures reads { Reads P.Span span.old span.new true list_refusal result (λ file. header_attachments file) }
     ensures first { (f : List ℕ) → P.bytes span.old ≡ Some f → HidesNone P.may_want result (block f 64 Hd) }
-    ensures plain { IfErr result (IsPlain list_refusal) }
-    ensures same { P.bytes span.new ≡ P.bytes span.old }
-    ensures size { P.size span.new ≡ P.size span.old }
-    ensures cause { HaltCause true (P.faults span.old) (P.faults span.new) result }
 {
     let block = block_of(span, HEADER_AT, Kind::Hd)?;
     let first = link_in(span, &block, 3)?;

@@ -1,7 +1,6 @@
-ghost use Rattle.std.specs.Prelude.{◌≡◌, ◌<◌, ℕ, List, Some, false, true, IfOk, IfErr};
+ghost use Rattle.std.specs.Prelude.{◌≡◌, ◌<◌, false, true, IfOk};
 ghost use Rattle.mdf_format.specs.Block.{link_at};
-ghost use Rattle.mdf_num.specs.Halt.{HaltCause};
-ghost use Rattle.mdf_block.specs.Refusal.{Gives, IsPlain};
+ghost use Rattle.mdf_block.specs.Reads.{Reads};
 ghost use Rattle.mdf_block.specs.Block.{block, is_data, IsInside, IsFilled};
 ghost use Rattle.mdf_block.specs.Text.{note};
 ghost use Rattle.mdf_attach.specs.Listed.{list_refusal};
@@ -18,13 +17,9 @@ pub(crate) fn block_of<P: Span>(
     want: Kind,
 ) -> Result<BlockAt, Halt<ListFault>>
     requires { is_data want ≡ false }
-    ensures found { (f : List ℕ) → P.bytes span.old ≡ Some f → Gives list_refusal result (block f at want) }
-    ensures plain { IfErr result (IsPlain list_refusal) }
+    ensures reads { Reads P.Span span.old span.new P.may_want list_refusal result (λ file. block file at want) }
     ensures inside { IfOk result (IsInside (P.size span.old)) }
     ensures filled { IfOk result (IsFilled want) }
-    ensures same { P.bytes span.new ≡ P.bytes span.old }
-    ensures size { P.size span.new ≡ P.size span.old }
-    ensures cause { HaltCause P.may_want (P.faults span.old) (P.faults span.new) result }
 {
     match block_in(span, at, want) {
         Ok(block) => Ok(block),
@@ -48,11 +43,7 @@ pub(crate) fn text_of<P: Span>(
 ) -> Result<(Note, u64), Halt<ListFault>>
     requires inside { IsInside (P.size span.old) block.now }
     requires number { k < block.now.links }
-    ensures found { (f : List ℕ) → P.bytes span.old ≡ Some f → Gives list_refusal result (note f (link_at f block.now.at k) left) }
-    ensures plain { IfErr result (IsPlain list_refusal) }
-    ensures same { P.bytes span.new ≡ P.bytes span.old }
-    ensures size { P.size span.new ≡ P.size span.old }
-    ensures cause { HaltCause true (P.faults span.old) (P.faults span.new) result }
+    ensures reads { Reads P.Span span.old span.new true list_refusal result (λ file. note file (link_at file block.now.at k) left) }
 {
     let at = link_in(span, block, k)?;
     match noted_in(alloc, span, at, left) {

@@ -1,6 +1,5 @@
-ghost use Rattle.std.specs.Prelude.{◌≡◌, ◌≤◌, ℕ, List, Some, true, IfErr};
-ghost use Rattle.mdf_num.specs.Halt.{HaltCause};
-ghost use Rattle.mdf_block.specs.Refusal.{Gives, IsPlain};
+ghost use Rattle.std.specs.Prelude.{◌≤◌, true};
+ghost use Rattle.mdf_block.specs.Reads.{Reads};
 ghost use Rattle.mdf_block.specs.Block.{IsInside};
 ghost use Rattle.mdf_attach.specs.Listed.{texts, list_refusal};
 
@@ -31,11 +30,7 @@ pub(crate) fn texts_in<P: Span>(
 ) -> Result<(Texts, u64), Halt<ListFault>>
     requires inside { IsInside (P.size span.old) block.now }
     requires linked { 4 ≤ block.now.links }
-    ensures found { (f : List ℕ) → P.bytes span.old ≡ Some f → Gives list_refusal result (texts f block.now.at left) }
-    ensures plain { IfErr result (IsPlain list_refusal) }
-    ensures same { P.bytes span.new ≡ P.bytes span.old }
-    ensures size { P.size span.new ≡ P.size span.old }
-    ensures cause { HaltCause true (P.faults span.old) (P.faults span.new) result }
+    ensures reads { Reads P.Span span.old span.new true list_refusal result (λ file. texts file block.now.at left) }
 {
     let (name, left) = text_of(alloc, span, block, 1, left)?;
     let (mime, left) = text_of(alloc, span, block, 2, left)?;
