@@ -1,5 +1,5 @@
 -- The body of an attachment that is written has its fields and its embedded data.
-use Rattle.std.proofs.Common.{◌≡◌, ◌+◌, ℕ, List, [], ◌∷◌, ◌++◌, length, replicate, refl, sym, ◌∙◌, ap, arith, append-nil, append_assoc, length-append}
+use Rattle.std.proofs.Common.{◌≡◌, ◌+◌, ℕ, List, [], ◌++◌, length, replicate, refl, sym, ◌∙◌, ap, arith, append-nil, append_assoc, length-append}
 use Rattle.std.specs.Int.{to_le_bytes, w16, w64}
 use Rattle.mdf_format.specs.Number.{le_number, bytes_at}
 use Rattle.mdf_block.proofs.Laying.{bytes_at-part}

@@ -1,5 +1,5 @@
 -- The file with attachments is valid, and has the measurement of which it is made and these attachments.
-use Rattle.std.proofs.Common.{◌≡◌, ◌^◌, ◌<◌, ℕ, List, [], ◌∷◌, ◌++◌, length, refl, sym, ◌∙◌, ap, subst, inr, arith, append-nil}
+use Rattle.std.proofs.Common.{◌≡◌, ◌^◌, ◌<◌, ℕ, List, [], ◌∷◌, ◌++◌, length, map, refl, sym, ◌∙◌, ap, subst, inr, arith, append-nil}
 use Rattle.std.proofs.lemmas.List.{take_at}
 use Rattle.std.specs.Prelude.{codes}
 use Rattle.std.specs.List.{flat_map, AllByRecursion}

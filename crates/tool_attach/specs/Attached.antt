@@ -1,6 +1,5 @@
 -- The file with attachments: the sorted file of a measurement, whose header names the attachments behind its last block.
 use Rattle.std.specs.Prelude.{ℕ, ◌≡◌, ◌+◌, ◌^◌, ◌<◌, List, [], ◌∷◌, ◌++◌, length, map, replicate, codes}
-use Rattle.std.specs.List.{AllByRecursion}
 use Rattle.std.specs.Int.{to_le_bytes, w16, w64}
 use Rattle.mdf_format.specs.Block.{link_at}
 use Rattle.mdf_format.specs.declared.kind.Kind.TheVariants.{At}
