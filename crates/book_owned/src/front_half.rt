@@ -33,7 +33,7 @@ impl<V: Shown> Model for Front<V> {
 }
 
 impl<V: Shown> Front<V> {
-    ghost use Rattle.book_owned.specs.Marks.{last_mark};
+    ghost use Rattle.book_owned.specs.Marks.{last_mark, durable};
     ghost use Rattle.book_owned.specs.Kept.{IsShowing};
     ghost use Rattle.book_owned.specs.Answers.{IsRefusal, accepted_by};
     ghost use Rattle.book_owned.specs.FrontHalf.{AreThroughs, FrontRoom, FrontFits, FrontPasses, PutTells, HandTells, IsAwaited, FinishTells, FrontPutEvents, FinishEvents, behind};
@@ -139,7 +139,8 @@ impl<V: Shown> Front<V> {
 
     /// Whether it has its spare block: false just between a block that was handed over and what became of it.
     pub fn spare(&self) -> bool
-        ensures { result ≡ self.now.spare }
+        ensures is { result ≡ self.now.spare }
+        ensures lent { result ≡ false → durable self.now.marks < length self.now.history }
     {
         self.spare.is_some()
     }

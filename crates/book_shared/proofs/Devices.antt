@@ -1,5 +1,5 @@
 -- The steps on the device's word keep the rule.
-use Rattle.std.proofs.Common.{◌≡◌, ℕ, ◌+◌, ◌<◌, ◌≤◌, ◌≢◌, true, List, [], ◌∷◌, length, take, set, length-set, set-set, refl, sym, ap, ◌∙◌, subst, arith}
+use Rattle.std.proofs.Common.{◌≡◌, ℕ, ◌+◌, ◌<◌, ◌≤◌, ◌≢◌, true, List, [], ◌∷◌, ◌++◌, length, take, set, length-set, set-set, refl, sym, ap, ◌∙◌, subst, arith}
 use Rattle.std.specs.Prelude.{Option as Opt, Some, None, ◌==◌, slice_index, slice_set, nat_lt, MatchBool}
 use mathlib.Core.Option.{Option as Home, some, none}
 use lib.ListN.{get_elem?}
@@ -17,6 +17,7 @@ use Rattle.book_owned.specs.FrontHalf.{FrontAccount}
 use Rattle.book_owned.specs.Split.{back_part}
 use Rattle.book_owned.specs.declared.mark.Mark.{Mark}
 use Rattle.book_shared.specs.Basis.{Basis, Turn, idle, holding, Device, free, resting, handed, writing, written, settled}
+use Rattle.book_shared.specs.Causes.{IsAmong}
 use Rattle.book_shared.specs.Rule.{World, asks, AskedOf, DueOf, holds_device, lends_block, has_back, has_answer, backs_out, Names, Answers, KnowsDevice, Knows, KeepsAll, HoldsAll, IsWrittenBy, Stands, BackHome, Runs}
 use Rattle.book_shared.specs.Plays.{wanting, Slot, Here, at_device, settled_by, TakesDevice, BringsOut, BringsIn, GivesDevice}
 use Rattle.book_shared.specs.declared.half.Answer.{Answer}
@@ -131,13 +132,13 @@ module _ {D V : Type 0} (disk : DiskOf D) (basis : Basis) (s : State (Slot D V) 
     inside,
   )
 
--- what a seat knows that has one sample more to append
-names_due : (w : World) (v : View) (sample : Sample) (t : Turn) → Names w v t → Names w (wanted v (Some sample)) t
-names_due w v sample idle names = tt
-names_due w v sample (holding held) names = (names.0, names.1, names.2, names.3, names.4, names.5, names.6)
+-- what a seat knows that took the device once more, and has these samples to append
+names_due : (w : World) (v : View) (rounds : ℕ) (due : List Sample) (t : Turn) → Names w v t → Names w (record v { rounds = rounds; due = due }) t
+names_due w v rounds due idle names = tt
+names_due w v rounds due (holding held) names = (names.0, names.1, names.2, names.3, names.4, names.5, names.6)
 
-knows_due : (basis : Basis) (w : World) (v : View) (sample : Sample) → 0 < length v.mine → Knows basis w v → Knows basis w (wanted v (Some sample))
-knows_due basis w v sample some_mine know = record {
+knows_due : (basis : Basis) (w : World) (v : View) (rounds : ℕ) (due : List Sample) → 0 < length v.mine → Knows basis w v → Knows basis w (record v { rounds = rounds; due = due })
+knows_due basis w v rounds due some_mine know = record {
   met = know.met;
   seen = know.seen;
   kept = know.kept;
@@ -145,10 +146,10 @@ knows_due basis w v sample some_mine know = record {
   knows = know.knows;
   mine = know.mine;
   olds = know.olds;
-  turn = names_due w v sample v.turn know.turn;
+  turn = names_due w v rounds due v.turn know.turn;
   device = record {
     some_source = know.device.some_source;
-    awaits = λ out. awaits_on w w v (wanted v (Some sample)) refl refl refl refl refl (know.device.awaits out);
+    awaits = λ out. awaits_on w w v (record v { rounds = rounds; due = due }) refl refl refl refl refl (know.device.awaits out);
     turn = know.device.turn;
     answers = know.device.answers;
   };
@@ -157,27 +158,33 @@ knows_due basis w v sample some_mine know = record {
   due = λ _. some_mine;
 }
 
--- the table when a seat has one sample more to append
-due_runs : {D V : Type 0} (disk : DiskOf D) (basis : Basis) (s : State (Slot D V) View) (run : Runs disk basis s) (id : ℕ) (v : View) (due : Opt Sample) → get_elem? s.views id ≡ some v → 0 < length v.mine
-    → Runs disk basis record { words = s.words; homes = s.homes; views = set s.views id (wanted v due) }
-due_runs disk basis s run id v None at some_mine = subst (λ vs. Runs disk basis record { words = s.words; homes = s.homes; views = vs }) (sym (set_again s.views id v at)) run
-due_runs disk basis s run id v (Some sample) at some_mine =
+-- the table then
+taken_runs : {D V : Type 0} (disk : DiskOf D) (basis : Basis) (s : State (Slot D V) View) (run : Runs disk basis s) (id : ℕ) (v : View) (rounds : ℕ) (due : List Sample) → get_elem? s.views id ≡ some v
+    → 0 < length v.mine → ((other : Sample) → IsAmong v.due other → IsAmong due other)
+    → Runs disk basis record { words = s.words; homes = s.homes; views = set s.views id (record v { rounds = rounds; due = due }) }
+taken_runs disk basis s run id v rounds due at some_mine more =
     let w = run.shared in
-    let u = wanted v (Some sample) in
+    let u = record v { rounds = rounds; due = due } in
     record {
       shared = w;
       device = run.device;
       words = run.words;
       turns = turns_moved w.word w.word run.device run.device s.views id v u run.turns at run.turns.few refl refl refl run.turns.one_device;
-      seats = seats_moved basis w w s.views id v u run.seats at (λ k. refl) (knows_due basis w v sample some_mine (run.seats.each id v at))
+      seats = seats_moved basis w w s.views id v u run.seats at (λ k. refl) (knows_due basis w v rounds due some_mine (run.seats.each id v at))
           (λ k x apart there. run.seats.each k x there) run.seats.only run.seats.low run.seats.within;
       slots = slots_on disk basis w s.views (set s.views id u) s.homes
           (same_total (λ (y : View). lends_block y.device) s.views id v u at refl) (same_total (λ (y : View). has_back y.device) s.views id v u at refl)
           (stand_on disk basis s.views id v u at (λ samples marks back stands. stands)) run.slots;
       marks = caused_later (AskedOf s.views) (AskedOf (set s.views id u)) (DueOf s.views) (DueOf (set s.views id u)) basis.terms.layouts basis.terms.block_limit w.history w.history
-          (asked_on s.views id v u at (λ k. least (asks k v))) (due_on s.views id v u at (λ other is. any_first (λ y. y ≡ other) v.due (sample ∷ []) is)) (prefix_self w.history)
+          (asked_on s.views id v u at (λ k. least (asks k v))) (due_on s.views id v u at more) (prefix_self w.history)
           basis.begun w.marks run.marks;
     }
+
+due_runs : {D V : Type 0} (disk : DiskOf D) (basis : Basis) (s : State (Slot D V) View) (run : Runs disk basis s) (id : ℕ) (v : View) (due : Opt Sample) → get_elem? s.views id ≡ some v → 0 < length v.mine
+    → Runs disk basis record { words = s.words; homes = s.homes; views = set s.views id (wanted v due) }
+due_runs disk basis s run id v None at some_mine = taken_runs disk basis s run id v (v.rounds + 1) v.due at some_mine (λ other is. is)
+due_runs disk basis s run id v (Some sample) at some_mine =
+    taken_runs disk basis s run id v (v.rounds + 1) (v.due ++ sample ∷ []) at some_mine (λ other is. any_first (λ y. y ≡ other) v.due (sample ∷ []) is)
 
 wanted_device : (v : View) (due : Opt Sample) → (wanted v due).device ≡ v.device
 wanted_device v None = refl

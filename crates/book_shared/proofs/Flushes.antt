@@ -49,6 +49,11 @@ has_last [] rising = absurd (nothing_there rising.first) where
   nothing_there is = is
 has_last (first ∷ marks) rising = let last = last_stands first marks in record { before = last.0; mark = last_mark (first ∷ marks); after = []; marks_are = last.1; through_is = refl }
 
+-- fewer are durable, whether the spare block is there or not
+lacks_so : (spare : Bool) (few all : ℕ) → (spare ≡ true → few < all) → (spare ≡ false → few < all) → few < all
+lacks_so true few all here away = here refl
+lacks_so false few all here away = away refl
+
 -- the seat after it gave the front and the device back
 pub ended_so : {D V : Type 0} (v u : View) (device : Device) (old new : FrontAccount V) (took : Took v u device old) (asks : Bool) (word : ℕ) (m x : Here D V) → m.0 ≡ u
     → x ≡ seat_of (at_device (given asks m.0 word new) free) [] → x.0 ≡ at_device (given asks (turning v u device old) word new) free
@@ -187,7 +192,11 @@ module _ {D V N : Type 0} (disk : DiskOf D) (view : ViewOf V N) (v u : View) (de
     rests = rests_ended v u device old new false word;
     asked = append-nil v.asked;
     accepted_is = now.2 ∙ ap (λ (f : FrontAccount V). length f.history) (sym now.1);
-    found = ap (λ n. v.found ++ n ∷ []) (sym now.2);
+    met = held_of old;
+    found = refl;
+    met_is = sym now.2;
+    going = now.0;
+    lacks = lacks_so old.spare (durable old.marks) (length old.history) now.3 now.4;
   }
 
 -- how many samples a flush was for, after its last turn
@@ -209,7 +218,7 @@ module _ {V N : Type 0} (view : ViewOf V N) (v u : View) (device : Device) (old 
   -- and so it was in its first turn
   pub shown_first : (result : Result (Flush N) ℕ) → FlushesNow view old new (length old.history) result → IfOk result (λ answer. FlushesFirst v (last_seat false) answer)
   shown_first (Ok answer) now = record {
-    accepted = length old.history;
+    met = held_of old;
     first = ([], refl);
     flushes = shown_for (length old.history) (length old.history) (omega arith) answer now;
   }

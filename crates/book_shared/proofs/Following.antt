@@ -1,5 +1,6 @@
 -- What a seat knew goes on in what it knows later.
-use Rattle.std.proofs.Common.{◌≡◌, ℕ, ◌≤◌, true, false, List, [], ◌∷◌, ◌++◌, length, length-append, refl, sym, ap, ◌∙◌, subst, inl, inr, ⊎_elim, arith, append-nil, append_assoc}
+use Rattle.std.proofs.Common.{◌≡◌, ℕ, ◌+◌, ◌≤◌, true, false, List, [], ◌∷◌, ◌++◌, length, length-append, refl, sym, ap, ◌∙◌, subst, inl, inr, ⊎_elim, arith, append-nil, append_assoc}
+use Rattle.std.specs.Prelude.{Option as Opt, None, Some}
 use mathlib.Core.List.{IsPrefix}
 use Rattle.mdf_disk.specs.declared.disk.Disk.{Ghosts as DiskOf}
 use Rattle.mdf_gate.proofs.Carrying.{prefix_self, prefix_append, prefix_trans}
@@ -9,12 +10,12 @@ use Rattle.book_owned.specs.declared.view.Shown.{Ghosts as ViewOf}
 use Rattle.book_owned.specs.Answers.{accepted_by}
 use Rattle.book_owned.specs.declared.answer.Flush.{Flush}
 use Rattle.book_owned.specs.declared.answer.Flush.TheVariants as flush
-use Rattle.book_shared.specs.Basis.{Device, resting, writing}
-use Rattle.book_shared.specs.Plays.{recount, at_device, given}
+use Rattle.book_shared.specs.Basis.{Device, Held, resting, writing}
+use Rattle.book_shared.specs.Plays.{recount, at_device, given, held_of}
 use Rattle.book_shared.specs.Place.{own_part, IsSingle}
 use Rattle.book_shared.specs.Turns.{IsFirst, Took, Served, Rests}
 use Rattle.book_shared.specs.Told.{FlushesSeen, Asks, MarksThrough}
-use Rattle.book_shared.specs.Rounds.{HasFlushed, IsRound, HasTried}
+use Rattle.book_shared.specs.Rounds.{wanted, HasFlushed, IsRound, HasTried}
 use Rattle.book_shared.specs.declared.answer.Try.{Try}
 use Rattle.book_shared.specs.declared.answer.Try.TheVariants.{Busy, NeedsFlush, Answered}
 use Rattle.book_shared.specs.declared.view.View.{View}
@@ -63,6 +64,25 @@ follows_device v device = record {
   single = λ number is. is;
 }
 
+-- and one that took it for a sample, or for none
+follows_taking : (v : View) (rounds : ℕ) (due : List Sample) → Follows v (record v { rounds = rounds; due = due })
+follows_taking v rounds due = record {
+  seen = prefix_self v.seen;
+  kept = prefix_self v.kept;
+  knows = λ stop. stop;
+  mine = refl;
+  olds = refl;
+  basis_is = refl;
+  turns = omega arith;
+  found = prefix_self v.found;
+  asked = refl;
+  single = λ number is. is;
+}
+
+pub follows_due : (v : View) (due : Opt Sample) → Follows v (wanted v due)
+follows_due v None = follows_taking v (v.rounds + 1) v.due
+follows_due v (Some sample) = follows_taking v (v.rounds + 1) (v.due ++ sample ∷ [])
+
 -- and one that took the turn then, handed the pending records out and gave the front back
 pub follows_handed : {V : Type 0} (v u : View) (old new : FrontAccount V) (word : ℕ) → Took (at_device v resting) u resting old
     → new.history ≡ old.history → new.marks ≡ old.marks → new.stopped ≡ old.stopped → Follows v (at_device (given false u word new) writing)
@@ -75,7 +95,7 @@ follows_handed {V} v u old new word took history marks stopped =
       olds = refl;
       basis_is = refl;
       turns = omega arith;
-      found = prefix_append v.found (length old.history ∷ []);
+      found = prefix_append v.found (held_of old ∷ []);
       asked = append-nil v.asked;
       single = λ number single. single_again v.basis.owners new.history v.mine number single;
     })
@@ -96,8 +116,8 @@ round_found disk view v x sample (NeedsFlush held size limit back) round = round
 round_found disk view v x sample (Answered answer) round = round.0.1.found
 
 -- the first turn of a seat is the first also where it has had more
-pub first_later : (v y x : View) (count : ℕ) → IsFirst v y count → IsPrefix y.found x.found → IsFirst v x count
-first_later v y x count is more = (is.0 ++ more.0, sym more.1 ∙ ap (λ counts. counts ++ more.0) is.1 ∙ append_assoc v.found (count ∷ is.0) more.0)
+pub first_later : (v y x : View) (met : Held) → IsFirst v y met → IsPrefix y.found x.found → IsFirst v x met
+first_later v y x met is more = (is.0 ++ more.0, sym more.1 ∙ ap (λ turns. turns ++ more.0) is.1 ∙ append_assoc v.found (met ∷ is.0) more.0)
 
 -- a mark through all of these goes through their first ones
 pub marks_fewer : (x : View) (first samples : List Sample) → IsPrefix first samples → MarksThrough x samples → MarksThrough x first

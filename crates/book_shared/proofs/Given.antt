@@ -162,7 +162,7 @@ turning v u device front = record v {
   prior = u.prior;
   steps = u.steps;
   turns = v.turns + 1;
-  found = v.found ++ length front.history ∷ [];
+  found = v.found ++ held_of front ∷ [];
   turn = holding (held_of front);
   last = holding (held_of front);
   device = device;
@@ -200,7 +200,7 @@ module _ {V : Type 0} (v u : View) (device : Device) (old new : FrontAccount V) 
       olds = refl;
       basis_is = refl;
       turns = omega arith;
-      found = prefix_append v.found (length old.history ∷ []);
+      found = prefix_append v.found (held_of old ∷ []);
     }
 
     -- the seat after the front was given back
@@ -310,7 +310,7 @@ pub tried_now : {D V : Type 0} (v u w : View) (device : Device) (old new : Front
 tried_now {D} {V} v u w device old new word x sample answer took single off puts same is =
     subst (λ y. IsTried V v y sample answer) (sym (gave_now v u w device old new false word x took same is)) (record {
       tries = tries_given v u device old new took false word sample single answer puts;
-      from = omega (arith, took.meets.from, (try_leaves old new sample answer puts).from);
+      from = took.meets.from;
       found = refl;
       rests = rests_given v u device old new took false word (ap (λ d. given_device d new.spare) off);
       asked = append-nil v.asked;

@@ -1,5 +1,5 @@
 -- A round of an append: the sample is put, or a full block is handed over.
-use Rattle.std.proofs.Common.{◌≡◌, ℕ, ◌+◌, ◌<◌, ◌≤◌, ◌⊎◌, true, false, [], ◌∷◌, ◌++◌, length, drop, refl, sym, ap, ◌∙◌, subst, inl, inr, ⊎_elim, arith}
+use Rattle.std.proofs.Common.{◌≡◌, ℕ, ◌+◌, ◌<◌, ◌≤◌, ◌⊎◌, true, false, [], ◌∷◌, ◌++◌, drop, refl, sym, ap, ◌∙◌, subst, inl, inr, ⊎_elim, arith}
 use Rattle.std.specs.Prelude.{slice_index, Some}
 use mathlib.Core.List.{IsPrefix}
 use Rattle.atomic_table.specs.Table.{rest}
@@ -21,7 +21,7 @@ use Rattle.book_shared.specs.Place.{IsSingle}
 use Rattle.book_shared.specs.Turns.{OnlyDue, Took, Works}
 use Rattle.book_shared.specs.Told.{Announces, MarksThrough, Puts, WasBlocked, IsOneTurn}
 use Rattle.book_shared.specs.Causes.{IsAmong}
-use Rattle.book_shared.specs.Rounds.{wanted, met_in, HasSeized, HasTurned, HasFull, HasWritten, HasBoth, HasTried, IsOneRound, IsTried, WasFull}
+use Rattle.book_shared.specs.Rounds.{wanted, met_in, from_in, HasSeized, HasTurned, HasFull, HasWritten, HasBoth, HasTried, IsOneRound, IsTried, WasFull}
 use Rattle.book_shared.specs.declared.answer.Try.{Try}
 use Rattle.book_shared.specs.declared.answer.Try.TheVariants.{Busy, NeedsFlush, Answered}
 use Rattle.book_shared.specs.declared.half.Half.TheVariants.{TheFront}
@@ -90,21 +90,7 @@ module _ {D V : Type 0} (v : View) (m n : Here D V) (sample : Sample) (full : Ha
         (tried (writes_full word) (both_of v n through block turned_full word disk p word' answer wrote)
         (subst (λ (b : Basis). IsSingle (writes_full word) (slice_index b.owners sample.group)) (sym on.basis_is) (on.single (slice_index v.basis.owners sample.group) single)))
 
--- what a seat knew that has announced a sample
-pub follows_due : (v : View) (sample : Sample) → Follows v (wanted v (Some sample))
-follows_due v sample = record {
-  seen = prefix_self v.seen;
-  kept = prefix_self v.kept;
-  knows = λ stop. stop;
-  mine = refl;
-  olds = refl;
-  basis_is = refl;
-  turns = omega arith;
-  found = prefix_self v.found;
-  asked = refl;
-  single = λ number is. is;
-}
-
+-- a seat that announces a sample has to append it
 pub wants_it : (v : View) (sample : Sample) → IsAmong (wanted v (Some sample)).due sample
 wants_it v sample = any_last (λ x. x ≡ sample) v.due (sample ∷ []) (inl refl)
 
@@ -226,31 +212,29 @@ pub blocked_once : {V : Type 0} (v x : View) (sample : Sample) (held size limit 
 blocked_once {V} v x sample held size limit back is =
     let full = is.tries.0 in
     let front = is.front.tried tt in
+    let same : x.seen ≡ front.0.history = sym front.2.history ∙ ap (λ (f : FrontAccount V). f.history) front.3.2 in
     record {
-      history = x.seen;
-      from = x.from;
-      first = (
-        [],
-        is.found ∙ ap (λ n. v.found ++ n ∷ []) (ap met_in front.2.found ∙ ap (λ (f : FrontAccount V). length f.history) (sym front.3.2) ∙ ap length front.2.history),
-      );
+      met = held_of front.0;
+      first = ([], is.found ∙ ap (λ t. v.found ++ met_in t) front.2.found);
       marks = inl (held_of front.0, front.2.found, sym front.2.marks ∙ ap (λ (f : FrontAccount V). f.marks) front.3.2);
-      later = served_seen v x full.history [] full.served;
-      seen = prefix_self x.seen;
-      handed = is.from;
-      passes = omega (arith, full.passes, full.held_is, full.size_is, full.limit_is);
+      later = subst (λ h. IsPrefix v.seen h) same (served_seen v x full.history [] full.served);
+      seen = subst (λ h. IsPrefix h x.seen) same (prefix_self x.seen);
+      handed = omega (arith, is.from, ap from_in front.2.found);
+      going = front.3.0;
+      passes = subst (λ (t : FrontTerms). t.block_limit < history_size t.layouts (drop front.0.from front.0.history) + encoded_size t.layouts sample) front.2.terms front.3.6;
     }
 
 -- and so it is of a seat that goes on
 blocked_later : (v x u : View) (sample : Sample) → IsPrefix x.seen u.seen → IsPrefix x.found u.found → MarksThrough u x.seen → u.basis ≡ x.basis → WasBlocked v x sample → WasBlocked v u sample
 blocked_later v x u sample more found marks same is = record {
-  history = is.history;
-  from = is.from;
-  first = first_later v x u (length is.history) is.first found;
-  marks = marks_fewer u is.history x.seen is.seen marks;
+  met = is.met;
+  first = first_later v x u is.met is.first found;
+  marks = marks_fewer u is.met.history x.seen is.seen marks;
   later = is.later;
-  seen = prefix_trans is.history x.seen u.seen is.seen more;
+  seen = prefix_trans is.met.history x.seen u.seen is.seen more;
   handed = is.handed;
-  passes = subst (λ (b : Basis). b.terms.block_limit < history_size b.terms.layouts (drop is.from is.history) + encoded_size b.terms.layouts sample) (sym same) is.passes;
+  going = is.going;
+  passes = subst (λ (b : Basis). b.terms.block_limit < history_size b.terms.layouts (drop is.met.from is.met.history) + encoded_size b.terms.layouts sample) (sym same) is.passes;
 }
 
 one_round : (v x : View) (sample : Sample) (answer : Try) → WasBlocked v x sample → IsOneRound v x sample answer

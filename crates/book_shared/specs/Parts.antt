@@ -19,7 +19,7 @@ abbrev pub kept_part : View → View
 kept_part v = record v { mine = first_part v.mine }
 
 abbrev pub split_part : View → View
-split_part v = record v { steps = 0; turns = 0; found = []; olds = []; asked = []; due = []; mine = other_parts v.mine }
+split_part v = record v { steps = 0; turns = 0; found = []; rounds = 0; olds = []; asked = []; due = []; mine = other_parts v.mine }
 
 -- the longer of two lists
 abbrev pub longer : {A : Type 0} → List A → List A → List A
@@ -33,6 +33,7 @@ joined v w = record {
   steps = v.steps + w.steps;
   turns = v.turns + w.turns;
   found = v.found ++ w.found;
+  rounds = v.rounds + w.rounds;
   knows = v.knows || w.knows;
   seen = longer v.seen w.seen;
   kept = longer v.kept w.kept;

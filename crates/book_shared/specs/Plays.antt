@@ -41,14 +41,14 @@ looked v word = record v { met = word; prior = v.met; steps = v.steps + 1 }
 abbrev pub at_device : View → Device → View
 at_device v device = record v { device = device }
 
--- after one that announced a sample, which the seat has to append
+-- after one that took the device: it may have announced a sample, which the seat has to append
 abbrev pub wanting : {F B : Type 0} → View → Home (Half F B) → View
-wanting v none = v
-wanting v (some (Told answer)) = v
-wanting v (some (Due sample)) = record v { due = v.due ++ sample.value ∷ [] }
-wanting v (some (TheFront front)) = v
-wanting v (some (TheBack back)) = v
-wanting v (some Out) = v
+wanting v none = record v { rounds = v.rounds + 1 }
+wanting v (some (Told answer)) = record v { rounds = v.rounds + 1 }
+wanting v (some (Due sample)) = record v { rounds = v.rounds + 1; due = v.due ++ sample.value ∷ [] }
+wanting v (some (TheFront front)) = record v { rounds = v.rounds + 1 }
+wanting v (some (TheBack back)) = record v { rounds = v.rounds + 1 }
+wanting v (some Out) = record v { rounds = v.rounds + 1 }
 
 -- what a turn names of the front
 abbrev pub held_of : {V : Type 0} → FrontAccount V → Held
@@ -61,7 +61,7 @@ taking v device word front = record v {
   prior = v.met;
   steps = v.steps + 1;
   turns = v.turns + 1;
-  found = v.found ++ length front.history ∷ [];
+  found = v.found ++ held_of front ∷ [];
   turn = holding (held_of front);
   last = holding (held_of front);
   device = device;
@@ -239,6 +239,7 @@ fresh basis mine = record {
   steps = 0;
   turns = 0;
   found = [];
+  rounds = 0;
   knows = false;
   seen = [];
   kept = [];

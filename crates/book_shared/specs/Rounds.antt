@@ -14,7 +14,7 @@ use Rattle.book_owned.specs.declared.handed.Handed.{Handed}
 use Rattle.book_owned.specs.declared.written.Written.{Written}
 use Rattle.book_owned.specs.declared.written.Written.TheVariants.{Done, DiskFault, Nothing}
 use Rattle.book_owned.specs.declared.answer.Flush.{Flush}
-use Rattle.book_shared.specs.Basis.{Basis, Turn, idle, holding, free, resting, writing}
+use Rattle.book_shared.specs.Basis.{Basis, Held, Turn, idle, holding, free, resting, writing}
 use Rattle.book_shared.specs.Causes.{IsAmong}
 use Rattle.book_shared.specs.Rule.{AreOwn, KeepsAll, IsWrittenBy}
 use Rattle.book_shared.specs.Plays.{Here, at_device, given, held_of}
@@ -36,8 +36,8 @@ pub record HasTaken {D V : Type 0} (v : View) (m : Here D V) : Type 0 where
 
 -- what a seat knows that takes the device, for a sample or for none
 abbrev pub wanted : View → Opt Sample → View
-wanted v None = v
-wanted v (Some sample) = record v { due = v.due ++ sample ∷ [] }
+wanted v None = record v { rounds = v.rounds + 1 }
+wanted v (Some sample) = record v { rounds = v.rounds + 1; due = v.due ++ sample ∷ [] }
 
 -- an exchange of the device's word for this sample, or for none: it won where it met 0
 abbrev pub TakesFor : {D V : Type 0} → Opt Sample → Here D V → ℕ → Here D V → Type 0
@@ -118,14 +118,18 @@ pub record HasBoth {D V : Type 0} (disk : DiskOf D) (y : View) (n : Here D V) (a
   pub terms : back_terms disk back ≡ back_part y.basis.terms
   pub own : AreOwn y.basis.owners y.seen y.mine
 
--- the first turn of a flush that needs a write: nothing changed, and the seat has seen so many samples
+-- the first turn of a flush that needs a write: nothing changed, the seat has seen so many samples, and not all of them were durable
 pub record HasSeen (v y : View) (accepted : ℕ) : Type 0 where
   pub history : List Sample
   pub served : Served v y history []
   pub rests : Rests v y
   pub asked : y.asked ≡ v.asked
   pub accepted_is : accepted ≡ length y.seen
-  pub found : y.found ≡ v.found ++ accepted ∷ []
+  pub met : Held
+  pub found : y.found ≡ v.found ++ met ∷ []
+  pub met_is : length met.history ≡ accepted
+  pub going : met.stopped ≡ false
+  pub lacks : durable met.marks < length met.history
 
 -- fewer than so many of these samples are durable
 abbrev pub Lacks : List Sample → List Mark → ℕ → Type 0
@@ -140,16 +144,21 @@ pub record HasFlushed {D V N : Type 0} (disk : DiskOf D) (view : ViewOf V N) (v 
   pub rests : Rests v x
   pub front : FlushesFront disk view x answer
 
--- how many samples a turn met
-abbrev pub met_in : Turn → ℕ
-met_in idle = 0
-met_in (holding held) = length held.history
+-- what a turn found
+abbrev pub met_in : Turn → List Held
+met_in idle = []
+met_in (holding held) = held ∷ []
+
+-- how many samples were handed out then
+abbrev pub from_in : Turn → ℕ
+from_in idle = 0
+from_in (holding held) = held.from
 
 -- a try of one turn
 pub record IsTried (V : Type 0) (v x : View) (sample : Sample) (answer : Try) : Type 0 where
   pub tries : Tries v x sample answer
-  pub from : v.from ≤ x.from
-  pub found : x.found ≡ v.found ++ met_in x.last ∷ []
+  pub from : v.from ≤ from_in x.last
+  pub found : x.found ≡ v.found ++ met_in x.last
   pub rests : Rests v x
   pub asked : x.asked ≡ v.asked
   pub front : TriesFront V x sample answer

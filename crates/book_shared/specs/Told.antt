@@ -64,22 +64,22 @@ MadeNone u = (held : Held) × (u.last ≡ holding held) × (u.kept ≡ held.mark
 abbrev pub MarksThrough : View → List Sample → Type 0
 MarksThrough u samples = MadeNone u ⊎ (length samples ≤ durable u.kept)
 
--- The pending records and that of the sample passed the block limit, as the seat met them in its first turn of this call: it had a beginning
--- of the history that goes on from what the seat had seen, and no fewer samples were handed out than the seat knew of. Where the last
--- turn made a mark, that goes through all that the first met.
+-- The pending records and that of the sample passed the block limit, as the first turn of this call found the front, which was not stopped: it
+-- had a beginning of the history that goes on from what the seat had seen, and no fewer samples were handed out than the seat knew of. Where
+-- the last turn made a mark, that goes through all that the first found.
 pub record WasBlocked (v u : View) (sample : Sample) : Type 0 where
-  pub history : List Sample
-  pub from : ℕ
-  pub first : IsFirst v u (length history)
-  pub marks : MarksThrough u history
-  pub later : IsPrefix v.seen history
-  pub seen : IsPrefix history u.seen
-  pub handed : v.from ≤ from
-  pub passes : u.basis.terms.block_limit < history_size u.basis.terms.layouts (drop from history) + encoded_size u.basis.terms.layouts sample
+  pub met : Held
+  pub first : IsFirst v u met
+  pub marks : MarksThrough u met.history
+  pub later : IsPrefix v.seen met.history
+  pub seen : IsPrefix met.history u.seen
+  pub handed : v.from ≤ met.from
+  pub going : met.stopped ≡ false
+  pub passes : u.basis.terms.block_limit < history_size u.basis.terms.layouts (drop met.from met.history) + encoded_size u.basis.terms.layouts sample
 
--- an append has one turn, but where its sample did not fit
+-- an append has one turn, and does not take the device, but where its sample did not fit
 abbrev pub IsOneTurn : View → View → Sample → Type 0
-IsOneTurn v u sample = (u.turns ≡ v.turns + 1) ⊎ WasBlocked v u sample
+IsOneTurn v u sample = ((u.turns ≡ v.turns + 1) × (u.rounds ≡ v.rounds)) ⊎ WasBlocked v u sample
 
 -- and it announces its sample only there
 abbrev pub Announces : View → View → Sample → Type 0
@@ -130,6 +130,7 @@ FlushesNow view old new wanted (Ok answer) =
     ⊎ ((old.spare ≡ true) × (wanted ≤ durable old.marks) × FinishTells view old new Nothing answer × AreThroughs new.marks)
 FlushesNow view old new wanted (Err accepted) =
     (old.stopped ≡ false) × (new ≡ old) × (accepted ≡ length old.history) × (old.spare ≡ true → durable old.marks < wanted)
+    × (old.spare ≡ false → durable old.marks < length old.history)
 
 -- these marks have one with so many samples
 pub record HasMark (marks : List Mark) (through : ℕ) : Type 0 where
@@ -169,9 +170,20 @@ FlushesFor count u (flush.Stopped mark) = Unit {0}
 
 -- of those that were accepted when the seat had its first turn of this call
 pub record FlushesFirst {N : Type 0} (v u : View) (answer : Flush N) : Type 0 where
-  pub accepted : ℕ
-  pub first : IsFirst v u accepted
-  pub flushes : FlushesFor accepted u answer
+  pub met : Held
+  pub first : IsFirst v u met
+  pub flushes : FlushesFor (length met.history) u answer
+
+-- the first turn of this call found a front that was not stopped, with samples that were not durable
+pub record WasLacking (v u : View) : Type 0 where
+  pub met : Held
+  pub first : IsFirst v u met
+  pub going : met.stopped ≡ false
+  pub lacks : durable met.marks < length met.history
+
+-- a flush has one turn, and does not take the device, but where not all was durable
+abbrev pub IsOneFlush : View → View → Type 0
+IsOneFlush v u = ((u.turns ≡ v.turns + 1) × (u.rounds ≡ v.rounds)) ⊎ WasLacking v u
 
 -- where it made a mark, the seat asked for that one
 abbrev pub Asks : {N : Type 0} → View → View → Flush N → Type 0

@@ -12,7 +12,7 @@ use Rattle.book_owned.specs.BackHalf.{back_terms, BackKeeps, FileHolds, IsHanded
 use Rattle.book_owned.specs.FrontHalf.{FrontAccount}
 use Rattle.book_owned.specs.declared.mark.Mark.{Mark}
 use Rattle.book_owned.specs.declared.written.Written.{Written}
-use Rattle.book_shared.specs.Basis.{Device, free, resting, writing, written, idle, holding}
+use Rattle.book_shared.specs.Basis.{Device, Held, free, resting, writing, written, idle, holding}
 use Rattle.book_shared.specs.Causes.{IsAmong}
 use Rattle.book_shared.specs.Rule.{AreOwn, IsAnswer}
 use Rattle.book_shared.specs.Plays.{Here, Slot, Meets, held_of}
@@ -47,7 +47,7 @@ pub record Took {V : Type 0} (v u : View) (device : Device) (front : FrontAccoun
     prior = u.prior;
     steps = u.steps;
     turns = v.turns + 1;
-    found = v.found ++ length front.history ∷ [];
+    found = v.found ++ held_of front ∷ [];
     turn = holding (held_of front);
     last = holding (held_of front);
     device = device;
@@ -70,9 +70,9 @@ pub record Served (v u : View) (history added : List Sample) : Type 0 where
   pub turns : v.turns < u.turns
   pub found : IsPrefix v.found u.found
 
--- the first turn that the seat had since met so many samples
-abbrev pub IsFirst : View → View → ℕ → Type 0
-IsFirst v u first = (more : List ℕ) × (u.found ≡ v.found ++ first ∷ more)
+-- the first turn that the seat had since found the front so
+abbrev pub IsFirst : View → View → Held → Type 0
+IsFirst v u first = (more : List Held) × (u.found ≡ v.found ++ first ∷ more)
 
 -- There were at most so many turns, and three more for each mark that was made since the seat had last given the front back.
 abbrev pub HasTurnsFor : ℕ → View → View → Type 0

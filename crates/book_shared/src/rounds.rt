@@ -9,7 +9,7 @@ ghost use Rattle.book_shared.specs.Place.{IsSingle};
 ghost use Rattle.book_shared.specs.Plays.{at_device, given, given_device, Holds};
 ghost use Rattle.book_shared.specs.Rounds.{wanted, HasTaken, HasSeized, HasPending, HasHanded, HasWritten, HasBoth, HasSeen, HasFlushed, IsTried, Lacks, answered};
 ghost use Rattle.book_shared.specs.Rule.{AreOwn};
-ghost use Rattle.book_shared.specs.Told.{FlushesFirst, FlushesFor, HadTurn, Tries, TriesFront};
+ghost use Rattle.book_shared.specs.Told.{FlushesFirst, FlushesFor, HadTurn, IsOneFlush, Tries, TriesFront};
 ghost use Rattle.book_shared.specs.Turns.{Rests};
 ghost use Rattle.book_shared.specs.declared.half.Half.TheVariants.{TheFront};
 ghost use Rattle.book_shared.specs.declared.view.View.{View};
@@ -55,6 +55,7 @@ impl<D: Disk, V: Shown> SharedBook<D, V> {
         ensures had { HadTurn result }
         ensures steps { seat.new.me.0.steps ≡ seat.old.me.0.steps }
         ensures turns { seat.new.me.0.turns ≡ seat.old.me.0.turns }
+        ensures rounds { seat.new.me.0.rounds ≡ seat.old.me.0.rounds }
         ensures due { seat.new.me.0.due ≡ seat.old.me.0.due }
         ensures tried { (v : View) → HasTaken v seat.old.me → IsSingle v (slice_index v.basis.owners sample.group) → IsTried V v seat.new.me.0 sample result }
     {
@@ -78,6 +79,7 @@ impl<D: Disk, V: Shown> SharedBook<D, V> {
         ensures tries { Tries seat.old.me.0 seat.new.me.0 sample result }
         ensures steps { HadTurn result → seat.new.me.0.steps ≡ seat.old.me.0.steps + 2 }
         ensures turns { HadTurn result → seat.new.me.0.turns ≡ seat.old.me.0.turns + 1 }
+        ensures rounds { seat.new.me.0.rounds ≡ seat.old.me.0.rounds }
         ensures due { seat.new.me.0.due ≡ seat.old.me.0.due }
         ensures asked { seat.new.me.0.asked ≡ seat.old.me.0.asked }
         ensures front { TriesFront V seat.new.me.0 sample result }
@@ -216,6 +218,7 @@ impl<D: Disk, V: Shown> SharedBook<D, V> {
         ensures table { seat.new.table_id ≡ seat.old.table_id }
         ensures no_turn { seat.new.me.1 ≡ [] }
         ensures turns { seat.new.me.0.turns ≡ seat.old.me.0.turns + 1 }
+        ensures rounds { seat.new.me.0.rounds ≡ seat.old.me.0.rounds }
         ensures due { seat.new.me.0.due ≡ seat.old.me.0.due }
         ensures flushed { IfOk result (λ answer. HasFlushed D.Disk V.Shown seat.old.me.0 seat.new.me.0 answer) }
         ensures first { IfOk result (λ answer. FlushesFirst seat.old.me.0 seat.new.me.0 answer) }
@@ -273,6 +276,7 @@ impl<D: Disk, V: Shown> SharedBook<D, V> {
         ensures turns { seat.new.me.0.turns ≤ seat.old.me.0.turns + 3 }
         ensures due { seat.new.me.0.due ≡ seat.old.me.0.due }
         ensures flushed { HasFlushed D.Disk V.Shown seat.old.me.0 seat.new.me.0 result }
+        ensures one { IsOneFlush seat.old.me.0 seat.new.me.0 }
         ensures first { FlushesFirst seat.old.me.0 seat.new.me.0 result }
     {
         match self.flush_first(rt, seat) {

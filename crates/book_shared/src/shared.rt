@@ -3,7 +3,7 @@ ghost use Rattle.std.specs.Prelude.{◌≡◌, ◌+◌, ◌≤◌, slice_index};
 ghost use Rattle.mdf_layout.specs.Record.{SampleFits, encoded_size};
 ghost use Rattle.book_shared.specs.Place.{IsSingle};
 ghost use Rattle.book_shared.specs.Turns.{HasTurnsFor, OnlyDue};
-ghost use Rattle.book_shared.specs.Told.{Announces, Appends, Tries, Flushes, FlushesFirst, FlushesSeen, HadTurn, Asks, IsNoted, IsOneTurn, AppendsFront, TriesFront, FlushesFront};
+ghost use Rattle.book_shared.specs.Told.{Announces, Appends, Tries, Flushes, FlushesFirst, FlushesSeen, HadTurn, Asks, IsNoted, IsOneFlush, IsOneTurn, AppendsFront, TriesFront, FlushesFront};
 
 use crate::Try;
 use crate::fixed::Fixed;
@@ -94,6 +94,7 @@ impl<D: Disk, V: Shown> SharedBook<D, V> {
         ensures tries { Tries seat.old.know seat.new.know sample result }
         ensures steps { HadTurn result → seat.new.know.steps ≡ seat.old.know.steps + 2 }
         ensures turns { HadTurn result → seat.new.know.turns ≡ seat.old.know.turns + 1 }
+        ensures rounds { seat.new.know.rounds ≡ seat.old.know.rounds }
         ensures asked { seat.new.know.asked ≡ seat.old.know.asked }
         ensures due { seat.new.know.due ≡ seat.old.know.due }
         ensures front { TriesFront V seat.new.know sample result }
@@ -112,6 +113,7 @@ impl<D: Disk, V: Shown> SharedBook<D, V> {
         ensures seat { (seat.new.table ≡ seat.old.table) × (seat.new.number ≡ seat.old.number) × (seat.new.know.basis ≡ seat.old.know.basis) × IsSingle seat.new.know seat.new.number }
         ensures flushes { Flushes seat.old.know seat.new.know result }
         ensures turns { seat.new.know.turns ≤ seat.old.know.turns + 3 }
+        ensures one { IsOneFlush seat.old.know seat.new.know }
         ensures seen { FlushesSeen seat.old.know result }
         ensures first { FlushesFirst seat.old.know seat.new.know result }
         ensures asked { Asks seat.old.know seat.new.know result }

@@ -3,7 +3,7 @@ ghost use Rattle.std.specs.Prelude.{ℕ, Bool, List};
 ghost use base.Fml.{ftrue};
 ghost use Rattle.mdf_layout.specs.declared.sample.Sample.{Sample};
 ghost use Rattle.book_owned.specs.declared.mark.Mark.{Mark};
-ghost use Rattle.book_shared.specs.Basis.{Basis, Device, Turn};
+ghost use Rattle.book_shared.specs.Basis.{Basis, Device, Held, Turn};
 
 use std::marker::Model;
 
@@ -17,8 +17,10 @@ pub struct View {
     pub ghost steps: { ℕ },
     /// How many turns were taken.
     pub ghost turns: { ℕ },
-    /// How many samples were accepted when it took each of its turns.
-    pub ghost found: { List ℕ },
+    /// The front as each of its turns found it.
+    pub ghost found: { List Held },
+    /// How often it took the device.
+    pub ghost rounds: { ℕ },
     /// Whether the front was stopped when the seat last gave it back.
     pub ghost knows: { Bool },
     /// The history when the seat last gave the front back.

@@ -79,7 +79,8 @@ returns-in-NeedsFlush-clause-one g c =
     c.in-NeedsFlush.sample c.append_round.result (met g (goal.at.returns-in-NeedsFlush-clause-one g c).In-NeedsFlush) c.append_round.ensures.tried
 
 pub returns-in-Answered-clause-one : goal.returns-in-Answered-clause-one
-returns-in-Answered-clause-one g c = inl (c.try_turn.ensures.turns ∙ ap (λ (y : View). y.turns) c.seize-word.ensures.took.2.rest)
+returns-in-Answered-clause-one g c =
+    let rest = c.seize-word.ensures.took.2.rest in inl (c.try_turn.ensures.turns ∙ ap (λ (y : View). y.turns) rest, c.try_turn.ensures.rounds ∙ ap (λ (y : View). y.rounds) rest)
 
 pub returns-in-NeedsFlush-clause-announces : goal.returns-in-NeedsFlush-clause-announces
 returns-in-NeedsFlush-clause-announces g c =

@@ -8,8 +8,8 @@ use Rattle.book_shared.specs.Turns.{Works}
 use Rattle.book_shared.specs.declared.view.View.{View}
 use Rattle.book_shared.proofs.Given.{may_take}
 use Rattle.book_shared.proofs.Lists.{one_source}
-use Rattle.book_shared.proofs.Following.{tried_later}
-use Rattle.book_shared.proofs.Handing.{back_full, end_put, tried_put, full_may, follows_due, only_new, wants_it}
+use Rattle.book_shared.proofs.Following.{follows_due, tried_later}
+use Rattle.book_shared.proofs.Handing.{back_full, end_put, tried_put, full_may, only_new, wants_it}
 use Rattle.book_shared.proofs.shared.SharedBook.append_round.Goals as goal
 
 pub device_turn-word-requires-clause-some_source : goal.device_turn-word-requires-clause-some_source
@@ -40,7 +40,7 @@ returns-in-NeedsFlush-clause-tried g c =
     subst (λ s. HasTried g.D.Disk g.V.Shown v c.append_full.new.seat.me.0 s c.append_full.result)
     (back_full w c.device_turn-word.new.seat.me c.try_out.new.seat.me c.args.sample c.device_turn-word.ensures.seized c.try_out.ensures.view
     c.in-NeedsFlush.held c.in-NeedsFlush.size c.in-NeedsFlush.limit c.in-NeedsFlush.sample works (wants_it v c.args.sample))
-    (tried_later v w c.append_full.new.seat.me.0 (follows_due v c.args.sample) g.D.Disk g.V.Shown c.in-NeedsFlush.sample c.append_full.result (c.append_full.ensures.tried w may.1 may.2))
+    (tried_later v w c.append_full.new.seat.me.0 (follows_due v (Some c.args.sample)) g.D.Disk g.V.Shown c.in-NeedsFlush.sample c.append_full.result (c.append_full.ensures.tried w may.1 may.2))
 
 pub end_round-requires-clause-word : goal.end_round-requires-clause-word
 end_round-requires-clause-word g c = c.device_turn-word.ensures.word ∙ ap (λ (y : View). y.met) (sym c.try_out.ensures.view)
@@ -64,7 +64,7 @@ pub returns-in-Answered-clause-tried : goal.returns-in-Answered-clause-tried
 returns-in-Answered-clause-tried g c =
     let works = subst (λ what. Works c.device_turn-word.new.seat.me c.try_out.new.seat.me (λ old new. Puts old new c.args.sample what)) c.in-Answered.is c.try_out.ensures.works in
     let v = c.args.seat.now.me.0 in
-    tried_later v (wanted v (Some c.args.sample)) c.end_round.new.seat.me.0 (follows_due v c.args.sample) g.D.Disk g.V.Shown c.args.sample _
+    tried_later v (wanted v (Some c.args.sample)) c.end_round.new.seat.me.0 (follows_due v (Some c.args.sample)) g.D.Disk g.V.Shown c.args.sample _
     (tried_put (wanted v (Some c.args.sample)) c.device_turn-word.new.seat.me c.try_out.new.seat.me c.args.sample c.device_turn-word.ensures.seized c.try_out.ensures.view c.in-Answered.answer works
     g.D.Disk g.V.Shown (c.device_turn-word.result + 1) c.end_round.new.seat.me c.end_round.ensures.ended c.requires.owns)
 

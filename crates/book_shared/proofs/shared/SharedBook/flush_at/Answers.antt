@@ -1,4 +1,5 @@
-use Rattle.std.proofs.Common.{[], ◌∙◌, arith}
+use Rattle.std.proofs.Common.{[], ◌∙◌, sym, subst, inl, inr, arith}
+use Rattle.book_shared.specs.Told.{FlushesFor}
 use Rattle.book_shared.proofs.Following.{first_later, follows_served, flushed_later}
 use Rattle.book_shared.proofs.shared.SharedBook.flush_at.Goals as goal
 
@@ -32,10 +33,22 @@ returns-in-Err-clause-flushed g c =
 
 pub returns-in-Err-clause-first : goal.returns-in-Err-clause-first
 returns-in-Err-clause-first g c =
-    let v = c.args.seat.now.me.0 in
-    let y = c.flush_first.new.seat.me.0 in
+    let seen = c.in-Err.ensures.seen in
     record {
-      accepted = c.in-Err.accepted;
-      first = first_later v y c.flush_round.new.seat.me.0 c.in-Err.accepted ([], c.in-Err.ensures.seen.found) c.flush_round.ensures.flushed.flushes.1.found;
-      flushes = c.flush_round.ensures.wrote;
+      met = seen.met;
+      first = first_later c.args.seat.now.me.0 c.flush_first.new.seat.me.0 c.flush_round.new.seat.me.0 seen.met ([], seen.found) c.flush_round.ensures.flushed.flushes.1.found;
+      flushes = subst (λ n. FlushesFor n c.flush_round.new.seat.me.0 c.flush_round.result) (sym seen.met_is) c.flush_round.ensures.wrote;
+    }
+
+pub returns-in-Ok-clause-one : goal.returns-in-Ok-clause-one
+returns-in-Ok-clause-one g c = inl (c.flush_first.ensures.turns, c.flush_first.ensures.rounds)
+
+pub returns-in-Err-clause-one : goal.returns-in-Err-clause-one
+returns-in-Err-clause-one g c =
+    let seen = c.in-Err.ensures.seen in
+    inr record {
+      met = seen.met;
+      first = first_later c.args.seat.now.me.0 c.flush_first.new.seat.me.0 c.flush_round.new.seat.me.0 seen.met ([], seen.found) c.flush_round.ensures.flushed.flushes.1.found;
+      going = seen.going;
+      lacks = seen.lacks;
     }

@@ -48,6 +48,13 @@ returns-clause-due g c =
     (taken_now c.args.seat.now.me c.seize-word.new.seat.me c.requires.no_turn c.requires.no_device c.seize-word.ensures.took)
     c.flush_out-answer.result c.flush_out-answer.ensures.view c.flush_out-answer.ensures.works (c.seize-word.result + 1) c.give.new.seat.me c.give.ensures.given)
 
+pub returns-clause-rounds : goal.returns-clause-rounds
+returns-clause-rounds g c =
+    ap (λ (y : View). y.rounds)
+    (seat_first g.V.Shown c.args.seat.now.me.0 c.seize-word.new.seat.me c.flush_out-answer.new.seat.me
+    (taken_now c.args.seat.now.me c.seize-word.new.seat.me c.requires.no_turn c.requires.no_device c.seize-word.ensures.took)
+    c.flush_out-answer.result c.flush_out-answer.ensures.view c.flush_out-answer.ensures.works (c.seize-word.result + 1) c.give.new.seat.me c.give.ensures.given)
+
 pub returns-clause-flushed : goal.returns-clause-flushed
 returns-clause-flushed g c =
     flushed_first g.V.Shown c.args.seat.now.me.0 c.seize-word.new.seat.me c.flush_out-answer.new.seat.me

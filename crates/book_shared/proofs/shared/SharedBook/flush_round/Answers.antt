@@ -1,8 +1,11 @@
 use Rattle.std.proofs.Common.{◌+◌, ◌∙◌, ap, sym, length, length-append, arith}
+use Rattle.std.specs.Prelude.{None}
 use Rattle.book_shared.specs.Plays.{Here}
+use Rattle.book_shared.specs.Rounds.{wanted}
 use Rattle.book_shared.specs.declared.view.View.{View}
 use Rattle.book_shared.proofs.Lists.{one_source}
 use Rattle.book_shared.proofs.Takings.{carries}
+use Rattle.book_shared.proofs.Following.{flushed_later, follows_due}
 use Rattle.book_shared.proofs.Flushes.{end_shown, shown_count, shown_end, pending_count, pending_now}
 use Rattle.book_shared.proofs.shared.SharedBook.flush_round.Goals as goal
 
@@ -20,26 +23,27 @@ end_round-requires-clause-low g c = omega (arith, c.device_turn-word.ensures.wor
 
 pub end_round-requires-clause-returns : goal.end_round-requires-clause-returns
 end_round-requires-clause-returns g c =
-    end_shown g.V.Shown c.args.seat.now.me.0 c.device_turn-word.new.seat.me c.flush_out.new.seat.me c.device_turn-word.ensures.seized c.flush_out.ensures.view _
+    end_shown g.V.Shown (wanted c.args.seat.now.me.0 None) c.device_turn-word.new.seat.me c.flush_out.new.seat.me c.device_turn-word.ensures.seized c.flush_out.ensures.view _
     c.flush_out.result c.flush_out.ensures.works c.in-Ok.answer c.in-Ok.is
 
 pub returns-in-Ok-clause-no_turn : goal.returns-in-Ok-clause-no_turn
 returns-in-Ok-clause-no_turn g c =
     let held =
-    end_shown g.V.Shown c.args.seat.now.me.0 c.device_turn-word.new.seat.me c.flush_out.new.seat.me c.device_turn-word.ensures.seized c.flush_out.ensures.view _
+    end_shown g.V.Shown (wanted c.args.seat.now.me.0 None) c.device_turn-word.new.seat.me c.flush_out.new.seat.me c.device_turn-word.ensures.seized c.flush_out.ensures.view _
     c.flush_out.result c.flush_out.ensures.works c.in-Ok.answer c.in-Ok.is in
     ap (λ (x : Here g.row.D.Denot g.row.V.Denot). x.1) (c.end_round.ensures.ended held.0 held.1)
 
 pub returns-in-Ok-clause-flushed : goal.returns-in-Ok-clause-flushed
 returns-in-Ok-clause-flushed g c =
-    let v = c.args.seat.now.me.0 in
-    shown_end g.V.Shown v c.device_turn-word.new.seat.me c.flush_out.new.seat.me c.device_turn-word.ensures.seized c.flush_out.ensures.view _
+    let v = wanted c.args.seat.now.me.0 None in
+    flushed_later c.args.seat.now.me.0 v c.end_round.new.seat.me.0 (follows_due c.args.seat.now.me.0 None) g.D.Disk g.V.Shown c.in-Ok.answer
+    (shown_end g.V.Shown v c.device_turn-word.new.seat.me c.flush_out.new.seat.me c.device_turn-word.ensures.seized c.flush_out.ensures.view _
     c.flush_out.result c.flush_out.ensures.works c.in-Ok.answer c.in-Ok.is (c.device_turn-word.result + 1) c.end_round.new.seat.me c.end_round.ensures.ended
-    g.D.Disk c.requires.single.0 c.requires.single.1 (λ front begins. omega (arith, c.requires.accepted, ap length begins.1, length-append v.seen begins.0)) c.requires.own
+    g.D.Disk c.requires.single.0 c.requires.single.1 (λ front begins. omega (arith, c.requires.accepted, ap length begins.1, length-append v.seen begins.0)) c.requires.own)
 
 pub returns-in-Ok-clause-wrote : goal.returns-in-Ok-clause-wrote
 returns-in-Ok-clause-wrote g c =
-    let v = c.args.seat.now.me.0 in
+    let v = wanted c.args.seat.now.me.0 None in
     shown_count g.V.Shown v c.device_turn-word.new.seat.me c.flush_out.new.seat.me c.device_turn-word.ensures.seized c.flush_out.ensures.view _
     c.flush_out.result c.flush_out.ensures.works c.in-Ok.answer c.in-Ok.is (c.device_turn-word.result + 1) c.end_round.new.seat.me c.end_round.ensures.ended
     c.args.accepted (λ front begins. omega (arith, c.requires.accepted, ap length begins.1, length-append v.seen begins.0))
@@ -57,7 +61,7 @@ flush_pending-requires-clause-word g c = λ κs outlives. c.device_turn-word.ens
 
 pub flush_pending-requires-clause-pending : goal.flush_pending-requires-clause-pending
 flush_pending-requires-clause-pending g c =
-    let v = c.args.seat.now.me.0 in
+    let v = wanted c.args.seat.now.me.0 None in
     λ κs outlives. (
       v,
       pending_now g.V.Shown v c.device_turn-word.new.seat.me c.flush_out.new.seat.me c.device_turn-word.ensures.seized c.flush_out.ensures.view _
@@ -68,16 +72,17 @@ flush_pending-requires-clause-pending g c =
 
 pub returns-in-Err-clause-flushed : goal.returns-in-Err-clause-flushed
 returns-in-Err-clause-flushed g c =
-    let v = c.args.seat.now.me.0 in
-    c.flush_pending.ensures.flushed v
+    let v = wanted c.args.seat.now.me.0 None in
+    flushed_later c.args.seat.now.me.0 v c.flush_pending.new.seat.me.0 (follows_due c.args.seat.now.me.0 None) g.D.Disk g.V.Shown c.flush_pending.result
+    (c.flush_pending.ensures.flushed v
     (pending_now g.V.Shown v c.device_turn-word.new.seat.me c.flush_out.new.seat.me c.device_turn-word.ensures.seized c.flush_out.ensures.view _
     c.flush_out.result c.flush_out.ensures.works c.in-Err._accepted c.in-Err.is
     (λ front begins. omega (arith, c.requires.accepted, ap length begins.1, length-append v.seen begins.0)))
-    c.requires.single.0 c.requires.single.1
+    c.requires.single.0 c.requires.single.1)
 
 pub returns-in-Err-clause-wrote : goal.returns-in-Err-clause-wrote
 returns-in-Err-clause-wrote g c =
-    let v = c.args.seat.now.me.0 in
+    let v = wanted c.args.seat.now.me.0 None in
     pending_count g.V.Shown v c.device_turn-word.new.seat.me c.flush_out.new.seat.me c.device_turn-word.ensures.seized c.flush_out.ensures.view _
     c.flush_out.result c.flush_out.ensures.works c.in-Err._accepted c.in-Err.is c.flush_pending.new.seat.me.0 c.flush_pending.result c.args.accepted c.flush_pending.ensures.wrote
     (λ front begins. (omega arith, omega (arith, c.requires.accepted, ap length begins.1, length-append v.seen begins.0)))

@@ -42,3 +42,9 @@ returns-in-Ok-clause-due g c = c.try_turn.ensures.due ∙ ap (λ (y : View). y.d
 
 pub returns-in-Err-clause-due : goal.returns-in-Err-clause-due
 returns-in-Err-clause-due g c = ap (λ (y : View). y.due) c.in-Err.ensures.busy.1.waited.rest
+
+pub returns-in-Ok-clause-rounds : goal.returns-in-Ok-clause-rounds
+returns-in-Ok-clause-rounds g c = c.try_turn.ensures.rounds ∙ ap (λ (y : View). y.rounds) c.in-Ok.ensures.took.1.2.rest
+
+pub returns-in-Err-clause-rounds : goal.returns-in-Err-clause-rounds
+returns-in-Err-clause-rounds g c = ap (λ (y : View). y.rounds) c.in-Err.ensures.busy.1.waited.rest

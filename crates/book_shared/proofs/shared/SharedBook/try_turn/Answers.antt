@@ -64,3 +64,10 @@ returns-clause-due g c =
     let done = c.try_out-answer.ensures.works taken.front (carries _ _ _ taken.out) in
     let out = worked c.args.seat.now.me c.try_out-answer.new.seat.me taken.front done.0 [] taken.out refl done.1 in
     ap (λ (x : Here g.row.D.Denot g.row.V.Denot). x.0.due) (c.give.ensures.given done.0 out) ∙ ap (λ (y : View). y.due) c.try_out-answer.ensures.view
+
+pub returns-clause-rounds : goal.returns-clause-rounds
+returns-clause-rounds g c =
+    let taken = c.requires.taken.1 in
+    let done = c.try_out-answer.ensures.works taken.front (carries _ _ _ taken.out) in
+    let out = worked c.args.seat.now.me c.try_out-answer.new.seat.me taken.front done.0 [] taken.out refl done.1 in
+    ap (λ (x : Here g.row.D.Denot g.row.V.Denot). x.0.rounds) (c.give.ensures.given done.0 out) ∙ ap (λ (y : View). y.rounds) c.try_out-answer.ensures.view
