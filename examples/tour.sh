@@ -42,6 +42,12 @@ show './mdf4rec concat part.mf4 done.mf4 both.mf4'
 show './mdf4rec check both.mf4'
 show './mdf4rec export both.mf4 0'
 
+# The script of the first drive is attached to it, and listed.
+show 'python3 examples/attach_text.py examples/drive.txt > script.mf4'
+show './mdf4rec attach script.mf4 finished.mf4 scripted.mf4'
+show './mdf4rec attachments scripted.mf4'
+show './mdf4rec check scripted.mf4'
+
 # A generated recording.
 show './mdf4rec gen 1000 many.mf4'
 show './mdf4rec opened many.mf4'

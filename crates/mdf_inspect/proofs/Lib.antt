@@ -4,3 +4,4 @@ mod Paging
 mod Tables
 mod Totals
 mod Truths
+mod Listings

@@ -4,3 +4,4 @@ pub mod Check
 pub mod Info
 pub mod Question
 pub mod Export
+pub mod Attachments

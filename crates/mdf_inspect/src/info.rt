@@ -14,7 +14,7 @@ use mdf_paged::PagedMeasurement;
 use mdf_port::Sink;
 
 /// The text of a name, which is empty where there is none.
-fn text_of(name: &Note) -> &[u8]
+pub(crate) fn text_of(name: &Note) -> &[u8]
     ensures { result.now ≡ text_of name.now }
 {
     match name {

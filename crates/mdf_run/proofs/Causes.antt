@@ -8,6 +8,7 @@ use Rattle.mdf_disk.specs.State.{DiskState}
 use Rattle.mdf_block.specs.Refusal.{Refusal}
 use Rattle.mdf_content.specs.Fault.{read_refusal}
 use Rattle.mdf_gate.specs.declared.answer.Opened.{Opened}
+use Rattle.mdf_attach.specs.declared.attachment.Attachment.{Attachment}
 use Rattle.mdf_tool.specs.declared.made.Report.{Report}
 use Rattle.mdf_command.specs.Texts.{Prints, unwritten_status}
 use Rattle.mdf_command.specs.Faults.{fault_line, fault_status, refused_status}
@@ -16,6 +17,7 @@ use Rattle.mdf_command.specs.declared.fault.Fault.TheVariants as fault
 use Rattle.mdf_run.specs.Making.{EndsMaking, Inputs, MakingComes, making_status, making_text}
 use Rattle.mdf_inspect.specs.Opened.{EndsOpened, OpenedComes, OpenedFaultComes, opened_status, opened_text}
 use Rattle.mdf_inspect.specs.Reading.{EndsReading, Reading, ReadingComes, ReadingFaultComes, answer_text, reading_status}
+use Rattle.mdf_inspect.specs.Attachments.{EndsListing, ListingComes, ListingFaultComes, listing_status, listing_text}
 use Rattle.mdf_inspect.specs.Export.{EndsExport, PrintsEnd, TableComes, TableFaultComes}
 use Rattle.mdf_inspect.specs.declared.table.TableEnd.{TableEnd}
 use Rattle.mdf_inspect.specs.declared.table.TableEnd.TheVariants as table
@@ -112,6 +114,16 @@ module _ (disk disk' : DiskState) (sink sink' : SinkState) (status : ℕ) where
       → IsCaused ⊥ (Rose disk.faults disk'.faults) (Rose sink.faults sink'.faults) status
   reading_caused text ends =
       printed ⊥ (Rose disk.faults disk'.faults) (answer_text text ends.0) (reading_status ends.0) sink sink' status (reading_coded ends.0 ends.1) ends.2
+
+  listing_coded : (end : Result (List Attachment) Fault) → ListingComes disk disk' end → Coded ⊥ (Rose disk.faults disk'.faults) (listing_status end)
+  listing_coded (Ok rows) comes = done ⊥ (Rose disk.faults disk'.faults)
+  listing_coded (Err problem) comes =
+      fault_coded ⊥ (Rose disk.faults disk'.faults) problem (λ is. subst (λ p. ListingFaultComes disk disk' p) is comes)
+      (λ is. subst (λ p. ListingFaultComes disk disk' p) is comes)
+
+  pub listing_caused : EndsListing disk disk' sink sink' status → IsCaused ⊥ (Rose disk.faults disk'.faults) (Rose sink.faults sink'.faults) status
+  listing_caused ends =
+      printed ⊥ (Rose disk.faults disk'.faults) (listing_text ends.0) (listing_status ends.0) sink sink' status (listing_coded ends.0 ends.1) ends.2
 
   module _ (group : ℕ) (failed : status ≡ 6 → Rose sink.faults sink'.faults) where
     table_caused : (end : TableEnd) (between : SinkState) → TableComes group disk disk' sink between end → PrintsEnd end between sink' status

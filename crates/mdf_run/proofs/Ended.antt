@@ -10,7 +10,8 @@ use Rattle.acq_script.specs.Generated.{generated_script}
 use Rattle.mdf_inspect.specs.Check.{verdict_text}
 use Rattle.mdf_inspect.specs.Info.{contents_text}
 use Rattle.mdf_run.specs.Cut.{Cuts}
-use Rattle.mdf_run.specs.Concat.{AreNotJoined, Joins, two_inputs}
+use Rattle.mdf_run.specs.Concat.{AreNotJoined, Joins, OneFailed, two_inputs}
+use Rattle.mdf_run.specs.Attach.{AreNotCarried, Carries}
 use Rattle.mdf_run.specs.Finalize.{Finalizes, IsNoRecording}
 use Rattle.mdf_run.specs.Blamed.{only_blamed}
 use Rattle.mdf_run.specs.Making.{one_input}
@@ -24,20 +25,22 @@ use Rattle.mdf_command.specs.Words.{Asks, AsksInput, AsksOutput, AsksSecond, Ask
 use Rattle.mdf_command.specs.Commands.{request_of}
 use Rattle.mdf_command.specs.declared.command.Command.{Command}
 use Rattle.mdf_command.specs.declared.command.Aspect.{Aspect}
-use Rattle.mdf_command.specs.declared.command.Aspect.TheVariants.{Opened, Verdict, Contents, Table}
+use Rattle.mdf_command.specs.declared.command.Aspect.TheVariants.{Opened, Verdict, Contents, Table, Attachments}
 use Rattle.mdf_command.specs.declared.command.Product.{Product}
 use Rattle.mdf_command.specs.declared.command.Product.TheVariants.{Finalized, Sorted, Cut}
+use Rattle.mdf_command.specs.declared.command.Union.{Union}
+use Rattle.mdf_command.specs.declared.command.Union.TheVariants.{Concat, Attach}
 use Rattle.mdf_command.specs.declared.command.Origin.TheVariants.{Source, Generated}
-use Rattle.mdf_run.specs.Kept.{AreJoinable, AsksToJoin, HasGroup, IfRecorded, IsDoneOrLacked, IsDurable, IsMeasured, Keeps, OfRecording, RecordsNothing}
+use Rattle.mdf_run.specs.Kept.{AreJoinable, AsksToJoin, HasGroup, IfRecorded, IsDoneOrLacked, IsDurable, IsListable, IsMeasured, Keeps, OfRecording, RecordsNothing}
 use Rattle.mdf_run.specs.Asked.{AsksOnly, HasNumbers, IsOnlyMade, IsOnlyRead, IsUnrecorded, TakesNothing, asked_by, file_asked}
-use Rattle.mdf_run.specs.Ends.{Blames, Does, EndsMake, EndsShow, HasEnded, IsCaused}
+use Rattle.mdf_run.specs.Ends.{Blames, Does, EndsJoin, EndsMake, EndsShow, HasEnded, IsCaused}
 use Rattle.mdf_run.specs.Told.{Told}
 use Rattle.mdf_run.proofs.Scripts.{if_none, of_generated, of_none, of_record}
-use Rattle.mdf_run.proofs.Causes.{export_caused, making_caused, opened_caused, reading_caused, widened}
-use Rattle.mdf_run.proofs.Joinable.{joinable_is_joined}
+use Rattle.mdf_run.proofs.Causes.{export_caused, listing_caused, making_caused, opened_caused, reading_caused, widened}
+use Rattle.mdf_run.proofs.Joinable.{joinable_is_taken, listable_is_taken, two_are_made}
 use Rattle.mdf_run.proofs.Keeps.{was_status}
 use Rattle.mdf_run.proofs.Requests.{as_named, one_request}
-use Rattle.mdf_run.proofs.Sound.{finalizable_is_taken, group_is_exported, measured_is_taken, one_is_made, read_is_taken}
+use Rattle.mdf_run.proofs.Sound.{finalizable_is_taken, group_is_exported, listable_is_listed, measured_is_taken, one_is_made, read_is_taken}
 
 -- the words ask for this, or for nothing
 abbrev pub Says : List (List ℕ) → Option Request → Type 0
@@ -71,7 +74,7 @@ pub unrecorded : (said : List (List ℕ)) (asked : Option Request) → Says said
 unrecorded said None says nothing = tt
 unrecorded said (Some (shown input aspect)) says nothing = tt
 unrecorded said (Some (made input output product)) says nothing = tt
-unrecorded said (Some (joined input second output)) says nothing = tt
+unrecorded said (Some (joined input second output union)) says nothing = tt
 unrecorded said (Some (recorded output Source)) says nothing = absurd (nothing.0 output says)
 unrecorded said (Some (recorded output (Generated samples))) says nothing = absurd (nothing.1 samples output says)
 
@@ -79,7 +82,7 @@ pub takes_nothing : (said : List (List ℕ)) (asked : Option Request) → Says s
 takes_nothing said None says none = tt
 takes_nothing said (Some (shown input aspect)) says none = tt
 takes_nothing said (Some (made input output product)) says none = tt
-takes_nothing said (Some (joined input second output)) says none = tt
+takes_nothing said (Some (joined input second output union)) says none = tt
 takes_nothing said (Some (recorded output Source)) says none = absurd (none output says)
 takes_nothing said (Some (recorded output (Generated samples))) says none = tt
 
@@ -95,7 +98,7 @@ pub of_kept : (said : List (List ℕ)) (asked : Option Request) (t : Told) → H
 of_kept said None t ended none P keeps = of_none said t.source.left P none
 of_kept said (Some (shown input aspect)) t ended asks P keeps = of_other said t.source.left P (shown input aspect) tt asks
 of_kept said (Some (made input output product)) t ended asks P keeps = of_other said t.source.left P (made input output product) tt asks
-of_kept said (Some (joined input second output)) t ended asks P keeps = of_other said t.source.left P (joined input second output) tt asks
+of_kept said (Some (joined input second output union)) t ended asks P keeps = of_other said t.source.left P (joined input second output union) tt asks
 of_kept said (Some (recorded output Source)) t ended asks P keeps =
     of_record said t.source.left P output asks (λ text told script means. keeps script (ended.ends.keeps text told script means) ended.ends.recovered)
 of_kept said (Some (recorded output (Generated samples))) t ended asks P keeps =
@@ -110,7 +113,7 @@ pub if_recovered : (said : List (List ℕ)) (asked : Option Request) (t : Told) 
 if_recovered said None t ended none P recovered = if_none said P none
 if_recovered said (Some (shown input aspect)) t ended asks P recovered = if_other said P (shown input aspect) tt asks
 if_recovered said (Some (made input output product)) t ended asks P recovered = if_other said P (made input output product) tt asks
-if_recovered said (Some (joined input second output)) t ended asks P recovered = if_other said P (joined input second output) tt asks
+if_recovered said (Some (joined input second output union)) t ended asks P recovered = if_other said P (joined input second output union) tt asks
 if_recovered said (Some (recorded output origin)) t ended asks P recovered =
     let holds = recovered ended.ends.recovered ended.ends.durable in (λ name also. holds, λ samples name also. holds)
 
@@ -119,7 +122,7 @@ pub only_blames : (said : List (List ℕ)) (asked : Option Request) (t : Told) �
 only_blames said None t ended says alone nothing = ended.blames
 only_blames said (Some (shown input aspect)) t ended says alone nothing = ended.blames
 only_blames said (Some (made input output product)) t ended says alone nothing = ended.blames
-only_blames said (Some (joined input second output)) t ended says alone nothing = absurd (alone (input, second, output, says))
+only_blames said (Some (joined input second output union)) t ended says alone nothing = absurd (alone (input, second, output, union, says))
 only_blames said (Some (recorded output Source)) t ended says alone nothing = absurd (nothing.0 output says)
 only_blames said (Some (recorded output (Generated samples))) t ended says alone nothing = absurd (nothing.1 samples output says)
 
@@ -143,6 +146,7 @@ module _ (said : List (List ℕ)) (t : Told) where
   show_caused Verdict ends = reading_caused t.first t.first' t.sink t.sink' t.status verdict_text ends
   show_caused Contents ends = reading_caused t.first t.first' t.sink t.sink' t.status contents_text ends
   show_caused (Table group) ends = export_caused t.first t.first' t.sink t.sink' t.status group ends.1 ends.0
+  show_caused Attachments ends = listing_caused t.first t.first' t.sink t.sink' t.status ends
 
   make_caused : (product : Product) → EndsMake product t.now t.first t.first' t.out t.left.disk t.sink t.sink' t.status
       → IsCaused ⊥ (Rose t.first.faults t.first'.faults ⊎ Rose t.out.faults t.left.disk.faults) (Rose t.sink.faults t.sink'.faults) t.status
@@ -154,14 +158,19 @@ module _ (said : List (List ℕ)) (t : Told) where
       making_caused (one_input t.first t.first') (Cuts (record { from = from; to = to; now = t.now })) IsNotMeasured (λ file refused. refused)
       t.out t.left.disk t.sink t.sink' t.status ends
 
+  join_caused : (union : Union) → EndsJoin union t.now t.first t.first' t.second t.second' t.out t.left.disk t.sink t.sink' t.status
+      → IsCaused ⊥ (OneFailed t.first t.first' t.second t.second' ⊎ Rose t.out.faults t.left.disk.faults) (Rose t.sink.faults t.sink'.faults) t.status
+  join_caused Concat ends =
+      making_caused (two_inputs t.now t.first t.first' t.second t.second') Joins AreNotJoined (λ joining refused. refused) t.out t.left.disk t.sink t.sink' t.status ends
+  join_caused Attach ends =
+      making_caused (two_inputs t.now t.first t.first' t.second t.second') Carries AreNotCarried (λ carried refused. refused) t.out t.left.disk t.sink t.sink' t.status ends
+
   caused_by : (request : Request) → Asks said request → Does request t → Why said t
   caused_by (shown input aspect) asks ends = of_disk (show_caused aspect ends)
   caused_by (made input output product) asks ends = of_disks (make_caused product ends.0)
-  caused_by (joined input second output) asks ends =
-      widened _ _ _ _ _ _ t.status
-      (making_caused (two_inputs t.now t.first t.first' t.second t.second') Joins AreNotJoined (λ joining refused. refused) t.out t.left.disk t.sink t.sink' t.status ends.0)
-      (λ wrong. absurd wrong)
-      (λ disks. ⊎_elim (λ inputs. ⊎_elim (λ first. inl first.0) (λ other. inr (inr ((input, second, output, asks), other.1))) inputs) (λ out. inr (inl out)) disks)
+  caused_by (joined input second output union) asks ends =
+      widened _ _ _ _ _ _ t.status (join_caused union ends.0) (λ wrong. absurd wrong)
+      (λ disks. ⊎_elim (λ inputs. ⊎_elim (λ first. inl first.0) (λ other. inr (inr ((input, second, output, union, asks), other.1))) inputs) (λ out. inr (inl out)) disks)
       (λ sink. sink)
   caused_by (recorded output origin) asks ends =
       widened _ _ _ _ _ _ t.status ends.caused (λ source. source) (λ out. inr (inl out)) (λ sink. sink)
@@ -210,14 +219,14 @@ no_second : (said : List (List ℕ)) (asked : Option Request) → Says said aske
 no_second said None says none = refl
 no_second said (Some (shown input aspect)) says none = refl
 no_second said (Some (made input output product)) says none = refl
-no_second said (Some (joined input second output)) says none = absurd (none (input, second, output, says))
+no_second said (Some (joined input second output union)) says none = absurd (none (input, second, output, union, says))
 no_second said (Some (recorded output origin)) says none = refl
 
 no_output : (said : List (List ℕ)) (asked : Option Request) → Says said asked → ((output : List ℕ) → ¬ AsksToMake said output) → file_asked output_of asked ≡ None
 no_output said None says none = refl
 no_output said (Some (shown input aspect)) says none = refl
 no_output said (Some (made input output product)) says none = absurd (none output (made input output product, says, refl))
-no_output said (Some (joined input second output)) says none = absurd (none output (joined input second output, says, refl))
+no_output said (Some (joined input second output union)) says none = absurd (none output (joined input second output union, says, refl))
 no_output said (Some (recorded output origin)) says none = absurd (none output (recorded output origin, says, refl))
 
 -- a disk that no word names is as it was
@@ -254,8 +263,19 @@ module _ (said : List (List ℕ)) (asked : Option Request) (t : Told) (ended : H
   exports input group asks =
       group_is_exported group t.first t.first' t.sink t.sink' t.status t.first.content refl (does said asked t ended says (shown input (Table group)) asks).0
 
-  pub concats : (input other output : List ℕ) → Asks said (joined input other output) → IfSome t.first.content (λ one. IfSome t.second.content (λ two. AreJoinable one two
+  pub lists : (input : List ℕ) → Asks said (shown input Attachments)
+      → IfSome t.first.content (λ file. IsListable file → length file ≤ INPUT_LIMIT → IsDoneOrLacked t.status)
+  lists input asks =
+      listable_is_listed t.first t.first' t.sink t.sink' t.status t.first.content refl (does said asked t ended says (shown input Attachments) asks)
+
+  pub concats : (input other output : List ℕ) → Asks said (joined input other output Concat) → IfSome t.first.content (λ one. IfSome t.second.content (λ two. AreJoinable one two
       → length one ≤ INPUT_LIMIT → length two ≤ INPUT_LIMIT → IsDoneOrLacked t.status))
   concats input other output asks =
-      joinable_is_joined t.now t.first t.first' t.second t.second' t.out t.left.disk t.sink t.sink' t.status
-      (does said asked t ended says (joined input other output) asks).0 t.first.content t.second.content refl refl
+      two_are_made Joins AreNotJoined AreJoinable joinable_is_taken t.now t.first t.first' t.second t.second' t.out t.left.disk t.sink t.sink' t.status
+      (does said asked t ended says (joined input other output Concat) asks).0 t.first.content t.second.content refl refl
+
+  pub carries : (input other output : List ℕ) → Asks said (joined input other output Attach) → IfSome t.first.content (λ one. IfSome t.second.content (λ two.
+      IsListable one × IsMeasured two → length one ≤ INPUT_LIMIT → length two ≤ INPUT_LIMIT → IsDoneOrLacked t.status))
+  carries input other output asks =
+      two_are_made Carries AreNotCarried (λ one two. IsListable one × IsMeasured two) listable_is_taken t.now t.first t.first' t.second t.second' t.out t.left.disk
+      t.sink t.sink' t.status (does said asked t ended says (joined input other output Attach) asks).0 t.first.content t.second.content refl refl

@@ -52,6 +52,7 @@ not_done (fault.Read refused) result is done = not_read (read_refusal refused) r
 not_done (fault.NoGroup said groups) result is done = absurd (omega (arith, is, done))
 not_done (fault.Differs group) result is done = absurd (omega (arith, is, done))
 not_done (fault.Wide group channel) result is done = absurd (omega (arith, is, done))
+not_done (fault.Attached at) result is done = absurd (omega (arith, is, done))
 
 completes : (script : Script) (faults : ℕ) (left : Outcome) (seen : List (List Sample)) (result : ℕ) (problem : Option Fault)
     → (result ≡ fault_code problem) ⊎ (result ≡ unwritten_status (fault_code problem)) → IsDone result

@@ -1,5 +1,5 @@
 -- What is left of the output of a tool.
-use Rattle.std.proofs.Common.{◌≡◌, ◌≤◌, ⊎_elim, inl, inr, ℕ, List, [], Option, Some, None, true, Result, Ok, Err, refl, sym, ◌∙◌, ap, subst, arith}
+use Rattle.std.proofs.Common.{◌≡◌, ◌≤◌, ⊎_elim, inl, inr, ℕ, List, [], Option, Some, None, Bool, true, false, Result, Ok, Err, refl, sym, ◌∙◌, ap, subst, arith}
 use Rattle.std.specs.Prelude.{ℤ}
 use Rattle.mdf_disk.specs.Crash.{Adds, HoldsSince}
 use Rattle.mdf_disk.specs.State.{DiskState}
@@ -21,6 +21,16 @@ use Rattle.tool_concat.specs.Concat.{ConcatEnds, Joining}
 use Rattle.tool_concat.specs.declared.fault.ConcatFault.{ConcatFault}
 use Rattle.tool_concat.specs.declared.fault.ConcatFault.TheVariants as concat
 use Rattle.mdf_run.specs.Concat.{AreNotJoined, Joins, fault_of_concat}
+use Rattle.mdf_format.specs.declared.kind.Kind.TheVariants.{At}
+use Rattle.mdf_block.specs.Block.{is_named}
+use Rattle.mdf_attach.specs.declared.fault.AttachFault.{AttachFault}
+use Rattle.mdf_attach.specs.declared.fault.AttachFault.TheVariants as attach
+use Rattle.mdf_attach.specs.Lacks.{AreRefused}
+use Rattle.tool_attach.specs.Carry.{CarryEnds}
+use Rattle.tool_attach.specs.declared.fault.CarryFault.{CarryFault}
+use Rattle.tool_attach.specs.declared.fault.CarryFault.TheVariants as carry
+use Rattle.mdf_command.specs.Attached.{attach_fault, many_fault}
+use Rattle.mdf_run.specs.Attach.{AreNotCarried, Carries, carrying_of, fault_of_carry}
 use Rattle.mdf_command.specs.Load.{IsCalm, IsOver, LoadFaultComes, LoadWants}
 use Rattle.mdf_format.specs.Cause.{Rose}
 use Rattle.mdf_run.specs.Making.{Inputs, MakeComes, MakesNothing, MakingComes}
@@ -135,6 +145,30 @@ concat_fault asked old new (concat.Differs group) ends = ends
 concat_fault asked old new (concat.Wide group channel) ends = ends
 concat_fault asked old new concat.Failed ends = ends
 concat_fault asked old new concat.Memory ends = ends
+
+module _ (asked : Joining) (old new : DiskState) where
+  -- it ends with this fault
+  abbrev Refused : Fault → Type 0
+  Refused problem = ToolEnds (Carries asked) (AreNotCarried asked) old new (Err problem)
+
+  many_refused : (at : ℕ) (attachment : Bool) → is_named asked.first at At ≡ attachment → AreRefused asked.first (attach.TooMany at) → new ≡ old
+      → Refused (many_fault attachment at)
+  many_refused at true is refused same = ((attach.TooMany at, refused, ap (λ (b : Bool). many_fault b at) (sym is)), same)
+  many_refused at false is refused same = (inl (attach.TooMany at, refused, ap (λ (b : Bool). many_fault b at) (sym is)), same)
+
+  from_refused : (refused : AttachFault) → AreRefused asked.first refused → new ≡ old → Refused (attach_fault asked.first refused)
+  from_refused attach.NotMdf is same = (inl (attach.NotMdf, is, refl), same)
+  from_refused (attach.Version ver) is same = (inl (attach.Version ver, is, refl), same)
+  from_refused (attach.Unfinalized std custom) is same = (inl (attach.Unfinalized std custom, is, refl), same)
+  from_refused (attach.Bad at want) is same = (inl (attach.Bad at want, is, refl), same)
+  from_refused (attach.TooMany at) is same = many_refused at (is_named asked.first at At) refl is same
+  from_refused attach.Memory is same = absurd is
+
+  pub carry_fault : (problem : CarryFault) → CarryEnds (carrying_of asked) old new (Err problem) → Refused (fault_of_carry asked.first problem)
+  carry_fault (carry.From refused) ends = from_refused refused ends.0 ends.1
+  carry_fault (carry.File refused) ends = (inr (ends.0, (ends.1, ends.2)), ends.3)
+  carry_fault carry.Failed ends = ends
+  carry_fault carry.Memory ends = ends
 
 -- what holds of a range holds of the same one
 pub same_range : (P : Cutting → Type 0) (from to from' to' : ℤ) (now : ℕ) → from' ≡ from → to' ≡ to → P (record { from = from'; to = to'; now = now })

@@ -4,9 +4,11 @@ use Rattle.std.specs.Prelude.{◌||◌, nat_eq, if◌then◌else◌}
 use Rattle.mdf_disk.specs.declared.role.Role.{Role}
 use Rattle.mdf_command.specs.Words.{Asks, Request, shown, made, joined, recorded, words_of}
 use Rattle.mdf_command.specs.declared.command.Aspect.{Aspect}
-use Rattle.mdf_command.specs.declared.command.Aspect.TheVariants.{Opened, Verdict, Contents, Table}
+use Rattle.mdf_command.specs.declared.command.Aspect.TheVariants.{Opened, Verdict, Contents, Table, Attachments}
 use Rattle.mdf_command.specs.declared.command.Product.{Product}
 use Rattle.mdf_command.specs.declared.command.Product.TheVariants.{Finalized, Sorted, Cut}
+use Rattle.mdf_command.specs.declared.command.Union.{Union}
+use Rattle.mdf_command.specs.declared.command.Union.TheVariants.{Concat, Attach}
 use Rattle.mdf_command.specs.declared.command.Origin.{Origin}
 use Rattle.mdf_command.specs.declared.command.Origin.TheVariants.{Source, Generated}
 use Rattle.mdf_run.proofs.Scripts.{one_number}
@@ -24,13 +26,13 @@ apart said one other asks also = ap tag (sym asks.0 ∙ also.0)
 -- and so the kinds: these are of the commands that show a file, make one of another, and make one of two
 abbrev kind_of : ℕ → ℕ
 kind_of n =
-    if nat_eq n 116 || nat_eq n 103 || nat_eq n 108 || nat_eq n 106 then 0
-    else (if nat_eq n 109 || nat_eq n 118 || nat_eq n 101 then 1 else (if nat_eq n 104 then 2 else 3))
+    if nat_eq n 116 || nat_eq n 103 || nat_eq n 108 || nat_eq n 106 || nat_eq n 107 then 0
+    else (if nat_eq n 109 || nat_eq n 118 || nat_eq n 101 then 1 else (if nat_eq n 104 || nat_eq n 102 then 2 else 3))
 
 abbrev kind : Request → ℕ
 kind (shown input aspect) = 0
 kind (made input output product) = 1
-kind (joined input second output) = 2
+kind (joined input second output union) = 2
 kind (recorded output origin) = 3
 
 kind_is : (request : Request) → kind_of (tag (words_of request)) ≡ kind request
@@ -38,10 +40,12 @@ kind_is (shown input Opened) = refl
 kind_is (shown input Verdict) = refl
 kind_is (shown input Contents) = refl
 kind_is (shown input (Table group)) = refl
+kind_is (shown input Attachments) = refl
 kind_is (made input output Finalized) = refl
 kind_is (made input output Sorted) = refl
 kind_is (made input output (Cut from to)) = refl
-kind_is (joined input second output) = refl
+kind_is (joined input second output Concat) = refl
+kind_is (joined input second output Attach) = refl
 kind_is (recorded output Source) = refl
 kind_is (recorded output (Generated samples)) = refl
 
@@ -52,6 +56,7 @@ one_shown said input input' Verdict Verdict asks also = cc (asks.0, also.0)
 one_shown said input input' Contents Contents asks also = cc (asks.0, also.0)
 one_shown said input input' (Table group) (Table group') asks also =
     let same : group ≡ group' = same_group said input input' group group' asks also in cc (asks.0, also.0, same)
+one_shown said input input' Attachments Attachments asks also = cc (asks.0, also.0)
 one_shown said input input' aspect aspect' asks also = absurd (omega (arith, apart said (shown input aspect) (shown input' aspect') asks also))
 
 one_made : (said : List (List ℕ)) (input output input' output' : List ℕ) (product product' : Product) → Asks said (made input output product)
@@ -66,6 +71,13 @@ one_made said input output input' output' (Cut from to) (Cut from' to') asks als
 one_made said input output input' output' product product' asks also =
     absurd (omega (arith, apart said (made input output product) (made input' output' product') asks also))
 
+one_joined : (said : List (List ℕ)) (input second output input' second' output' : List ℕ) (union union' : Union) → Asks said (joined input second output union)
+    → Asks said (joined input' second' output' union') → joined input second output union ≡ joined input' second' output' union'
+one_joined said input second output input' second' output' Concat Concat asks also = cc (asks.0, also.0)
+one_joined said input second output input' second' output' Attach Attach asks also = cc (asks.0, also.0)
+one_joined said input second output input' second' output' union union' asks also =
+    absurd (omega (arith, apart said (joined input second output union) (joined input' second' output' union') asks also))
+
 one_recorded : (said : List (List ℕ)) (output output' : List ℕ) (origin origin' : Origin) → Asks said (recorded output origin)
     → Asks said (recorded output' origin') → recorded output origin ≡ recorded output' origin'
 one_recorded said output output' Source Source asks also = cc (asks.0, also.0)
@@ -77,7 +89,8 @@ one_recorded said output output' origin origin' asks also =
 pub one_request : (said : List (List ℕ)) (one other : Request) → Asks said one → Asks said other → one ≡ other
 one_request said (shown input aspect) (shown input' aspect') asks also = one_shown said input input' aspect aspect' asks also
 one_request said (made input output product) (made input' output' product') asks also = one_made said input output input' output' product product' asks also
-one_request said (joined input second output) (joined input' second' output') asks also = cc (asks.0, also.0)
+one_request said (joined input second output union) (joined input' second' output' union') asks also =
+    one_joined said input second output input' second' output' union union' asks also
 one_request said (recorded output origin) (recorded output' origin') asks also = one_recorded said output output' origin origin' asks also
 one_request said one other asks also =
     let kinds : kind one ≡ kind other = sym (kind_is one) ∙ ap kind_of (apart said one other asks also) ∙ kind_is other in

@@ -2,15 +2,16 @@
 use Rattle.std.proofs.Common.{◌≡◌, List, ℕ, Option}
 use Rattle.mdf_disk.specs.declared.disk.Disk.{Ghosts}
 use Rattle.mdf_command.specs.Words.{Request, shown, made, joined, recorded, input_of, output_of, second_of}
-use Rattle.mdf_command.specs.declared.command.Aspect.TheVariants.{Opened, Verdict, Contents, Table}
+use Rattle.mdf_command.specs.declared.command.Aspect.TheVariants.{Opened, Verdict, Contents, Table, Attachments}
 use Rattle.mdf_command.specs.declared.command.Product.TheVariants.{Finalized, Sorted, Cut}
+use Rattle.mdf_command.specs.declared.command.Union.TheVariants.{Concat, Attach}
 use Rattle.mdf_command.specs.declared.command.Origin.TheVariants.{Source, Generated}
 use Rattle.mdf_run.specs.Asked.{IsOnlyMade, IsOnlyRead, file_asked}
 use Rattle.mdf_run.specs.Ends.{HasEnded}
 use Rattle.mdf_run.specs.Run.{RunBlames, RunKeeps, RunLeaves, RunPrints, RunRecovers, RunSucceeds, TouchesInput, TouchesOutput, TouchesSecond}
 use Rattle.mdf_run.specs.Told.{Told}
 use Rattle.mdf_run.proofs.Recovered.{all_is_recovered}
-use Rattle.mdf_run.proofs.Ended.{Says, as_input, as_output, as_second, blames, concats, cuts, disk_failed, does, exports, finalizes, if_recovered, of_kept, only_blames, out_alone, second_alone, sink_failed, sorts, source_failed, unrecorded, usage_is, usage_printed}
+use Rattle.mdf_run.proofs.Ended.{Says, as_input, as_output, as_second, blames, carries, concats, cuts, disk_failed, does, exports, finalizes, if_recovered, lists, of_kept, only_blames, out_alone, second_alone, sink_failed, sorts, source_failed, unrecorded, usage_is, usage_printed}
 
 module _ (said : List (List ℕ)) (asked : Option Request) (t : Told) (ended : HasEnded asked t) (says : Says said asked) where
   pub run_prints : RunPrints said t
@@ -21,10 +22,12 @@ module _ (said : List (List ℕ)) (asked : Option Request) (t : Told) (ended : H
     check = λ input asks. does said asked t ended says (shown input Verdict) asks;
     info = λ input asks. does said asked t ended says (shown input Contents) asks;
     export = λ input group asks. (does said asked t ended says (shown input (Table group)) asks).0;
+    attachments = λ input asks. does said asked t ended says (shown input Attachments) asks;
     finalize = λ input output asks. (does said asked t ended says (made input output Finalized) asks).0;
     sort = λ input output asks. (does said asked t ended says (made input output Sorted) asks).0;
     cut = λ input output from to asks. (does said asked t ended says (made input output (Cut from to)) asks).0;
-    concat = λ input other output asks. (does said asked t ended says (joined input other output) asks).0;
+    concat = λ input other output asks. (does said asked t ended says (joined input other output Concat) asks).0;
+    attach = λ input other output asks. (does said asked t ended says (joined input other output Attach) asks).0;
     recording = λ name asks. (does said asked t ended says (recorded name Source) asks).ends;
     generated = λ samples name asks. (does said asked t ended says (recorded name (Generated samples)) asks).ends;
   }
@@ -57,7 +60,9 @@ module _ (said : List (List ℕ)) (asked : Option Request) (t : Told) (ended : H
     sorts = sorts said asked t ended says;
     cuts = cuts said asked t ended says;
     exports = exports said asked t ended says;
+    lists = lists said asked t ended says;
     concats = concats said asked t ended says;
+    carries = carries said asked t ended says;
   }
 
   pub run_leaves : RunLeaves said t
@@ -65,7 +70,8 @@ module _ (said : List (List ℕ)) (asked : Option Request) (t : Told) (ended : H
     finalize_leaves = λ input output asks. (does said asked t ended says (made input output Finalized) asks).1;
     sort_leaves = λ input output asks. (does said asked t ended says (made input output Sorted) asks).1;
     cut_leaves = λ input output from to asks. (does said asked t ended says (made input output (Cut from to)) asks).1;
-    concat_leaves = λ input other output asks. (does said asked t ended says (joined input other output) asks).1;
+    concat_leaves = λ input other output asks. (does said asked t ended says (joined input other output Concat) asks).1;
+    attach_leaves = λ input other output asks. (does said asked t ended says (joined input other output Attach) asks).1;
   }
 
   pub run_blames : RunBlames said t
@@ -73,7 +79,8 @@ module _ (said : List (List ℕ)) (asked : Option Request) (t : Told) (ended : H
     source_fault = source_failed said asked t ended says;
     device_fault = disk_failed said asked t ended says;
     sink_fault = sink_failed said asked t ended says;
-    blames_joined = λ input other output asks. blames said asked t ended says (joined input other output) asks;
+    blames_joined = λ input other output asks. blames said asked t ended says (joined input other output Concat) asks;
+    blames_carried = λ input other output asks. blames said asked t ended says (joined input other output Attach) asks;
     blames_one = only_blames said asked t ended says;
     blames_none = (
       λ name asks. blames said asked t ended says (recorded name Source) asks,

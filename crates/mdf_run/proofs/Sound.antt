@@ -5,6 +5,12 @@ use Rattle.mdf_port.specs.State.{SinkState}
 use Rattle.mdf_disk.specs.State.{DiskState}
 use Rattle.mdf_block.specs.Refusal.{Refusal, Read, Fails}
 use Rattle.mdf_content.specs.Fault.{read_refusal}
+use Rattle.mdf_attach.specs.declared.attachment.Attachment.{Attachment}
+use Rattle.mdf_attach.specs.declared.fault.AttachFault.{AttachFault}
+use Rattle.mdf_attach.specs.declared.fault.AttachFault.TheVariants as attach
+use Rattle.mdf_attach.specs.Listed.{attachments}
+use Rattle.mdf_attach.specs.Lacks.{AreRefused}
+use Rattle.mdf_attach.proofs.Reached.{attachments_there}
 use Rattle.mdf_model.specs.Measurement.{Measured, measurement}
 use Rattle.mdf_session.specs.Session.{session}
 use Rattle.mdf_carried.specs.Recovers.{IsReadable}
@@ -22,7 +28,8 @@ use Rattle.tool_export.specs.Export.{HasNoGroup}
 use Rattle.mdf_inspect.specs.Export.{EndsExport, LacksGroup, PrintsEnd, TableComes, TableFaultComes}
 use Rattle.mdf_inspect.specs.declared.table.TableEnd.{TableEnd}
 use Rattle.mdf_inspect.specs.declared.table.TableEnd.TheVariants.{Given, Unwritten, Refused}
-use Rattle.mdf_run.specs.Kept.{HasGroup, IsDoneOrLacked, IsMeasured}
+use Rattle.mdf_inspect.specs.Attachments.{AreRefusedWith, EndsListing, ListingComes, ListingFaultComes, OfLoaded, listing_status, listing_text}
+use Rattle.mdf_run.specs.Kept.{HasGroup, IsDoneOrLacked, IsListable, IsMeasured}
 use Rattle.mdf_run.proofs.Keeps.{was_status}
 
 -- one measurement is read of a file
@@ -101,6 +108,53 @@ module _ (disk : DiskState) (file : List ℕ) (told : disk.content ≡ Some file
     table_well Unwritten sink' status comes prints = inr (inr (inl prints.1))
     table_well (Refused problem) sink' status comes prints =
         ends_well (fault_status problem) status (was_status (fault_line problem) (fault_status problem) between sink' status prints) (table_fault problem comes)
+
+-- attachments that are read are not refused
+not_both : (read : Read (List Attachment)) (rows : List Attachment) (refusal : Refusal) → read ≡ Ok rows → ¬ (read ≡ Err refusal)
+not_both read rows refusal is also = cc
+
+not_listed : (file : List ℕ) → IsListable file → (refused : AttachFault) → ¬ AreRefused file refused
+not_listed file listable attach.Memory refused = absurd refused
+not_listed file listable (attach.TooMany at) refused =
+    not_both (attachments file) listable.rows _ (attachments_there file listable.rows listable.attached listable.few) refused.0.1
+not_listed file listable attach.NotMdf refused =
+    not_both (attachments file) listable.rows _ (attachments_there file listable.rows listable.attached listable.few) refused.0
+not_listed file listable (attach.Version ver) refused =
+    not_both (attachments file) listable.rows _ (attachments_there file listable.rows listable.attached listable.few) refused.0
+not_listed file listable (attach.Unfinalized std custom) refused =
+    not_both (attachments file) listable.rows _ (attachments_there file listable.rows listable.attached listable.few) refused.0
+not_listed file listable (attach.Bad at want) refused =
+    not_both (attachments file) listable.rows _ (attachments_there file listable.rows listable.attached listable.few) refused.0
+
+pub not_refused_with : (file : List ℕ) → IsListable file → (problem : Fault) → ¬ AreRefusedWith file problem
+not_refused_with file listable problem refused = not_listed file listable refused.0 refused.1
+
+-- a command that lists them
+module _ (disk disk' : DiskState) (file : List ℕ) (told : disk.content ≡ Some file) (short : length file ≤ INPUT_LIMIT) (listable : IsListable file) where
+  of_loaded : (problem : Fault) → ¬ OfLoaded disk (λ loaded. AreRefusedWith loaded problem)
+  of_loaded problem comes =
+      not_refused_with file listable problem (subst (λ f. AreRefusedWith f problem) (loaded_is disk file told comes.0 comes.1) comes.2)
+
+  listing_fault : (problem : Fault) → ListingFaultComes disk disk' problem
+      → (fault_status problem ≡ 0) ⊎ ((fault_status problem ≡ 4) ⊎ (fault_status problem ≡ 7))
+  listing_fault fault.Device comes = inr (inl refl)
+  listing_fault (fault.InputOver size limit) comes = absurd (not_over disk file told INPUT_LIMIT short size limit comes)
+  listing_fault fault.Memory comes = inr (inr refl)
+  listing_fault (fault.Read refused) comes = absurd (of_loaded (fault.Read refused) comes)
+  listing_fault (fault.Attached at) comes = absurd (of_loaded (fault.Attached at) comes)
+  listing_fault problem comes = absurd comes
+
+  listing_end : (end : Result (List Attachment) Fault) → ListingComes disk disk' end
+      → (listing_status end ≡ 0) ⊎ ((listing_status end ≡ 4) ⊎ (listing_status end ≡ 7))
+  listing_end (Ok rows) comes = inl refl
+  listing_end (Err problem) comes = listing_fault problem comes
+
+pub listable_is_listed : (disk disk' : DiskState) (sink sink' : SinkState) (status : ℕ) (content : Option (List ℕ)) → disk.content ≡ content
+    → EndsListing disk disk' sink sink' status → IfSome content (λ file. IsListable file → length file ≤ INPUT_LIMIT → IsDoneOrLacked status)
+listable_is_listed disk disk' sink sink' status None told ends = tt
+listable_is_listed disk disk' sink sink' status (Some file) told ends = λ listable short.
+    ends_well (listing_status ends.0) status (was_status (listing_text ends.0) (listing_status ends.0) sink sink' status ends.2)
+    (listing_end disk disk' file told short listable ends.0 ends.1)
 
 -- a command that makes a file of one input, which it refuses for want of memory alone
 pub one_is_made : (Makes : List ℕ → List ℕ → Report → Type 0) (Refuses : List ℕ → Fault → Type 0) (IsSound : List ℕ → Type 0)

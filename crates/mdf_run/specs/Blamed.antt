@@ -11,6 +11,7 @@ use Rattle.mdf_command.specs.Texts.{Prints}
 use Rattle.mdf_command.specs.declared.fault.Fault.{Fault}
 use Rattle.mdf_command.specs.declared.fault.Fault.TheVariants as fault
 use Rattle.mdf_run.specs.Concat.{AreBothLoaded, IsRefusedWith}
+use Rattle.mdf_run.specs.Attach.{IsOfCarrying}
 use Rattle.mdf_run.specs.Making.{making_status, making_text}
 use Rattle.mdf_run.specs.declared.blamed.Input.{Input}
 use Rattle.mdf_run.specs.declared.blamed.Input.TheVariants.{First, Second, Both}
@@ -20,33 +21,43 @@ use Rattle.mdf_run.specs.declared.joining.Unjoined.{Unjoined}
 abbrev pub only_blamed : ℕ → Option Input
 only_blamed status = if nat_eq status 3 || nat_eq status 5 then Some First else None
 
--- of two inputs that were loaded the fault is that of the one that is refused, of both where they do not go together, and of none
--- where a disk failed or memory was wanted
+-- of two inputs that were loaded a fault of `concat` is that of the one that is refused, or of both where they do not go together
 abbrev pub IsOfJoining : Joining → Option Input → Fault → Type 0
 IsOfJoining asked (Some First) (fault.Read refused) = IsRefusedWith asked.first refused
 IsOfJoining asked (Some Second) (fault.Read refused) = IsRefusedWith asked.second refused
 IsOfJoining asked (Some Both) (fault.Differs group) = Differs asked group
 IsOfJoining asked (Some Both) (fault.Wide group channel) = TooWide asked group channel
-IsOfJoining asked None fault.Device = Unit {0}
-IsOfJoining asked None fault.Memory = Unit {0}
 IsOfJoining asked blamed problem = ⊥
 
+-- so with any such word; and of none where a disk failed or memory was wanted
+abbrev pub IsOfLoaded : (Joining → Option Input → Fault → Type 0) → Joining → Option Input → Fault → Type 0
+IsOfLoaded Blames asked None fault.Device = Unit {0}
+IsOfLoaded Blames asked None fault.Memory = Unit {0}
+IsOfLoaded Blames asked blamed problem = Blames asked blamed problem
+
 -- and of two inputs at a time in ns it is that of the one that is too long, too
-abbrev pub IsOf : ℕ → DiskState → DiskState → Option Input → Fault → Type 0
-IsOf now disk other (Some First) (fault.InputOver size limit) = IsOver disk size limit
-IsOf now disk other (Some Second) (fault.InputOver size limit) = IsOver other size limit
-IsOf now disk other None fault.Device = Unit {0}
-IsOf now disk other None fault.Memory = Unit {0}
-IsOf now disk other blamed problem = (asked : Joining) × AreBothLoaded now disk other asked × IsOfJoining asked blamed problem
+abbrev pub IsOf : (Joining → Option Input → Fault → Type 0) → ℕ → DiskState → DiskState → Option Input → Fault → Type 0
+IsOf Blames now disk other (Some First) (fault.InputOver size limit) = IsOver disk size limit
+IsOf Blames now disk other (Some Second) (fault.InputOver size limit) = IsOver other size limit
+IsOf Blames now disk other None fault.Device = Unit {0}
+IsOf Blames now disk other None fault.Memory = Unit {0}
+IsOf Blames now disk other blamed problem = (asked : Joining) × AreBothLoaded now disk other asked × Blames asked blamed problem
 
-abbrev pub IsOfEnd : ℕ → DiskState → DiskState → Option Input → Result Report Fault → Type 0
-IsOfEnd now disk other blamed (Ok report) = blamed ≡ None
-IsOfEnd now disk other blamed (Err problem) = IsOf now disk other blamed problem
+abbrev pub IsOfEnd : (Joining → Option Input → Fault → Type 0) → ℕ → DiskState → DiskState → Option Input → Result Report Fault → Type 0
+IsOfEnd Blames now disk other blamed (Ok report) = blamed ≡ None
+IsOfEnd Blames now disk other blamed (Err problem) = IsOf Blames now disk other blamed problem
 
--- The command `concat` prints how it ended, and that input is blamed that the fault is of.
+-- A command on two inputs prints how it ended, and that input is blamed that the fault is of.
+abbrev pub BlamesOne : (Joining → Option Input → Fault → Type 0) → ℕ → DiskState → DiskState → SinkState → SinkState → ℕ → Option Input → Type 0
+BlamesOne Blames now disk other sink sink' status blamed =
+    (end : Result Report Fault) × Prints (making_text end) (making_status end) sink sink' status × IsOfEnd Blames now disk other blamed end
+
+-- so `concat`, and so `attach`
 abbrev pub BlamesJoined : ℕ → DiskState → DiskState → SinkState → SinkState → ℕ → Option Input → Type 0
-BlamesJoined now disk other sink sink' status blamed =
-    (end : Result Report Fault) × Prints (making_text end) (making_status end) sink sink' status × IsOfEnd now disk other blamed end
+BlamesJoined = BlamesOne IsOfJoining
+
+abbrev pub BlamesCarried : ℕ → DiskState → DiskState → SinkState → SinkState → ℕ → Option Input → Type 0
+BlamesCarried = BlamesOne IsOfCarrying
 
 -- the input that is blamed by the fault that tells one of two
 abbrev pub unread_blamed : Input → Fault → Option Input
@@ -60,7 +71,7 @@ concat_blamed (concat.Differs group) = Some Both
 concat_blamed (concat.Wide group channel) = Some Both
 concat_blamed problem = None
 
--- how the joining ended, and the input that is blamed
+-- how the making of a file of two ended, and the input that is blamed
 abbrev pub joining_end : Result Report Unjoined → Result Report Fault
 joining_end (Ok report) = Ok report
 joining_end (Err unjoined) = Err unjoined.fault

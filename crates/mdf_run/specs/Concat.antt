@@ -48,7 +48,7 @@ AreNotJoined asked (fault.Wide group channel) = TooWide asked group channel
 AreNotJoined asked fault.Memory = IsIdentified asked.first
 AreNotJoined asked _ = ⊥
 
--- both files are loaded from their disks, and it is joined at this time
+-- both files are loaded from their disks, and a file is made of them at this time
 pub record AreBothLoaded (now_ns : ℕ) (disk other : DiskState) (asked : Joining) : Type 0 where
   pub first : IsLoaded disk asked.first
   pub second : IsLoaded other asked.second
@@ -71,7 +71,7 @@ OneWants disk disk' other other' = (LoadWants disk disk' × (other' ≡ other))
 abbrev pub BothAreCalm : DiskState → DiskState → DiskState → DiskState → Type 0
 BothAreCalm disk disk' other other' = IsCalm disk disk' × IsCalm other other'
 
--- two inputs, which are joined at a time in ns
+-- two inputs, of which a file is made at a time in ns
 abbrev pub two_inputs : ℕ → DiskState → DiskState → DiskState → DiskState → Inputs Joining
 two_inputs now disk disk' other other' = record {
   AreLoaded = AreBothLoaded now disk other;

@@ -14,21 +14,26 @@ use Rattle.mdf_command.specs.Load.{IsLoaded}
 use Rattle.mdf_command.specs.Texts.{Prints, usage_line}
 use Rattle.mdf_command.specs.Words.{Request, shown, made, joined, recorded}
 use Rattle.mdf_command.specs.declared.command.Aspect.{Aspect}
-use Rattle.mdf_command.specs.declared.command.Aspect.TheVariants.{Opened, Verdict, Contents, Table}
+use Rattle.mdf_command.specs.declared.command.Aspect.TheVariants.{Opened, Verdict, Contents, Table, Attachments}
 use Rattle.mdf_command.specs.declared.command.Product.{Product}
 use Rattle.mdf_command.specs.declared.command.Product.TheVariants.{Finalized, Sorted, Cut}
+use Rattle.mdf_command.specs.declared.command.Union.{Union}
+use Rattle.mdf_command.specs.declared.command.Union.TheVariants.{Concat, Attach}
 use Rattle.mdf_command.specs.declared.command.Origin.{Origin}
 use Rattle.mdf_command.specs.declared.command.Origin.TheVariants.{Source, Generated}
 use Rattle.mdf_inspect.specs.Opened.{EndsOpened}
 use Rattle.mdf_inspect.specs.Check.{EndsCheck}
 use Rattle.mdf_inspect.specs.Info.{EndsInfo}
 use Rattle.mdf_inspect.specs.Export.{EndsExport}
+use Rattle.mdf_inspect.specs.Attachments.{EndsListing}
 use Rattle.mdf_run.specs.Making.{LeavesOf}
 use Rattle.mdf_run.specs.Finalize.{EndsFinalize}
 use Rattle.mdf_run.specs.Sort.{EndsSort}
 use Rattle.mdf_run.specs.Cut.{EndsCut}
 use Rattle.mdf_run.specs.Concat.{AreBothLoaded, EndsConcat}
-use Rattle.mdf_run.specs.Blamed.{BlamesJoined, only_blamed}
+use Rattle.mdf_run.specs.Attach.{EndsAttach, IsAttachImage}
+use Rattle.mdf_run.specs.Blamed.{BlamesCarried, BlamesJoined, only_blamed}
+use Rattle.mdf_run.specs.declared.blamed.Input.{Input}
 use Rattle.mdf_record.specs.Record.{Outcome}
 use Rattle.mdf_record.specs.Recorded.{EndsGenerated, EndsRecord}
 use Rattle.mdf_record.specs.Recovers.{AreRecovered}
@@ -43,6 +48,7 @@ EndsShow Verdict disk disk' sink sink' status = EndsCheck disk disk' sink sink' 
 EndsShow Contents disk disk' sink sink' status = EndsInfo disk disk' sink sink' status
 EndsShow (Table group) disk disk' sink sink' status =
     EndsExport group disk disk' sink sink' status × (status ≡ 6 → Rose sink.faults sink'.faults)
+EndsShow Attachments disk disk' sink sink' status = EndsListing disk disk' sink sink' status
 
 -- A file is made of another one at a time in ns, by what the disks of the input and of the output and the sink tell before and after.
 abbrev pub EndsMake : Product → ℕ → DiskState → DiskState → DiskState → DiskState → SinkState → SinkState → ℕ → Type 0
@@ -58,9 +64,18 @@ Leaves Sorted now first out out' = LeavesOf (IsLoaded first) (λ file. IsSortIma
 Leaves (Cut from to) now first out out' =
     LeavesOf (IsLoaded first) (λ file. IsCutImage file (record { from = from; to = to; now = now })) out out'
 
--- and of that of two
-abbrev pub LeavesJoined : ℕ → DiskState → DiskState → DiskState → DiskState → Type 0
-LeavesJoined now first second out out' = LeavesOf (AreBothLoaded now first second) IsConcatImage out out'
+-- A file is made of two at a time in ns, what may be left of it at any moment, and which input is blamed.
+abbrev pub EndsJoin : Union → ℕ → DiskState → DiskState → DiskState → DiskState → DiskState → DiskState → SinkState → SinkState → ℕ → Type 0
+EndsJoin Concat now first first' second second' out out' sink sink' status = EndsConcat now first first' second second' out out' sink sink' status
+EndsJoin Attach now first first' second second' out out' sink sink' status = EndsAttach now first first' second second' out out' sink sink' status
+
+abbrev pub LeavesJoined : Union → ℕ → DiskState → DiskState → DiskState → DiskState → Type 0
+LeavesJoined Concat now first second out out' = LeavesOf (AreBothLoaded now first second) IsConcatImage out out'
+LeavesJoined Attach now first second out out' = LeavesOf (AreBothLoaded now first second) IsAttachImage out out'
+
+abbrev pub BlamesJoin : Union → ℕ → DiskState → DiskState → SinkState → SinkState → ℕ → Option Input → Type 0
+BlamesJoin Concat now first second sink sink' status blamed = BlamesJoined now first second sink sink' status blamed
+BlamesJoin Attach now first second sink sink' status blamed = BlamesCarried now first second sink sink' status blamed
 
 -- A script is recorded, by what the source, the disk of the output and the sink tell before, and what is left.
 abbrev pub EndsOrigin : Origin → List ℕ → ℕ → SourceState → SourceState → DiskState → Outcome → SinkState → SinkState → ℕ → Type 0
@@ -92,15 +107,15 @@ abbrev pub Does : Request → Told → Type 0
 Does (shown input aspect) t = EndsShow aspect t.first t.first' t.sink t.sink' t.status
 Does (made input output product) t =
     EndsMake product t.now t.first t.first' t.out t.left.disk t.sink t.sink' t.status × Leaves product t.now t.first t.out t.left.disk
-Does (joined input second output) t =
-    EndsConcat t.now t.first t.first' t.second t.second' t.out t.left.disk t.sink t.sink' t.status
-    × LeavesJoined t.now t.first t.second t.out t.left.disk
+Does (joined input second output union) t =
+    EndsJoin union t.now t.first t.first' t.second t.second' t.out t.left.disk t.sink t.sink' t.status
+    × LeavesJoined union t.now t.first t.second t.out t.left.disk
 Does (recorded output origin) t = EndsRecording origin output t.now t.source t.source' t.out t.left t.sink t.sink' t.status
 
 -- Which input is blamed: of two that which the fault is of, of a recording none, and else the only one where it is refused or too
 -- long.
 abbrev pub Blames : Request → Told → Type 0
-Blames (joined input second output) t = BlamesJoined t.now t.first t.second t.sink t.sink' t.status t.blamed
+Blames (joined input second output union) t = BlamesJoin union t.now t.first t.second t.sink t.sink' t.status t.blamed
 Blames (recorded output origin) t = t.blamed ≡ None
 Blames request t = t.blamed ≡ only_blamed t.status
 

@@ -15,7 +15,10 @@ use Rattle.acq_script.specs.Tasks.{samples_of}
 use Rattle.acq_script.specs.declared.script.Script.{Script}
 use Rattle.acq_script.specs.Generated.{generated_script}
 use Rattle.mdf_command.specs.Words.{Asks, joined, recorded}
+use Rattle.mdf_command.specs.declared.command.Union.{Union}
 use Rattle.mdf_command.specs.declared.command.Origin.TheVariants.{Source, Generated}
+use Rattle.mdf_attach.specs.declared.attachment.Attachment.{Attachment}
+use Rattle.mdf_attach.specs.Stands.{AreAttachments, AreFew}
 use Rattle.mdf_model.specs.Measurement.{Measured, measurement}
 use Rattle.tool_concat.specs.Difference.{AreAlike}
 use Rattle.tool_concat.specs.Wide.{NoneWideTo}
@@ -31,9 +34,9 @@ OfRecording words left P =
     ((name : List ℕ) → Asks words (recorded name Source) → (text : List ℕ) → left ≡ Some text → (script : Script) → script_of text ≡ Ok script → P script)
     × ((samples : ℕ) (name : List ℕ) → Asks words (recorded name (Generated samples)) → P (generated_script samples))
 
--- the words ask for files to be joined
+-- the words ask for a file to be made of two
 abbrev pub AsksToJoin : List (List ℕ) → Type 0
-AsksToJoin words = (input second output : List ℕ) × Asks words (joined input second output)
+AsksToJoin words = (input second output : List ℕ) × (union : Union) × Asks words (joined input second output union)
 
 -- this holds where the words ask for a recording
 abbrev pub IfRecorded : List (List ℕ) → Type 0 → Type 0
@@ -82,6 +85,12 @@ pub record AreJoinable (one two : List ℕ) : Type 0 where
   pub second_is_read : measurement two ≡ Ok second
   pub alike : AreAlike first.groups second.groups
   pub held : NoneWideTo first.groups second.groups (length first.groups)
+
+-- the attachments of a file are read, and they are few enough
+pub record IsListable (file : List ℕ) : Type 0 where
+  pub rows : List Attachment
+  pub attached : AreAttachments file rows
+  pub few : AreFew rows
 
 -- What is printed of a recording of this script that did what it was asked for: a line for each source, the line on the
 -- samples, all of which are durable, and just where the script says `live` that on the samples that a reader finds, all too.

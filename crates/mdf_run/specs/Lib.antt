@@ -9,4 +9,5 @@ pub mod Finalize
 pub mod Sort
 pub mod Cut
 pub mod Concat
+pub mod Attach
 pub mod Blamed

@@ -17,13 +17,15 @@ use Rattle.mdf_command.specs.Faults.{INPUT_LIMIT, READING_LIMIT}
 use Rattle.mdf_command.specs.Load.{IsLoaded}
 use Rattle.mdf_command.specs.Texts.{Prints, usage_line}
 use Rattle.mdf_command.specs.Words.{Asks, AsksInput, AsksOutput, AsksSecond, AsksToMake, IsUsage, shown, made, joined, recorded}
-use Rattle.mdf_command.specs.declared.command.Aspect.TheVariants.{Opened, Verdict, Contents, Table}
+use Rattle.mdf_command.specs.declared.command.Aspect.TheVariants.{Opened, Verdict, Contents, Table, Attachments}
 use Rattle.mdf_command.specs.declared.command.Product.TheVariants.{Finalized, Sorted, Cut}
+use Rattle.mdf_command.specs.declared.command.Union.TheVariants.{Concat, Attach}
 use Rattle.mdf_command.specs.declared.command.Origin.TheVariants.{Source, Generated}
 use Rattle.mdf_inspect.specs.Opened.{EndsOpened}
 use Rattle.mdf_inspect.specs.Check.{EndsCheck}
 use Rattle.mdf_inspect.specs.Info.{EndsInfo}
 use Rattle.mdf_inspect.specs.Export.{EndsExport}
+use Rattle.mdf_inspect.specs.Attachments.{EndsListing}
 use Rattle.mdf_carried.specs.Samples.{IsRecovered}
 use Rattle.mdf_record.specs.Causes.{HaveCauses}
 use Rattle.mdf_record.specs.Head.{script_head}
@@ -36,8 +38,9 @@ use Rattle.mdf_run.specs.Finalize.{EndsFinalize}
 use Rattle.mdf_run.specs.Sort.{EndsSort}
 use Rattle.mdf_run.specs.Cut.{EndsCut}
 use Rattle.mdf_run.specs.Concat.{AreBothLoaded, EndsConcat}
-use Rattle.mdf_run.specs.Blamed.{BlamesJoined, only_blamed}
-use Rattle.mdf_run.specs.Kept.{AreJoinable, AsksToJoin, HasGroup, HasSaved, IfRecorded, IsDone, IsDoneOrLacked, IsMeasured, IsReported, OfRecording, RecordsNothing}
+use Rattle.mdf_run.specs.Attach.{EndsAttach, IsAttachImage}
+use Rattle.mdf_run.specs.Blamed.{BlamesCarried, BlamesJoined, only_blamed}
+use Rattle.mdf_run.specs.Kept.{AreJoinable, AsksToJoin, HasGroup, HasSaved, IfRecorded, IsDone, IsDoneOrLacked, IsListable, IsMeasured, IsReported, OfRecording, RecordsNothing}
 use Rattle.mdf_run.specs.Told.{Told}
 
 -- What each command prints, and how it ends.
@@ -48,14 +51,17 @@ pub record RunPrints (words : List (List ℕ)) (t : Told) : Type 0 where
   pub check : (input : List ℕ) → Asks words (shown input Verdict) → EndsCheck t.first t.first' t.sink t.sink' t.status
   pub info : (input : List ℕ) → Asks words (shown input Contents) → EndsInfo t.first t.first' t.sink t.sink' t.status
   pub export : (input : List ℕ) (group : ℕ) → Asks words (shown input (Table group)) → EndsExport group t.first t.first' t.sink t.sink' t.status
+  pub attachments : (input : List ℕ) → Asks words (shown input Attachments) → EndsListing t.first t.first' t.sink t.sink' t.status
   pub finalize : (input output : List ℕ) → Asks words (made input output Finalized)
       → EndsFinalize t.now t.first t.first' t.out t.left.disk t.sink t.sink' t.status
   pub sort : (input output : List ℕ) → Asks words (made input output Sorted)
       → EndsSort t.now t.first t.first' t.out t.left.disk t.sink t.sink' t.status
   pub cut : (input output : List ℕ) (from to : ℤ) → Asks words (made input output (Cut from to))
       → EndsCut (record { from = from; to = to; now = t.now }) t.first t.first' t.out t.left.disk t.sink t.sink' t.status
-  pub concat : (input other output : List ℕ) → Asks words (joined input other output)
+  pub concat : (input other output : List ℕ) → Asks words (joined input other output Concat)
       → EndsConcat t.now t.first t.first' t.second t.second' t.out t.left.disk t.sink t.sink' t.status
+  pub attach : (input other output : List ℕ) → Asks words (joined input other output Attach)
+      → EndsAttach t.now t.first t.first' t.second t.second' t.out t.left.disk t.sink t.sink' t.status
   pub recording : (name : List ℕ) → Asks words (recorded name Source)
       → EndsRecord t.source t.source' name t.now t.out t.left t.sink t.sink' t.status
   pub generated : (samples : ℕ) (name : List ℕ) → Asks words (recorded name (Generated samples))
@@ -95,7 +101,8 @@ pub record RunRecovers (words : List (List ℕ)) (t : Told) : Type 0 where
 
 -- Each sound input is made of and shown, unless a disk fails or memory is wanted: each file that a recording leaves but those that
 -- are no MDF, and each other that is read as a recording and is not too long, is finalized; each finished file is sorted and cut, each
--- group of one exported, and each pair of them that can be joined is joined.
+-- group of one exported, and each pair of them that can be joined is joined. The attachments of each finished file that are read are
+-- listed, and carried into each finished file.
 pub record RunSucceeds (words : List (List ℕ)) (t : Told) : Type 0 where
   pub finalizes : (input output : List ℕ) → Asks words (made input output Finalized)
       → IfSome t.first.content (λ file. IsFinalizable file → IsDoneOrLacked t.status)
@@ -105,8 +112,13 @@ pub record RunSucceeds (words : List (List ℕ)) (t : Told) : Type 0 where
       → IfSome t.first.content (λ file. IsMeasured file → length file ≤ INPUT_LIMIT → IsDoneOrLacked t.status)
   pub exports : (input : List ℕ) (group : ℕ) → Asks words (shown input (Table group))
       → IfSome t.first.content (λ file. HasGroup file group → length file ≤ READING_LIMIT → IsDoneOrLacked t.status)
-  pub concats : (input other output : List ℕ) → Asks words (joined input other output)
+  pub lists : (input : List ℕ) → Asks words (shown input Attachments)
+      → IfSome t.first.content (λ file. IsListable file → length file ≤ INPUT_LIMIT → IsDoneOrLacked t.status)
+  pub concats : (input other output : List ℕ) → Asks words (joined input other output Concat)
       → IfSome t.first.content (λ one. IfSome t.second.content (λ two. AreJoinable one two
+      → length one ≤ INPUT_LIMIT → length two ≤ INPUT_LIMIT → IsDoneOrLacked t.status))
+  pub carries : (input other output : List ℕ) → Asks words (joined input other output Attach)
+      → IfSome t.first.content (λ one. IfSome t.second.content (λ two. IsListable one × IsMeasured two
       → length one ≤ INPUT_LIMIT → length two ≤ INPUT_LIMIT → IsDoneOrLacked t.status))
 
 -- What may be left of the output at any moment: nothing; or, where the inputs were loaded, at most one byte, a file with a first
@@ -118,19 +130,23 @@ pub record RunLeaves (words : List (List ℕ)) (t : Told) : Type 0 where
       → LeavesOf (IsLoaded t.first) (λ file. IsSortImage file t.now) t.out t.left.disk
   pub cut_leaves : (input output : List ℕ) (from to : ℤ) → Asks words (made input output (Cut from to))
       → LeavesOf (IsLoaded t.first) (λ file. IsCutImage file (record { from = from; to = to; now = t.now })) t.out t.left.disk
-  pub concat_leaves : (input other output : List ℕ) → Asks words (joined input other output)
+  pub concat_leaves : (input other output : List ℕ) → Asks words (joined input other output Concat)
       → LeavesOf (AreBothLoaded t.now t.first t.second) IsConcatImage t.out t.left.disk
+  pub attach_leaves : (input other output : List ℕ) → Asks words (joined input other output Attach)
+      → LeavesOf (AreBothLoaded t.now t.first t.second) IsAttachImage t.out t.left.disk
 
 -- A status that speaks of a disk, of the source or of the sink comes only where that has failed. And the input that is blamed: of
--- `concat` the one that the printed fault is of, or both, and none where a disk failed or memory was wanted; of another command its
--- only one, where it is refused or too long; and none of a recording.
+-- `concat` and of `attach` the one that the printed fault is of, or both, and none where a disk failed or memory was wanted; of another
+-- command its only one, where it is refused or too long; and none of a recording.
 pub record RunBlames (words : List (List ℕ)) (t : Told) : Type 0 where
   pub source_fault : t.status ≡ 2 → Rose t.source.faults t.source'.faults
   pub device_fault : t.status ≡ 4
       → Rose t.first.faults t.first'.faults ⊎ (Rose t.out.faults t.left.disk.faults ⊎ (AsksToJoin words × Rose t.second.faults t.second'.faults))
   pub sink_fault : t.status ≡ 6 → Rose t.sink.faults t.sink'.faults
-  pub blames_joined : (input other output : List ℕ) → Asks words (joined input other output)
+  pub blames_joined : (input other output : List ℕ) → Asks words (joined input other output Concat)
       → BlamesJoined t.now t.first t.second t.sink t.sink' t.status t.blamed
+  pub blames_carried : (input other output : List ℕ) → Asks words (joined input other output Attach)
+      → BlamesCarried t.now t.first t.second t.sink t.sink' t.status t.blamed
   pub blames_one : ¬ AsksToJoin words → RecordsNothing words → t.blamed ≡ only_blamed t.status
   pub blames_none : IfRecorded words (t.blamed ≡ None)
 

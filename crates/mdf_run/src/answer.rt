@@ -9,10 +9,10 @@ ghost use Rattle.mdf_run.specs.Told.{told};
 
 use crate::blamed::of_one;
 use crate::finished::{Finished, without_recording};
-use crate::joining::run_concat;
 use crate::making::make;
 use crate::recording::record;
 use crate::showing::show;
+use crate::uniting::unite;
 use mdf_command::Piece::Text;
 use mdf_command::{Command, give_line, status_after};
 use mdf_disk::Disk;
@@ -25,7 +25,7 @@ use std::thread::Threads;
 
 /// What is printed where the words are no command.
 const USAGE: &[u8] =
-    b"usage: opened IN | record OUT | finalize IN OUT | check IN | info IN | sort IN OUT | cut IN OUT FROM TO | concat A B OUT | export IN GROUP | gen N OUT";
+    b"usage: opened IN | record OUT | finalize IN OUT | check IN | info IN | sort IN OUT | cut IN OUT FROM TO | concat A B OUT | export IN GROUP | gen N OUT | attachments IN | attach A B OUT";
 
 /// Prints the usage line.
 fn run_usage<K: Sink>(sink: &mut K) -> u8
@@ -91,12 +91,13 @@ where
                 input,
                 second: other,
                 output,
+                union,
             },
         ) => {
             let mut first = first;
             let mut out = out;
-            let verdict = run_concat(
-                alloc, input, other, output, now_ns, sink, &mut first, second, &mut out,
+            let verdict = unite(
+                alloc, union, input, other, output, now_ns, sink, &mut first, second, &mut out,
             );
             without_recording(alloc, verdict, first, out)
         }

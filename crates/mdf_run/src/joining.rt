@@ -1,67 +1,32 @@
+// Making a file of two others with a tool.
 ghost use Rattle.std.specs.Prelude.{◌≡◌, Some, None, IfErr};
 ghost use Rattle.mdf_disk.specs.Crash.{HoldsSince};
 ghost use Rattle.mdf_disk.specs.State.{state_of};
 ghost use Rattle.mdf_port.specs.State.{sink_state};
-ghost use Rattle.tool_concat.specs.Concat.{IsConcatImage};
 ghost use Rattle.mdf_command.specs.declared.fault.Fault.TheVariants as faults;
 ghost use Rattle.mdf_run.specs.Asked.{IsOnlyMade, IsOnlyRead};
-ghost use Rattle.mdf_run.specs.Blamed.{BlamesJoined, IsOfEnd, IsOfJoining, concat_blamed, joining_blamed, joining_end, unread_blamed};
-ghost use Rattle.mdf_run.specs.Concat.{AreBothLoaded, AreNotJoined, EndsConcat, Joins, fault_of_concat, two_inputs};
-ghost use Rattle.mdf_run.specs.Making.{LeavesOf, MakeComes, MakingComes};
+ghost use Rattle.mdf_run.specs.Blamed.{BlamesOne, IsOfEnd, IsOfLoaded, joining_blamed, joining_end, unread_blamed};
+ghost use Rattle.mdf_run.specs.Concat.{AreBothLoaded, two_inputs};
+ghost use Rattle.mdf_run.specs.Making.{EndsMaking, LeavesOf, MakeComes, MakingComes};
+ghost use Rattle.mdf_run.specs.Tool.{IsImage};
 
 use crate::blamed::{Input, Verdict};
 use crate::by_tool::report;
+use crate::pair_tool::PairTool;
 use mdf_command::{Fault, load};
 use mdf_disk::{Disk, Role};
 use mdf_num::{Bytes, Failed, Memory};
 use mdf_port::Sink;
 use mdf_tool::Report;
 use std::alloc::Global;
-use tool_concat::{ConcatFault, concat};
 
-/// Why two files were not joined.
+/// Why no file was made of two.
 #[derive(Clone, Copy)]
-struct Unjoined {
+pub(crate) struct Unjoined {
     /// The fault that is printed.
-    fault: Fault,
+    pub(crate) fault: Fault,
     /// The input that it is of.
-    blamed: Option<Input>,
-}
-
-/// The fault of the command. A fault of the second file is printed as one of the first.
-fn fault_of(fault: ConcatFault) -> Fault
-    ensures { result ≡ fault_of_concat fault }
-{
-    match fault {
-        ConcatFault::First(fault) | ConcatFault::Second(fault) => Fault::Read(fault),
-        ConcatFault::Differs { group } => Fault::Differs { group },
-        ConcatFault::Wide { group, channel } => Fault::Wide { group, channel },
-        ConcatFault::Failed => Fault::Device,
-        ConcatFault::Memory => Fault::Memory,
-    }
-}
-
-/// The input that such a fault is of.
-fn blamed_for(fault: ConcatFault) -> Option<Input>
-    ensures { result ≡ concat_blamed fault }
-{
-    match fault {
-        ConcatFault::First(_) => Some(Input::First),
-        ConcatFault::Second(_) => Some(Input::Second),
-        ConcatFault::Differs { .. } | ConcatFault::Wide { .. } => Some(Input::Both),
-        ConcatFault::Failed | ConcatFault::Memory => None,
-    }
-}
-
-impl From<ConcatFault> for Unjoined {
-    ghost from_gives = { λ problem unjoined. unjoined ≡ record { fault = fault_of_concat problem; blamed = concat_blamed problem } };
-
-    fn from(fault: ConcatFault) -> Self {
-        Unjoined {
-            fault: fault_of(fault),
-            blamed: blamed_for(fault),
-        }
-    }
+    pub(crate) blamed: Option<Input>,
 }
 
 impl From<Failed> for Unjoined {
@@ -86,7 +51,7 @@ impl From<Memory> for Unjoined {
     }
 }
 
-/// Why two files were not joined of which this one was not loaded. It is blamed where it is too long.
+/// Why no file was made of two of which this one was not loaded. It is blamed where it is too long.
 fn unread(input: Input, fault: Fault) -> Unjoined
     ensures fault { result.fault ≡ fault }
     ensures blamed { result.blamed ≡ unread_blamed input fault }
@@ -99,8 +64,9 @@ fn unread(input: Input, fault: Fault) -> Unjoined
 }
 
 /// Makes the file of this name of the bytes of two.
-fn make_joined<C: Disk>(
+fn make_joined<T: PairTool + Drop, C: Disk>(
     alloc: Global,
+    tool: T,
     one: Bytes,
     two: Bytes,
     output: &Bytes,
@@ -108,19 +74,20 @@ fn make_joined<C: Disk>(
     out: &mut C,
 ) -> Result<Report, Unjoined>
     requires { C.asked out.old ≡ None }
-    ensures comes { MakeComes (Joins (record { first = one; second = two; now = now_ns })) (AreNotJoined (record { first = one; second = two; now = now_ns }))
+    ensures comes { MakeComes (T.makes tool (record { first = one; second = two; now = now_ns })) (T.refuses tool (record { first = one; second = two; now = now_ns }))
         (state_of C.Disk out.old) (state_of C.Disk out.new) (joining_end result) }
-    ensures blames { IfErr result (λ unjoined. IsOfJoining (record { first = one; second = two; now = now_ns }) unjoined.blamed unjoined.fault) }
-    ensures any_moment { HoldsSince (C.story out.new) (C.moment out.old) (IsConcatImage (record { first = one; second = two; now = now_ns })) }
+    ensures blames { IfErr result (λ unjoined. IsOfLoaded (T.blames tool) (record { first = one; second = two; now = now_ns }) unjoined.blamed unjoined.fault) }
+    ensures any_moment { HoldsSince (C.story out.new) (C.moment out.old) (IsImage (T.makes tool (record { first = one; second = two; now = now_ns }))) }
     ensures output { IsOnlyMade C.Disk (Some output.now) out.old out.new }
 {
     out.attach(output.copy()?, Role::Create)?;
-    Ok(concat(alloc, one, two, now_ns, out)?)
+    tool.make(alloc, one, two, now_ns, out)
 }
 
-/// Joins the files of these names, the second behind the first, into a file of the third name.
-fn join<A: Disk, B: Disk, C: Disk>(
+/// Makes a file of the files of two names, of a third name.
+fn join<T: PairTool + Drop, A: Disk, B: Disk, C: Disk>(
     alloc: Global,
+    tool: T,
     input: &Bytes,
     other: &Bytes,
     output: &Bytes,
@@ -133,9 +100,9 @@ fn join<A: Disk, B: Disk, C: Disk>(
     requires second { B.asked second.old ≡ None }
     requires out { C.asked out.old ≡ None }
     ensures comes { MakingComes (two_inputs now_ns (state_of A.Disk first.old) (state_of A.Disk first.new) (state_of B.Disk second.old) (state_of B.Disk second.new))
-        Joins AreNotJoined (state_of C.Disk out.old) (state_of C.Disk out.new) (joining_end result) }
-    ensures blames { IsOfEnd now_ns (state_of A.Disk first.old) (state_of B.Disk second.old) (joining_blamed result) (joining_end result) }
-    ensures any_moment { LeavesOf (AreBothLoaded now_ns (state_of A.Disk first.old) (state_of B.Disk second.old)) IsConcatImage (state_of C.Disk out.old) (state_of C.Disk out.new) }
+        (T.makes tool) (T.refuses tool) (state_of C.Disk out.old) (state_of C.Disk out.new) (joining_end result) }
+    ensures blames { IsOfEnd (T.blames tool) now_ns (state_of A.Disk first.old) (state_of B.Disk second.old) (joining_blamed result) (joining_end result) }
+    ensures any_moment { LeavesOf (AreBothLoaded now_ns (state_of A.Disk first.old) (state_of B.Disk second.old)) (λ asked. IsImage (T.makes tool asked)) (state_of C.Disk out.old) (state_of C.Disk out.new) }
     ensures input { IsOnlyRead A.Disk (Some input.now) first.old first.new }
     ensures other { IsOnlyRead B.Disk (Some other.now) second.old second.new }
     ensures output { IsOnlyMade C.Disk (Some output.now) out.old out.new }
@@ -148,7 +115,7 @@ fn join<A: Disk, B: Disk, C: Disk>(
         Ok(two) => two,
         Err(fault) => return Err(unread(Input::Second, fault)),
     };
-    make_joined(alloc, one, two, output, now_ns, out)
+    make_joined(alloc, tool, one, two, output, now_ns, out)
 }
 
 /// How the command ends.
@@ -171,10 +138,11 @@ fn blamed_of(joined: Result<Report, Unjoined>) -> Option<Input>
     }
 }
 
-/// `concat A B OUT`: makes the sorted file of two finished ones, each group with the records of the first and then those of the
-/// second, and prints what it holds, or why none was made. Answers the program's status, and the input that the fault is of.
-pub fn run_concat<K: Sink, A: Disk, B: Disk, C: Disk>(
+/// Makes a file of two others, and prints what it holds, or why none was made. Answers the program's status, and the input that the
+/// fault is of.
+pub(crate) fn run_pair<T: PairTool + Drop, K: Sink, A: Disk, B: Disk, C: Disk>(
     alloc: Global,
+    tool: T,
     input: &Bytes,
     other: &Bytes,
     output: &Bytes,
@@ -187,16 +155,18 @@ pub fn run_concat<K: Sink, A: Disk, B: Disk, C: Disk>(
     requires first { A.asked first.old ≡ None }
     requires second { B.asked second.old ≡ None }
     requires out { C.asked out.old ≡ None }
-    ensures ends { EndsConcat now_ns (state_of A.Disk first.old) (state_of A.Disk first.new) (state_of B.Disk second.old) (state_of B.Disk second.new)
-        (state_of C.Disk out.old) (state_of C.Disk out.new) (sink_state K.Sink sink.old) (sink_state K.Sink sink.new) result.status }
-    ensures blames { BlamesJoined now_ns (state_of A.Disk first.old) (state_of B.Disk second.old)
+    ensures ends { EndsMaking (two_inputs now_ns (state_of A.Disk first.old) (state_of A.Disk first.new) (state_of B.Disk second.old) (state_of B.Disk second.new))
+        (T.makes tool) (T.refuses tool) (state_of C.Disk out.old) (state_of C.Disk out.new) (sink_state K.Sink sink.old) (sink_state K.Sink sink.new) result.status }
+    ensures blames { BlamesOne (T.blames tool) now_ns (state_of A.Disk first.old) (state_of B.Disk second.old)
         (sink_state K.Sink sink.old) (sink_state K.Sink sink.new) result.status result.blamed }
-    ensures any_moment { LeavesOf (AreBothLoaded now_ns (state_of A.Disk first.old) (state_of B.Disk second.old)) IsConcatImage (state_of C.Disk out.old) (state_of C.Disk out.new) }
+    ensures any_moment { LeavesOf (AreBothLoaded now_ns (state_of A.Disk first.old) (state_of B.Disk second.old)) (λ asked. IsImage (T.makes tool asked)) (state_of C.Disk out.old) (state_of C.Disk out.new) }
     ensures input { IsOnlyRead A.Disk (Some input.now) first.old first.new }
     ensures other { IsOnlyRead B.Disk (Some other.now) second.old second.new }
     ensures output { IsOnlyMade C.Disk (Some output.now) out.old out.new }
 {
-    let joined = join(alloc, input, other, output, now_ns, first, second, out);
+    let joined = join(
+        alloc, tool, input, other, output, now_ns, first, second, out,
+    );
     let status = report(sink, &end_of(joined));
     Verdict {
         status,

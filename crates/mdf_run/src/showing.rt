@@ -1,4 +1,4 @@
-// The commands that show a file: `opened IN`, `check IN`, `info IN` and `export IN GROUP`.
+// The commands that show a file: `opened IN`, `check IN`, `info IN`, `export IN GROUP` and `attachments IN`.
 ghost use Rattle.std.specs.Prelude.{◌≡◌, Some, None};
 ghost use Rattle.mdf_port.specs.State.{sink_state};
 ghost use Rattle.mdf_disk.specs.State.{state_of};
@@ -7,7 +7,7 @@ ghost use Rattle.mdf_run.specs.Ends.{EndsShow};
 
 use mdf_command::Aspect;
 use mdf_disk::Disk;
-use mdf_inspect::{Question, Shown, run_export, run_opened, run_reading};
+use mdf_inspect::{Question, Shown, run_attachments, run_export, run_opened, run_reading};
 use mdf_num::Bytes;
 use mdf_port::Sink;
 use std::alloc::Global;
@@ -34,5 +34,10 @@ pub(crate) fn show<K: Sink, A: Disk>(
         Aspect::Verdict => run_reading(alloc, Question::Verdict, input, sink, first),
         Aspect::Contents => run_reading(alloc, Question::Contents, input, sink, first),
         Aspect::Table { group } => run_export(alloc, input, group, sink, first),
+        Aspect::Attachments => {
+            let mut first = first;
+            let status = run_attachments(alloc, input, sink, &mut first);
+            Shown { status, first }
+        }
     }
 }

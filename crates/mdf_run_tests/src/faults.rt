@@ -1,6 +1,7 @@
 //! Every fault and every stop: each test goes up to the first call that a run does not make.
 ghost use Rattle.std.specs.Prelude.{◌≡◌, None};
 
+use crate::attached::ATTACH;
 use crate::cuts::CUT;
 use crate::files::{FINALIZE, File, SORT, bytes_of, finalized};
 use crate::generated::GEN_TEN;
@@ -367,12 +368,13 @@ const COUNTED: File = File::Recorded(COUNTING);
 
 const FINISHED: File = File::Finished(COUNTING);
 
-// The commands that make a file of a file, and that; `concat` has it for both of its inputs.
+// The commands that make a file of a file, and that; `concat` and `attach` have it for both of their inputs.
 const MAKING: &[(Given<'static>, File)] = &[
     (FINALIZE, COUNTED),
     (SORT, FINISHED),
     (CUT, FINISHED),
     (CONCAT, FINISHED),
+    (ATTACH, FINISHED),
 ];
 
 #[test]
@@ -394,6 +396,8 @@ const READING: &[(&[&str], u64, File)] = &[
     (&["cut", "in.mf4", "out.mf4", "1", "3"], 3, FINISHED),
     (&["concat", "in.mf4", "in.mf4", "out.mf4"], 3, FINISHED),
     (&["export", "in.mf4", "0"], 4, FINISHED),
+    (&["attachments", "in.mf4"], 3, FINISHED),
+    (&["attach", "in.mf4", "in.mf4", "out.mf4"], 3, FINISHED),
 ];
 
 /// This command over this second input, with a sink that fails at these calls.

@@ -1,6 +1,7 @@
 //! The files that commands are asked about, and rows that change them.
 ghost use Rattle.std.specs.Prelude.{◌≡◌, None, IfOk};
 
+use crate::attached::attached;
 use crate::foreign::engine_and_gearbox;
 use crate::recordings::{Part, put, recording};
 use crate::runs::{Given, asking, disk_with, file_made, recorded, told};
@@ -35,13 +36,14 @@ pub const MARK: Part = (0, b"MDF     ");
 pub const FLAGS: Part = (60, b"\0\0\0\0");
 
 /// A file: so many bytes of the recording of two blocks; the file of the data groups engine and gearbox; the recording of a
-/// script; and the finished file of one, and its sorted file.
+/// script; the finished file of one, and its sorted file; and the file of an attachment.
 pub enum File {
     TwoBlocks(usize),
     TwoGroups,
     Recorded(&'static str),
     Finished(&'static str),
     Sorted(&'static str),
+    Attached,
 }
 
 /// The finished file of this recording.
@@ -87,6 +89,7 @@ where
         File::Recorded(script) => recorded(rt, *script),
         File::Finished(script) => finished(rt, *script),
         File::Sorted(script) => sorted(rt, *script),
+        File::Attached => attached(rt.alloc()),
     }
 }
 

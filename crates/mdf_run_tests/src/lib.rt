@@ -2,6 +2,8 @@
 #![tactic(auto)]
 
 #[cfg(test)]
+mod attached;
+#[cfg(test)]
 mod cuts;
 #[cfg(test)]
 mod faults;

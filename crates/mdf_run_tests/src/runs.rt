@@ -383,7 +383,7 @@ fn opened_prints_its_line(rt: HostRuntime) -> Result<(), Fail> {
 }
 
 const USAGE: &str =
-    "1 usage: opened IN | record OUT | finalize IN OUT | check IN | info IN | sort IN OUT | cut IN OUT FROM TO | concat A B OUT | export IN GROUP | gen N OUT\n";
+    "1 usage: opened IN | record OUT | finalize IN OUT | check IN | info IN | sort IN OUT | cut IN OUT FROM TO | concat A B OUT | export IN GROUP | gen N OUT | attachments IN | attach A B OUT\n";
 
 // Words that are no command, a command a line, with one blank between two words.
 const WRONG: &str = "frob
@@ -405,6 +405,10 @@ cut a b 0 18446744073709551616
 cut a b -9223372036854775809 0
 concat a b
 concat a b c d
+attach a b
+attach a b c d
+attachments
+attachments a b
 export a
 export a -1
 export a 18446744073709551616
