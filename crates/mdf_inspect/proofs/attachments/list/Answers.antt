@@ -13,10 +13,10 @@ returns-in-Ok-clause-comes g c =
     let found = rw c.as_slice.ensures at c.in-Ok.ensures.found in
     (c.in_ok-file.file, c.in_ok-file.ensures.comes, (found, c.in-Ok.ensures.few))
 
-pub returns-in-Err-clause-comes : goal.returns-in-Err-clause-comes
-returns-in-Err-clause-comes g c =
+pub returns-clause-comes : goal.returns-clause-comes
+returns-clause-comes g c =
     let exact = rw c.as_slice.ensures at c.in-Err.ensures.exact in
     let lacks = rw c.as_slice.ensures at c.in-Err.ensures.refused in
-    rw (c.attach_fault.ensures, c.as_slice-2.ensures)
+    rw (c.attach_fault.ensures, c.as_slice-in-Err.ensures)
     (fault_comes (state_of g.A.Disk c.args.first.now) (state_of g.A.Disk c.load.new.first) c.in_ok-file.file c.in_ok-file.ensures.comes
     c.in_ok-file.ensures.calm c.in-Err.fault exact lacks)
