@@ -120,7 +120,7 @@ const LISTED: &[(Asked, &str)] = &[
     (Asked(LIST, File::Attached, &[], &[], &[0]), "6 "),
     (
         Asked(LIST, File::Attached, &[], &[], &[3]),
-        "6 attachment 0 a.txt",
+        "6 attachment 0 ",
     ),
 ];
 
