@@ -10,21 +10,21 @@ returns-in-Ok-clause-ends g c = rw c.as_slice.ensures at c.in-Ok.ensures.ends
 pub returns-in-Ok-clause-any_moment : goal.returns-in-Ok-clause-any_moment
 returns-in-Ok-clause-any_moment g c = rw c.as_slice.ensures at c.attach.ensures.any_moment
 
-pub returns-in-Err-clause-ends : goal.returns-in-Err-clause-ends
-returns-in-Err-clause-ends g c =
+pub returns-clause-ends : goal.returns-clause-ends
+returns-clause-ends g c =
     let disk = g.C.Disk in
     let asked : Joining = record { first = c.args.one; second = c.args.two; now = c.args.now_ns } in
     let ends = rw c.as_slice.ensures at c.in-Err.ensures.ends in
-    rw (c.fault_of.ensures, c.as_slice-2.ensures)
+    rw (c.fault_of.ensures, c.as_slice-in-Err.ensures)
     (carry_fault asked (state_of disk c.args.out.now) (state_of disk c.attach.new.out) c.in-Err.fault ends)
 
-pub returns-in-Err-clause-whose : goal.returns-in-Err-clause-whose
-returns-in-Err-clause-whose g c =
+pub returns-clause-whose : goal.returns-clause-whose
+returns-clause-whose g c =
     let disk = g.C.Disk in
     let asked : Joining = record { first = c.args.one; second = c.args.two; now = c.args.now_ns } in
     let ends = rw c.as_slice.ensures at c.in-Err.ensures.ends in
-    rw (c.fault_of.ensures, c.blamed_for.ensures, c.as_slice-2.ensures)
+    rw (c.fault_of.ensures, c.blamed_for.ensures, c.as_slice-in-Err.ensures)
     (carry_is_of asked (state_of disk c.args.out.now) (state_of disk c.attach.new.out) c.in-Err.fault ends)
 
-pub returns-in-Err-clause-any_moment : goal.returns-in-Err-clause-any_moment
-returns-in-Err-clause-any_moment g c = rw c.as_slice.ensures at c.attach.ensures.any_moment
+pub returns-clause-any_moment : goal.returns-clause-any_moment
+returns-clause-any_moment g c = rw c.as_slice.ensures at c.attach.ensures.any_moment
