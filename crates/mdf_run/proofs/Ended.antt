@@ -32,7 +32,7 @@ use Rattle.mdf_command.specs.declared.command.Union.{Union}
 use Rattle.mdf_command.specs.declared.command.Union.TheVariants.{Concat, Attach}
 use Rattle.mdf_command.specs.declared.command.Origin.TheVariants.{Source, Generated}
 use Rattle.mdf_run.specs.Kept.{AreJoinable, AsksToJoin, HasGroup, IfRecorded, IsDoneOrLacked, IsDurable, IsListable, IsMeasured, Keeps, OfRecording, RecordsNothing}
-use Rattle.mdf_run.specs.Asked.{AsksOnly, HasNumbers, IsOnlyMade, IsOnlyRead, IsUnrecorded, TakesNothing, asked_by, file_asked}
+use Rattle.mdf_run.specs.Asked.{AsksOnly, IsOnlyMade, IsOnlyRead, IsUnrecorded, TakesNothing, asked_by, file_asked}
 use Rattle.mdf_run.specs.Ends.{Blames, Does, EndsJoin, EndsMake, EndsShow, HasEnded, IsCaused}
 use Rattle.mdf_run.specs.Told.{Told}
 use Rattle.mdf_run.proofs.Scripts.{if_none, of_generated, of_none, of_record}
@@ -49,10 +49,6 @@ Says said asked = MatchOption asked (IsUsage said) (λ request. Asks said reques
 pub said_by : (said : List (List ℕ)) (command : Option Command) → MatchOption command (IsUsage said) (λ c. Asks said (request_of c)) → Says said (asked_by command)
 said_by said None says = says
 said_by said (Some command) says = says
-
-pub has_numbers : (said : List (List ℕ)) (asked : Option Request) → Says said asked → HasNumbers asked
-has_numbers said None says = tt
-has_numbers said (Some request) says = says.1
 
 pub does : (said : List (List ℕ)) (asked : Option Request) (t : Told) → HasEnded asked t → Says said asked → (request : Request) → Asks said request → Does request t
 does said None t ended none request asks = absurd (none request asks)

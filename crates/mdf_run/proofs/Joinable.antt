@@ -1,5 +1,5 @@
 -- A file is made of two sound ones, unless a disk fails or memory is wanted.
-use Rattle.std.proofs.Common.{◌≡◌, ◌≤◌, ⊎_elim, ℕ, List, length, Option, Some, None, Ok, refl, sym, subst}
+use Rattle.std.proofs.Common.{◌≡◌, ◌≤◌, ⊎_elim, ℕ, List, length, Option, Some, None, refl, sym, subst}
 use Rattle.std.specs.Prelude.{IfSome}
 use Rattle.mdf_port.specs.State.{SinkState}
 use Rattle.mdf_disk.specs.State.{DiskState}

@@ -1,5 +1,5 @@
 -- What is said of a run that has ended as the words ask for.
-use Rattle.std.proofs.Common.{◌≡◌, List, ℕ, Option}
+use Rattle.std.proofs.Common.{List, ℕ, Option}
 use Rattle.mdf_disk.specs.declared.disk.Disk.{Ghosts}
 use Rattle.mdf_command.specs.Words.{Request, shown, made, joined, recorded, input_of, output_of, second_of}
 use Rattle.mdf_command.specs.declared.command.Aspect.TheVariants.{Opened, Verdict, Contents, Table, Attachments}

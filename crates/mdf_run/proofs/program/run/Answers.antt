@@ -1,9 +1,6 @@
-use Rattle.mdf_run.proofs.Ended.{has_numbers, said_by, takes_nothing}
+use Rattle.mdf_run.proofs.Ended.{said_by, takes_nothing}
 use Rattle.mdf_run.proofs.Runs.{run_blames, run_keeps, run_leaves, run_prints, run_recovers, run_succeeds, touches_input, touches_output, touches_second}
 use Rattle.mdf_run.proofs.program.run.Goals as goal
-
-pub answer-requires-clause-numbers : goal.answer-requires-clause-numbers
-answer-requires-clause-numbers g c = has_numbers c.args.words.now _ (said_by c.args.words.now c.command_of-command.result c.command_of-command.ensures)
 
 pub returns-clause-prints : goal.returns-clause-prints
 returns-clause-prints g c =

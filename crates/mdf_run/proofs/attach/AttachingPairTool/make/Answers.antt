@@ -1,5 +1,8 @@
+use Rattle.std.proofs.Common.{ℕ, List, Err, ◌∙◌, ap, subst}
 use Rattle.mdf_disk.specs.State.{state_of}
+use Rattle.tool_attach.specs.Carry.{CarryEnds}
 use Rattle.tool_concat.specs.Concat.{Joining}
+use Rattle.mdf_run.specs.Attach.{fault_of_carry}
 use Rattle.mdf_run.proofs.Blaming.{carry_is_of}
 use Rattle.mdf_run.proofs.Leaving.{carry_fault}
 use Rattle.mdf_run.proofs.attach.AttachingPairTool.make.Goals as goal
@@ -14,15 +17,17 @@ pub returns-clause-ends : goal.returns-clause-ends
 returns-clause-ends g c =
     let disk = g.C.Disk in
     let asked : Joining = record { first = c.args.one; second = c.args.two; now = c.args.now_ns } in
-    let ends = rw c.as_slice.ensures at c.in-Err.ensures.ends in
-    rw (c.fault_of.ensures, c.as_slice-in-Err.ensures)
-    (carry_fault asked (state_of disk c.args.out.now) (state_of disk c.attach.new.out) c.in-Err.fault ends)
+    let ends = subst (λ (from : List ℕ). CarryEnds (record { from = from; file = c.args.two; now = c.args.now_ns }) (state_of disk c.args.out.now)
+        (state_of disk c.attach.new.out) (Err c.in-Err.fault)) c.as_slice.ensures c.in-Err.ensures.ends in
+    let is = c.fault_of.ensures ∙ ap (λ (from : List ℕ). fault_of_carry from c.in-Err.fault) c.as_slice-in-Err.ensures in
+    rw is (carry_fault asked (state_of disk c.args.out.now) (state_of disk c.attach.new.out) c.in-Err.fault ends)
 
 pub returns-clause-whose : goal.returns-clause-whose
 returns-clause-whose g c =
     let disk = g.C.Disk in
     let asked : Joining = record { first = c.args.one; second = c.args.two; now = c.args.now_ns } in
-    let ends = rw c.as_slice.ensures at c.in-Err.ensures.ends in
+    let ends = subst (λ (from : List ℕ). CarryEnds (record { from = from; file = c.args.two; now = c.args.now_ns }) (state_of disk c.args.out.now)
+        (state_of disk c.attach.new.out) (Err c.in-Err.fault)) c.as_slice.ensures c.in-Err.ensures.ends in
     rw (c.fault_of.ensures, c.blamed_for.ensures, c.as_slice-in-Err.ensures)
     (carry_is_of asked (state_of disk c.args.out.now) (state_of disk c.attach.new.out) c.in-Err.fault ends)
 
