@@ -132,7 +132,7 @@ impl File {
 }
 
 /// What is answered where the attachments of the first file are carried into the second, and the file that is made.
-fn carried(
+fn carry(
     alloc: Global,
     from: File,
     file: File,
@@ -169,7 +169,7 @@ fn is_made(
     tables: &[&[Piece]],
 ) -> Result<bool, Memory> {
     let want = marked_file(alloc, size, IDENT, tables)?;
-    let (_answer, bytes) = carried(alloc, from, file)?;
+    let (_answer, bytes) = carry(alloc, from, file)?;
     Ok(bytes.as_slice() == want.as_slice())
 }
 
@@ -228,7 +228,7 @@ struct Carried(File, File);
 
 impl Told for Carried {
     fn told(&self, alloc: Global) -> Result<String, Memory> {
-        let (answer, bytes) = carried(alloc, self.0, self.1)?;
+        let (answer, bytes) = carry(alloc, self.0, self.1)?;
         let len = bytes.as_slice().len();
         let told = match read_attachments(alloc, bytes.as_slice()) {
             Ok(rows) => lines(alloc, rows.as_slice())?,

@@ -135,7 +135,7 @@ pub const ATTACH: Given<'static> = Given {
 };
 
 /// What is left where the attachments of the first file are carried into the second.
-fn carried<R>(rt: &R, first: Bytes, second: &Bytes) -> Result<Left, Fail>
+fn carry<R>(rt: &R, first: Bytes, second: &Bytes) -> Result<Left, Fail>
 where
     R: AllocGlobal + Threads + Wait + Sync,
 {
@@ -156,7 +156,7 @@ impl Carried {
     {
         let first = changed(rt.alloc(), &bytes_of(rt, &self.0)?, self.1)?;
         let second = changed(rt.alloc(), &bytes_of(rt, &self.2)?, self.3)?;
-        carried(rt, first, &second)
+        carry(rt, first, &second)
     }
 }
 
