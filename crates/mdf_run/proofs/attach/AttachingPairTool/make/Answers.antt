@@ -18,7 +18,7 @@ returns-clause-ends g c =
     let disk = g.C.Disk in
     let asked : Joining = record { first = c.args.one; second = c.args.two; now = c.args.now_ns } in
     let ends = subst (λ (from : List ℕ). CarryEnds (record { from = from; file = c.args.two; now = c.args.now_ns }) (state_of disk c.args.out.now)
-        (state_of disk c.attach.new.out) (Err c.in-Err.fault)) c.as_slice.ensures c.in-Err.ensures.ends in
+    (state_of disk c.attach.new.out) (Err c.in-Err.fault)) c.as_slice.ensures c.in-Err.ensures.ends in
     let is = c.fault_of.ensures ∙ ap (λ (from : List ℕ). fault_of_carry from c.in-Err.fault) c.as_slice-in-Err.ensures in
     rw is (carry_fault asked (state_of disk c.args.out.now) (state_of disk c.attach.new.out) c.in-Err.fault ends)
 
@@ -27,7 +27,7 @@ returns-clause-whose g c =
     let disk = g.C.Disk in
     let asked : Joining = record { first = c.args.one; second = c.args.two; now = c.args.now_ns } in
     let ends = subst (λ (from : List ℕ). CarryEnds (record { from = from; file = c.args.two; now = c.args.now_ns }) (state_of disk c.args.out.now)
-        (state_of disk c.attach.new.out) (Err c.in-Err.fault)) c.as_slice.ensures c.in-Err.ensures.ends in
+    (state_of disk c.attach.new.out) (Err c.in-Err.fault)) c.as_slice.ensures c.in-Err.ensures.ends in
     rw (c.fault_of.ensures, c.blamed_for.ensures, c.as_slice-in-Err.ensures)
     (carry_is_of asked (state_of disk c.args.out.now) (state_of disk c.attach.new.out) c.in-Err.fault ends)
 
