@@ -11,21 +11,7 @@ import pathlib
 import struct
 import sys
 
-made = bytearray(b"MDF     4.10    example " + bytes(4) + struct.pack("<H", 410) + bytes(34))
-
-
-def place(name, links, body):
-    """Puts a block behind the others, and answers its address."""
-    at = len(made)
-    size = 24 + 8 * len(links) + len(body)
-    made.extend(b"##" + name + bytes(4) + struct.pack("<QQ", size, len(links)))
-    made.extend(struct.pack(f"<{len(links)}Q", *links) + body + bytes(-size % 8))
-    return at
-
-
-def text(words):
-    return place(b"TX", [], words.encode() + bytes(8 - len(words.encode()) % 8))
-
+from blocks import link, made, place, text
 
 path = pathlib.Path(sys.argv[1])
 data = path.read_bytes()
@@ -37,6 +23,6 @@ kind = text("text/plain")
 # embedded (1), with a valid MD5 (4); the entry of the history is that with the number 0
 fields = struct.pack("<HH4x16sQQ", 5, 0, hashlib.md5(data).digest(), len(data), len(data))
 attachment = place(b"AT", [0, name, kind, 0], fields + data)
-struct.pack_into("<Q", made, header + 24 + 8, entry)
-struct.pack_into("<Q", made, header + 24 + 24, attachment)
+link(header, 1, entry)
+link(header, 3, attachment)
 sys.stdout.buffer.write(made)

@@ -8,24 +8,7 @@ behind the one before, at the next multiple of 8: the identification at 0 (64 by
 import pathlib
 import struct
 
-made = bytearray(b"MDF     4.10    example " + bytes(4) + struct.pack("<H", 410) + bytes(34))
-
-
-def place(name, links, body):
-    """Puts a block behind the others, and answers its address."""
-    at = len(made)
-    size = 24 + 8 * len(links) + len(body)
-    made.extend(b"##" + name + bytes(4) + struct.pack("<QQ", size, len(links)))
-    made.extend(struct.pack(f"<{len(links)}Q", *links) + body + bytes(-size % 8))
-    return at
-
-
-def text(words):
-    return place(b"TX", [], words.encode() + bytes(8 - len(words) % 8))
-
-
-def link(at, k, to):
-    struct.pack_into("<Q", made, at + 24 + 8 * k, to)
+from blocks import link, made, place, text
 
 
 def channel(name, unit, kind, data_type, byte, bits):
