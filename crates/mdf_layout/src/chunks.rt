@@ -8,6 +8,7 @@ use crate::{Chunk, Sample};
 use mdf_num::Memory;
 use std::alloc::Global;
 use std::marker::Model;
+use std::mem;
 use std::sync::Arc;
 
 /// A chunk, and how many samples stand before it.
@@ -36,6 +37,25 @@ impl Model for Chunks {
     ghost invariant = { λ chunks. AreParts chunks.parts.items chunks.len };
 }
 
+/// The samples from `at` on; those before stay. Where that is all of a vector that is at least half full its memory goes with
+/// them, and as much is found anew; else they are copied. After an error all stay.
+fn detach(samples: &mut Vec<Sample>, at: usize) -> Result<Vec<Sample>, Memory>
+    requires { at ≤ vec_len samples.old }
+    ensures behind { IfOk result (λ behind. behind.items ≡ drop at samples.old.items) }
+    ensures rest { OnOk result (samples.new.items ≡ take at samples.old.items) }
+    ensures err { OnErr result (samples.new.items ≡ samples.old.items) }
+    ensures capacity { vec_capacity samples.old ≤ vec_capacity samples.new }
+{
+    let capacity = samples.capacity();
+    if at != 0 || samples.len() < capacity - samples.len() {
+        return Ok(samples.split_off(at)?);
+    }
+    let empty = Vec::with_capacity(*samples.allocator(), capacity)?;
+    let mut whole = mem::replace(samples, empty);
+    whole.shrink_to_fit();
+    Ok(whole)
+}
+
 /// The samples from `at` on as a chunk; those before stay. After an error all stay.
 fn split(samples: &mut Vec<Sample>, at: usize) -> Result<Arc<Chunk>, Memory>
     requires { at ≤ vec_len samples.old }
@@ -45,7 +65,7 @@ fn split(samples: &mut Vec<Sample>, at: usize) -> Result<Arc<Chunk>, Memory>
     ensures capacity { vec_capacity samples.old ≤ vec_capacity samples.new }
 {
     let alloc = *samples.allocator();
-    let behind = samples.split_off(at)?;
+    let behind = detach(samples, at)?;
     match Arc::new(alloc, Chunk::of(behind)) {
         Ok(chunk) => Ok(chunk),
         Err(failed) => {

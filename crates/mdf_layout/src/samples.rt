@@ -110,11 +110,13 @@ impl Samples {
         if more <= self.spare {
             return Ok(());
         }
-        if self.len().checked_add(more).is_none() {
+        let most = u64::MAX - self.len();
+        if most < more {
             return Err(Memory);
         }
         self.tail.reserve(more as usize)?;
-        self.spare = more;
+        let room = (self.tail.capacity() - self.tail.len()) as u64;
+        self.spare = room.min(most);
         Ok(())
     }
 
