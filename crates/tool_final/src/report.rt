@@ -20,13 +20,11 @@ fn group_count(groups: &[GroupRow]) -> Result<u32, Memory>
     ensures past { OnErr result (2 ^ 32 ≤ group_count groups.now) }
 {
     let mut count = 0u64;
-    let mut k = 0;
-    while k < groups.len() {
-        let Some(sum) = count.checked_add(counted(&groups[k], 1)) else {
+    for group in groups {
+        let Some(sum) = count.checked_add(counted(group, 1)) else {
             return Err(Memory);
         };
         count = sum;
-        k += 1;
     }
     if count > u32::MAX as u64 {
         return Err(Memory);
