@@ -11,13 +11,13 @@ use Rattle.mdf_format.specs.declared.kind.Kind.TheVariants.{Dt, Sd, Dl}
 use Rattle.mdf_block.specs.declared.what.What.TheVariants as whats
 use Rattle.mdf_block.specs.declared.place.BlockAt.{BlockAt}
 use Rattle.mdf_block.specs.Refusal.{Read, ◌>>=◌}
-use Rattle.mdf_block.specs.Block.{is_compressed, the_block, block, is_named}
+use Rattle.mdf_block.specs.Block.{is_compressed, the_block, is_named}
 use Rattle.mdf_block.specs.Chain.{chain, full}
 use Rattle.mdf_block.specs.Each.{each}
 use Rattle.mdf_block.proofs.Chains.{rest_of}
 use Rattle.mdf_block.proofs.Wholes.{is_compressed_true, block_some}
 use Rattle.mdf_stream.specs.declared.part.Part.{Part}
-use Rattle.mdf_stream.specs.Link.{one_less, part_of, data_block, named_block, data_list, data_lists, joined, data_parts}
+use Rattle.mdf_stream.specs.Link.{one_less, part_of, data_block, named_block, data_list, joined, data_parts}
 use Rattle.mdf_stream.specs.Stream.{links_from, data_links, listed, IsStream, IsNothing, IsOne, IsListed, LeadsToFew}
 use Rattle.mdf_stream.proofs.Streams.{not_list, first_listed, differ}
 

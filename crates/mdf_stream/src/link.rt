@@ -189,10 +189,8 @@ fn view_of(alloc: Global, lists: &[Rows<Part>]) -> Result<DataView, Memory>
     ensures { IfOk result (λ view. view ≡ joined lists.now) }
 {
     let mut view = DataView::empty(alloc);
-    let mut k = 0;
-    while k < lists.len() {
-        add_all(&mut view, lists[k].as_slice())?;
-        k += 1;
+    for list in lists {
+        add_all(&mut view, list.as_slice())?;
     }
     Ok(view)
 }

@@ -148,12 +148,10 @@ pub(crate) fn are_behind(items: &[Stretch], end: u64) -> bool
     requires { AreJoined 0 items.now end }
     ensures { IsTrue result ↔ AreBehind 0 (parts_of items.now) }
 {
-    let mut k = 0;
-    while k < items.len() {
-        if items[k].end > items[k].part.at + items[k].part.len {
+    for item in items {
+        if item.end > item.part.at + item.part.len {
             return false;
         }
-        k += 1;
     }
     true
 }

@@ -1,12 +1,6 @@
-use Rattle.std.proofs.Common.{◌≡◌, ◌-◌, ◌≤◌, length, take}
+use Rattle.std.proofs.Common.{◌≡◌, take}
 use Rattle.mdf_stream.specs.Link.{joined}
 use Rattle.mdf_stream.proofs.link.view_of.Given as goal
 
-abbrev pub invariant-loop-k : goal.invariant-loop-k
-invariant-loop-k l = record {
-  within : l.k ≤ length l.lists;
-  so_far : l.view ≡ joined (take l.k l.lists);
-}
-
-abbrev pub decreases-loop-k : goal.decreases-loop-k
-decreases-loop-k l = length l.lists - l.k
+abbrev pub invariant-loop-list : goal.invariant-loop-list
+invariant-loop-list l = l.view ≡ joined (take l.list-index l.lists)

@@ -3,23 +3,23 @@ use Rattle.mdf_stream.proofs.Joins.{none, part_fits}
 use Rattle.mdf_stream.proofs.Moves.{all_behind, each_behind}
 use Rattle.mdf_stream.proofs.stretch.are_behind.Goals as goal
 
-pub overflow_add-items : goal.overflow_add-items
-overflow_add-items c =
-    let fits = part_fits 0 none 0 c.args.items.now c.args.end c.loop-k.k c.requires (omega arith) in
+pub overflow_add-item : goal.overflow_add-item
+overflow_add-item c =
+    let fits = part_fits 0 none 0 c.args.items.now c.args.end c.loop-item.item-index c.requires (omega arith) in
     omega (arith, fits)
 
-pub returns-then-items-k : goal.returns-then-items-k
-returns-then-items-k c = (
+pub returns-then-item : goal.returns-then-item
+returns-then-item c = (
   λ no. absurd (true≢false (sym no)),
   λ behind.
-      let each = each_behind none 0 c.args.items.now c.args.end c.loop-k.k c.requires behind (omega arith) in
-      absurd (omega (arith, each, c.if-items-k.true)),
+      let each = each_behind none 0 c.args.items.now c.args.end c.loop-item.item-index c.requires behind (omega arith) in
+      absurd (omega (arith, each, c.if-item.true)),
 )
 
 pub returns : goal.returns
 returns c = (
   λ is.
-      let all : length c.args.items.now ≤ c.loop-k.k = omega (arith, c.loop-k-test.false) in
-      all_behind none 0 c.args.items.now c.args.end c.requires (λ k less. c.loop-k.invariant.so_far k none (omega (arith, less, all))),
+      let all : length c.args.items.now ≤ c.loop-item.item-index = omega (arith, c.loop-item-test.false) in
+      all_behind none 0 c.args.items.now c.args.end c.requires (λ k less. c.loop-item.invariant k none (omega (arith, less, all))),
   λ behind. search rules,
 )
