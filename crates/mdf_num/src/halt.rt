@@ -1,6 +1,7 @@
 ghost use Rattle.std.specs.Prelude.{◌≡◌};
 
 use crate::Memory;
+use std::alloc::AllocError;
 use thiserror::Error;
 
 /// Why a span did not fill a buffer.
@@ -23,6 +24,22 @@ pub enum Halt<E> {
     Failed,
     /// Want of memory.
     Memory,
+}
+
+impl From<Memory> for Stop {
+    ghost from_gives = { λ _ stop. stop ≡ Stop.Memory };
+
+    fn from(_: Memory) -> Self {
+        Stop::Memory
+    }
+}
+
+impl From<AllocError> for Stop {
+    ghost from_gives = { λ _ stop. stop ≡ Stop.Memory };
+
+    fn from(_: AllocError) -> Self {
+        Stop::Memory
+    }
 }
 
 impl<E> From<Stop> for Halt<E> {
