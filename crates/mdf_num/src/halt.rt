@@ -27,7 +27,9 @@ pub enum Halt<E> {
 }
 
 impl From<Memory> for Stop {
-    ghost from_gives = { λ _ stop. stop ≡ Stop.Memory };
+    ghost use Rattle.mdf_num.specs.declared.halt.Stop.TheVariants as stops;
+
+    ghost from_gives = { λ _ stop. stop ≡ stops.Memory };
 
     fn from(_: Memory) -> Self {
         Stop::Memory
@@ -35,7 +37,9 @@ impl From<Memory> for Stop {
 }
 
 impl From<AllocError> for Stop {
-    ghost from_gives = { λ _ stop. stop ≡ Stop.Memory };
+    ghost use Rattle.mdf_num.specs.declared.halt.Stop.TheVariants as stops;
+
+    ghost from_gives = { λ _ stop. stop ≡ stops.Memory };
 
     fn from(_: AllocError) -> Self {
         Stop::Memory
