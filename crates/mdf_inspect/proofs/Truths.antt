@@ -10,9 +10,9 @@ use Rattle.mdf_head.specs.declared.identity.Ident.{Ident}
 use Rattle.mdf_content.specs.declared.fault.ReadFault.{ReadFault}
 use Rattle.mdf_content.specs.Fault.{read_refusal}
 use Rattle.mdf_model.specs.declared.whole.WholeFound.{WholeFound}
-use Rattle.mdf_model.specs.Found.{all_found, measured_from, whole_found}
+use Rattle.mdf_model.specs.Found.{all_found, whole_found}
+use Rattle.mdf_model.specs.Measurement.{measured_from, Measured, measurement}
 use Rattle.mdf_model.specs.InWords.{IsValidFile}
-use Rattle.mdf_model.specs.Measurement.{Measured, measurement}
 use Rattle.mdf_model.specs.Tree.{finalized, finalized_by, tree}
 use Rattle.mdf_model.specs.Truth.{IsTrueOfFile}
 use Rattle.mdf_model.proofs.Fetches.{measurement_is}

@@ -1,7 +1,7 @@
 -- The records of a data group and where they are in its stream, with ids and without.
 use Rattle.std.proofs.Common.{◌≡◌, ◌≢◌, ◌<◌, ◌≤◌, ℕ, zero, suc, List, [], ◌∷◌, length, get_or, map, Ok, Err, refl, sym, ◌∙◌, ap, subst, inl, inr, arith}
 use Rattle.std.specs.Prelude.{Bool, true, nat_eq, nat_le, nat_lt, ◌&&◌, ◌||◌}
-use Rattle.std.proofs.lemmas.Bool.{eqb-true, eqb-false, eq-eqb, leb-true, le-leb, and_parts, and_from, or_cases, or_left, or_right}
+use Rattle.std.proofs.lemmas.Bool.{eqb-true, eqb-false, eq-eqb, leb-true, le-leb, and_parts, and_from, or_cases, or_left}
 use Rattle.mdf_format.specs.Number.{bytes_at}
 use Rattle.mdf_block.specs.declared.what.What.TheVariants as whats
 use Rattle.mdf_block.specs.Refusal.{TooMany, Read}
@@ -41,28 +41,15 @@ id_size_is row has =
       ])
     ]
 
+abbrev tested : ℕ → ℕ → Bool
+tested n groups = (nat_eq n 0 && nat_le groups 1) || (nat_eq n 1 || (nat_eq n 2 || (nat_eq n 4 || nat_eq n 8)))
+
 pub id_size_from : (row : DataRow) → HasIdSize row → has_id_size row ≡ true
-id_size_from row has =
-    let n = row.id_size in
-    let none = nat_eq n 0 && nat_le (length row.groups) 1 in
-    let one = nat_eq n 1 in
-    let two = nat_eq n 2 in
-    let four = nat_eq n 4 in
-    let eight = nat_eq n 8 in
-    elim has [
-      | inl (inl is) ↦ or_right none (one || (two || (four || eight))) (or_left one (two || (four || eight)) (eq-eqb n 1 is))
-      | inl (inr (inl is)) ↦
-          or_right none (one || (two || (four || eight))) (or_right one (two || (four || eight)) (or_left two (four || eight) (eq-eqb n 2 is)))
-      | inl (inr (inr (inl is))) ↦
-          or_right none (one || (two || (four || eight)))
-          (or_right one (two || (four || eight)) (or_right two (four || eight) (or_left four eight (eq-eqb n 4 is))))
-      | inl (inr (inr (inr is))) ↦
-          or_right none (one || (two || (four || eight)))
-          (or_right one (two || (four || eight)) (or_right two (four || eight) (or_right four eight (eq-eqb n 8 is))))
-      | inr few ↦
-          or_left none (one || (two || (four || eight)))
-          (and_from (nat_eq n 0) (nat_le (length row.groups) 1) (eq-eqb n 0 few.0) (le-leb (length row.groups) 1 few.1))
-    ]
+id_size_from row (inl (inl is)) = ap (λ (n : ℕ). tested n (length row.groups)) is
+id_size_from row (inl (inr (inl is))) = ap (λ (n : ℕ). tested n (length row.groups)) is
+id_size_from row (inl (inr (inr (inl is)))) = ap (λ (n : ℕ). tested n (length row.groups)) is
+id_size_from row (inl (inr (inr (inr is)))) = ap (λ (n : ℕ). tested n (length row.groups)) is
+id_size_from row (inr few) = or_left _ _ (and_from _ _ (eq-eqb row.id_size 0 few.0) (le-leb (length row.groups) 1 few.1))
 
 -- records without ids
 steps_bodies : (stream : List ℕ) (n : ℕ) (found : List ℕ) → bodies_at stream (sizes.Fixed n) found ≡ bodies 0 (map (alone_at stream (sizes.Fixed n)) found) 0

@@ -1,17 +1,16 @@
 -- What is refused of the counts and of the values of a data group is true of it.
 use Rattle.std.proofs.Common.{◌≡◌, ◌+◌, ◌<◌, ℕ, zero, suc, List, [], ◌∷◌, ◌++◌, length, get_or, take, drop, map, Option, Some, None, Ok, Err, refl, sym, ◌∙◌, ap, subst, inl, inr, arith}
-use Rattle.std.specs.Prelude.{Bool, true, false, cond, not, min, nat_eq, nat_le, nat_lt, if◌then◌else◌, filter, slice_get}
+use Rattle.std.specs.Prelude.{Bool, true, false, cond, min, nat_eq, nat_le, nat_lt, filter, slice_get}
 use Rattle.std.specs.Option.{option_to_list}
-use Rattle.std.proofs.lemmas.Bool.{ltb-true, and_from, le-leb, cond-true, cond-false, both_ways}
+use Rattle.std.proofs.lemmas.Bool.{ltb-true, and_from, le-leb, cond-false, both_ways}
 use Rattle.std.proofs.lemmas.List.Filters.{length-filter_more}
 use Rattle.std.proofs.lemmas.Option.{slice_get_within, get_or_from_slice_get}
 use Rattle.mdf_format.specs.Number.{le_number, bytes_at}
 use Rattle.mdf_format.specs.Field.{field_number}
 use Rattle.mdf_format.specs.Value.{IsValueAt}
 use Rattle.mdf_format.specs.declared.kind.Kind.TheVariants.{Sd}
-use Rattle.mdf_block.specs.Refusal.{Refusal, Cycles, Offset, Read, ◌>>=◌}
+use Rattle.mdf_block.specs.Refusal.{Refusal, Cycles, Offset, ◌>>=◌}
 use Rattle.mdf_block.proofs.Refusals.{bind_ok}
-use Rattle.mdf_block.proofs.Wholes.{chosen}
 use Rattle.mdf_block.proofs.Truths.{Refusing, refusing_none, refusing_one, refusing_then, refusing_if}
 use Rattle.mdf_stream.specs.declared.part.Part.{Part}
 use Rattle.mdf_stream.specs.Parts.{stream_of, ArePartsInside}
@@ -27,19 +26,20 @@ use Rattle.mdf_layout.specs.Rule.{spot_in}
 use Rattle.mdf_content.specs.Layouts.{field_of, layout}
 use Rattle.mdf_content.specs.Records.{size_of, counted_group, counted}
 use Rattle.mdf_block.specs.Every.{every}
-use Rattle.mdf_content.specs.Values.{has_value, offset_met, offsets_met, values_group, values_in, channel_values, GroupRecords, offset_in, channel_stream, channel_item, streams}
-use Rattle.mdf_content.specs.Contents.{contents, group_item, all_contents}
+use Rattle.mdf_content.specs.Values.{has_value, offset_met, offsets_met, values_group, values_in, channel_values, GroupRecords, offset_in}
+use Rattle.mdf_content.specs.Found.{channel_found, channel_place, data_at, group_found, group_place, groups_found, values_found}
 use Rattle.mdf_model.specs.Measurement.{holds_samples}
 use Rattle.mdf_model.specs.Bodies.{bodies}
 use Rattle.mdf_model.specs.Contents.{IsDataSplit, IsValuesOf, own_records}
-use Rattle.mdf_model.specs.Truth.{MissesValue, IsTrueOfData}
+use Rattle.mdf_model.specs.Truth.{MissesValue}
 use Rattle.mdf_model.proofs.Bodies.{bodies_at}
 use Rattle.mdf_model.proofs.Channels.{HoldBodies, held_by, values_of, take_less}
+use Rattle.mdf_model.proofs.Founds.{count_found}
 use Rattle.mdf_model.proofs.Stricts.{places_long}
 use Rattle.mdf_model.proofs.Picks.{all_there}
 use Rattle.mdf_model.proofs.Walks.{refusing_every}
-use Rattle.mdf_model.proofs.Truths.{link_true, layout_true}
-use Rattle.mdf_model.proofs.Cases.{ok_injective, two_ways}
+use Rattle.mdf_model.proofs.Truths.{IsTrue, link_true, layout_true}
+use Rattle.mdf_model.proofs.Cases.{ok_injective}
 
 -- a value that stands passes the test
 value_is : (stream : List ℕ) (offset : ℕ) (value : List ℕ) → IsValueAt stream offset value → has_value stream offset ≡ true
@@ -87,39 +87,10 @@ sample_more groups k group there =
     length-filter_more holds_samples groups k group (slice_get_within groups k group there)
     ∙ ap (λ (g : GroupRow). length (filter holds_samples (take k groups)) + cond (holds_samples g) 1 0) (get_or_from_slice_get groups k group group there)
 
-one_next : (lists : List (List ℕ)) (k : ℕ) (group : GroupRow) (number : ℕ) (found : Option (Unit {0}) × ℕ) → counted_group lists k group number ≡ Ok found
-    → found.1 ≡ number + cond (holds_samples group) 1 0
-one_next lists k group number found is =
-    let places = length (get_or lists k []) in
-    elim (chosen (is_variable group) (Ok (None, number))
-    (if nat_lt places group.cycles then Err (Cycles number group.cycles places) else Ok (None, number + 1)) (Ok found) is) [
-      | inl values ↦
-          let same : number ≡ found.1 = ap (λ (y : Option (Unit {0}) × ℕ). y.1) (ok_injective (None, number) found values.1) in
-          let none : ◌≡◌ {A = ℕ} (cond (holds_samples group) 1 0) 0 = ap {B = ℕ} (λ (b : Bool). cond (not b) 1 0) values.0 in
-          omega (arith, same, none)
-      | inr samples ↦ elim (chosen (nat_lt places group.cycles) (Err (Cycles number group.cycles places)) (Ok (None, number + 1)) (Ok found) samples.1) [
-        | inl few ↦ let wrong : ◌≡◌ {A = Read (Option (Unit {0}) × ℕ)} (Err (Cycles number group.cycles places)) (Ok found) = few.1 in cc
-        | inr enough ↦
-            let same : number + 1 ≡ found.1 = ap (λ (y : Option (Unit {0}) × ℕ). y.1) (ok_injective (None, number + 1) found enough.1) in
-            let one : ◌≡◌ {A = ℕ} (cond (holds_samples group) 1 0) 1 = ap {B = ℕ} (λ (b : Bool). cond (not b) 1 0) samples.0 in
-            omega (arith, same, one)
-      ]
-    ]
-
 -- how many groups were counted behind some
-first_or_not : (group : GroupRow) (groups : List GroupRow)
-    → length (filter holds_samples (group ∷ groups)) ≡ cond (holds_samples group) 1 0 + length (filter holds_samples groups)
-first_or_not group groups =
-    elim (two_ways (holds_samples group)) [
-      | inl holds ↦
-          let here = ap length (cond-true (holds_samples group) (group ∷ filter holds_samples groups) (filter holds_samples groups) holds) in
-          let one : ◌≡◌ {A = ℕ} (cond (holds_samples group) 1 0) 1 = ap {B = ℕ} (λ (b : Bool). cond b 1 0) holds in
-          omega (arith, here, one)
-      | inr none ↦
-          let here = ap length (cond-false (holds_samples group) (group ∷ filter holds_samples groups) (filter holds_samples groups) none) in
-          let zero_more : ◌≡◌ {A = ℕ} (cond (holds_samples group) 1 0) 0 = ap {B = ℕ} (λ (b : Bool). cond b 1 0) none in
-          omega (arith, here, zero_more)
-    ]
+one_more : (b : Bool) (group : GroupRow) (rest : List GroupRow) → length (cond b (group ∷ rest) rest) ≡ cond b 1 0 + length rest
+one_more true group rest = omega arith
+one_more false group rest = omega arith
 
 all_next : (lists : List (List ℕ)) (k : ℕ) (groups : List GroupRow) (number : ℕ) (found : List (Unit {0}) × ℕ)
     → every (counted_group lists) k groups number ≡ Ok found → found.1 ≡ number + length (filter holds_samples groups)
@@ -132,9 +103,9 @@ all_next lists k (group ∷ groups) number found is =
     let second = bind_ok (every (counted_group lists) (k + 1) groups first.0.1) (λ rest. Ok (option_to_list first.0.0 ++ rest.0, rest.1)) found first.2 in
     let same : second.0.1 ≡ found.1 =
     ap (λ (y : List (Unit {0}) × ℕ). y.1) (ok_injective (option_to_list first.0.0 ++ second.0.0, second.0.1) found second.2) in
-    let here = one_next lists k group number first.0 first.1 in
+    let here = (count_found lists k group number first.0 first.1).1 in
     let rest = all_next lists (k + 1) groups first.0.1 second.0 second.1 in
-    omega (arith, same, here, rest, first_or_not group groups)
+    omega (arith, same, here, rest, one_more (holds_samples group) group (filter holds_samples groups))
 
 pub next_is : (lists : List (List ℕ)) (groups : List GroupRow) (number next : ℕ) → counted lists groups number ≡ Ok next
     → next ≡ number + length (filter holds_samples groups)
@@ -145,17 +116,20 @@ next_is lists groups number next is =
 
 module _ (f : List ℕ) (row : DataRow) (before : ℕ) (parts : List Part) (lists : List (List ℕ)) (records : List Record) (rest : List ℕ)
     (split : IsDataSplit f row records rest) (inside : ArePartsInside (length f) parts) (hold : HoldBodies (stream_of f parts) row lists records) where
+  abbrev Holds : Refusal → Type 0
+  Holds refusal = IsTrue f row before refusal
+
   -- counts
   abbrev Numbers : ℕ → ℕ → Type 0
   Numbers k number = number ≡ before + length (filter holds_samples (take k row.groups))
 
   count_true : (k : ℕ) (group : GroupRow) (number : ℕ) → slice_get row.groups k ≡ Some group → Numbers k number
-      → Refusing (IsTrueOfData f row before) (counted_group lists k group number)
+      → Refusing Holds (counted_group lists k group number)
   count_true k group number there is_number =
       let found = length (get_or lists k []) in
-      refusing_if (IsTrueOfData f row before) (is_variable group) (Ok (None, number)) _ (λ _. refusing_none (IsTrueOfData f row before) (None, number))
-      (λ samples. refusing_if (IsTrueOfData f row before) (nat_lt found group.cycles) (Err (Cycles number group.cycles found)) (Ok (None, number + 1))
-      (λ few. refusing_one (IsTrueOfData f row before) (Cycles number group.cycles found) (record {
+      refusing_if Holds (is_variable group) (Ok (None, number)) _ (λ _. refusing_none Holds (None, number))
+      (λ samples. refusing_if Holds (nat_lt found group.cycles) (Err (Cycles number group.cycles found)) (Ok (None, number + 1))
+      (λ few. refusing_one Holds (Cycles number group.cycles found) (record {
         records = records;
         rest = rest;
         split = split;
@@ -166,30 +140,26 @@ module _ (f : List ℕ) (row : DataRow) (before : ℕ) (parts : List Part) (list
         is_said = refl;
         is_found = places_long (stream_of f parts) (size_of group) (get_or lists k []) (bodies row.id_size records k) (hold k group there);
         more = ltb-true found group.cycles few;
-      }))
-      (λ _. refusing_none (IsTrueOfData f row before) (None, number + 1)))
+      }, inl tt))
+      (λ _. refusing_none Holds (None, number + 1)))
 
   count_next : (k : ℕ) (group : GroupRow) (number : ℕ) (found : Option (Unit {0}) × ℕ) → slice_get row.groups k ≡ Some group → Numbers k number
       → counted_group lists k group number ≡ Ok found → Numbers (k + 1) found.1
   count_next k group number found there is_number is =
-      omega (arith, is_number, sample_more row.groups k group there, one_next lists k group number found is)
+      omega (arith, is_number, sample_more row.groups k group there, (count_found lists k group number found is).1)
 
   none_before : before ≡ before + 0
   none_before = omega arith
 
-  pub counts_true : Refusing (IsTrueOfData f row before) (counted lists row.groups before)
+  pub counts_true : Refusing Holds (counted lists row.groups before)
   unfolding counted
   counts_true =
-      refusing_then (IsTrueOfData f row before) (every (counted_group lists) 0 row.groups before) (λ found. Ok found.1)
-      (refusing_every (IsTrueOfData f row before) (counted_group lists) (λ k group. slice_get row.groups k ≡ Some group) Numbers count_true count_next
+      refusing_then Holds (every (counted_group lists) 0 row.groups before) (λ found. Ok found.1)
+      (refusing_every Holds (counted_group lists) (λ k group. slice_get row.groups k ≡ Some group) Numbers count_true count_next
       0 row.groups before (all_there row.groups) none_before)
-      (λ found _. refusing_none (IsTrueOfData f row before) found.1)
+      (λ found _. refusing_none Holds found.1)
 
   -- values
-  values_true : (link : ℕ) (group : Option ℕ) → Refusing (IsTrueOfData f row before) (values_in f (held_by parts row lists) link group)
-  values_true link (Some k) = refusing_none (IsTrueOfData f row before) _
-  values_true link None = link_true f row before Sd (inr refl) link
-
   module _ (k : ℕ) (group : GroupRow) (there : slice_get row.groups k ≡ Some group) (samples : is_variable group ≡ false) where
     abbrev places : List ℕ
     places = get_or lists k []
@@ -233,62 +203,77 @@ module _ (f : List ℕ) (row : DataRow) (before : ℕ) (parts : List Part) (list
           none = λ value is. both_ways _ missed (value_is (stream_of f found) (offset_in stream own channel i) value is);
         }
 
+    -- the values that a channel names are there, or its link to data is refused
+    values_true : (c : ℕ) (channel : ChannelRow) → slice_get group.channels c ≡ Some channel → is_of_values channel ≡ true → (where_from : Option ℕ)
+        → values_group row.groups channel.values 0 ≡ where_from → Refusing Holds (values_in f (held_by parts row lists) channel.values where_from)
+    values_true c channel is_channel kind (Some k) from = refusing_none Holds _
+    values_true c channel is_channel kind None from =
+        link_true f row before Sd (inr refl) channel.values (λ refusal refused. inr (inr (record {
+          k = k;
+          group = group;
+          is_group = record { there = there; samples = samples };
+          c = c;
+          channel = channel;
+          is_channel = is_channel;
+          kind = kind;
+          none = from;
+          refused = refused;
+        })))
+
     channel_true : (c : ℕ) (channel : ChannelRow) → slice_get group.channels c ≡ Some channel → is_of_values channel ≡ true
-        → Refusing (IsTrueOfData f row before) (channel_stream f (held_by parts row lists) own channel c)
-    unfolding channel_stream channel_values
+        → Refusing Holds (channel_found f (held_by parts row lists) own channel c)
+    unfolding channel_found channel_values
     channel_true c channel is_channel kind =
         let held = held_by parts row lists in
-        refusing_then (IsTrueOfData f row before) (values_in f held channel.values (values_group row.groups channel.values 0)) _
-        (values_true channel.values (values_group row.groups channel.values 0))
+        refusing_then Holds (values_in f held channel.values (values_group row.groups channel.values 0)) _
+        (values_true c channel is_channel kind (values_group row.groups channel.values 0) refl)
         (λ found is.
         let values = (values_of f row parts lists records inside hold channel.values (values_group row.groups channel.values 0) found refl is).0 in
-        refusing_then (IsTrueOfData f row before) (offsets_met (has_value (stream_of f found)) (offset_in (stream_of f parts) own channel) c 0 count) _
-        (offsets_true (IsTrueOfData f row before) (has_value (stream_of f found)) (offset_in (stream_of f parts) own channel) c 0 count
+        refusing_then Holds (offsets_met (has_value (stream_of f found)) (offset_in (stream_of f parts) own channel) c 0 count) _
+        (offsets_true Holds (has_value (stream_of f found)) (offset_in (stream_of f parts) own channel) c 0 count
         (λ j below missed.
         let from_zero : j ≡ 0 + j = omega arith in
-        subst (λ (n : ℕ). MissesValue f row c n (offset_in (stream_of f parts) own channel n)) from_zero
+        (subst (λ (n : ℕ). MissesValue f row c n (offset_in (stream_of f parts) own channel n)) from_zero
         (missed_true c channel is_channel kind found values j below
-        (subst (λ (n : ℕ). has_value (stream_of f found) (offset_in (stream_of f parts) own channel n) ≡ false) (sym from_zero) missed))))
-        (λ met _. refusing_none (IsTrueOfData f row before) (stream_of f found)))
+        (subst (λ (n : ℕ). has_value (stream_of f found) (offset_in (stream_of f parts) own channel n) ≡ false) (sym from_zero) missed)), inl tt)))
+        (λ met _. refusing_none Holds found))
 
     item_true : (c : ℕ) (channel : ChannelRow) (left : Unit {0}) → slice_get group.channels c ≡ Some channel → Unit {0}
-        → Refusing (IsTrueOfData f row before) (channel_item f (held_by parts row lists) own c channel left)
-    unfolding channel_item
+        → Refusing Holds (channel_place f (held_by parts row lists) own c channel left)
+    unfolding channel_place
     item_true c channel left is_channel nothing =
-        refusing_if (IsTrueOfData f row before) (nat_eq channel.kind 1) _ (Ok (None, left))
-        (λ kind. refusing_then (IsTrueOfData f row before) (channel_stream f (held_by parts row lists) own channel c) (λ stream. Ok (Some stream, left))
-        (channel_true c channel is_channel kind) (λ stream _. refusing_none (IsTrueOfData f row before) (Some stream, left)))
-        (λ _. refusing_none (IsTrueOfData f row before) (None, left))
+        refusing_if Holds (nat_eq channel.kind 1) _ (Ok (None, left))
+        (λ kind. refusing_then Holds (channel_found f (held_by parts row lists) own channel c) (λ values. Ok (Some values, left))
+        (channel_true c channel is_channel kind) (λ values _. refusing_none Holds (Some values, left)))
+        (λ _. refusing_none Holds (None, left))
 
-    streams_true : Refusing (IsTrueOfData f row before) (streams f (held_by parts row lists) own group.channels)
-    unfolding streams
-    streams_true =
-        refusing_then (IsTrueOfData f row before) (every (channel_item f (held_by parts row lists) own) 0 group.channels tt) (λ found. Ok found.0)
-        (refusing_every (IsTrueOfData f row before) (channel_item f (held_by parts row lists) own)
+    group_found_true : Refusing Holds (group_found f (held_by parts row lists) k group places)
+    unfolding group_found values_found
+    group_found_true =
+        refusing_then Holds (layout group) _ (layout_true f row before k group there)
+        (λ shape _. refusing_then Holds (values_found f (held_by parts row lists) own group.channels) _
+        (refusing_then Holds (every (channel_place f (held_by parts row lists) own) 0 group.channels tt) (λ found. Ok found.0)
+        (refusing_every Holds (channel_place f (held_by parts row lists) own)
         (λ c channel. slice_get group.channels c ≡ Some channel) (λ c left. Unit {0}) item_true (λ c channel left found there nothing is. tt)
         0 group.channels tt (all_there group.channels) tt)
-        (λ found _. refusing_none (IsTrueOfData f row before) found.0)
-
-    contents_true : Refusing (IsTrueOfData f row before) (contents f (held_by parts row lists) group places)
-    unfolding contents
-    contents_true =
-        refusing_then (IsTrueOfData f row before) (layout group) _ (layout_true f row before k group there)
-        (λ shape _. refusing_then (IsTrueOfData f row before) (streams f (held_by parts row lists) own group.channels) _ streams_true
-        (λ found _. refusing_none (IsTrueOfData f row before) _))
+        (λ found _. refusing_none Holds found.0))
+        (λ found _. refusing_none Holds _))
 
   group_true : (k : ℕ) (group : GroupRow) (left : Unit {0}) → slice_get row.groups k ≡ Some group → Unit {0}
-      → Refusing (IsTrueOfData f row before) (group_item f (held_by parts row lists) k group left)
-  unfolding group_item
+      → Refusing Holds (group_place f (held_by parts row lists) k group left)
+  unfolding group_place
   group_true k group left there nothing =
-      refusing_if (IsTrueOfData f row before) (is_variable group) (Ok (None, left)) _ (λ _. refusing_none (IsTrueOfData f row before) (None, left))
-      (λ samples. refusing_then (IsTrueOfData f row before) (contents f (held_by parts row lists) group (get_or lists k [])) (λ found. Ok (Some found, left))
-      (contents_true k group there samples) (λ found _. refusing_none (IsTrueOfData f row before) (Some found, left)))
+      refusing_if Holds (is_variable group) (Ok (None, left)) _ (λ _. refusing_none Holds (None, left))
+      (λ samples. refusing_then Holds (group_found f (held_by parts row lists) k group (get_or lists k [])) (λ found. Ok (Some found, left))
+      (group_found_true k group there samples) (λ found _. refusing_none Holds (Some found, left)))
 
-  pub all_true : Refusing (IsTrueOfData f row before) (all_contents f (held_by parts row lists))
-  unfolding all_contents
+  pub all_true : Refusing Holds (data_at f parts row lists)
+  unfolding data_at groups_found
   all_true =
-      refusing_then (IsTrueOfData f row before) (every (group_item f (held_by parts row lists)) 0 row.groups tt) (λ found. Ok found.0)
-      (refusing_every (IsTrueOfData f row before) (group_item f (held_by parts row lists))
+      refusing_then Holds (groups_found f (held_by parts row lists)) _
+      (refusing_then Holds (every (group_place f (held_by parts row lists)) 0 row.groups tt) (λ found. Ok found.0)
+      (refusing_every Holds (group_place f (held_by parts row lists))
       (λ k group. slice_get row.groups k ≡ Some group) (λ k left. Unit {0}) group_true (λ k group left found there nothing is. tt)
       0 row.groups tt (all_there row.groups) tt)
-      (λ found _. refusing_none (IsTrueOfData f row before) found.0)
+      (λ found _. refusing_none Holds found.0))
+      (λ found _. refusing_none Holds _)

@@ -19,7 +19,6 @@ use Rattle.mdf_block.specs.Truth.{IsTrueOf}
 use Rattle.mdf_block.proofs.Refusals.{bind_ok}
 use Rattle.mdf_block.proofs.Chains.{goes_along}
 use Rattle.mdf_block.proofs.Truths.{Refusing, refusing_none, refusing_one, refusing_then, refusing_if, refusing_as, refusing_past, block_true, full_true, note_true}
-use Rattle.mdf_stream.specs.declared.part.Part.{Part}
 use Rattle.mdf_stream.specs.Parts.{stream_of, stream_size}
 use Rattle.mdf_stream.specs.Link.{data_parts}
 use Rattle.mdf_stream.proofs.Joins.{length-stream}
@@ -32,48 +31,41 @@ use Rattle.mdf_head.proofs.Heads.{follows}
 use Rattle.mdf_group.specs.declared.row.DataRow.{DataRow}
 use Rattle.mdf_group.specs.Group.{groups}
 use Rattle.mdf_group.proofs.Truths.{rows_true}
-use Rattle.mdf_content.specs.declared.contents.DataContents.{DataContents}
+use Rattle.mdf_content.specs.declared.found.DataFound.{DataFound}
 use Rattle.mdf_content.specs.Layouts.{layouts}
 use Rattle.mdf_content.specs.Records.{places_of, counted}
 use Rattle.mdf_block.specs.Every.{every}
-use Rattle.mdf_content.specs.Contents.{found_of, all_contents, data_of}
+use Rattle.mdf_content.specs.Found.{data_at, data_found}
 use Rattle.mdf_model.specs.declared.tree.Tree.{Tree}
 use Rattle.mdf_model.specs.Tree.{finalized_by, finalized, whole_budget, header_of, tree}
-use Rattle.mdf_model.specs.Whole.{data_item, all_data, whole}
-use Rattle.mdf_model.specs.Measurement.{holds_samples, measured, measurement}
+use Rattle.mdf_model.specs.Found.{data_place, all_found, whole, whole_found}
+use Rattle.mdf_model.specs.Measurement.{holds_samples, measurement}
 use Rattle.mdf_model.specs.Contents.{empties_in, IsDataSplit}
 use Rattle.mdf_model.specs.Truth.{IsTrueOfData, sample_count, IsTrueOfFile}
 use Rattle.mdf_model.proofs.Insides.{data_inside}
 use Rattle.mdf_model.proofs.Alone.{split_found}
-use Rattle.mdf_model.proofs.Channels.{held_by}
-use Rattle.mdf_model.proofs.Founds.{size_found, hold_by, data_found}
+use Rattle.mdf_model.proofs.Founds.{all_of_data, size_found, hold_by}
 use Rattle.mdf_model.proofs.Picks.{all_there}
 use Rattle.mdf_model.proofs.Walks.{refusing_every}
-use Rattle.mdf_model.proofs.Truths.{link_true, layouts_true, places_true}
+use Rattle.mdf_model.proofs.Truths.{IsTrue, link_true, layouts_true, places_true}
 use Rattle.mdf_model.proofs.Counted.{next_is, counts_true, all_true}
 use Rattle.mdf_model.proofs.Wholes.{identified, mdf_is, IsTree, tree_found}
 use Rattle.mdf_model.proofs.Cases.{ok_injective}
 
 -- a data group
 module _ (f : List ℕ) (row : DataRow) (before : ℕ) where
-  abbrev IsTrue : Refusal → Type 0
-  IsTrue refusal = IsTrueOfData f row before refusal
+  abbrev Holds : Refusal → Type 0
+  Holds refusal = IsTrue f row before refusal
 
-  found_true : (parts : List Part) (lists : List (List ℕ)) → Refusing IsTrue (all_contents f (held_by parts row lists))
-      → Refusing IsTrue (found_of f parts row lists)
-  unfolding found_of
-  found_true parts lists all =
-      refusing_then IsTrue (all_contents f (held_by parts row lists)) _ all (λ groups _. refusing_none IsTrue _)
-
-  pub data_true : Refusing IsTrue (data_of f row before)
-  unfolding data_of
+  pub data_true : Refusing Holds (data_found f row before)
+  unfolding data_found
   data_true =
-      refusing_then IsTrue (layouts row) _ (layouts_true f row before) (λ u laid.
-      refusing_then IsTrue (data_parts f Dt row.content) _ (link_true f row before Dt (inl refl) row.content) (λ parts is_parts.
+      refusing_then Holds (layouts row) _ (layouts_true f row before) (λ u laid.
+      refusing_then Holds (data_parts f Dt row.content) _ (link_true f row before Dt (inl refl) row.content (λ refusal refused. inr (inl refused))) (λ parts is_parts.
       let inside = data_inside f Dt row.content parts is_parts in
       let long : length (stream_of f parts) ≡ stream_size parts = length-stream f parts inside in
-      refusing_then IsTrue (places_of (stream_of f parts) (stream_size parts) true row) _
-      (subst (λ (n : ℕ). Refusing IsTrue (places_of (stream_of f parts) n true row)) long (places_true f row before parts is_parts)) (λ lists is_lists.
+      refusing_then Holds (places_of (stream_of f parts) (stream_size parts) true row) _
+      (subst (λ (n : ℕ). Refusing Holds (places_of (stream_of f parts) n true row)) long (places_true f row before parts is_parts)) (λ lists is_lists.
       let split = split_found row (stream_of f parts) lists (size_found row u laid)
       (subst (λ (n : ℕ). places_of (stream_of f parts) n true row ≡ Ok lists) (sym long) is_lists) in
       let is_split : IsDataSplit f row split.records split.rest = record {
@@ -82,16 +74,9 @@ module _ (f : List ℕ) (row : DataRow) (before : ℕ) where
         split = split.split;
       } in
       let hold = hold_by row (stream_of f parts) (empties_in row.groups) lists split in
-      refusing_then IsTrue (counted lists row.groups before) _ (counts_true f row before parts lists split.records split.rest is_split inside hold) (λ next _.
-      refusing_then IsTrue (found_of f parts row lists) _
-      (found_true parts lists (all_true f row before parts lists split.records split.rest is_split inside hold))
-      (λ found _. refusing_none IsTrue (found, next))))))
-
--- how many groups come before the next data group
-data_next : (f : List ℕ) (row : DataRow) (number : ℕ) (found : DataContents × ℕ) → data_of f row number ≡ Ok found
-    → found.1 ≡ number + length (filter holds_samples row.groups)
-data_next f row number found is =
-    let counts = (data_found f row number found is).1 in next_is counts.0 row.groups number found.1 counts.1
+      refusing_then Holds (counted lists row.groups before) _ (counts_true f row before parts lists split.records split.rest is_split inside hold) (λ next _.
+      refusing_then Holds (data_at f parts row lists) _ (all_true f row before parts lists split.records split.rest is_split inside hold)
+      (λ found _. refusing_none Holds (found, next))))))
 
 -- the identification
 pub mdf_is_true : (f : List ℕ) → IsMdf f → is_mdf f ≡ true
@@ -180,10 +165,10 @@ module _ (f : List ℕ) (all : Tree) (stands : IsTree f all) where
   abbrev Numbers : ℕ → ℕ → Type 0
   Numbers n number = number ≡ sample_count (take n all.rows)
 
-  one_true : (n : ℕ) (row : DataRow) (number : ℕ) → Known n row → Numbers n number → Refusing (IsTrueOfFile f) (data_item f n row number)
+  one_true : (n : ℕ) (row : DataRow) (number : ℕ) → Known n row → Numbers n number → Refusing (IsTrueOfFile f) (data_place f n row number)
   one_true n row number there is_number =
-      refusing_then (IsTrueOfFile f) (data_of f row number) (λ found. Ok (Some found.0, found.1))
-      (refusing_as (IsTrueOfData f row number) (IsTrueOfFile f) (data_of f row number)
+      refusing_then (IsTrueOfFile f) (data_found f row number) (λ found. Ok (Some found.0, found.1))
+      (refusing_as (IsTrue f row number) (IsTrueOfFile f) (data_found f row number)
       (λ refusal holds. inr (record {
         head = all.head;
         history = all.history;
@@ -193,40 +178,37 @@ module _ (f : List ℕ) (all : Tree) (stands : IsTree f all) where
         n = n;
         row = row;
         there = there;
-        holds = subst (λ (m : ℕ). IsTrueOfData f row m refusal) is_number holds;
+        holds = subst (λ (m : ℕ). IsTrueOfData f row m refusal) is_number holds.0;
       })) (data_true f row number))
       (λ found _. refusing_none (IsTrueOfFile f) (Some found.0, found.1))
 
-  one_next : (n : ℕ) (row : DataRow) (number : ℕ) (found : Option DataContents × ℕ) → Known n row → Numbers n number
-      → data_item f n row number ≡ Ok found → Numbers (n + 1) found.1
+  one_next : (n : ℕ) (row : DataRow) (number : ℕ) (found : Option DataFound × ℕ) → Known n row → Numbers n number
+      → data_place f n row number ≡ Ok found → Numbers (n + 1) found.1
   one_next n row number found there is_number is =
-      let first = bind_ok (data_of f row number) (λ y. Ok (Some y.0, y.1)) found is in
-      ap (λ (y : Option DataContents × ℕ). y.1) (sym (ok_injective (Some first.0.0, first.0.1) found first.2))
-      ∙ data_next f row number first.0 first.1
+      let first = bind_ok (data_found f row number) (λ y. Ok (Some y.0, y.1)) found is in
+      ap (λ (y : Option DataFound × ℕ). y.1) (sym (ok_injective (Some first.0.0, first.0.1) found first.2))
+      ∙ next_is first.0.0.lists row.groups number first.0.1 (all_of_data f row number first.0 first.1).1
       ∙ ap (λ (m : ℕ). m + count_of row) is_number
       ∙ sym (counts_more all.rows n row there)
 
-  rows_data_true : Refusing (IsTrueOfFile f) (all_data f all.rows)
-  unfolding all_data
+  rows_data_true : Refusing (IsTrueOfFile f) (all_found f all.rows)
+  unfolding all_found
   rows_data_true =
-      refusing_then (IsTrueOfFile f) (every (data_item f) 0 all.rows 0) (λ found. Ok found.0)
-      (refusing_every (IsTrueOfFile f) (data_item f) Known Numbers one_true one_next 0 all.rows 0 (all_there all.rows) refl)
+      refusing_then (IsTrueOfFile f) (every (data_place f) 0 all.rows 0) (λ found. Ok found.0)
+      (refusing_every (IsTrueOfFile f) (data_place f) Known Numbers one_true one_next 0 all.rows 0 (all_there all.rows) refl)
       (λ found _. refusing_none (IsTrueOfFile f) found.0)
 
 as_file : (f : List ℕ) (refusal : Refusal) → IsTrueOf f refusal → IsTrueOfFile f refusal
 as_file f refusal is = inl is
 
-whole_true : (f : List ℕ) → Refusing (IsTrueOfFile f) (whole f)
-unfolding whole
-whole_true f =
-    refusing_then (IsTrueOfFile f) (finalized f) _ (refusing_as (IsTrueOf f) (IsTrueOfFile f) (finalized f) (as_file f) (finalized_true f)) (λ id _.
-    refusing_then (IsTrueOfFile f) (tree f) _ (refusing_as (IsTrueOf f) (IsTrueOfFile f) (tree f) (as_file f) (tree_true f)) (λ found is.
-    refusing_then (IsTrueOfFile f) (all_data f found.rows) _ (rows_data_true f found (tree_found f found is)) (λ contents _. refusing_none (IsTrueOfFile f) _)))
-
 pub measurement_true : (f : List ℕ) → Refusing (IsTrueOfFile f) (measurement f)
-unfolding measurement
+unfolding measurement whole whole_found
 measurement_true f =
-    refusing_then (IsTrueOfFile f) (whole f) (λ all. Ok (measured all)) (whole_true f) (λ all _. refusing_none (IsTrueOfFile f) (measured all))
+    refusing_then (IsTrueOfFile f) (whole f) _ (refusing_then (IsTrueOfFile f) (whole_found f) _
+    (refusing_then (IsTrueOfFile f) (finalized f) _ (refusing_as (IsTrueOf f) (IsTrueOfFile f) (finalized f) (as_file f) (finalized_true f)) (λ id _.
+    refusing_then (IsTrueOfFile f) (tree f) _ (refusing_as (IsTrueOf f) (IsTrueOfFile f) (tree f) (as_file f) (tree_true f)) (λ found is.
+    refusing_then (IsTrueOfFile f) (all_found f found.rows) _ (rows_data_true f found (tree_found f found is)) (λ found _. refusing_none (IsTrueOfFile f) _))))
+    (λ all _. refusing_none (IsTrueOfFile f) _)) (λ all _. refusing_none (IsTrueOfFile f) _)
 
 pub refusal_true : (f : List ℕ) (refusal : Refusal) → measurement f ≡ Err refusal → IsTrueOfFile f refusal
 refusal_true f refusal is = (measurement_true f).tells refusal is

@@ -8,7 +8,7 @@ use Rattle.mdf_content.specs.declared.found.DataFound.{DataFound}
 use Rattle.mdf_content.specs.declared.wanted.Wanted.{Wanted}
 use Rattle.mdf_content.specs.declared.wanted.Wanted.TheVariants as wants
 use Rattle.mdf_content.specs.Found.{data_found}
-use Rattle.mdf_content.specs.Kept.{data_kept, kept_found}
+use Rattle.mdf_content.specs.Kept.{kept_found}
 use Rattle.mdf_content.proofs.Founds.{firsts, then_turned}
 use Rattle.mdf_content.proofs.Kepts.{data_kept_is, every_found, joins, keeps_found, then_every}
 use Rattle.mdf_model.specs.declared.tree.Tree.{Tree}

@@ -8,7 +8,6 @@ pub mod Complete
 mod Counted
 pub mod Files
 pub mod Founds
-mod Firsts
 pub mod Fronts
 pub mod Insides
 pub mod Items
@@ -27,5 +26,4 @@ mod Undefined
 mod Walks
 pub mod Wholes
 pub mod Identified
-pub mod Passed
 mod Numbered

@@ -1,5 +1,5 @@
 -- The group of a number among those whose records are samples.
-use Rattle.std.proofs.Common.{◌≡◌, ◌+◌, ℕ, zero, suc, Bool, true, false, List, [], ◌∷◌, ◌++◌, length, take, filter, Option, Some, None, refl, sym, ◌∙◌, ap, arith}
+use Rattle.std.proofs.Common.{◌≡◌, ◌+◌, ℕ, zero, suc, Bool, true, false, List, [], ◌∷◌, ◌++◌, length, take, filter, Option, Some, None, refl, ◌∙◌, ap, arith}
 use Rattle.std.specs.Prelude.{if◌then◌else◌, not, slice_get}
 use Rattle.std.proofs.lemmas.Option.{same_Some}
 use Rattle.mdf_group.specs.declared.row.DataRow.{DataRow}

@@ -6,10 +6,10 @@ use Rattle.mdf_format.specs.declared.kind.Kind.{Kind}
 use Rattle.mdf_format.specs.declared.kind.Kind.TheVariants.{Dt, Sd}
 use Rattle.mdf_block.specs.declared.what.What.TheVariants as whats
 use Rattle.mdf_block.specs.Refusal as refusals
-use Rattle.mdf_block.specs.Refusal.{Refusal, Bad, Compressed, TooMany, ◌>>=◌}
+use Rattle.mdf_block.specs.Refusal.{Refusal, Bad, Compressed, TooMany, UnknownId, Cut, Cycles, Offset, ◌>>=◌}
 use Rattle.mdf_block.specs.Truth.{IsTrueOf}
 use Rattle.mdf_block.proofs.Wholes.{chosen}
-use Rattle.mdf_block.proofs.Truths.{Refusing, refusing_none, refusing_one, refusing_then, refusing_if, refusing_as}
+use Rattle.mdf_block.proofs.Truths.{Refusing, refusing_none, refusing_one, refusing_then, refusing_if}
 use Rattle.mdf_stream.specs.declared.part.Part.{Part}
 use Rattle.mdf_stream.specs.Parts.{stream_of}
 use Rattle.mdf_stream.specs.Link.{data_parts}
@@ -24,17 +24,19 @@ use Rattle.mdf_group.specs.declared.row.ChannelRow.{ChannelRow}
 use Rattle.mdf_group.specs.declared.row.GroupRow.{GroupRow}
 use Rattle.mdf_group.specs.declared.row.DataRow.{DataRow}
 use Rattle.mdf_group.specs.Group.{is_variable}
+use Rattle.mdf_group.specs.Recordable.{is_of_values}
 use Rattle.mdf_layout.specs.Layout.{Layout}
 use Rattle.mdf_layout.specs.Rule.{breaks_row_rule}
 use Rattle.mdf_layout.proofs.Rules.{breaks_law}
 use Rattle.mdf_content.specs.Layouts.{field_of, placed_channels, layout_of, first_unplaced, layout_unless, layout, laid_group, has_id_size, layouts}
 use Rattle.mdf_content.specs.Records.{known_of, has_empty_records, empties_of, places_of_one, places_without_ids, places_of}
 use Rattle.mdf_block.specs.Every.{every}
+use Rattle.mdf_content.specs.Values.{values_group}
 use Rattle.mdf_model.specs.Contents.{empties_in}
-use Rattle.mdf_model.specs.Truth.{IsRestAt, IsUnknownAt, IsTrueOfData}
+use Rattle.mdf_model.specs.Truth.{IsRestAt, IsSampleGroup, IsUnknownAt, IsTrueOfData}
 use Rattle.mdf_model.proofs.Alone.{id_size_from}
 use Rattle.mdf_model.proofs.Picks.{all_there}
-use Rattle.mdf_model.proofs.Walks.{refusing_both, refusing_every}
+use Rattle.mdf_model.proofs.Walks.{refusing_every}
 use Rattle.mdf_model.proofs.Rests.{refused_place, IsStop, IsUnknown, IsShort, piece_stop, some_left, unknown_is}
 use Rattle.mdf_model.proofs.Cases.{some_injective, two_ways}
 
@@ -57,21 +59,50 @@ many_empties group many =
           absurd (omega (arith, none))
     ]
 
+-- what is refused of a data group apart from its links to data
+abbrev pub IsOfData : Refusal → Type 0
+IsOfData (refusals.Layout at) = Unit {0}
+IsOfData (UnknownId id at) = Unit {0}
+IsOfData (Cut at) = Unit {0}
+IsOfData (Cycles number said found) = Unit {0}
+IsOfData (Offset c i offset) = Unit {0}
+IsOfData (TooMany whats.Sample at) = Unit {0}
+IsOfData _ = ⊥
+
+-- a channel's own link to data was refused
+pub record IsRefusedLink (f : List ℕ) (row : DataRow) (refusal : Refusal) : Type 0 where
+  pub k : ℕ
+  pub group : GroupRow
+  pub is_group : IsSampleGroup row k group
+  pub c : ℕ
+  pub channel : ChannelRow
+  pub is_channel : slice_get group.channels c ≡ Some channel
+  pub kind : is_of_values channel ≡ true
+  pub none : values_group row.groups channel.values 0 ≡ None
+  pub refused : data_parts f Sd channel.values ≡ Err refusal
+
 module _ (f : List ℕ) (row : DataRow) (before : ℕ) where
+  -- where it comes from: the data group itself, its own link to data, or one of a channel
+  abbrev pub Comes : Refusal → Type 0
+  Comes refusal = IsOfData refusal ⊎ ((data_parts f Dt row.content ≡ Err refusal) ⊎ IsRefusedLink f row refusal)
+
+  -- it is true, and comes from there
   abbrev pub IsTrue : Refusal → Type 0
-  IsTrue refusal = IsTrueOfData f row before refusal
+  IsTrue refusal = IsTrueOfData f row before refusal × Comes refusal
 
   -- a data link
-  link_turned : (want : Kind) (at : ℕ) (refusal : Refusal) → IsTrueOfLink f want at refusal × IsTrueOf f refusal → IsTrue refusal
-  link_turned want link (Bad at kind) both = both.1
-  link_turned want link (Compressed at) both = both.1
-  link_turned want link (TooMany whats.Block at) both = both.1
-  link_turned want link _ both = absurd both.0
+  link_turned : (want : Kind) (at : ℕ) (refusal : Refusal) → IsTrueOfLink f want at refusal → IsTrueOf f refusal → IsTrueOfData f row before refusal
+  link_turned want link (Bad at kind) named is = is
+  link_turned want link (Compressed at) named is = is
+  link_turned want link (TooMany whats.Block at) named is = is
+  link_turned want link _ named is = absurd named
 
-  pub link_true : (want : Kind) → (want ≡ Dt) ⊎ (want ≡ Sd) → (at : ℕ) → Refusing IsTrue (data_parts f want at)
-  link_true want data_kind at =
-      refusing_as (λ r. IsTrueOfLink f want at r × IsTrueOf f r) IsTrue (data_parts f want at) (link_turned want at)
-      (refusing_both (IsTrueOfLink f want at) (IsTrueOf f) (data_parts f want at) (parts_true f want at) (data_true f want data_kind at))
+  pub link_true : (want : Kind) → (want ≡ Dt) ⊎ (want ≡ Sd) → (at : ℕ) → ((refusal : Refusal) → data_parts f want at ≡ Err refusal → Comes refusal)
+      → Refusing IsTrue (data_parts f want at)
+  link_true want data_kind at comes = record {
+    tells = λ refusal is.
+        (link_turned want at refusal ((parts_true f want at).tells refusal is) ((data_true f want data_kind at).tells refusal is), comes refusal is);
+  }
 
   -- layouts
   first_bad : (layout : Layout) (k : ℕ) (channels : List ChannelRow) (channel : ChannelRow) → first_unplaced layout k channels ≡ Some channel
@@ -125,7 +156,7 @@ module _ (f : List ℕ) (row : DataRow) (before : ℕ) where
         is_channel = place.1;
         named = refl;
         breaks = (breaks_law group.data_bytes group.inval_bytes (layout_of group).rows bad.0 (field_of channel)).to test;
-      }))
+      }), inl tt)
 
   pub layout_true : (k : ℕ) (group : GroupRow) → slice_get row.groups k ≡ Some group → Refusing IsTrue (layout group)
   unfolding layout
@@ -144,7 +175,7 @@ module _ (f : List ℕ) (row : DataRow) (before : ℕ) where
       (λ _. refusing_then IsTrue (every laid_group 0 row.groups tt) (λ _. Ok tt)
       (refusing_every IsTrue laid_group IsThere (λ k left. Unit {0}) laid_true (λ k group left found there nothing is. tt) 0 row.groups tt (all_there row.groups) tt)
       (λ found _. refusing_none IsTrue tt))
-      (λ none. refusing_one IsTrue (refusals.Layout row.at) (inl (refl, λ has. both_ways (has_id_size row) none (id_size_from row has))))
+      (λ none. refusing_one IsTrue (refusals.Layout row.at) (inl (refl, λ has. both_ways (has_id_size row) none (id_size_from row has)), inl tt))
 
   -- records
   module _ (parts : List Part) (is_parts : data_parts f Dt row.content ≡ Ok parts) where
@@ -154,39 +185,33 @@ module _ (f : List ℕ) (row : DataRow) (before : ℕ) where
     abbrev known : List Known
     known = map known_of row.groups
 
+    rest_at : 1 ≤ row.id_size → (place other : ℕ) → place < length stream → place ≡ other → (records : List Record)
+        → IsRecordSplit stream row.id_size known 0 records (drop other stream) → IsRestAt f row place
+    rest_at some place other within same records split = record {
+      ids = λ none. omega (arith, some, none);
+      stream = stream;
+      is_stream = stream_found f Dt row.content parts is_parts;
+      some = within;
+      records = records;
+      split = split_any stream row.id_size known (empties_in row.groups) records (drop place stream) some
+          (subst (λ (n : ℕ). IsRecordSplit stream row.id_size known 0 records (drop n stream)) (sym same) split);
+    }
+
     stop_true : 1 ≤ row.id_size → (place : ℕ) (refusal : Refusal) → place < length stream
         → (other : ℕ) (records : List Record) → IsRefusedAt refusal other → IsRecordSplit stream row.id_size known 0 records (drop other stream)
         → IsStop stream row.id_size known place refusal → IsTrue refusal
     stop_true some place refusal within other records refused split (IsShort is) =
         let same : place ≡ other = subst (λ (r : Refusal). IsRefusedAt r other) is refused in
-        let here : IsRestAt f row place = record {
-          ids = λ none. omega (arith, some, none);
-          stream = stream;
-          is_stream = stream_found f Dt row.content parts is_parts;
-          some = within;
-          records = records;
-          split = split_any stream row.id_size known (empties_in row.groups) records (drop place stream) some
-              (subst (λ (n : ℕ). IsRecordSplit stream row.id_size known 0 records (drop n stream)) (sym same) split);
-        } in
-        subst IsTrue (sym is) here
+        subst IsTrue (sym is) (rest_at some place other within same records split, inl tt)
     stop_true some place refusal within other records refused split (IsUnknown id is whole is_id none) =
         let same : place ≡ other = subst (λ (r : Refusal). IsRefusedAt r other) is refused in
-        let here : IsRestAt f row place = record {
-          ids = λ none. omega (arith, some, none);
-          stream = stream;
-          is_stream = stream_found f Dt row.content parts is_parts;
-          some = within;
-          records = records;
-          split = split_any stream row.id_size known (empties_in row.groups) records (drop place stream) some
-              (subst (λ (n : ℕ). IsRecordSplit stream row.id_size known 0 records (drop n stream)) (sym same) split);
-        } in
         let unknown : IsUnknownAt f row id place = record {
-          rest = here;
+          rest = rest_at some place other within same records split;
           whole = omega (arith, whole, within);
           is_id = is_id;
           unknown = unknown_is row.groups id 0 none;
         } in
-        subst IsTrue (sym is) unknown
+        subst IsTrue (sym is) (unknown, inl tt)
 
     pieces_true : 1 ≤ row.id_size → (refusal : Refusal) → pieces stream (length stream) row.id_size known ≡ Err refusal → IsTrue refusal
     pieces_true some refusal is =
@@ -213,7 +238,7 @@ module _ (f : List ℕ) (row : DataRow) (before : ℕ) where
           no_ids = none;
           empty = found.0;
           many = found.1;
-        }))
+        }, inl tt))
         (λ few. refusing_none IsTrue _)
 
     without_ids : (groups : List GroupRow) → ((group : GroupRow) → slice_get groups 0 ≡ Some group → IsThere 0 group) → row.id_size ≡ 0

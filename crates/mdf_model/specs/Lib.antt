@@ -1,5 +1,4 @@
 pub mod Tree
-pub mod Whole
 pub mod Measurement
 pub mod Found
 pub mod Kept

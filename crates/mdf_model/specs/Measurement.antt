@@ -14,7 +14,8 @@ use Rattle.mdf_content.specs.declared.contents.Contents.{Contents}
 use Rattle.mdf_content.specs.declared.contents.DataContents.{DataContents}
 use Rattle.mdf_model.specs.declared.part.Measure.{Measure}
 use Rattle.mdf_model.specs.declared.whole.Whole.{Whole}
-use Rattle.mdf_model.specs.Whole.{whole}
+use Rattle.mdf_model.specs.declared.whole.WholeFound.{WholeFound}
+use Rattle.mdf_model.specs.Found.{whole, whole_fetched, whole_found}
 
 -- the records of the group are samples, and not values of a channel of variable length
 abbrev pub holds_samples : GroupRow → Bool
@@ -92,3 +93,16 @@ with_records m group count content streams d =
 -- the measurement of a file, or the first reason to refuse it
 unfoldable pub measurement : List ℕ → Read Measured
 measurement file = whole file >>= λ all. Ok (measured all)
+
+-- its measurement
+abbrev pub measured_from : List ℕ → WholeFound → Measured
+measured_from file all = measured (whole_fetched file all)
+
+-- what is found of a file is measured, or it is refused
+abbrev pub found_measurement : List ℕ → Read Measured
+found_measurement file = whole_found file >>= λ all. Ok (measured_from file all)
+
+-- an answer of a reader over a span is seen as what is found, or is the first reason to refuse
+abbrev pub GivesSeen : {E A B : Type 0} → (E → Option Refusal) → (A → B) → Result A (Halt E) → Read B → Type 0
+GivesSeen refusal see (Ok x) read = read ≡ Ok (see x)
+GivesSeen refusal see (Err halt) read = Halts refusal halt read

@@ -9,10 +9,9 @@ ghost use Rattle.mdf_content.specs.Fault.{read_refusal};
 ghost use Rattle.mdf_content.specs.Found.{IsFoundInside, data_fetched};
 ghost use Rattle.mdf_content.specs.Samples.{AreSamples, record_at};
 ghost use Rattle.mdf_model.specs.declared.part.Measure.{Measure};
+ghost use Rattle.mdf_model.specs.Found.{whole, whole_found};
 ghost use Rattle.mdf_model.specs.Measurement.{HasSamples, is_strict, measured, measurement, sample_of, with_records};
 ghost use Rattle.mdf_model.specs.Tree.{finalized};
-ghost use Rattle.mdf_model.specs.Whole.{whole};
-ghost use Rattle.mdf_model.specs.Found.{whole_found};
 
 use crate::part::{GroupPart, Measure, measures_of};
 use crate::whole::{Whole, WholeFound, add_fetched_in, whole_found_in, whole_in};

@@ -5,10 +5,9 @@ ghost use Rattle.mdf_block.specs.Reads.{Looks, Reads};
 ghost use Rattle.mdf_content.specs.Fault.{read_refusal};
 ghost use Rattle.mdf_content.specs.Contents.{AllHaveSamples};
 ghost use Rattle.mdf_content.specs.Found.{IsFoundInside, data_fetched};
-ghost use Rattle.mdf_model.specs.Found.{whole_found};
+ghost use Rattle.mdf_model.specs.Found.{whole_found, whole};
 ghost use Rattle.mdf_model.specs.Kept.{all_kept, whole_for, whole_kept};
 ghost use Rattle.mdf_model.specs.Tree.{finalized};
-ghost use Rattle.mdf_model.specs.Whole.{whole};
 
 use crate::Tree;
 use crate::identity::finalized_in;

@@ -1,5 +1,5 @@
 -- A group whose places were wanted is that of the measurement.
-use Rattle.std.proofs.Common.{◌≡◌, ◌++◌, ℕ, zero, suc, false, List, [], ◌∷◌, length, get_or, take, map, Option, Some, None, Ok, refl, sym, ◌∙◌, ap, subst}
+use Rattle.std.proofs.Common.{◌≡◌, ◌++◌, ℕ, zero, suc, false, List, [], ◌∷◌, length, take, map, Option, Some, None, Ok, refl, sym, ◌∙◌, ap}
 use Rattle.std.specs.Prelude.{filter, slice_get, slice_index_or}
 use Rattle.std.specs.List.{AllZip, flat_map}
 use Rattle.std.proofs.lemmas.List.{length-map}
@@ -15,15 +15,14 @@ use Rattle.mdf_content.specs.declared.found.Found.{Found}
 use Rattle.mdf_content.specs.declared.wanted.Wanted.{Wanted}
 use Rattle.mdf_content.specs.declared.wanted.Wanted.TheVariants as wants
 use Rattle.mdf_content.specs.Contents.{content_of}
-use Rattle.mdf_content.specs.Found.{fetched}
-use Rattle.mdf_content.specs.Kept.{is_counted, kept_found, kept_lists}
+use Rattle.mdf_content.specs.Kept.{is_counted, kept_found}
 use Rattle.mdf_content.specs.Samples.{sample_at}
 use Rattle.mdf_content.proofs.Kepts.{named_wanted, wanted_list}
 use Rattle.mdf_model.specs.declared.part.Measure.{Measure}
 use Rattle.mdf_model.specs.declared.whole.WholeFound.{WholeFound}
-use Rattle.mdf_model.specs.Found.{measured_from, whole_found}
+use Rattle.mdf_model.specs.Found.{whole_found}
+use Rattle.mdf_model.specs.Measurement.{measured_from, Measured, contents_of, holds_samples, measurement, sample_of}
 use Rattle.mdf_model.specs.Kept.{found_for, kept_all, kept_whole, sample_rows, stands_at, wanted_at, wanted_for}
-use Rattle.mdf_model.specs.Measurement.{Measured, contents_of, holds_samples, measurement, sample_of}
 use Rattle.mdf_paged.specs.Groups.{Located, group_rows, groups_in, groups_of, held_at, located, sample_in}
 use Rattle.mdf_paged.proofs.Kepts.{counts_kept, kept_by_from, rows_kept}
 use Rattle.mdf_paged.proofs.Measures.{AreDataRows, first_is, group_is, rest_is, row_in, row_is, seen_ok, whole_rows}

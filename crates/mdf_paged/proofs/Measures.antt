@@ -33,8 +33,8 @@ use Rattle.mdf_content.specs.Samples.{sample_at}
 use Rattle.mdf_content.specs.Values.{DataStream}
 use Rattle.mdf_model.specs.declared.part.Measure.{Measure}
 use Rattle.mdf_model.specs.declared.whole.WholeFound.{WholeFound}
-use Rattle.mdf_model.specs.Found.{all_found, data_place, measured_from, whole_found}
-use Rattle.mdf_model.specs.Measurement.{contents_of, data_measures, holds_samples, measure_of, measurement, measures, paired, sample_of}
+use Rattle.mdf_model.specs.Found.{all_found, data_place, whole_found}
+use Rattle.mdf_model.specs.Measurement.{measured_from, contents_of, data_measures, holds_samples, measure_of, measurement, measures, paired, sample_of}
 use Rattle.mdf_model.specs.Tree.{finalized, tree}
 use Rattle.mdf_model.proofs.Fetches.{measurement_seen}
 use Rattle.mdf_paged.specs.Groups.{Located, group_rows, groups_in, groups_of, held_at, located, rows_in, sample_in}

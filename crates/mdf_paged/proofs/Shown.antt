@@ -11,8 +11,8 @@ use Rattle.mdf_group.specs.declared.row.GroupRow.{GroupRow}
 use Rattle.mdf_content.specs.declared.contents.Contents.{Contents}
 use Rattle.mdf_model.specs.declared.part.Measure.{Measure}
 use Rattle.mdf_model.specs.declared.whole.WholeFound.{WholeFound}
-use Rattle.mdf_model.specs.Found.{measured_from, whole_found}
-use Rattle.mdf_model.specs.Measurement.{contents_of}
+use Rattle.mdf_model.specs.Found.{whole_found}
+use Rattle.mdf_model.specs.Measurement.{measured_from, contents_of}
 use Rattle.mdf_paged.specs.Groups.{Located, group_rows, groups_of, held_at, shown_groups}
 use Rattle.mdf_paged.proofs.Measures.{groups_are, rows_are}
 use Rattle.mdf_paged.proofs.Numbers.{zip_there}

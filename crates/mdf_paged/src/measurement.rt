@@ -8,9 +8,9 @@ ghost use Rattle.mdf_stream.specs.Parts.{ArePartsInside};
 ghost use Rattle.mdf_content.specs.declared.found.DataFound.{DataFound};
 ghost use Rattle.mdf_model.specs.declared.part.Measure.{Measure};
 ghost use Rattle.mdf_content.specs.declared.wanted.Wanted.TheVariants as wants;
-ghost use Rattle.mdf_model.specs.Found.{GivesSeen, measured_from, whole_found};
+ghost use Rattle.mdf_model.specs.Found.{whole_found};
+ghost use Rattle.mdf_model.specs.Measurement.{GivesSeen, measured_from, Measured, measurement, sample_of};
 ghost use Rattle.mdf_model.specs.Kept.{found_for, found_kept};
-ghost use Rattle.mdf_model.specs.Measurement.{Measured, measurement, sample_of};
 ghost use Rattle.mdf_paged.specs.Groups.{Located, group_rows, groups_of, is_strict, located};
 
 use crate::index::{GroupNumber, numbers_of};

@@ -1,4 +1,4 @@
-use Rattle.mdf_model.proofs.Passed.{tree_passes, measurement_passes}
+use Rattle.mdf_model.proofs.Wholes.{tree_passes, measurement_passes}
 use Rattle.mdf_model.proofs.law.links_passed_over_are_counted.Goals as goal
 
 pub returns-clause-tree : goal.returns-clause-tree

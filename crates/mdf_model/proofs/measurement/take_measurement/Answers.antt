@@ -1,4 +1,4 @@
-use Rattle.mdf_model.proofs.Firsts.{whole_first}
+use Rattle.mdf_model.proofs.Identified.{whole_first}
 use Rattle.mdf_model.proofs.measurement.take_measurement.Goals as goal
 
 pub returns-in-Err-clause-first : goal.returns-in-Err-clause-first

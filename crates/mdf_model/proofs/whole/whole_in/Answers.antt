@@ -7,7 +7,7 @@ use Rattle.mdf_model.specs.declared.whole.Whole.{Whole}
 use Rattle.mdf_model.specs.declared.whole.WholeFound.{WholeFound}
 use Rattle.mdf_model.specs.Found.{whole_found}
 use Rattle.mdf_model.proofs.Fetches.{fetched_of, whole_is}
-use Rattle.mdf_model.proofs.Firsts.{found_first}
+use Rattle.mdf_model.proofs.Identified.{found_first}
 use Rattle.mdf_model.proofs.Wholes.{whole_samples}
 use Rattle.mdf_block.proofs.Readers.{says_of}
 use Rattle.mdf_model.proofs.whole.whole_in.Goals as goal

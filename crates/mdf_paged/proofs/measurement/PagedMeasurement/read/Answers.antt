@@ -2,8 +2,7 @@ use Rattle.std.proofs.Common.{Ok, sym, ◌∙◌, ap}
 use Rattle.std.proofs.lemmas.Result.{err_from_is_err_and}
 use Rattle.mdf_block.specs.Refusal.{Read}
 use Rattle.mdf_model.specs.declared.whole.WholeFound.{WholeFound}
-use Rattle.mdf_model.specs.Found.{measured_from}
-use Rattle.mdf_model.specs.Measurement.{Measured}
+use Rattle.mdf_model.specs.Measurement.{measured_from, Measured}
 use Rattle.mdf_paged.proofs.Measures.{seen_ok, seen_err}
 use Rattle.mdf_paged.proofs.measurement.PagedMeasurement.read.Goals as goal
 

@@ -3,8 +3,7 @@ use Rattle.std.specs.Prelude.{slice_index_or}
 use Rattle.std.proofs.lemmas.Option.{get_or_from_slice_get}
 use Rattle.std.proofs.lemmas.Result.{IfOk-weaker}
 use Rattle.mdf_layout.specs.declared.sample.Entry.{Entry}
-use Rattle.mdf_model.specs.Found.{measured_from}
-use Rattle.mdf_model.specs.Measurement.{sample_of}
+use Rattle.mdf_model.specs.Measurement.{measured_from, sample_of}
 use Rattle.mdf_paged.specs.Groups.{Located, groups_of, located, sample_in}
 use Rattle.mdf_paged.proofs.Asked.{asked_sample}
 use Rattle.mdf_paged.proofs.Measures.{sample_is}
