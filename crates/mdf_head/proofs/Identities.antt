@@ -12,7 +12,7 @@ use Rattle.mdf_head.specs.declared.fault.IdentFault.{IdentFault}
 use Rattle.mdf_head.specs.declared.fault.IdentFault.TheVariants as faults
 use Rattle.mdf_head.specs.Ident.{IsIdent, HasNoIdent, is_finalized, is_mdf, has_read_version, the_ident, identify, ident_refusal}
 
-is_mdf_true : (f : List ℕ) → is_mdf f ≡ true → IsMdf f
+pub is_mdf_true : (f : List ℕ) → is_mdf f ≡ true → IsMdf f
 is_mdf_true f holds =
     let parts = and_parts _ _ holds in record {
       long = leb-true _ _ parts.0;
@@ -22,17 +22,17 @@ is_mdf_true f holds =
       ];
     }
 
-mdf_is_true : (f : List ℕ) → IsMdf f → is_mdf f ≡ true
+pub mdf_is_true : (f : List ℕ) → IsMdf f → is_mdf f ≡ true
 mdf_is_true f is = and_from _ _ (le-leb _ _ is.long) (elim is.marked [
   | inl first ↦ or_left _ _ ((bytes_eq-Decides (bytes_at 8 f 0) (codes "MDF     ")).1 first)
   | inr second ↦ or_right _ _ ((bytes_eq-Decides (bytes_at 8 f 0) (codes "UnFinMF ")).1 second)
 ])
 
-read_version_true : (f : List ℕ) → has_read_version f ≡ true → HasReadVersion f
+pub read_version_true : (f : List ℕ) → has_read_version f ≡ true → HasReadVersion f
 read_version_true f holds =
     let parts = and_parts _ _ holds in record { not_below = leb-true _ _ parts.0; not_above = leb-true _ _ parts.1 }
 
-read_version_is_true : (f : List ℕ) → HasReadVersion f → has_read_version f ≡ true
+pub read_version_is_true : (f : List ℕ) → HasReadVersion f → has_read_version f ≡ true
 read_version_is_true f is = and_from _ _ (le-leb _ _ is.not_below) (le-leb _ _ is.not_above)
 
 the_ident_is : (f : List ℕ) (id : Ident) → IsIdent f id → the_ident f ≡ id

@@ -4,7 +4,7 @@ use Rattle.std.specs.Prelude.{Bool, min, nat_eq, filter}
 use Rattle.std.specs.List.{AllByRecursion}
 use Rattle.std.proofs.lemmas.Bool.{cases_eq, eq-eqb, ne_eqb, cond-true, cond-false}
 use Rattle.std.proofs.lemmas.Grind.{get_or-set_at}
-use Rattle.std.proofs.lemmas.List.{get_or-set_other, get_or-replicate, length-set, take_at, drop_at, length-drop, take-append-drop, length-replicate, drop-take}
+use Rattle.std.proofs.lemmas.List.{get_or-set_other, get_or-replicate, length-set, length-take, take_at, drop_at, length-drop, take-append-drop, length-replicate, drop-take}
 use Rattle.std.proofs.Math.Seq.{drop-drop}
 use Rattle.mdf_format.specs.Number.{le_number, bytes_at}
 use Rattle.mdf_data.specs.declared.known.Size.{Size}
@@ -76,14 +76,10 @@ take_own (suc n) [] = refl
 take_own (suc n) (x ∷ xs) = ap (λ (ys : List ℕ). x ∷ ys) (take_own n xs)
 
 at_most : (n : ℕ) (xs : List ℕ) → length (take n xs) ≤ n
-at_most zero xs = omega arith
-at_most (suc n) [] = omega arith
-at_most (suc n) (x ∷ xs) = let rest = at_most n xs in omega (arith, rest)
+at_most n xs = omega (arith, length-take n xs)
 
 length_take : (n : ℕ) (xs : List ℕ) → length (take n xs) ≤ length xs
-length_take zero xs = omega arith
-length_take (suc n) [] = omega arith
-length_take (suc n) (x ∷ xs) = let rest = length_take n xs in omega (arith, rest)
+length_take n xs = omega (arith, length-take n xs)
 
 -- a body that begins at a place is what is found there
 there_fixed : (stream : List ℕ) (size n place : ℕ) → length (bytes_at n stream place) ≡ size → bytes_at size stream place ≡ bytes_at n stream place

@@ -3,6 +3,7 @@ use Rattle.std.proofs.Common.{◌≡◌, ◌+◌, ◌<◌, ℕ, zero, suc, List,
 use Rattle.std.specs.Prelude.{true, min, nat_eq, ◌&&◌, filter, slice_get, Option, Some, None}
 use Rattle.std.specs.List.{flat_map, AllByRecursion, AllZip}
 use Rattle.std.proofs.lemmas.Bool.{and_parts, cond-true}
+use Rattle.std.proofs.lemmas.List.{take-take}
 use Rattle.std.proofs.lemmas.List.Concat.{flat_map-append}
 use Rattle.mdf_format.specs.Number.{bytes_at}
 use Rattle.mdf_format.specs.Field.{field_number}
@@ -50,11 +51,7 @@ all_taken P f (suc count) (place ∷ places) each = (
 )
 
 pub take_less : (m n : ℕ) (xs : List ℕ) → take m (take (m + n) xs) ≡ take m xs
-take_less zero n xs = refl
-take_less (suc m) n [] = let more : suc m + n ≡ suc (m + n) = omega arith in ap (λ (k : ℕ). take (suc m) (take k [])) more
-take_less (suc m) n (x ∷ xs) =
-    let more : suc m + n ≡ suc (m + n) = omega arith in
-    ap (λ (k : ℕ). take (suc m) (take k (x ∷ xs))) more ∙ ap (λ (ys : List ℕ). x ∷ ys) (take_less m n xs)
+take_less m n xs = take-take m (m + n) xs (omega arith)
 
 offsets_stand : (held stream : List ℕ) (channel : ChannelRow) (data_bytes inval_bytes cycles c : ℕ) (places : List ℕ) (u : Unit {0})
     → offsets_met (has_value stream)

@@ -29,6 +29,7 @@ use Rattle.mdf_head.specs.declared.entry.Head.{Head}
 use Rattle.mdf_head.specs.declared.entry.History.{History}
 use Rattle.mdf_head.specs.Ident.{is_mdf, has_read_version, the_ident, identify}
 use Rattle.mdf_head.specs.Head.{head, IsHead}
+use Rattle.mdf_head.proofs.Identities.{mdf_is_true, read_version_is_true}
 use Rattle.mdf_head.proofs.Reached.{head_reached}
 use Rattle.mdf_head.proofs.Spends.{head_spends}
 use Rattle.mdf_group.specs.declared.row.ChannelRow.{ChannelRow}
@@ -52,7 +53,7 @@ use Rattle.mdf_model.specs.InWords.{IsFinalizedMdf, IsMeasurement}
 use Rattle.mdf_model.specs.Truth.{IsTrueOfData}
 use Rattle.mdf_model.specs.Limits.{HasFewValues, IsWithinData, IsWithinTree, IsWithinLimits}
 use Rattle.mdf_model.proofs.Channels.{held_by}
-use Rattle.mdf_model.proofs.Files.{data_true, mdf_is_true, version_is_true}
+use Rattle.mdf_model.proofs.Files.{data_true}
 use Rattle.mdf_model.proofs.Onces.{none_first}
 use Rattle.mdf_model.proofs.Picks.{keyed_own}
 use Rattle.mdf_model.proofs.Truths.{IsOfData, IsRefusedLink}
@@ -153,7 +154,7 @@ finalized_there f is =
     let closed : id.finalized ≡ true = (bytes_eq-Decides (bytes_at 8 f 0) (codes "MDF     ")).1 is.finalized in
     let read : identify f ≡ Ok id =
     cond-true (is_mdf f) (if has_read_version f then Ok id else Err (Version (version_of f))) (Err NotMdf) (mdf_is_true f is.mdf)
-    ∙ cond-true (has_read_version f) (Ok id) (Err (Version (version_of f))) (version_is_true f is.version) in
+    ∙ cond-true (has_read_version f) (Ok id) (Err (Version (version_of f))) (read_version_is_true f is.version) in
     ap (λ (found : Read Ident). found >>= finalized_by) read
     ∙ cond-true id.finalized (Ok id) (Err (Unfinalized id.std_flags id.custom_flags)) closed
 
@@ -168,28 +169,9 @@ tree_there f given entries rows none stands limits =
     let text = head_reached f 67108864 given entries (none Fh) stands limits.entries (omega (arith, limits.text)) in
     let spent = head_spends f 67108864 ((given, entries), text.0) text.1 in
     let budget : Budget = record whole_budget { text = text.0 } in
-    let second : header_of f whole_budget ≡ Ok (given, entries, budget) =
-    ap (λ (read : Read ((Head × List History) × ℕ)). read >>= λ found. Ok (found.0.0, found.0.1, record whole_budget { text = found.1 })) text.1 in
     let enough : IsEnough (rows_cost f rows) budget = record { text = omega (arith, limits.text, spent.0); conversions = limits.conversions } in
     let third = rows_there f given.first_dg budget rows (none Cn) (none Cg) (none Dg) limits.shallow limits.few enough in
-    let made : Head × List History × Budget → List DataRow × Budget → Tree = λ found groups_found. record {
-      head = found.0;
-      history = found.1;
-      rows = groups_found.0;
-      dropped = (with_dropped (passed_over f b.at) groups_found.1).dropped;
-    } in
-    let behind : Head × List History × Budget → Read Tree = λ found. groups f found.0.first_dg found.2 >>= λ rows_found. Ok (made found rows_found) in (
-      (with_dropped (passed_over f b.at) third.0).dropped,
-      ap (λ (read : Read BlockAt). read >>= λ block_found. header_of f whole_budget >>= λ found. groups f found.0.first_dg found.2
-          >>= λ rows_found. Ok (record {
-            head = found.0;
-            history = found.1;
-            rows = rows_found.0;
-            dropped = (with_dropped (passed_over f block_found.at) rows_found.1).dropped;
-          })) first
-          ∙ ap (λ (read : Read (Head × List History × Budget)). read >>= behind) second
-          ∙ ap (λ (read : Read (List DataRow × Budget)). read >>= λ rows_found. Ok (made (given, entries, budget) rows_found)) third.1,
-    )
+    ((with_dropped (passed_over f b.at) third.0).dropped, rw (first, text.1, third.1) refl)
 
 -- all of a file
 pub measurement_there : (f : List ℕ) (given : Head) (entries : List History) (measures : List Measure) (is : IsMeasurement f given entries measures)

@@ -28,6 +28,7 @@ use Rattle.mdf_head.specs.Ident.{is_finalized, is_mdf, has_read_version, the_ide
 use Rattle.mdf_head.specs.Head.{history, histories, header, head}
 use Rattle.mdf_head.specs.declared.entry.History.{History}
 use Rattle.mdf_head.proofs.Heads.{follows}
+use Rattle.mdf_head.proofs.Identities.{is_mdf_true, mdf_is_true, read_version_is_true}
 use Rattle.mdf_group.specs.declared.row.DataRow.{DataRow}
 use Rattle.mdf_group.specs.Group.{groups}
 use Rattle.mdf_group.proofs.Truths.{rows_true}
@@ -49,7 +50,7 @@ use Rattle.mdf_model.proofs.Picks.{all_there}
 use Rattle.mdf_model.proofs.Walks.{refusing_every}
 use Rattle.mdf_model.proofs.Truths.{IsTrue, link_true, layouts_true, places_true}
 use Rattle.mdf_model.proofs.Counted.{next_is, counts_true, all_true}
-use Rattle.mdf_model.proofs.Wholes.{identified, mdf_is, IsTree, tree_found}
+use Rattle.mdf_model.proofs.Wholes.{identified, IsTree, tree_found}
 use Rattle.mdf_model.proofs.Cases.{ok_injective}
 
 -- a data group
@@ -79,19 +80,6 @@ module _ (f : List ℕ) (row : DataRow) (before : ℕ) where
       (λ found _. refusing_none Holds (found, next))))))
 
 -- the identification
-pub mdf_is_true : (f : List ℕ) → IsMdf f → is_mdf f ≡ true
-mdf_is_true f is =
-    let first = is_finalized f in
-    let second = bytes_eq (bytes_at 8 f 0) (codes "UnFinMF ") in
-    and_from (nat_le 64 (length f)) (first || second) (le-leb 64 (length f) is.long) (elim is.marked [
-      | inl closed ↦ or_left first second ((bytes_eq-Decides (bytes_at 8 f 0) (codes "MDF     ")).1 closed)
-      | inr left_open ↦ or_right first second ((bytes_eq-Decides (bytes_at 8 f 0) (codes "UnFinMF ")).1 left_open)
-    ])
-
-pub version_is_true : (f : List ℕ) → HasReadVersion f → has_read_version f ≡ true
-version_is_true f is =
-    and_from (nat_le 400 (version_of f)) (nat_le (version_of f) 419) (le-leb 400 (version_of f) is.not_below) (le-leb (version_of f) 419 is.not_above)
-
 identify_true : (f : List ℕ) → Refusing (IsTrueOf f) (identify f)
 unfolding identify
 identify_true f =
@@ -99,7 +87,7 @@ identify_true f =
     (λ mdf. refusing_if (IsTrueOf f) (has_read_version f) (Ok (the_ident f)) (Err (Version (version_of f)))
     (λ _. refusing_none (IsTrueOf f) (the_ident f))
     (λ other. refusing_one (IsTrueOf f) (Version (version_of f))
-    (refl, (λ is. both_ways (has_read_version f) other (version_is_true f is)), mdf_is f mdf)))
+    (refl, (λ is. both_ways (has_read_version f) other (read_version_is_true f is)), is_mdf_true f mdf)))
     (λ none. refusing_one (IsTrueOf f) NotMdf (λ is. both_ways (is_mdf f) none (mdf_is_true f is)))
 
 finalized_true : (f : List ℕ) → Refusing (IsTrueOf f) (finalized f)

@@ -47,16 +47,12 @@ use Rattle.mdf_model.proofs.Alone.{id_size_is, split_found}
 use Rattle.mdf_model.proofs.Ruled.{layout_found}
 use Rattle.mdf_model.proofs.Channels.{HaveRooms, HoldBodies, held_by, streams_found}
 use Rattle.mdf_model.proofs.Picks.{AreRead, AreNumbered, IsPicked, all_read, read_with, picked, numbered_both, all_there, keyed_numbered}
-use Rattle.mdf_model.proofs.Cases.{ok_injective}
+use Rattle.mdf_model.proofs.Cases.{if_ok, ok_injective}
 
 -- the id size of a data group that is read
 pub size_found : (row : DataRow) (u : Unit {0}) → layouts row ≡ Ok u → HasIdSize row
 unfolding layouts
-size_found row u is =
-    elim (chosen (has_id_size row) (every laid_group 0 row.groups tt >>= λ _. Ok tt) (Err (refusals.Layout row.at)) (Ok u) is) [
-      | inl has ↦ id_size_is row has.0
-      | inr none ↦ let wrong : ◌≡◌ {A = Read (Unit {0})} (Err (refusals.Layout row.at)) (Ok u) = none.1 in cc
-    ]
+size_found row u is = id_size_is row (if_ok (has_id_size row) _ _ u is).0
 
 -- a group has as many records as it says
 abbrev HasEnough : List (List ℕ) → ℕ → GroupRow → Option (Unit {0}) → Type 0

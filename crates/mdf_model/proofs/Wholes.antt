@@ -19,6 +19,7 @@ use Rattle.mdf_head.specs.declared.entry.History.{History}
 use Rattle.mdf_head.specs.Ident.{is_mdf, has_read_version, the_ident, identify}
 use Rattle.mdf_head.specs.Head.{head, IsHead}
 use Rattle.mdf_head.proofs.Heads.{head_found}
+use Rattle.mdf_head.proofs.Identities.{is_mdf_true, read_version_true}
 use Rattle.mdf_group.specs.declared.row.DataRow.{DataRow}
 use Rattle.mdf_group.specs.declared.row.GroupRow.{GroupRow}
 use Rattle.mdf_group.specs.Cost.{rows_cost}
@@ -47,7 +48,7 @@ use Rattle.mdf_model.proofs.Picks.{IsPicked, all_read, picked, keyed_own}
 use Rattle.mdf_model.proofs.Fetches.{measurement_is}
 use Rattle.mdf_model.proofs.Founds.{IsDataFound, all_of_data, contents_are}
 use Rattle.mdf_model.proofs.Onces.{rows_unique}
-use Rattle.mdf_model.proofs.Cases.{ok_injective}
+use Rattle.mdf_model.proofs.Cases.{if_ok, ok_injective}
 
 -- the identification
 pub record IsIdentified (f : List ℕ) (id : Ident) : Type 0 where
@@ -55,49 +56,29 @@ pub record IsIdentified (f : List ℕ) (id : Ident) : Type 0 where
   pub version : HasReadVersion f
   pub says : the_ident f ≡ id
 
-pub mdf_is : (f : List ℕ) → is_mdf f ≡ true → IsMdf f
-mdf_is f is =
-    let parts = and_parts _ _ is in record {
-      long = leb-true _ _ parts.0;
-      marked = elim (or_cases _ _ parts.1) [
-        | inl closed ↦ inl ((bytes_eq-Decides (bytes_at 8 f 0) (codes "MDF     ")).0 closed)
-        | inr left_open ↦ inr ((bytes_eq-Decides (bytes_at 8 f 0) (codes "UnFinMF ")).0 left_open)
-      ];
-    }
-
 pub identified : (f : List ℕ) (id : Ident) → identify f ≡ Ok id → IsIdentified f id
 unfolding identify
 identified f id is =
-    elim (chosen (is_mdf f) (if has_read_version f then Ok (the_ident f) else Err (Version (version_of f))) (Err NotMdf) (Ok id) is) [
-      | inl mdf ↦ elim (chosen (has_read_version f) (Ok (the_ident f)) (Err (Version (version_of f))) (Ok id) mdf.1) [
-        | inl version ↦
-            let numbers = and_parts _ _ version.0 in record {
-              mdf = mdf_is f mdf.0;
-              version = record { not_below = leb-true _ _ numbers.0; not_above = leb-true _ _ numbers.1 };
-              says = ok_injective (the_ident f) id version.1;
-            }
-        | inr other ↦ let wrong : ◌≡◌ {A = Read Ident} (Err (Version (version_of f))) (Ok id) = other.1 in cc
-      ]
-      | inr none ↦ let wrong : ◌≡◌ {A = Read Ident} (Err NotMdf) (Ok id) = none.1 in cc
-    ]
+    let mdf = if_ok (is_mdf f) _ _ id is in
+    let version = if_ok (has_read_version f) _ _ id mdf.1 in record {
+      mdf = is_mdf_true f mdf.0;
+      version = read_version_true f version.0;
+      says = ok_injective (the_ident f) id version.1;
+    }
 
 ident_found : (f : List ℕ) (id : Ident) → finalized f ≡ Ok id → IsFinalizedMdf f × (the_ident f ≡ id)
 unfolding finalized
 ident_found f id is =
     let first = bind_ok (identify f) finalized_by id is in
     let known = identified f first.0 first.1 in
-    elim (chosen first.0.finalized (Ok first.0) (Err (Unfinalized first.0.std_flags first.0.custom_flags)) (Ok id) first.2) [
-      | inl closed ↦ (
-        record {
-          mdf = known.mdf;
-          version = known.version;
-          finalized = (bytes_eq-Decides (bytes_at 8 f 0) (codes "MDF     ")).0 (ap (λ (i : Ident). i.finalized) known.says ∙ closed.0);
-        },
-        known.says ∙ ok_injective first.0 id closed.1,
-      )
-      | inr left_open ↦
-          let wrong : ◌≡◌ {A = Read Ident} (Err (Unfinalized first.0.std_flags first.0.custom_flags)) (Ok id) = left_open.1 in cc
-    ]
+    let closed = if_ok first.0.finalized (Ok first.0) (Unfinalized first.0.std_flags first.0.custom_flags) id first.2 in (
+      record {
+        mdf = known.mdf;
+        version = known.version;
+        finalized = (bytes_eq-Decides (bytes_at 8 f 0) (codes "MDF     ")).0 (ap (λ (i : Ident). i.finalized) known.says ∙ closed.0);
+      },
+      known.says ∙ ok_injective first.0 id closed.1,
+    )
 
 -- what the rows add to the count of links that were passed over
 rows_drop : (f : List ℕ) (at : ℕ) (left : Budget) (found : List DataRow × Budget) → groups f at left ≡ Ok found → left.dropped ≡ 0
