@@ -89,39 +89,7 @@ fn put_records<P: Span>(
     Ok(())
 }
 
-/// The bytes of so many records of a size, one record behind the other, wherever they stand.
-fn listed_content_in<P: Span>(
-    alloc: Global,
-    span: &mut P,
-    view: &DataView,
-    size: u64,
-    places: &Places,
-    count: u64,
-    room: &mut Room,
-) -> Result<Bytes, Stop>
-    requires inside { ArePartsInside (P.size span.old) view.now }
-    requires room { AllByRecursion (λ place. place + size ≤ stream_size view.now) places.now }
-    requires few { count ≤ length places.now }
-    ensures reads { Looks P.Span span.old span.new true result (λ file content. content ≡ content_of (stream_of file view.now) size (take count places.now)) }
-{
-    let Some(total) = count.checked_mul(size) else {
-        return Err(Stop::Memory);
-    };
-    let Ok(mut content) = room.zeros(alloc, total) else {
-        return Err(Stop::Memory);
-    };
-    put_records(
-        span,
-        view,
-        size as usize,
-        places,
-        count,
-        content.as_mut_slice(),
-    )?;
-    Ok(Bytes::from_vec(content))
-}
-
-/// The same of records that stand one behind the other from the begin of the stream on, which are read at once.
+/// The bytes of so many records of a size that stand one behind the other from the begin of the stream on, which are read at once.
 fn even_content_in<P: Span>(
     alloc: Global,
     span: &mut P,
@@ -141,7 +109,7 @@ fn even_content_in<P: Span>(
     bytes_in(alloc, span, view, count * size, room)
 }
 
-/// The bytes of so many records of a size, one record behind the other.
+/// The bytes of so many records of a size, one record behind the other, wherever they stand.
 pub(crate) fn content_in<P: Span>(
     alloc: Global,
     span: &mut P,
@@ -159,7 +127,21 @@ pub(crate) fn content_in<P: Span>(
     if places.step() == Some(size) {
         return even_content_in(alloc, span, view, size, places, count, room);
     }
-    listed_content_in(alloc, span, view, size, places, count, room)
+    let Some(total) = count.checked_mul(size) else {
+        return Err(Stop::Memory);
+    };
+    let Ok(mut content) = room.zeros(alloc, total) else {
+        return Err(Stop::Memory);
+    };
+    put_records(
+        span,
+        view,
+        size as usize,
+        places,
+        count,
+        content.as_mut_slice(),
+    )?;
+    Ok(Bytes::from_vec(content))
 }
 
 /// Whether nothing of a stream of so many bytes is left behind the records of a data group.

@@ -150,6 +150,7 @@ pub fn whole_for_in<P: Span>(
     group: u64,
 ) -> Result<WholeFound, Halt<ReadFault>>
     ensures reads { Reads P.Span span.old span.new true read_refusal result (λ file. whole_for group file) }
+    ensures first { (f : List ℕ) → P.bytes span.old ≡ Some f → HidesNone P.may_want result (finalized f) }
     ensures inside { IfOk result (λ all. AllByRecursion (IsFoundInside (P.size span.old)) all.found) }
 {
     let ident = finalized_in(span)?;
