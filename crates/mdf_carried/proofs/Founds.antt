@@ -30,7 +30,7 @@ use Rattle.mdf_content.specs.declared.contents.Contents.{Contents}
 use Rattle.mdf_content.specs.Layouts.{layout, layouts}
 use Rattle.mdf_content.specs.Records.{known_of, has_empty_records, places_of}
 use Rattle.mdf_content.specs.Values.{streams}
-use Rattle.mdf_content.specs.Contents.{records_at, contents}
+use Rattle.mdf_content.specs.Contents.{records_at}
 use Rattle.mdf_block.specs.Every.{every}
 use Rattle.mdf_model.specs.declared.tree.Tree.{Tree}
 use Rattle.mdf_model.specs.Tree.{tree}
@@ -109,28 +109,23 @@ module _ (f : List ℕ) (row : DataRow) (parts : List Part) (lists : List (List 
 
   holds : (k : ℕ) (group : GroupRow) (found : List (List ℕ)) → slice_get row.groups k ≡ Some group → IsGroupRead k group found
       → HasStreams (k, group) found
-  unfolding contents
   holds k group found there is =
       let one = told row records (k, group) in
-      let held = held_by parts row lists in
       let count = length (bodies row.id_size records k) in
       let long : length (places k) ≡ count = places_count (stream_of f parts) row lists records hold k group there in
       let all : min count (length (places k)) ≡ length (places k) = omega (arith, long) in
-      let shaped : layout one ≡ Ok is.shape = layout_told group count ∙ is.laid in
-      let read : streams f held (records_at true one (places k)) one.channels ≡ Ok found =
-      ap (λ (n : ℕ). streams f held (record { data_bytes = group.data_bytes; places = places k; count = n }) group.channels) all ∙ is.read in
-      let made : Layout → List (List ℕ) → Contents = λ shape found. record {
-        shape = shape;
+      let read : streams f (held_by parts row lists) (records_at true one (places k)) one.channels ≡ Ok found =
+      ap (λ (n : ℕ). streams f (held_by parts row lists) (record { data_bytes = group.data_bytes; places = places k; count = n }) group.channels) all ∙ is.read in
+      let made : Contents = record {
+        shape = is.shape;
         count = min count (length (places k));
-        content = flat_map (bytes_at (group.data_bytes + group.inval_bytes) (stream_of f parts)) (take (min count (length (places k))) (places k));
+        content =
+            flat_map (bytes_at (is.shape.data_bytes + is.shape.inval_bytes) (stream_of f parts)) (take (min count (length (places k))) (places k));
         streams = found;
-      } in
-      let is_made : contents f held one (places k) ≡ Ok (made is.shape found) =
-      ap (λ (l : Read Layout). l >>= λ shape. streams f held (records_at true one (places k)) one.channels >>= λ found. Ok (made shape found)) shaped
-      ∙ ap (λ (r : Read (List (List ℕ))). r >>= λ found. Ok (made is.shape found)) read in (
-        made is.shape found,
-        contents_found f row parts lists records inside hold rooms k one (made is.shape found) (hold k group there) (rooms k group there) is.samples
-            (omega (arith, long)) is_made,
+      } in (
+        made,
+        contents_found f row parts lists records inside hold rooms k one is.shape found (hold k group there) (rooms k group there) is.samples
+            (omega (arith, long)) (layout_told group count ∙ is.laid) read,
         refl,
       )
 

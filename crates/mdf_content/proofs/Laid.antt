@@ -128,13 +128,14 @@ offsets_placed group other ruled =
     (subst (λ (channels : List ChannelRow). All (IsRowPlaced group.data_bytes group.inval_bytes) (map field_of channels)) same ruled.placed)
 
 -- a group that is laid out has its layout
-shape_unless : (group : GroupRow) (channel : Option ChannelRow) (shape : Layout) → layout_unless group channel ≡ Ok shape → layout_of group ≡ shape
-shape_unless group None shape is = let same : ◌≡◌ {A = Read Layout} (Ok (layout_of group)) (Ok shape) = is in cc
-shape_unless group (Some channel) shape is = let wrong : ◌≡◌ {A = Read Layout} (Err (refusals.Layout channel.at)) (Ok shape) = is in cc
+pub unless_found : (group : GroupRow) (first : Option ChannelRow) (found : Layout) → layout_unless group first ≡ Ok found
+    → (first ≡ None) × (layout_of group ≡ found)
+unless_found group None found is = let same : ◌≡◌ {A = Read Layout} (Ok (layout_of group)) (Ok found) = is in (refl, cc)
+unless_found group (Some channel) found is = let wrong : ◌≡◌ {A = Read Layout} (Err (refusals.Layout channel.at)) (Ok found) = is in cc
 
 pub laid_shape : (group : GroupRow) (shape : Layout) → layout group ≡ Ok shape → layout_of group ≡ shape
 unfolding layout
-laid_shape group shape is = shape_unless group (first_unplaced (layout_of group) 0 (placed_channels group)) shape is
+laid_shape group shape is = (unless_found group (first_unplaced (layout_of group) 0 (placed_channels group)) shape is).1
 
 -- a layout of the fields of a group
 pub layout_is : (group : GroupRow) (shape : Layout) (fields : List FieldRow) (channels : List ChannelRow)

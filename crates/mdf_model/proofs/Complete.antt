@@ -10,7 +10,6 @@ use Rattle.mdf_format.specs.Identification.{version_of}
 use Rattle.mdf_format.specs.declared.kind.Kind.{Kind}
 use Rattle.mdf_format.specs.declared.kind.Kind.TheVariants.{Hd, Fh, Dg, Cg, Cn, Dt, Sd}
 use Rattle.mdf_block.specs.declared.what.What.TheVariants as whats
-use Rattle.mdf_block.specs.declared.place.BlockAt.{BlockAt}
 use Rattle.mdf_block.specs.Refusal as refusals
 use Rattle.mdf_block.specs.Refusal.{Refusal, NotMdf, Version, Unfinalized, TooMany, UnknownId, Cut, Cycles, Offset, Read, ◌>>=◌}
 use Rattle.mdf_block.specs.Block.{block, the_block}
@@ -43,9 +42,8 @@ use Rattle.mdf_content.specs.declared.found.DataFound.{DataFound}
 use Rattle.mdf_content.specs.Values.{values_in, streams}
 use Rattle.mdf_content.specs.Found.{data_found}
 use Rattle.mdf_model.specs.declared.part.Measure.{Measure}
-use Rattle.mdf_model.specs.declared.tree.Tree.{Tree}
 use Rattle.mdf_model.specs.declared.whole.WholeFound.{WholeFound}
-use Rattle.mdf_model.specs.Tree.{finalized_by, finalized, whole_budget, header_of, passed_over, tree}
+use Rattle.mdf_model.specs.Tree.{finalized_by, finalized, whole_budget, passed_over, tree}
 use Rattle.mdf_model.specs.Found.{data_place, all_found, whole, whole_found}
 use Rattle.mdf_model.specs.Measurement.{Measured, measured_from, measurement}
 use Rattle.mdf_model.specs.Contents.{IsValuesOf, IsChannelStream, own_records, IsDataContents}

@@ -1,14 +1,13 @@
 -- What is refused of a file is true of it.
 use Rattle.std.proofs.Common.{◌≡◌, ◌+◌, ℕ, List, length, take, Option, Some, Ok, Err, refl, sym, ◌∙◌, ap, subst, inl, inr}
-use Rattle.std.specs.Prelude.{true, nat_le, ◌||◌, codes, filter, slice_get}
-use Rattle.std.specs.Str.{bytes_eq}
-use Rattle.std.proofs.lemmas.Bool.{and_from, or_left, or_right, le-leb, both_ways}
+use Rattle.std.specs.Prelude.{true, codes, filter, slice_get}
+use Rattle.std.proofs.lemmas.Bool.{both_ways}
 use Rattle.std.proofs.lemmas.Slice.Eq.{bytes_eq-Decides}
 use Rattle.std.proofs.lemmas.List.Sums.{sum_by_more}
 use Rattle.std.proofs.lemmas.Option.{slice_get_within, get_or_from_slice_get}
 use Rattle.mdf_format.specs.Number.{bytes_at}
 use Rattle.mdf_format.specs.Block.{link_at}
-use Rattle.mdf_format.specs.Identification.{IsMdf, HasReadVersion, version_of}
+use Rattle.mdf_format.specs.Identification.{version_of}
 use Rattle.mdf_format.specs.declared.kind.Kind.TheVariants.{Hd, Fh, Dt}
 use Rattle.mdf_block.specs.declared.what.What.TheVariants as whats
 use Rattle.mdf_block.specs.Refusal.{Refusal, NotMdf, Version, Unfinalized}

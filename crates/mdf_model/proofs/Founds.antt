@@ -31,7 +31,7 @@ use Rattle.mdf_content.specs.declared.contents.Contents.{Contents}
 use Rattle.mdf_content.specs.declared.found.DataFound.{DataFound}
 use Rattle.mdf_content.specs.declared.found.Found.{Found}
 use Rattle.mdf_block.specs.Every.{every}
-use Rattle.mdf_content.specs.Layouts.{layout, laid_group, has_id_size, layouts}
+use Rattle.mdf_content.specs.Layouts.{layout, has_id_size, layouts}
 use Rattle.mdf_content.specs.Records.{size_of, known_of, places_of, counted_group, counted}
 use Rattle.mdf_content.specs.Values.{streams}
 use Rattle.mdf_content.specs.Contents.{content_of, count_of, is_strict, records_at}

@@ -1,10 +1,9 @@
 -- The channels of a layout that is found keep the rules.
-use Rattle.std.proofs.Common.{◌≡◌, ◌+◌, ℕ, List, [], ◌∷◌, map, Ok, Err, refl, sym, inl, inr}
+use Rattle.std.proofs.Common.{◌≡◌, ◌+◌, ℕ, List, [], ◌∷◌, map, Ok, sym, inl, inr}
 use Rattle.std.specs.Prelude.{Option, Some, None}
 use Rattle.std.specs.List.{AllByRecursion, enumerate_from}
 use Rattle.std.proofs.lemmas.Bool.{both_ways}
 use Rattle.mdf_block.specs.Refusal as refusals
-use Rattle.mdf_block.specs.Refusal.{Read}
 use Rattle.mdf_block.proofs.Wholes.{chosen}
 use Rattle.mdf_group.specs.declared.row.ChannelRow.{ChannelRow}
 use Rattle.mdf_group.specs.declared.row.GroupRow.{GroupRow}
@@ -12,9 +11,9 @@ use Rattle.mdf_layout.specs.Layout.{Layout}
 use Rattle.mdf_layout.specs.Rule.{breaks_row_rule, BreaksRule}
 use Rattle.mdf_layout.specs.declared.field.FieldRow.{FieldRow}
 use Rattle.mdf_layout.proofs.Rules.{breaks_law}
-use Rattle.mdf_content.specs.Layouts.{field_of, placed_channels, layout_of, first_unplaced, layout_unless, layout}
+use Rattle.mdf_content.specs.Layouts.{field_of, placed_channels, layout_of, first_unplaced, layout}
+use Rattle.mdf_content.proofs.Laid.{unless_found}
 use Rattle.mdf_model.specs.Contents.{KeepsRules}
-use Rattle.mdf_model.proofs.Cases.{ok_injective}
 
 abbrev Keeps : Layout → ℕ × FieldRow → Type 0
 Keeps layout channel = ¬ BreaksRule layout.data_bytes layout.inval_bytes layout.rows channel.0 channel.1
@@ -32,11 +31,6 @@ none_breaks layout k (channel ∷ channels) none =
         none_breaks layout (k + 1) channels keeps.1,
       )
     ]
-
-unless_found : (group : GroupRow) (first : Option ChannelRow) (found : Layout) → layout_unless group first ≡ Ok found
-    → (first ≡ None) × (layout_of group ≡ found)
-unless_found group None found is = (refl, ok_injective (layout_of group) found is)
-unless_found group (Some channel) found is = let wrong : ◌≡◌ {A = Read Layout} (Err (refusals.Layout channel.at)) (Ok found) = is in cc
 
 pub layout_found : (group : GroupRow) (found : Layout) → layout group ≡ Ok found → KeepsRules (layout_of group) × (found ≡ layout_of group)
 unfolding layout

@@ -1,17 +1,16 @@
 -- What is read of a file is its measurement.
-use Rattle.std.proofs.Common.{◌≡◌, ◌+◌, ◌-◌, ◌^◌, ℕ, List, [], ◌∷◌, ◌++◌, map, Ok, Err, refl, sym, ◌∙◌, ap, subst, inl, inr, arith}
-use Rattle.std.specs.Prelude.{true, min, filter, zip, if◌then◌else◌, codes, Option, Some}
+use Rattle.std.proofs.Common.{◌≡◌, ◌+◌, ◌-◌, ◌^◌, ℕ, List, [], ◌∷◌, ◌++◌, map, Ok, refl, sym, ◌∙◌, ap, subst, arith}
+use Rattle.std.specs.Prelude.{true, min, filter, zip, codes, Option, Some}
 use Rattle.std.specs.List.{flat_map, AllByRecursion, AllZip}
-use Rattle.std.proofs.lemmas.Bool.{and_parts, or_cases, leb-true}
 use Rattle.std.proofs.lemmas.Slice.Eq.{bytes_eq-Decides}
 use Rattle.mdf_format.specs.Number.{bytes_at}
-use Rattle.mdf_format.specs.Identification.{IsMdf, HasReadVersion, version_of}
+use Rattle.mdf_format.specs.Identification.{IsMdf, HasReadVersion}
 use Rattle.mdf_format.specs.declared.kind.Kind.TheVariants.{Hd}
-use Rattle.mdf_block.specs.Refusal.{NotMdf, Version, Unfinalized, Read}
+use Rattle.mdf_block.specs.Refusal.{Unfinalized}
 use Rattle.mdf_block.specs.Block.{block}
 use Rattle.mdf_block.specs.declared.place.BlockAt.{BlockAt}
 use Rattle.mdf_block.proofs.Refusals.{bind_ok}
-use Rattle.mdf_block.proofs.Wholes.{block_found, chosen}
+use Rattle.mdf_block.proofs.Wholes.{block_found}
 use Rattle.mdf_conv.specs.declared.limits.Budget.{Budget}
 use Rattle.mdf_head.specs.declared.identity.Ident.{Ident}
 use Rattle.mdf_head.specs.declared.entry.Head.{Head}
