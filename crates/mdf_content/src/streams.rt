@@ -127,23 +127,6 @@ fn values_stream_in<P: Span>(
     Ok(Bytes::from_vec(bytes))
 }
 
-/// The bytes of the values in the records of group `k`.
-fn group_stream_in<P: Span>(
-    alloc: Global,
-    span: &mut P,
-    held: &Held,
-    k: u64,
-    room: &mut Room,
-) -> Result<Bytes, Stop>
-    requires held { IsHeld (P.size span.old) held.now }
-    requires room { AllByRecursion (λ place. place + 4 ≤ stream_size held.now.view.now) (slice_index_or held.now.lists.now k []) }
-    ensures reads { Looks P.Span span.old span.new true result (λ file bytes. bytes ≡ stream_of file (values_at file held.now.view.now (slice_index_or held.now.lists.now k []))) }
-{
-    let none = Places::empty(alloc);
-    let places = places_or(held.lists, k as usize, &none);
-    values_stream_in(alloc, span, held.view, places, room)
-}
-
 /// The bytes that a link to values leads to.
 fn linked_stream_in<P: Span>(
     alloc: Global,
@@ -174,7 +157,9 @@ fn channel_bytes_in<P: Span>(
     let Some(k) = values_group(held, at) else {
         return linked_stream_in(alloc, span, at, room);
     };
-    let bytes = group_stream_in(alloc, span, held, k, room)?;
+    let none = Places::empty(alloc);
+    let places = places_or(held.lists, k as usize, &none);
+    let bytes = values_stream_in(alloc, span, held.view, places, room)?;
     Ok(bytes)
 }
 

@@ -199,23 +199,6 @@ pub fn places_or<'a>(lists: &'a [Places], k: usize, other: &'a Places) -> &'a Pl
     if k < lists.len() { &lists[k] } else { other }
 }
 
-/// The values in the records of group `k`.
-fn group_values_in<P: Span>(
-    alloc: Global,
-    span: &mut P,
-    held: &Held,
-    k: u64,
-) -> Result<DataView, Stop>
-    requires held { IsHeld (P.size span.old) held.now }
-    requires room { AllByRecursion (λ place. place + 4 ≤ stream_size held.now.view.now) (slice_index_or held.now.lists.now k []) }
-    ensures reads { Looks P.Span span.old span.new true result (λ file values. values ≡ values_at file held.now.view.now (slice_index_or held.now.lists.now k [])) }
-    ensures inside { IfOk result (ArePartsInside (P.size span.old)) }
-{
-    let none = Places::empty(alloc);
-    let places = places_or(held.lists, k as usize, &none);
-    values_in(alloc, span, held.view, places)
-}
-
 /// The values of a channel whose own link is `at`: those in the records of a group that stands there, or those where the
 /// link leads to.
 #[tactic(auto, unfolding(crate::specs::Values::channel_values))]
@@ -232,7 +215,9 @@ fn channel_values_in<P: Span>(
     let Some(k) = values_group(held, at) else {
         return view_of(alloc, span, at, Kind::Sd);
     };
-    let values = group_values_in(alloc, span, held, k)?;
+    let none = Places::empty(alloc);
+    let places = places_or(held.lists, k as usize, &none);
+    let values = values_in(alloc, span, held.view, places)?;
     Ok(values)
 }
 
