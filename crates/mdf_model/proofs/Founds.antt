@@ -1,6 +1,6 @@
 -- What is read of a data group is what it holds.
 use Rattle.std.proofs.Common.{refl, ◌≡◌, ◌+◌, ◌<◌, ◌≤◌, ℕ, List, [], ◌∷◌, length, get_or, take, map, Ok, Err, sym, ◌∙◌, ap, subst, inl, inr, arith}
-use Rattle.std.specs.Prelude.{Bool, true, false, cond, not, nat_lt, if◌then◌else◌, filter, slice_get, Option, Some, None}
+use Rattle.std.specs.Prelude.{Bool, min, true, false, cond, not, nat_lt, if◌then◌else◌, filter, slice_get, Option, Some, None}
 use Rattle.std.specs.Option.{option_map}
 use Rattle.std.specs.List.{AllByRecursion, AllZip}
 use Rattle.std.proofs.lemmas.Bool.{ltb-false, cond-false}
@@ -112,7 +112,7 @@ module _ (f : List ℕ) (row : DataRow) (parts : List Part) (lists : List (List 
   contents_found k group shape found held_there room other enough is_shape read =
       let stream = stream_of f parts in
       let size = group.data_bytes + group.inval_bytes in
-      let count = count_of true group (places k) in
+      let count = min group.cycles (length (places k)) in
       let fixed : size_of group ≡ sizes.Fixed size = cond-false (is_variable group) sizes.Variable (sizes.Fixed size) other in
       let same : bodies_at stream (sizes.Fixed size) (places k) ≡ bodies row.id_size records k =
       ap (λ (s : Size). bodies_at stream s (places k)) (sym fixed) ∙ held_there in
