@@ -38,7 +38,7 @@ use Rattle.mdf_model.proofs.Founds.{count_found}
 use Rattle.mdf_model.proofs.Stricts.{places_long}
 use Rattle.mdf_model.proofs.Picks.{all_there}
 use Rattle.mdf_model.proofs.Walks.{refusing_every}
-use Rattle.mdf_model.proofs.Truths.{IsTrue, link_true, layout_true}
+use Rattle.mdf_model.proofs.Truths.{IsTrue, link_true, layout_true, own_true}
 use Rattle.mdf_model.proofs.Cases.{ok_injective}
 
 -- a value that stands passes the test
@@ -129,7 +129,7 @@ module _ (f : List ℕ) (row : DataRow) (before : ℕ) (parts : List Part) (list
       let found = length (get_or lists k []) in
       refusing_if Holds (is_variable group) (Ok (None, number)) _ (λ _. refusing_none Holds (None, number))
       (λ samples. refusing_if Holds (nat_lt found group.cycles) (Err (Cycles number group.cycles found)) (Ok (None, number + 1))
-      (λ few. refusing_one Holds (Cycles number group.cycles found) (record {
+      (λ few. refusing_one Holds (Cycles number group.cycles found) (own_true f row before (Cycles number group.cycles found) tt (record {
         records = records;
         rest = rest;
         split = split;
@@ -140,7 +140,7 @@ module _ (f : List ℕ) (row : DataRow) (before : ℕ) (parts : List Part) (list
         is_said = refl;
         is_found = places_long (stream_of f parts) (size_of group) (get_or lists k []) (bodies row.id_size records k) (hold k group there);
         more = ltb-true found group.cycles few;
-      }, inl tt))
+      })))
       (λ _. refusing_none Holds (None, number + 1)))
 
   count_next : (k : ℕ) (group : GroupRow) (number : ℕ) (found : Option (Unit {0}) × ℕ) → slice_get row.groups k ≡ Some group → Numbers k number
@@ -233,9 +233,10 @@ module _ (f : List ℕ) (row : DataRow) (before : ℕ) (parts : List Part) (list
         (offsets_true Holds (has_value (stream_of f found)) (offset_in (stream_of f parts) own channel) c 0 count
         (λ j below missed.
         let from_zero : j ≡ 0 + j = omega arith in
+        own_true f row before (Offset c (0 + j) (offset_in (stream_of f parts) own channel (0 + j))) tt
         (subst (λ (n : ℕ). MissesValue f row c n (offset_in (stream_of f parts) own channel n)) from_zero
         (missed_true c channel is_channel kind found values j below
-        (subst (λ (n : ℕ). has_value (stream_of f found) (offset_in (stream_of f parts) own channel n) ≡ false) (sym from_zero) missed)), inl tt)))
+        (subst (λ (n : ℕ). has_value (stream_of f found) (offset_in (stream_of f parts) own channel n) ≡ false) (sym from_zero) missed)))))
         (λ met _. refusing_none Holds found))
 
     item_true : (c : ℕ) (channel : ChannelRow) (left : Unit {0}) → slice_get group.channels c ≡ Some channel → Unit {0}

@@ -90,6 +90,9 @@ module _ (f : List ℕ) (row : DataRow) (before : ℕ) where
   abbrev pub IsTrue : Refusal → Type 0
   IsTrue refusal = IsTrueOfData f row before refusal × Comes refusal
 
+  pub own_true : (refusal : Refusal) → IsOfData refusal → IsTrueOfData f row before refusal → IsTrue refusal
+  own_true refusal kind is = (is, inl kind)
+
   -- a data link
   link_turned : (want : Kind) (at : ℕ) (refusal : Refusal) → IsTrueOfLink f want at refusal → IsTrueOf f refusal → IsTrueOfData f row before refusal
   link_turned want link (Bad at kind) named is = is
@@ -147,7 +150,7 @@ module _ (f : List ℕ) (row : DataRow) (before : ℕ) where
       let place = of_samples group bad.0 channel bad.1 in
       let from_zero : 0 + bad.0 ≡ bad.0 = omega arith in
       let test = subst (λ (n : ℕ). breaks_row_rule group.data_bytes group.inval_bytes (layout_of group).rows n (field_of channel) ≡ true) from_zero bad.2 in
-      refusing_one IsTrue (refusals.Layout channel.at) (inr (record {
+      refusing_one IsTrue (refusals.Layout channel.at) (own_true (refusals.Layout channel.at) tt (inr (record {
         k = k;
         group = group;
         is_group = record { there = there; samples = place.0 };
@@ -156,7 +159,7 @@ module _ (f : List ℕ) (row : DataRow) (before : ℕ) where
         is_channel = place.1;
         named = refl;
         breaks = (breaks_law group.data_bytes group.inval_bytes (layout_of group).rows bad.0 (field_of channel)).to test;
-      }), inl tt)
+      })))
 
   pub layout_true : (k : ℕ) (group : GroupRow) → slice_get row.groups k ≡ Some group → Refusing IsTrue (layout group)
   unfolding layout
@@ -175,7 +178,7 @@ module _ (f : List ℕ) (row : DataRow) (before : ℕ) where
       (λ _. refusing_then IsTrue (every laid_group 0 row.groups tt) (λ _. Ok tt)
       (refusing_every IsTrue laid_group IsThere (λ k left. Unit {0}) laid_true (λ k group left found there nothing is. tt) 0 row.groups tt (all_there row.groups) tt)
       (λ found _. refusing_none IsTrue tt))
-      (λ none. refusing_one IsTrue (refusals.Layout row.at) (inl (refl, λ has. both_ways (has_id_size row) none (id_size_from row has)), inl tt))
+      (λ none. refusing_one IsTrue (refusals.Layout row.at) (own_true (refusals.Layout row.at) tt (inl (refl, λ has. both_ways (has_id_size row) none (id_size_from row has)))))
 
   -- records
   module _ (parts : List Part) (is_parts : data_parts f Dt row.content ≡ Ok parts) where
@@ -202,7 +205,7 @@ module _ (f : List ℕ) (row : DataRow) (before : ℕ) where
         → IsStop stream row.id_size known place refusal → IsTrue refusal
     stop_true some place refusal within other records refused split (IsShort is) =
         let same : place ≡ other = subst (λ (r : Refusal). IsRefusedAt r other) is refused in
-        subst IsTrue (sym is) (rest_at some place other within same records split, inl tt)
+        subst IsTrue (sym is) (own_true (Cut place) tt (rest_at some place other within same records split))
     stop_true some place refusal within other records refused split (IsUnknown id is whole is_id none) =
         let same : place ≡ other = subst (λ (r : Refusal). IsRefusedAt r other) is refused in
         let unknown : IsUnknownAt f row id place = record {
@@ -211,7 +214,7 @@ module _ (f : List ℕ) (row : DataRow) (before : ℕ) where
           is_id = is_id;
           unknown = unknown_is row.groups id 0 none;
         } in
-        subst IsTrue (sym is) (unknown, inl tt)
+        subst IsTrue (sym is) (own_true (UnknownId id place) tt unknown)
 
     pieces_true : 1 ≤ row.id_size → (refusal : Refusal) → pieces stream (length stream) row.id_size known ≡ Err refusal → IsTrue refusal
     pieces_true some refusal is =
@@ -231,14 +234,14 @@ module _ (f : List ℕ) (row : DataRow) (before : ℕ) where
         refusing_if IsTrue (nat_lt 268435456 (empties_of group.cycles group)) (Err (TooMany whats.Sample group.at)) _
         (λ many.
         let found = many_empties group (ltb-true 268435456 (empties_of group.cycles group) many) in
-        refusing_one IsTrue (TooMany whats.Sample group.at) (record {
+        refusing_one IsTrue (TooMany whats.Sample group.at) (own_true (TooMany whats.Sample group.at) tt (record {
           group = group;
           there = there;
           named = refl;
           no_ids = none;
           empty = found.0;
           many = found.1;
-        }, inl tt))
+        })))
         (λ few. refusing_none IsTrue _)
 
     without_ids : (groups : List GroupRow) → ((group : GroupRow) → slice_get groups 0 ≡ Some group → IsThere 0 group) → row.id_size ≡ 0
