@@ -218,10 +218,10 @@ module _ (f : List ℕ) (row : DataRow) (before : ℕ) where
 
     pieces_true : 1 ≤ row.id_size → (refusal : Refusal) → pieces stream (length stream) row.id_size known ≡ Err refusal → IsTrue refusal
     pieces_true some refusal is =
-        let place = refused_place stream (length stream) row.id_size known (length stream + 1) 0 refusal is in
+        let place = (refused_place stream (length stream) row.id_size known (length stream + 1) 0).tells refusal is in
         let rest = records_refused stream row.id_size known refusal some is in
         stop_true some place.0 refusal (some_left stream row.id_size known place.0 refusal place.1) rest.0 rest.1 rest.2 rest.3
-        (piece_stop stream row.id_size known place.0 refusal place.1)
+        ((piece_stop stream row.id_size known place.0).tells refusal place.1)
 
     with_ids : 1 ≤ row.id_size → Refusing IsTrue (places stream (length stream) row.id_size known)
     unfolding places
