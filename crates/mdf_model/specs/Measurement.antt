@@ -1,8 +1,9 @@
 -- The measurement of a finalized file.
-use Rattle.std.specs.Prelude.{ℕ, Bool, ◌&&◌, not, nat_eq, List, [], ◌∷◌, filter, slice_index_or, slice_set, Option, Ok}
+use Rattle.std.specs.Prelude.{ℕ, ◌≡◌, Bool, ◌&&◌, not, nat_eq, List, [], ◌∷◌, filter, slice_index_or, slice_set, Option, Result, Ok, Err}
 use Rattle.std.specs.List.{flat_map, list_all, zip}
 use Rattle.mdf_block.specs.declared.note.Note.{Note}
-use Rattle.mdf_block.specs.Refusal.{Read, ◌>>=◌}
+use Rattle.mdf_num.specs.declared.halt.Halt.{Halt}
+use Rattle.mdf_block.specs.Refusal.{Halts, Read, Refusal, ◌>>=◌}
 use Rattle.mdf_head.specs.declared.entry.Head.{Head}
 use Rattle.mdf_head.specs.declared.entry.History.{History}
 use Rattle.mdf_group.specs.declared.row.GroupRow.{GroupRow}
