@@ -13,13 +13,11 @@ use Rattle.mdf_block.specs.Block.{block}
 use Rattle.mdf_block.specs.Chain.{Step, chain, full, AreAlong}
 use Rattle.mdf_block.proofs.Refusals.{bind_ok, bind_err, halts_then}
 use Rattle.mdf_block.proofs.Wholes.{chosen}
+use Rattle.mdf_block.proofs.Cases.{ok_injective}
 
 -- what was read so far, and then the rest
 abbrev pub with_front : {A S : Type 0} → List A → Read (List A × ℕ × S) → Read (List A × ℕ × S)
 with_front front read = read >>= λ rest. Ok (front ++ rest.0, rest.1, rest.2)
-
-ok_injective : {A : Type 0} (x y : A) → ◌≡◌ {A = Read A} (Ok x) (Ok y) → x ≡ y
-ok_injective x y same = cc
 
 with_none : {A S : Type 0} (read : Read (List A × ℕ × S)) → with_front [] read ≡ read
 with_none (Ok x) = refl

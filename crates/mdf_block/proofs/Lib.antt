@@ -17,3 +17,7 @@ pub mod Uniques
 pub mod Reached
 pub mod Limits
 pub mod Truths
+pub mod Cases
+pub mod Items
+pub mod Picks
+pub mod Walks

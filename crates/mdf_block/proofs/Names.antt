@@ -2,10 +2,13 @@
 use Rattle.std.proofs.Common.{◌≡◌, ◌+◌, ◌<◌, ◌≤◌, ℕ, Bool, true, false, IsTrue, ◌↔◌, List, [], ◌∷◌, get_or, lit<, length, drop, refl, sym, ◌∙◌, ap, arith, length-take, length-drop}
 use Rattle.std.proofs.lemmas.Slice.Eq.{bytes_eq-Decides}
 use Rattle.mdf_format.specs.Number.{bytes_at}
-use Rattle.mdf_format.specs.Block.{name_of}
+use Rattle.mdf_format.specs.Block.{name_of, IsBlock}
 use Rattle.mdf_format.specs.declared.kind.Kind.{Kind}
 use Rattle.mdf_format.specs.declared.kind.Kind.TheVariants.{Hd, Fh, Dg, Cg, Cn, Cc, Si, Tx, Md, Dt, Dl, Sd, At}
 use Rattle.mdf_block.specs.Block.{has_name}
+use Rattle.std.specs.Prelude.{codes}
+use Rattle.mdf_format.specs.Identification.{IsFinalized}
+use Rattle.mdf_block.proofs.Parts.{bytes_at-bytes_at}
 
 -- past the end there are fewer than four bytes
 pub length-bytes_at-short : (f : List ℕ) (at : ℕ) → length f < at + 4 → length (bytes_at 4 f at) < 4
@@ -68,3 +71,33 @@ none_of name none Dt same = none 9 (lit< tt) same
 none_of name none Dl same = none 10 (lit< tt) same
 none_of name none Sd same = none 11 (lit< tt) same
 none_of name none At same = none 12 (lit< tt) same
+
+-- no block stands at the beginning of an MDF file
+pub differ : (m n : ℕ) → m ≡ n → m < n → ⊥
+differ m n same below = omega arith
+
+hashes : (kind : Kind) → get_or (name_of kind) 0 0 ≡ 35
+hashes Hd = refl
+hashes Fh = refl
+hashes Dg = refl
+hashes Cg = refl
+hashes Cn = refl
+hashes Cc = refl
+hashes Si = refl
+hashes Tx = refl
+hashes Md = refl
+hashes Dt = refl
+hashes Dl = refl
+hashes Sd = refl
+hashes At = refl
+
+pub none_behind : (f mark : List ℕ) (first : ℕ) → bytes_at 8 f 0 ≡ mark → get_or (bytes_at 4 mark 0) 0 0 ≡ first → 35 < first
+    → (kind : Kind) → IsBlock f 0 kind → ⊥
+none_behind f mark first is is_first above kind block =
+    let front : bytes_at 4 (bytes_at 8 f 0) 0 ≡ bytes_at 4 f 0 = bytes_at-bytes_at 4 8 0 0 f (omega arith) in
+    let four : bytes_at 4 mark 0 ≡ name_of kind = ap (λ (xs : List ℕ). bytes_at 4 xs 0) (sym is) ∙ front ∙ block.named in
+    let wrong : first ≡ 35 = sym is_first ∙ ap (λ (xs : List ℕ). get_or xs 0 0) four ∙ hashes kind in
+    differ 35 first (sym wrong) above
+
+pub none_first : (f : List ℕ) → IsFinalized f → (kind : Kind) → IsBlock f 0 kind → ⊥
+none_first f is = none_behind f (codes "MDF     ") 77 is refl (lit< tt)

@@ -21,9 +21,7 @@ use Rattle.mdf_block.specs.Text.{is_zero, text_of, text, note, note_refusal, not
 use Rattle.mdf_block.proofs.Refusals.{bind_ok}
 use Rattle.mdf_block.proofs.Wholes.{chosen, block_is_true, is_block_true, is_block_false, not_block}
 use Rattle.mdf_block.proofs.Zeros.{length-text_of}
-
-ok_injective : {A : Type 0} (x y : A) → ◌≡◌ {A = Read A} (Ok x) (Ok y) → x ≡ y
-ok_injective x y same = cc
+use Rattle.mdf_block.proofs.Cases.{ok_injective}
 
 -- no text where no block of the kind stands
 pub text_none : (f : List ℕ) (at : ℕ) (kind : Kind) (left : ℕ) → (IsBlock f at kind → ⊥) → text f at kind left ≡ Err (Bad at kinds.Tx)

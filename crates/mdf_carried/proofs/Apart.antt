@@ -12,8 +12,9 @@ use Rattle.mdf_group.specs.Recordable.{AreRecordable}
 use Rattle.mdf_group.specs.Standing.{AreDistinct, StandDataGroups}
 use Rattle.mdf_group.proofs.Uniques.{data_groups_unique}
 use Rattle.mdf_group.proofs.Nested.{without_limit}
-use Rattle.mdf_model.proofs.Cases.{some_injective}
-use Rattle.mdf_model.proofs.Onces.{none_behind, head_unique}
+use Rattle.mdf_block.proofs.Cases.{some_injective}
+use Rattle.mdf_model.proofs.Onces.{head_unique}
+use Rattle.mdf_block.proofs.Names.{none_behind}
 use Rattle.mdf_spell.specs.Recording.{recorded_row, recorded_head, recorded_history, IsRecordingTree}
 use Rattle.mdf_carried.specs.Recovered.{Recovery, IsRecovery, AreIdsApart}
 use Rattle.mdf_carried.proofs.Numbers.{AreNumbered}

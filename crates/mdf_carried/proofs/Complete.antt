@@ -35,9 +35,10 @@ use Rattle.mdf_model.specs.Contents.{IsChannelStream, is_of_samples}
 use Rattle.mdf_model.specs.Limits.{HasFewValues}
 use Rattle.mdf_model.proofs.Alone.{id_size_from, split_by}
 use Rattle.mdf_model.proofs.Bodies.{AreSplitAt}
-use Rattle.mdf_model.proofs.Cases.{two_ways}
+use Rattle.mdf_block.proofs.Cases.{two_ways}
 use Rattle.mdf_model.proofs.Channels.{HoldBodies}
-use Rattle.mdf_model.proofs.Complete.{passed_get, values_there, tree_there}
+use Rattle.mdf_model.proofs.Complete.{values_there, tree_there}
+use Rattle.mdf_block.proofs.Picks.{passed_get}
 use Rattle.mdf_model.proofs.Founds.{hold_by}
 use Rattle.mdf_session.specs.declared.session.Kept.{Kept}
 use Rattle.mdf_session.specs.Opened.{opened_parts}

@@ -25,7 +25,7 @@ use Rattle.mdf_layout.specs.declared.sample.Entry.{Entry}
 use Rattle.mdf_layout.specs.declared.sample.Sample.{Sample}
 use Rattle.mdf_layout.proofs.Entered.{parts_of_entries}
 use Rattle.mdf_content.proofs.Samples.{value_stands}
-use Rattle.mdf_model.proofs.Cases.{two_ways}
+use Rattle.mdf_block.proofs.Cases.{two_ways}
 use Rattle.mdf_carried.proofs.Records.{own, is_own}
 use Rattle.mdf_carried.proofs.Lists.{zip_both}
 

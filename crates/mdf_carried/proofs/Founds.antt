@@ -38,10 +38,10 @@ use Rattle.mdf_model.specs.Bodies.{bodies}
 use Rattle.mdf_model.specs.Contents.{HasIdSize, is_of_samples, sample_groups}
 use Rattle.mdf_model.proofs.Alone.{empties_by, split_by}
 use Rattle.mdf_model.proofs.Bodies.{AreSplitAt}
-use Rattle.mdf_model.proofs.Cases.{ok_injective, two_ways}
+use Rattle.mdf_block.proofs.Cases.{ok_injective, two_ways}
 use Rattle.mdf_model.proofs.Channels.{HaveRooms, HoldBodies, held_by}
 use Rattle.mdf_model.proofs.Founds.{size_found, contents_found, hold_by, rooms_by}
-use Rattle.mdf_model.proofs.Picks.{IsPicked, all_read, read_with, picked, all_there, keyed_numbered}
+use Rattle.mdf_block.proofs.Picks.{IsPicked, all_read, read_with, picked, all_there, keyed_numbered}
 use Rattle.mdf_model.proofs.Wholes.{tree_found, identified}
 use Rattle.mdf_session.specs.declared.session.Kept.{Kept}
 use Rattle.mdf_session.specs.Opened.{opened_parts}

@@ -16,8 +16,8 @@ use Rattle.mdf_content.specs.Samples.{record_at, sample_at}
 use Rattle.mdf_model.specs.Measurement.{holds_samples}
 use Rattle.mdf_model.specs.Bodies.{is_of, bodies}
 use Rattle.mdf_model.specs.Contents.{sample_groups}
-use Rattle.mdf_model.proofs.Cases.{some_injective, two_ways}
-use Rattle.mdf_model.proofs.Picks.{all_there}
+use Rattle.mdf_block.proofs.Cases.{some_injective, two_ways}
+use Rattle.mdf_block.proofs.Picks.{all_there}
 use Rattle.mdf_carried.specs.Recovered.{IsGroupContents, Recovery, IsRecovery}
 use Rattle.mdf_carried.specs.Samples.{is_sample_in, is_sample, sample_number, index_of, body_of, IsSampleOf, AreSamplesOf, HaveSamples, sample_records}
 use Rattle.mdf_carried.proofs.Samplings.{body_at, record_is, in_group}

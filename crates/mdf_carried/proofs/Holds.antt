@@ -27,7 +27,7 @@ use Rattle.mdf_model.specs.Contents.{IsValuesOf, IsChannelStream, is_of_samples,
 use Rattle.mdf_block.specs.declared.note.Note.TheVariants as notes
 use Rattle.mdf_layout.proofs.Bridge.{length-streams}
 use Rattle.mdf_content.proofs.Samples.{variable_field, other_field}
-use Rattle.mdf_model.proofs.Cases.{two_ways}
+use Rattle.mdf_block.proofs.Cases.{two_ways}
 use Rattle.mdf_carried.specs.Recovered.{IsGroupContents}
 use Rattle.mdf_carried.proofs.Lists.{zip_along, length-joined, joined_at}
 use Rattle.mdf_carried.proofs.Rows.{NameFrom, values_in, all_values, AreFronts, AreBacks, IsRecorded, fronts_many, front_at, back_at, found_at}

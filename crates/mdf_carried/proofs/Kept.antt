@@ -32,7 +32,7 @@ use Rattle.mdf_model.specs.Bodies.{bodies}
 use Rattle.mdf_model.specs.Contents.{MeetsValue, IsChannelStream}
 use Rattle.mdf_model.proofs.Bodies.{bodies_at}
 use Rattle.mdf_model.proofs.Channels.{HoldBodies, held_by, values_of, take_less}
-use Rattle.mdf_model.proofs.Cases.{two_ways}
+use Rattle.mdf_block.proofs.Cases.{two_ways}
 use Rattle.mdf_model.proofs.Onces.{values_unique}
 use Rattle.mdf_carried.proofs.Laid.{every_found}
 

@@ -18,8 +18,10 @@ use Rattle.mdf_layout.specs.declared.sample.Sample.{Sample}
 use Rattle.mdf_content.specs.declared.contents.Contents.{Contents}
 use Rattle.mdf_content.specs.Records.{known_of}
 use Rattle.mdf_model.specs.Contents.{sample_groups}
-use Rattle.mdf_model.proofs.Cases.{some_injective}
-use Rattle.mdf_model.proofs.Onces.{none_behind, zip_unique, head_unique, history_unique, contents_unique}
+use Rattle.mdf_block.proofs.Cases.{some_injective}
+use Rattle.mdf_model.proofs.Onces.{head_unique, history_unique, contents_unique}
+use Rattle.mdf_block.proofs.Names.{none_behind}
+use Rattle.mdf_block.proofs.Items.{zip_unique}
 use Rattle.mdf_gate.proofs.Once.{opened_once}
 use Rattle.mdf_carried.specs.Recovered.{AreRecords, told, IsGroupContents, Recovery, IsRecovery}
 use Rattle.mdf_carried.specs.Samples.{index_of, body_of, IsSampleOf, sample_records, IsRecovered}

@@ -21,7 +21,7 @@ use Rattle.mdf_layout.specs.Rule.{BreaksRule}
 use Rattle.mdf_layout.specs.declared.field.FieldRow.{FieldRow}
 use Rattle.mdf_content.specs.Layouts.{field_of, layout_of}
 use Rattle.mdf_model.specs.Contents.{KeepsRules}
-use Rattle.mdf_model.proofs.Cases.{two_ways}
+use Rattle.mdf_block.proofs.Cases.{two_ways}
 use Rattle.mdf_tree.specs.Text.{note_blocks}
 use Rattle.mdf_tree.specs.Group.{first_or_none, behind_first, past_channel, value_link, values_behind, values_past, placed_channel, placed_channels, group_channels, past_group, past_groups, group_values, group_values_behind, placed_group, placed_groups}
 use Rattle.mdf_spell.specs.Recording.{numbered, values_row, values_rows, variable_count, block_links, first_values, value_links, recording_blocks, recorded_row, IsRecordingTree}

@@ -22,7 +22,7 @@ use Rattle.mdf_layout.specs.Read.{Piece, piece_body, piece_bytes, IsPiece, strea
 use Rattle.mdf_content.specs.Records.{size_of, known_of}
 use Rattle.mdf_model.specs.Bodies.{is_of, bodies, joined}
 use Rattle.mdf_tree.proofs.Numbers.{back32}
-use Rattle.mdf_model.proofs.Cases.{two_ways}
+use Rattle.mdf_block.proofs.Cases.{two_ways}
 use Rattle.mdf_carried.proofs.Numbers.{numbered_at}
 use Rattle.mdf_carried.proofs.Rows.{all_values, IsRecorded, fronts_many, front_at, back_at, front_size, back_size}
 

@@ -23,8 +23,8 @@ use Rattle.mdf_content.specs.Samples.{record_at}
 use Rattle.mdf_model.specs.Measurement.{holds_samples}
 use Rattle.mdf_model.specs.Bodies.{is_of, bodies, joined}
 use Rattle.mdf_model.specs.Contents.{is_of_samples, sample_groups}
-use Rattle.mdf_model.proofs.Cases.{some_injective, two_ways}
-use Rattle.mdf_model.proofs.Picks.{all_there}
+use Rattle.mdf_block.proofs.Cases.{some_injective, two_ways}
+use Rattle.mdf_block.proofs.Picks.{all_there}
 use Rattle.mdf_carried.specs.Recovered.{IsGroupContents, Recovery, IsRecovery}
 use Rattle.mdf_carried.specs.Samples.{is_sample_in, is_sample, sample_number, index_of, body_of, IsSampleOf, IsRecovered}
 use Rattle.mdf_carried.proofs.Values.{bodies_whole}

@@ -21,9 +21,9 @@ use Rattle.mdf_model.specs.Bodies.{is_of, bodies}
 use Rattle.mdf_model.specs.Contents.{HasIdSize}
 use Rattle.mdf_model.proofs.Alone.{at_most_one}
 use Rattle.mdf_model.proofs.Bodies.{bodies_at, size_there}
-use Rattle.mdf_model.proofs.Cases.{two_ways}
+use Rattle.mdf_block.proofs.Cases.{two_ways}
 use Rattle.mdf_model.proofs.Channels.{HoldBodies}
-use Rattle.mdf_model.proofs.Picks.{AreNumbered, numbered_both, all_there}
+use Rattle.mdf_block.proofs.Picks.{AreNumbered, numbered_both, all_there}
 use Rattle.mdf_session.specs.Counted.{values_total, total_of, totals_from}
 use Rattle.mdf_carried.specs.Recovered.{value_bytes}
 

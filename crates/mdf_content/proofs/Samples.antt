@@ -38,6 +38,7 @@ use Rattle.mdf_content.specs.Records as bodies
 use Rattle.mdf_content.specs.Contents.{content_of}
 use Rattle.mdf_content.specs.Samples.{record_at, AreSamples}
 use Rattle.mdf_content.proofs.Laid.{laid_shape}
+use Rattle.mdf_block.proofs.Cases.{ok_injective}
 
 abbrev pub HaveRoom : ℕ → ℕ → List ℕ → Type 0
 HaveRoom total size places = AllByRecursion (λ (place : ℕ). place + size ≤ total) places
@@ -84,9 +85,6 @@ front_room total size (suc n) [] room = tt
 front_room total size (suc n) (place ∷ places) room = (room.0, front_room total size n places room.1)
 
 -- the offsets that were looked at meet values
-ok_injective : {A : Type 0} (x y : A) → ◌≡◌ {A = Read A} (Ok x) (Ok y) → x ≡ y
-ok_injective x y same = cc
-
 none_here : (k : ℕ) → k ≡ k + 0
 none_here k = omega arith
 

@@ -15,6 +15,7 @@ use Rattle.mdf_data.specs.declared.known.Size.{Size}
 use Rattle.mdf_data.specs.declared.known.Group.{Group}
 use Rattle.mdf_data.specs.declared.known.Piece.{Piece}
 use Rattle.mdf_data.specs.Record.{group_of, least_size, IsPieceAt}
+use Rattle.mdf_block.proofs.Cases.{some_injective}
 
 cut_at : (known : List Known) (k : ℕ) (d : Known) → k < length known → drop k known ≡ get_or known k d ∷ drop (k + 1) known
 cut_at known k d below = rw add-one (drop-cons known k d below)
@@ -39,9 +40,6 @@ unfolding group_of
 group_none known id k past = ap (λ (rest : List Known). group_of rest id k) (drop_all k known past)
 
 -- a group that is found is one of them
-some_injective : {A : Type 0} (x y : A) → ◌≡◌ {A = Option A} (Some x) (Some y) → x ≡ y
-some_injective x y same = cc
-
 pub group_found : (known : List Known) (id from : ℕ) (group : Group) → group_of known id from ≡ Some group
     → (k : ℕ) × (group.which ≡ from + k) × (k < length known) × ((d : Known) → (get_or known k d).size ≡ group.size) × ((d : Known) → (get_or known k d).id ≡ id)
 unfolding group_of

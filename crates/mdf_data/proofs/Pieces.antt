@@ -18,15 +18,10 @@ use Rattle.mdf_data.specs.Record.{group_of, body_size, id_at, whole_piece, group
 use Rattle.mdf_data.specs.Places.{pieces_after, pieces_from, pieces}
 use Rattle.mdf_data.specs.Split.{Record, IsValue, IsBody, IsRecord, record_of, IsRefusedAt, IsRecordSplit}
 use Rattle.mdf_stream.proofs.Joins.{bytes_at-add}
-
-ok_injective : {A : Type 0} (x y : A) → ◌≡◌ {A = Read A} (Ok x) (Ok y) → x ≡ y
-ok_injective x y same = cc
+use Rattle.mdf_block.proofs.Cases.{ok_injective, some_injective}
 
 err_injective : {A : Type 0} (x y : Refusal) → ◌≡◌ {A = Read A} (Err x) (Err y) → x ≡ y
 err_injective x y same = cc
-
-some_injective : {A : Type 0} (x y : A) → ◌≡◌ {A = Option A} (Some x) (Some y) → x ≡ y
-some_injective x y same = cc
 
 -- bytes that are there are so many
 pub length-bytes : (n at : ℕ) (stream : List ℕ) → at + n ≤ length stream → length (bytes_at n stream at) ≡ n

@@ -1,5 +1,5 @@
 -- The records that are found are a split of the stream, and a stream has one split.
-use Rattle.std.proofs.Common.{◌≡◌, ℕ, zero, suc, List, [], ◌∷◌, ◌++◌, length, take, drop, replicate, Option, Some, refl, sym, ◌∙◌, ap, subst, append_assoc}
+use Rattle.std.proofs.Common.{◌≡◌, ℕ, zero, suc, List, [], ◌∷◌, ◌++◌, length, take, drop, replicate, refl, sym, ◌∙◌, ap, subst, append_assoc}
 use Rattle.std.proofs.lemmas.List.{take_at, drop_at}
 use Rattle.std.specs.List.{flat_map}
 use Rattle.mdf_format.specs.Number.{le_number}
@@ -9,6 +9,7 @@ use Rattle.mdf_data.specs.declared.known.Known.{Known}
 use Rattle.mdf_data.specs.declared.known.Group.{Group}
 use Rattle.mdf_data.specs.Record.{group_of}
 use Rattle.mdf_data.specs.Split.{Record, IsBody, IsRecord, IsAlone, IsSplitBy, IsAllRest, empty_record, IsSplitAlone, IsRecordSplit}
+use Rattle.mdf_block.proofs.Cases.{some_injective}
 
 -- two lists that begin another one and are as long are one, and so are their rests
 front_same : (xs ys a b : List ℕ) → xs ++ a ≡ ys ++ b → length xs ≡ length ys → xs ≡ ys
@@ -57,9 +58,6 @@ bodies_same sizes.Variable xs ys a b body_x body_y same =
     let behind = rest_same body_x.size body_y.size _ _ first (body_x.four ∙ sym body_y.four) in
     let values_same = front_same body_x.value body_y.value a b behind (sym body_x.long ∙ ap le_number sizes_same ∙ body_y.long) in
     body_x.body_is ∙ ap (λ (zs : List ℕ). zs ++ body_x.value) sizes_same ∙ ap (λ (zs : List ℕ). body_y.size ++ zs) values_same ∙ sym body_y.body_is
-
-some_injective : {A : Type 0} (x y : A) → ◌≡◌ {A = Option A} (Some x) (Some y) → x ≡ y
-some_injective x y same = cc
 
 record_same : (r s : Record) → r.which ≡ s.which → r.bytes ≡ s.bytes → r ≡ s
 record_same r s which bytes =

@@ -16,9 +16,7 @@ use Rattle.mdf_data.specs.declared.known.Group.{Group}
 use Rattle.mdf_data.specs.declared.known.Size.TheVariants as sizes
 use Rattle.mdf_data.specs.Places.{pieces_after, pieces_from, pieces, with_place, spread, places, HaveRoom}
 use Rattle.mdf_stream.proofs.Links.{all_more}
-
-some_injective : {A : Type 0} (x y : A) → ◌≡◌ {A = Option A} (Some x) (Some y) → x ≡ y
-some_injective x y same = cc
+use Rattle.mdf_block.proofs.Cases.{some_injective}
 
 -- the places so far, with those of the records that follow
 abbrev gathered : ℕ → List (List ℕ) → Read (List Piece) → Read (List (List ℕ))

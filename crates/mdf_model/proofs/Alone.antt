@@ -21,7 +21,7 @@ use Rattle.mdf_content.proofs.Rooms.{room_alone}
 use Rattle.mdf_model.specs.Bodies.{bodies}
 use Rattle.mdf_model.specs.Contents.{HasIdSize, empties_in}
 use Rattle.mdf_model.proofs.Bodies.{bodies_at, AreSplitAt, places_found}
-use Rattle.mdf_model.proofs.Cases.{ok_injective}
+use Rattle.mdf_block.proofs.Cases.{ok_injective}
 
 -- what the test of an id size says
 pub id_size_is : (row : DataRow) → has_id_size row ≡ true → HasIdSize row

@@ -18,7 +18,7 @@ use Rattle.mdf_block.proofs.Refusals.{bind_ok}
 use Rattle.mdf_data.proofs.Groups.{group_is}
 use Rattle.mdf_data.proofs.Pieces.{records_found}
 use Rattle.mdf_model.specs.Bodies.{is_of, bodies}
-use Rattle.mdf_model.proofs.Cases.{ok_injective}
+use Rattle.mdf_block.proofs.Cases.{ok_injective}
 
 -- the pieces of group k
 abbrev is_piece_of : ℕ → Piece → Bool

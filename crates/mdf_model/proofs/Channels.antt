@@ -1,5 +1,5 @@
 -- The streams of the channels of variable length that are found, with the values in them.
-use Rattle.std.proofs.Common.{◌≡◌, ◌+◌, ◌<◌, ℕ, zero, suc, List, [], ◌∷◌, ◌++◌, length, get_or, take, drop, map, Ok, refl, sym, ◌∙◌, ap, subst, inl, inr, arith}
+use Rattle.std.proofs.Common.{◌≡◌, ◌+◌, ℕ, zero, suc, List, [], ◌∷◌, ◌++◌, length, get_or, take, drop, Ok, refl, sym, ◌∙◌, ap, subst, inl, inr, arith}
 use Rattle.std.specs.Prelude.{true, min, nat_eq, ◌&&◌, filter, slice_get, Option, Some, None}
 use Rattle.std.specs.List.{flat_map, AllByRecursion, AllZip}
 use Rattle.std.proofs.lemmas.Bool.{and_parts, cond-true}
@@ -37,18 +37,9 @@ use Rattle.mdf_model.specs.Bodies.{bodies, joined}
 use Rattle.mdf_model.specs.Contents.{IsValuesOf, MeetsValue, IsChannelStream}
 use Rattle.mdf_model.proofs.Insides.{data_inside}
 use Rattle.mdf_model.proofs.Bodies.{HasRoom, bodies_at}
-use Rattle.mdf_model.proofs.Picks.{IsPicked, all_read, picked, keyed_own}
-use Rattle.mdf_model.proofs.Cases.{ok_injective, some_injective}
-
--- what holds of each of the first places
-all_taken : (P : List ℕ → Type 0) (f : ℕ → List ℕ) (count : ℕ) (places : List ℕ)
-    → ((j : ℕ) → j < min count (length places) → P (f (get_or places j 0))) → AllByRecursion P (take count (map f places))
-all_taken P f zero places each = tt
-all_taken P f (suc count) [] each = tt
-all_taken P f (suc count) (place ∷ places) each = (
-  each zero (omega arith),
-  all_taken P f count places (λ j below. each (suc j) (omega (arith, below))),
-)
+use Rattle.mdf_block.proofs.Picks.{IsPicked, all_read, picked, keyed_own}
+use Rattle.mdf_block.proofs.Cases.{ok_injective, some_injective}
+use Rattle.mdf_block.proofs.Items.{all_taken}
 
 pub take_less : (m n : ℕ) (xs : List ℕ) → take m (take (m + n) xs) ≡ take m xs
 take_less m n xs = take-take m (m + n) xs (omega arith)

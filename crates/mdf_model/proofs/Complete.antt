@@ -1,8 +1,8 @@
 -- A file that has a measurement and is within the limits is read.
-use Rattle.std.proofs.Common.{◌≡◌, ◌+◌, ◌⊎◌, ℕ, zero, suc, true, List, [], ◌∷◌, Option, Some, None, Ok, Err, refl, sym, ◌∙◌, ap, subst, inl, inr, arith}
-use Rattle.std.specs.Prelude.{Bool, if◌then◌else◌, codes, filter, slice_get}
+use Rattle.std.proofs.Common.{◌≡◌, ◌+◌, ℕ, true, List, [], ◌∷◌, Option, Some, None, Ok, Err, refl, sym, ◌∙◌, ap, subst, inl, inr, arith}
+use Rattle.std.specs.Prelude.{if◌then◌else◌, codes, filter}
 use Rattle.std.specs.List.{AllByRecursion, AllZip}
-use Rattle.std.proofs.lemmas.Bool.{cond-true, cond-false}
+use Rattle.std.proofs.lemmas.Bool.{cond-true}
 use Rattle.std.proofs.lemmas.Slice.Eq.{bytes_eq-Decides}
 use Rattle.mdf_format.specs.Number.{bytes_at}
 use Rattle.mdf_format.specs.Block.{IsBlock}
@@ -52,33 +52,12 @@ use Rattle.mdf_model.specs.Truth.{IsTrueOfData}
 use Rattle.mdf_model.specs.Limits.{HasFewValues, IsWithinData, IsWithinTree, IsWithinLimits}
 use Rattle.mdf_model.proofs.Channels.{held_by}
 use Rattle.mdf_model.proofs.Files.{data_true}
-use Rattle.mdf_model.proofs.Onces.{none_first}
-use Rattle.mdf_model.proofs.Picks.{keyed_own}
+use Rattle.mdf_block.proofs.Names.{none_first}
+use Rattle.mdf_block.proofs.Picks.{keyed_own, picked_get, passed_get}
 use Rattle.mdf_model.proofs.Truths.{IsOfData, IsRefusedLink}
-use Rattle.mdf_model.proofs.Undefined.{all_get, picked_get, group_get, no_lack, no_rest, no_more, no_miss}
-use Rattle.mdf_model.proofs.Cases.{some_injective, two_ways}
-
--- something is found, or refused
-pub found_or_not : {A : Type 0} (read : Read A) → ((x : A) × (read ≡ Ok x)) ⊎ ((refusal : Refusal) × (read ≡ Err refusal))
-found_or_not (Ok x) = inl (x, refl)
-found_or_not (Err refusal) = inr (refusal, refl)
-
--- an item that passes a test
-pub passed_get : {A : Type 0} (test : A → Bool) (P : A → Type 0) (xs : List A) (i : ℕ) (x : A) → slice_get xs i ≡ Some x → test x ≡ true
-    → AllByRecursion P (filter test xs) → P x
-passed_get {A} test P [] i x is passes all = let wrong : ◌≡◌ {A = Option A} None (Some x) = is in cc
-passed_get {A} test P (y ∷ xs) zero x is passes all =
-    let same : y ≡ x = some_injective y x is in
-    let here : test y ≡ true = ap test same ∙ passes in
-    let first = subst (AllByRecursion P) (cond-true (test y) (y ∷ filter test xs) (filter test xs) here) all in subst P same first.0
-passed_get {A} test P (y ∷ xs) (suc i) x is passes all =
-    elim (two_ways (test y)) [
-      | inl holds ↦
-          let first = subst (AllByRecursion P) (cond-true (test y) (y ∷ filter test xs) (filter test xs) holds) all in
-          passed_get test P xs i x is passes first.1
-      | inr fails ↦
-          passed_get test P xs i x is passes (subst (AllByRecursion P) (cond-false (test y) (y ∷ filter test xs) (filter test xs) fails) all)
-    ]
+use Rattle.mdf_model.proofs.Undefined.{group_get, no_lack, no_rest, no_more, no_miss}
+use Rattle.mdf_block.proofs.Items.{all_get}
+use Rattle.mdf_block.proofs.Cases.{found_or_not, not_both}
 
 -- the values of a channel
 pub values_there : (f : List ℕ) (row : DataRow) (records : List Record) (parts : List Part) (lists : List (List ℕ)) (link : ℕ) (group : Option ℕ) (stream : List ℕ)
@@ -86,10 +65,6 @@ pub values_there : (f : List ℕ) (row : DataRow) (records : List Record) (parts
     → (values : List Part) × (values_in f (held_by parts row lists) link group ≡ Ok values)
 values_there f row records parts lists link (Some k) stream of_channel few = (_, refl)
 values_there f row records parts lists link None stream of_channel few = parts_reached f Sd (inr refl) link stream of_channel few
-
--- what is read is not refused
-not_both : {A : Type 0} (read : Read A) (x : A) (refusal : Refusal) → read ≡ Ok x → read ≡ Err refusal → ⊥
-not_both {A} read x refusal found refused = let wrong : ◌≡◌ {A = Read A} (Ok x) (Err refusal) = sym found ∙ refused in cc
 
 module _ (f : List ℕ) (row : DataRow) (found : List Contents) (is : IsDataContents f row found) (within : IsWithinData f row) where
   -- no link to data is

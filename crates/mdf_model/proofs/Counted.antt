@@ -36,10 +36,11 @@ use Rattle.mdf_model.proofs.Bodies.{bodies_at}
 use Rattle.mdf_model.proofs.Channels.{HoldBodies, held_by, values_of, take_less}
 use Rattle.mdf_model.proofs.Founds.{count_found}
 use Rattle.mdf_model.proofs.Stricts.{places_long}
-use Rattle.mdf_model.proofs.Picks.{all_there}
-use Rattle.mdf_model.proofs.Walks.{refusing_every}
+use Rattle.mdf_block.proofs.Picks.{all_there}
+use Rattle.mdf_block.proofs.Walks.{refusing_every}
 use Rattle.mdf_model.proofs.Truths.{IsTrue, link_true, layout_true, own_true}
-use Rattle.mdf_model.proofs.Cases.{ok_injective}
+use Rattle.mdf_block.proofs.Cases.{ok_injective}
+use Rattle.mdf_block.proofs.Items.{record_at}
 
 -- a value that stands passes the test
 value_is : (stream : List ℕ) (offset : ℕ) (value : List ℕ) → IsValueAt stream offset value → has_value stream offset ≡ true
@@ -70,14 +71,6 @@ offsets_true P meets offset c row (suc left) each =
     (λ met _. offsets_true P meets offset c (row + 1) left (λ j below missed.
     subst (λ (n : ℕ). P (Offset c n (offset n))) (sym (one_on row j))
     (each (suc j) (omega (arith, below)) (subst (λ (n : ℕ). meets (offset n) ≡ false) (one_on row j) missed))))
-
--- one of the first records
-record_at : (f : ℕ → List ℕ) (count : ℕ) (places : List ℕ) (i : ℕ) → i < min count (length places)
-    → slice_get (take count (map f places)) i ≡ Some (f (get_or places i 0))
-record_at f zero places i below = absurd (omega (arith, below))
-record_at f (suc count) [] i below = absurd (omega (arith, below))
-record_at f (suc count) (place ∷ places) zero below = refl
-record_at f (suc count) (place ∷ places) (suc i) below = record_at f count places i (omega (arith, below))
 
 -- how many groups come before the next one
 

@@ -45,12 +45,12 @@ use Rattle.mdf_model.specs.Truth.{IsTrueOfData, sample_count, IsTrueOfFile}
 use Rattle.mdf_model.proofs.Insides.{data_inside}
 use Rattle.mdf_model.proofs.Alone.{split_found}
 use Rattle.mdf_model.proofs.Founds.{all_of_data, size_found, hold_by}
-use Rattle.mdf_model.proofs.Picks.{all_there}
-use Rattle.mdf_model.proofs.Walks.{refusing_every}
+use Rattle.mdf_block.proofs.Picks.{all_there}
+use Rattle.mdf_block.proofs.Walks.{refusing_every}
 use Rattle.mdf_model.proofs.Truths.{IsTrue, link_true, layouts_true, places_true}
 use Rattle.mdf_model.proofs.Counted.{next_is, counts_true, all_true}
 use Rattle.mdf_model.proofs.Wholes.{identified, IsTree, tree_found}
-use Rattle.mdf_model.proofs.Cases.{ok_injective}
+use Rattle.mdf_block.proofs.Cases.{ok_injective}
 
 -- a data group
 module _ (f : List ℕ) (row : DataRow) (before : ℕ) where

@@ -9,7 +9,6 @@ use Rattle.std.proofs.lemmas.List.Folds.{flat_map-map}
 use Rattle.std.proofs.lemmas.Option.{slice_get_within, get_or_from_slice_get, slice_get-map}
 use Rattle.mdf_format.specs.Number.{bytes_at}
 use Rattle.mdf_format.specs.declared.kind.Kind.TheVariants.{Dt}
-use Rattle.mdf_block.specs.Refusal as refusals
 use Rattle.mdf_block.specs.Refusal.{Cycles, Read, Refusal, ◌>>=◌}
 use Rattle.mdf_block.proofs.Refusals.{bind_ok}
 use Rattle.mdf_block.proofs.Wholes.{chosen}
@@ -46,8 +45,9 @@ use Rattle.mdf_model.proofs.Bodies.{HasRoom, bodies_at, AreSplitAt}
 use Rattle.mdf_model.proofs.Alone.{id_size_is, split_found}
 use Rattle.mdf_model.proofs.Ruled.{layout_found}
 use Rattle.mdf_model.proofs.Channels.{HaveRooms, HoldBodies, held_by, streams_found}
-use Rattle.mdf_model.proofs.Picks.{AreRead, AreNumbered, IsPicked, all_read, read_with, picked, numbered_both, all_there, keyed_numbered}
-use Rattle.mdf_model.proofs.Cases.{if_ok, ok_injective}
+use Rattle.mdf_block.proofs.Picks.{AreRead, AreNumbered, IsPicked, all_read, read_with, picked, numbered_both, all_there, keyed_numbered}
+use Rattle.mdf_block.proofs.Cases.{if_ok, ok_injective}
+use Rattle.mdf_block.proofs.Items.{zip_turned}
 
 -- the id size of a data group that is read
 pub size_found : (row : DataRow) (u : Unit {0}) → layouts row ≡ Ok u → HasIdSize row
@@ -264,14 +264,6 @@ data_split f row found is = record {
   is_stream = stream_found f Dt row.content found.view is.is_parts;
   split = is.split.split;
 }
-
--- what holds of the items that are turned
-zip_turned : {A B C : Type 0} (R : A → C → Type 0) (turn : B → C) (xs : List A) (ys : List B) → AllZip (λ x y. R x (turn y)) xs ys
-    → AllZip R xs (map turn ys)
-zip_turned R turn [] [] all = tt
-zip_turned R turn [] (y ∷ ys) all = absurd all
-zip_turned R turn (x ∷ xs) [] all = absurd all
-zip_turned R turn (x ∷ xs) (y ∷ ys) all = (all.0, zip_turned R turn xs ys all.1)
 
 pub contents_are : (f : List ℕ) (row : DataRow) (found : DataFound) → IsDataFound f row found → IsDataContents f row (data_fetched f found).groups
 contents_are f row found is = record {

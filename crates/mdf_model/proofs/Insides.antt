@@ -18,7 +18,7 @@ use Rattle.mdf_stream.specs.declared.part.Part.{Part}
 use Rattle.mdf_stream.specs.Parts.{IsPartInside, ArePartsInside}
 use Rattle.mdf_stream.specs.Link.{one_less, part_of, data_block, named_block, data_list, data_lists, joined, listed_parts, one_part, data_parts}
 use Rattle.mdf_stream.proofs.Links.{all_joined}
-use Rattle.mdf_model.proofs.Cases.{ok_injective}
+use Rattle.mdf_block.proofs.Cases.{ok_injective}
 
 -- the body of a block
 pub body_inside : (f : List ℕ) (want : Kind) (at : ℕ) (b : BlockAt) → block f at want ≡ Ok b → IsPartInside (length f) (part_of b)

@@ -1,7 +1,6 @@
 pub mod Alone
 mod Answers
 pub mod Bodies
-pub mod Cases
 pub mod Channels
 -- what stands within the limits is read
 pub mod Complete
@@ -10,11 +9,9 @@ pub mod Files
 pub mod Founds
 pub mod Fronts
 pub mod Insides
-pub mod Items
 pub mod Kepts
 pub mod Fetches
 pub mod Onces
-pub mod Picks
 mod Rests
 pub mod Ruled
 pub mod Sames
@@ -23,7 +20,6 @@ pub mod Stricts
 pub mod Taken
 mod Truths
 mod Undefined
-mod Walks
 pub mod Wholes
 pub mod Identified
 mod Numbered

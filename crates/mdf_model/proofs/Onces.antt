@@ -1,15 +1,12 @@
 -- A file has one measurement.
-use Rattle.std.proofs.Common.{◌≡◌, ℕ, List, [], ◌∷◌, get_or, map, Option, Some, None, refl, sym, ◌∙◌, ap, subst, inl, inr, arith, ◌<◌, lit<}
-use Rattle.std.specs.Prelude.{filter, zip, codes}
+use Rattle.std.proofs.Common.{◌≡◌, ℕ, List, map, Option, Some, None, refl, sym, ◌∙◌, ap, subst, inl, inr}
+use Rattle.std.specs.Prelude.{filter, zip}
 use Rattle.std.specs.List.{flat_map, AllZip}
-use Rattle.mdf_format.specs.Number.{bytes_at}
-use Rattle.mdf_format.specs.Block.{name_of, link_at, body_at, IsBlock}
-use Rattle.mdf_format.specs.Identification.{IsFinalized}
+use Rattle.mdf_format.specs.Block.{link_at, body_at, IsBlock}
 use Rattle.mdf_format.specs.declared.kind.Kind.{Kind}
 use Rattle.mdf_format.specs.declared.kind.Kind.TheVariants as kinds
 use Rattle.mdf_block.specs.declared.note.Note.{Note}
 use Rattle.mdf_block.specs.Text.{IsNote}
-use Rattle.mdf_block.proofs.Parts.{bytes_at-bytes_at}
 use Rattle.mdf_block.proofs.Uniques.{note_unique, chain_unique, items_unique}
 use Rattle.mdf_data.specs.Split.{Record, IsRecordSplit}
 use Rattle.mdf_stream.proofs.Streams.{streams_agree}
@@ -30,47 +27,8 @@ use Rattle.mdf_content.specs.Values.{values_group}
 use Rattle.mdf_model.specs.declared.part.Measure.{Measure}
 use Rattle.mdf_model.specs.Contents.{empties_in, IsDataSplit, IsValuesOf, IsChannelStream, own_records, IsContents, sample_groups, IsDataContents}
 use Rattle.mdf_model.specs.InWords.{row_measures, IsMeasurement}
-
--- no block stands at the beginning of an MDF file
-differ : (m n : ℕ) → m ≡ n → m < n → ⊥
-differ m n same below = omega arith
-
-hashes : (kind : Kind) → get_or (name_of kind) 0 0 ≡ 35
-hashes kinds.Hd = refl
-hashes kinds.Fh = refl
-hashes kinds.Dg = refl
-hashes kinds.Cg = refl
-hashes kinds.Cn = refl
-hashes kinds.Cc = refl
-hashes kinds.Si = refl
-hashes kinds.Tx = refl
-hashes kinds.Md = refl
-hashes kinds.Dt = refl
-hashes kinds.Dl = refl
-hashes kinds.Sd = refl
-hashes kinds.At = refl
-
-pub none_behind : (f mark : List ℕ) (first : ℕ) → bytes_at 8 f 0 ≡ mark → get_or (bytes_at 4 mark 0) 0 0 ≡ first → 35 < first
-    → (kind : Kind) → IsBlock f 0 kind → ⊥
-none_behind f mark first is is_first above kind block =
-    let front : bytes_at 4 (bytes_at 8 f 0) 0 ≡ bytes_at 4 f 0 = bytes_at-bytes_at 4 8 0 0 f (omega arith) in
-    let four : bytes_at 4 mark 0 ≡ name_of kind = ap (λ (xs : List ℕ). bytes_at 4 xs 0) (sym is) ∙ front ∙ block.named in
-    let wrong : first ≡ 35 = sym is_first ∙ ap (λ (xs : List ℕ). get_or xs 0 0) four ∙ hashes kind in
-    differ 35 first (sym wrong) above
-
-pub none_first : (f : List ℕ) → IsFinalized f → (kind : Kind) → IsBlock f 0 kind → ⊥
-none_first f is = none_behind f (codes "MDF     ") 77 is refl (lit< tt)
-
--- lists that stand item by item to another one
-pub zip_unique : {A B : Type 0} (R : A → B → Type 0) → ((x : A) (y z : B) → R x y → R x z → y ≡ z)
-    → (xs : List A) (ys zs : List B) → AllZip R xs ys → AllZip R xs zs → ys ≡ zs
-zip_unique R one [] [] [] is_y is_z = refl
-zip_unique R one [] [] (z ∷ zs) is_y is_z = absurd is_z
-zip_unique R one [] (y ∷ ys) zs is_y is_z = absurd is_y
-zip_unique R one (x ∷ xs) [] zs is_y is_z = absurd is_y
-zip_unique R one (x ∷ xs) (y ∷ ys) [] is_y is_z = absurd is_z
-zip_unique {A} {B} R one (x ∷ xs) (y ∷ ys) (z ∷ zs) is_y is_z =
-    ap (λ (w : B). w ∷ ys) (one x y z is_y.0 is_z.0) ∙ ap (λ (ws : List B). z ∷ ws) (zip_unique R one xs ys zs is_y.1 is_z.1)
+use Rattle.mdf_block.proofs.Items.{zip_unique}
+use Rattle.mdf_block.proofs.Names.{none_first}
 
 -- the header and the history
 pub head_unique : (f : List ℕ) (a b : Head) (xs ys : List History) → IsHead f a xs → IsHead f b ys → a ≡ b

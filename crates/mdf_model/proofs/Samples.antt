@@ -1,5 +1,5 @@
 -- The samples of the groups of a measurement.
-use Rattle.std.proofs.Common.{◌≡◌, ◌+◌, ◌*◌, ◌<◌, ◌≤◌, ℕ, zero, suc, List, [], ◌∷◌, set, take, Option, Some, None, refl, sym, ◌∙◌, ap, arith}
+use Rattle.std.proofs.Common.{◌≡◌, ◌+◌, ◌*◌, ◌<◌, ◌≤◌, ℕ, zero, suc, List, [], ◌∷◌, take, Option, Some, None, refl, sym, ◌∙◌, ap, arith}
 use Rattle.std.proofs.Math.Nat.{mul-le-mul_right}
 use Rattle.std.specs.List.{AllByRecursion}
 use Rattle.std.specs.Option.{option_map}
@@ -22,6 +22,7 @@ use Rattle.mdf_content.specs.declared.contents.Contents.{Contents}
 use Rattle.mdf_content.specs.declared.contents.DataContents.{DataContents}
 use Rattle.mdf_content.specs.Contents.{HaveSamples, AllHaveSamples}
 use Rattle.mdf_model.specs.Measurement.{HasSamples, holds_samples, paired, data_measures, measures}
+use Rattle.mdf_block.proofs.Cases.{some_injective}
 
 -- groups with what they hold have the samples that were found
 paired_samples : (comment : Note) (rows : List GroupRow) (found : List Contents) → AllByRecursion HaveSamples found
@@ -38,12 +39,6 @@ measures_samples (row ∷ rows) (one ∷ found) all =
     all_more HasSamples (data_measures row one) (measures rows found)
     (paired_samples row.comment (filter holds_samples row.groups) one.groups all.0) (measures_samples rows found all.1)
 
--- one of them is replaced
-pub all_set : {A : Type 0} (P : A → Type 0) (xs : List A) (k : ℕ) (y : A) → AllByRecursion P xs → P y → AllByRecursion P (set xs k y)
-all_set P [] k y all one = tt
-all_set P (x ∷ xs) zero y all one = (one, all.1)
-all_set P (x ∷ xs) (suc k) y all one = (all.0, all_set P xs k y all.1 one)
-
 -- record i lies in the content
 pub record_within : (i count size long : ℕ) → i < count → long ≡ count * size → i * size + size ≤ long
 record_within i count size long below is =
@@ -58,9 +53,6 @@ no_entry row bytes inval find index kind missing =
     let g = option_map (λ (v : Value). record { value = v; valid = is_valid row inval }) in
     ap (λ (k : FieldKind). g (value_in k (spot_in row) bytes find index)) kind
     ∙ ap (λ (found : Option (List ℕ)). g (option_map value.Bytes found)) missing
-
-some_injective : {A : Type 0} (x y : A) → ◌≡◌ {A = Option A} (Some x) (Some y) → x ≡ y
-some_injective x y same = cc
 
 pub none_missing : (rows : List FieldRow) (bytes inval : List ℕ) (finders : List Finder) (index k offset : ℕ) (row : FieldRow) (entries : List Entry)
     → slice_get rows k ≡ Some row → row.kind ≡ Variable → offset ≡ field_number (spot_in row) bytes

@@ -33,7 +33,7 @@ use Rattle.mdf_model.specs.InWords.{IsValidData, IsValidFile}
 use Rattle.mdf_model.proofs.Insides.{data_inside}
 use Rattle.mdf_model.proofs.Bodies.{bodies_at, size_there}
 use Rattle.mdf_model.proofs.Alone.{at_most_one}
-use Rattle.mdf_model.proofs.Picks.{AreNumbered, numbered_both, all_there}
+use Rattle.mdf_block.proofs.Picks.{AreNumbered, numbered_both, all_there}
 use Rattle.mdf_model.proofs.Founds.{IsDataFound, data_split}
 use Rattle.mdf_model.proofs.Onces.{split_unique, rows_unique}
 use Rattle.mdf_model.proofs.Wholes.{IsWhole, all_of, measurement_of}

@@ -35,10 +35,10 @@ use Rattle.mdf_content.specs.Values.{values_group}
 use Rattle.mdf_model.specs.Contents.{empties_in}
 use Rattle.mdf_model.specs.Truth.{IsRestAt, IsSampleGroup, IsUnknownAt, IsTrueOfData}
 use Rattle.mdf_model.proofs.Alone.{id_size_from}
-use Rattle.mdf_model.proofs.Picks.{all_there}
-use Rattle.mdf_model.proofs.Walks.{refusing_every}
+use Rattle.mdf_block.proofs.Picks.{all_there}
+use Rattle.mdf_block.proofs.Walks.{refusing_every}
 use Rattle.mdf_model.proofs.Rests.{refused_place, IsStop, IsUnknown, IsShort, piece_stop, some_left, unknown_is}
-use Rattle.mdf_model.proofs.Cases.{some_injective, two_ways}
+use Rattle.mdf_block.proofs.Cases.{some_injective, two_ways}
 
 -- where there are ids, none is told of empty records
 split_any : (stream : List ℕ) (id_size : ℕ) (known : List Known) (empties : ℕ) (records : List Record) (rest : List ℕ) → 1 ≤ id_size

@@ -1,9 +1,9 @@
 -- Where layouts, records, counts or values are refused, the file has no measurement.
-use Rattle.std.proofs.Common.{◌≡◌, ◌+◌, ℕ, zero, suc, List, [], ◌∷◌, length, drop, take, Option, Some, None, Err, sym, ◌∙◌, ap, subst, inl, inr, arith}
-use Rattle.std.specs.Prelude.{Bool, true, not, cond, filter, slice_get}
+use Rattle.std.proofs.Common.{◌≡◌, ◌+◌, ℕ, List, [], length, drop, take, Some, Err, sym, ◌∙◌, ap, subst, inl, inr, arith}
+use Rattle.std.specs.Prelude.{not, filter, slice_get}
 use Rattle.std.specs.Option.{option_map}
-use Rattle.std.specs.List.{AllByRecursion, AllZip}
-use Rattle.std.proofs.lemmas.Bool.{cond-true, cond-false}
+use Rattle.std.specs.List.{AllZip}
+use Rattle.std.proofs.lemmas.Bool.{cond-false}
 use Rattle.std.proofs.lemmas.List.{length-drop}
 use Rattle.std.proofs.lemmas.Option.{slice_get-map}
 use Rattle.mdf_format.specs.Field.{field_number}
@@ -32,70 +32,14 @@ use Rattle.mdf_model.specs.Bodies.{bodies}
 use Rattle.mdf_model.specs.Contents.{IsDataSplit, IsValuesOf, MeetsValue, IsChannelStream, own_records, IsContents, is_of_samples, IsDataContents}
 use Rattle.mdf_model.specs.InWords.{IsMeasurement}
 use Rattle.mdf_model.specs.Truth.{IsSampleGroup, BreaksLayout, LacksLayout, IsRestAt, SaysMore, MissesValue, IsTrueOfOne, IsAboutData}
-use Rattle.mdf_model.proofs.Picks.{keyed, keyed_own, keyed_numbered, AreNumbered}
-use Rattle.mdf_model.proofs.Onces.{none_first, head_unique, split_unique, values_unique}
+use Rattle.mdf_block.proofs.Picks.{keyed_own, keyed_numbered, numbered_get, picked_get}
+use Rattle.mdf_model.proofs.Onces.{head_unique, split_unique, values_unique}
+use Rattle.mdf_block.proofs.Names.{none_first}
 use Rattle.mdf_model.proofs.Files.{refusal_true}
-use Rattle.mdf_model.proofs.Cases.{some_injective, two_ways}
-
--- an item of a list, by its number
-pub all_get : {A : Type 0} (P : A → Type 0) (xs : List A) (i : ℕ) (x : A) → slice_get xs i ≡ Some x → AllByRecursion P xs → P x
-all_get {A} P [] i x is all = let wrong : ◌≡◌ {A = Option A} None (Some x) = is in cc
-all_get P (y ∷ xs) zero x is all = subst P (some_injective y x is) all.0
-all_get P (y ∷ xs) (suc i) x is all = all_get P xs i x is all.1
-
-next_on : (k j : ℕ) → k + 1 + j ≡ k + suc j
-next_on k j = omega arith
-
-none_on : (k : ℕ) → k ≡ k + 0
-none_on k = omega arith
+use Rattle.mdf_block.proofs.Items.{all_get, zip_get}
 
 from_zero : (k : ℕ) → 0 + k ≡ k
 from_zero k = omega arith
-
-numbered_get : {A : Type 0} (P : ℕ → A → Type 0) (k : ℕ) (xs : List A) (j : ℕ) (x : A) → slice_get xs j ≡ Some x → AreNumbered P k xs → P (k + j) x
-numbered_get {A} P k [] j x is all = let wrong : ◌≡◌ {A = Option A} None (Some x) = is in cc
-numbered_get P k (y ∷ xs) zero x is all = subst (λ (n : ℕ). P n x) (none_on k) (subst (P k) (some_injective y x is) all.0)
-numbered_get P k (y ∷ xs) (suc j) x is all = subst (λ (n : ℕ). P n x) (next_on k j) (numbered_get P (k + 1) xs j x is all.1)
-
--- what stands to an item of a list
-pub zip_get : {A B : Type 0} (R : A → B → Type 0) (xs : List A) (ys : List B) (n : ℕ) (x : A) → slice_get xs n ≡ Some x → AllZip R xs ys → (y : B) × R x y
-zip_get {A} R [] ys n x is all = let wrong : ◌≡◌ {A = Option A} None (Some x) = is in cc
-zip_get R (z ∷ xs) [] n x is all = absurd all
-zip_get {A} {B} R (z ∷ xs) (y ∷ ys) zero x is all = (y, subst (λ (a : A). R a y) (some_injective z x is) all.0)
-zip_get R (z ∷ xs) (y ∷ ys) (suc n) x is all = zip_get R xs ys n x is all.1
-
-first_get : {A B : Type 0} (R : A → B → Type 0) (x : A) (xs : List A) (ys : List B) → AllZip R (x ∷ xs) ys → (y : B) × R x y
-first_get R x xs [] all = absurd all
-first_get R x xs (y ∷ ys) all = (y, all.0)
-
-behind_get : {A B : Type 0} (R : A → B → Type 0) (x : A) (xs : List A) (ys : List B) → AllZip R (x ∷ xs) ys → (zs : List B) × AllZip R xs zs
-behind_get R x xs [] all = absurd all
-behind_get R x xs (y ∷ ys) all = (ys, all.1)
-
-rest_get : {A B : Type 0} (test : A → Bool) (R : A → B → Type 0) (x : A) (xs : List A) (ys : List B)
-    → AllZip R (cond (test x) (x ∷ xs) xs) ys → (zs : List B) × AllZip R xs zs
-rest_get {A} {B} test R x xs ys all =
-    elim (two_ways (test x)) [
-      | inl passes ↦ behind_get R x xs ys (subst (λ (cs : List A). AllZip R cs ys) (cond-true (test x) (x ∷ xs) xs passes) all)
-      | inr fails ↦ (ys, subst (λ (cs : List A). AllZip R cs ys) (cond-false (test x) (x ∷ xs) xs fails) all)
-    ]
-
--- and to an item that passes a test
-pub picked_get : {A B C : Type 0} (key : ℕ → A → C) (test : C → Bool) (R : C → B → Type 0) (k : ℕ) (xs : List A) (ys : List B) (j : ℕ) (x : A)
-    → slice_get xs j ≡ Some x → test (key (k + j) x) ≡ true → AllZip R (filter test (keyed key k xs)) ys → (y : B) × R (key (k + j) x) y
-picked_get {A} key test R k [] ys j x is passes all = let wrong : ◌≡◌ {A = Option A} None (Some x) = is in cc
-picked_get {A} {B} {C} key test R k (z ∷ xs) ys zero x is passes all =
-    let others = filter test (keyed key (k + 1) xs) in
-    let item : key k z ≡ key (k + 0) x = ap (key k) (some_injective z x is) ∙ ap (λ (n : ℕ). key n x) (none_on k) in
-    let here : test (key k z) ≡ true = ap test item ∙ passes in
-    let first : AllZip R (key k z ∷ others) ys =
-    subst (λ (cs : List C). AllZip R cs ys) (cond-true (test (key k z)) (key k z ∷ others) others here) all in
-    subst (λ (c : C). (y : B) × R c y) item (first_get R (key k z) others ys first)
-picked_get {A} {B} {C} key test R k (z ∷ xs) ys (suc j) x is passes all =
-    let others = filter test (keyed key (k + 1) xs) in
-    let behind = rest_get test R (key k z) others ys all in
-    subst (λ (n : ℕ). (y : B) × R (key n x) y) (next_on k j)
-    (picked_get key test R (k + 1) xs behind.0 j x is (subst (λ (n : ℕ). test (key n x) ≡ true) (sym (next_on k j)) passes) behind.1)
 
 -- what a group of samples holds
 pub group_get : (f : List ℕ) (row : DataRow) (found : List Contents) (is : IsDataContents f row found) (k : ℕ) (group : GroupRow) → IsSampleGroup row k group

@@ -43,11 +43,12 @@ use Rattle.mdf_model.specs.Measurement.{measures, Measured, measurement}
 use Rattle.mdf_model.specs.Contents.{IsContents, IsDataContents, sample_groups}
 use Rattle.mdf_model.specs.InWords.{IsFinalizedMdf, row_measures, IsMeasurement}
 use Rattle.mdf_model.specs.Passed.{links_passed_over}
-use Rattle.mdf_model.proofs.Picks.{IsPicked, all_read, picked, keyed_own}
+use Rattle.mdf_block.proofs.Picks.{IsPicked, all_read, picked, keyed_own}
 use Rattle.mdf_model.proofs.Fetches.{measurement_is}
 use Rattle.mdf_model.proofs.Founds.{IsDataFound, all_of_data, contents_are}
 use Rattle.mdf_model.proofs.Onces.{rows_unique}
-use Rattle.mdf_model.proofs.Cases.{if_ok, ok_injective}
+use Rattle.mdf_block.proofs.Cases.{if_ok, ok_injective}
+use Rattle.mdf_block.proofs.Items.{all_pass, zipped}
 
 -- the identification
 pub record IsIdentified (f : List ℕ) (id : Ident) : Type 0 where
@@ -116,11 +117,6 @@ tree_found f found is =
           ∙ joined_counts three.0.1.dropped (rows_cost f three.0.0).dropped (passed_over f 64) (2 ^ 64 - 1) rows;
     })
 
--- the data groups
-all_pass : {A : Type 0} (xs : List A) → filter (λ x. true) xs ≡ xs
-all_pass [] = refl
-all_pass (x ∷ xs) = ap (λ ys. x ∷ ys) (all_pass xs)
-
 abbrev IsItem : List ℕ → ℕ → DataRow → Option DataFound → Type 0
 IsItem f k row found = IsPicked (λ r. true) (IsDataFound f) row found
 
@@ -178,14 +174,6 @@ all_of_file f all is =
       tree = tree_found f two.0 two.1;
       held = data_all_found f two.0.rows three.0 three.1;
     })
-
--- each record that is read has a sample
-zipped : {A B : Type 0} (P : A → B → Type 0) (Q : B → Type 0) → ((x : A) (y : B) → P x y → Q y) → (xs : List A) (ys : List B) → AllZip P xs ys
-    → AllByRecursion Q ys
-zipped P Q each [] [] all = tt
-zipped P Q each [] (y ∷ ys) all = absurd all
-zipped P Q each (x ∷ xs) [] all = absurd all
-zipped P Q each (x ∷ xs) (y ∷ ys) all = (each x y all.0, zipped P Q each xs ys all.1)
 
 data_samples : (f : List ℕ) (row : DataRow) (found : DataFound) → IsDataFound f row found → AllHaveSamples (data_fetched f found)
 data_samples f row found is =

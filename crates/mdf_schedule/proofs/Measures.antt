@@ -14,7 +14,7 @@ use Rattle.mdf_model.specs.declared.part.Measure.{Measure}
 use Rattle.mdf_model.specs.Measurement.{Measured, holds_samples, contents_of}
 use Rattle.mdf_model.specs.InWords.{IsMeasurement}
 use Rattle.mdf_model.specs.Same.{plain_group, plain_head}
-use Rattle.mdf_model.proofs.Cases.{two_ways}
+use Rattle.mdf_block.proofs.Cases.{two_ways}
 use Rattle.mdf_tree.specs.Head.{new_entry}
 use Rattle.mdf_carried.specs.Recovered.{Recovery}
 use Rattle.tool_final.specs.Keeping.{plain_entry, row_of, HasComment, KeepsRecovery}

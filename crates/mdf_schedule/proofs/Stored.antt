@@ -17,7 +17,7 @@ use Rattle.mdf_layout.proofs.Rules.{placed_law, inval_law}
 use Rattle.mdf_content.specs.Layouts.{field_of, layout_of}
 use Rattle.mdf_spell.specs.Standing.{AreBytes}
 use Rattle.mdf_model.specs.Contents.{KeepsRules}
-use Rattle.mdf_model.proofs.Cases.{two_ways}
+use Rattle.mdf_block.proofs.Cases.{two_ways}
 use Rattle.mdf_schedule.specs.Records.{IsStoredIn, AreStored}
 
 -- the first bytes, and those behind them

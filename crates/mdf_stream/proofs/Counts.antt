@@ -14,9 +14,7 @@ use Rattle.mdf_block.proofs.Refusals.{bind_ok}
 use Rattle.mdf_block.proofs.Wholes.{chosen, block_found}
 use Rattle.mdf_stream.specs.declared.part.Part.{Part}
 use Rattle.mdf_stream.specs.Link.{one_less, part_of, data_block, named_block, data_list}
-
-ok_injective : {A : Type 0} (x y : A) → ◌≡◌ {A = Read A} (Ok x) (Ok y) → x ≡ y
-ok_injective x y same = cc
+use Rattle.mdf_block.proofs.Cases.{ok_injective}
 
 pub one_less_counts : (at left less : ℕ) → one_less at left ≡ Ok less → less + 1 ≡ left
 unfolding one_less

@@ -1,5 +1,5 @@
 -- What is read along a data link is its stream, and a link has one stream.
-use Rattle.std.proofs.Common.{◌≡◌, ◌≢◌, ◌+◌, ◌-◌, ℕ, zero, suc, List, [], ◌∷◌, ◌++◌, get_or, Ok, refl, sym, ◌∙◌, ap, subst, inl, inr, ◌⊎◌, arith, append-nil, ◌<◌, lit<}
+use Rattle.std.proofs.Common.{◌≡◌, ◌≢◌, ◌+◌, ◌-◌, ℕ, zero, suc, List, [], ◌∷◌, ◌++◌, get_or, Ok, refl, sym, ◌∙◌, ap, subst, inl, inr, ◌⊎◌, append-nil, ◌<◌, lit<}
 use Rattle.std.proofs.lemmas.Bool.{eqb-true, eqb-false}
 use Rattle.std.proofs.lemmas.List.Concat.{flat_map-append}
 use Rattle.std.specs.Prelude.{nat_eq, if◌then◌else◌}
@@ -22,9 +22,8 @@ use Rattle.mdf_stream.specs.Parts.{part_bytes, stream_of}
 use Rattle.mdf_stream.specs.Link.{one_less, part_of, data_block, named_block, data_list, data_lists, joined, data_parts}
 use Rattle.mdf_stream.specs.Stream.{links_from, data_links, listed, IsStream, IsNothing, IsOne, IsListed}
 use Rattle.mdf_stream.proofs.Links.{all_more}
-
-ok_injective : {A : Type 0} (x y : A) → ◌≡◌ {A = Read A} (Ok x) (Ok y) → x ≡ y
-ok_injective x y same = cc
+use Rattle.mdf_block.proofs.Cases.{ok_injective}
+use Rattle.mdf_block.proofs.Names.{differ}
 
 -- the addresses where blocks of the kind stand, and their bodies
 abbrev AreBlocks : List ℕ → Kind → List ℕ → Type 0
@@ -185,10 +184,6 @@ chain_same f at kind (x ∷ xs) [] chain_x some_x chain_y some_y = absurd (some_
 chain_same f at kind (x ∷ xs) (y ∷ ys) chain_x some_x chain_y some_y =
     ap (λ (place : ℕ). place ∷ xs) (chain_x.0 ∙ sym chain_y.0)
     ∙ ap (λ (places : List ℕ). y ∷ places) (chain_same f (link_at f at 0) kind xs ys chain_x.2 some_x.1 chain_y.2 some_y.1)
-
--- a DLBLOCK holds no data
-pub differ : (m n : ℕ) → m ≡ n → m < n → ⊥
-differ m n same below = omega arith
 
 pub not_list : (kind : Kind) → (kind ≡ Dt) ⊎ (kind ≡ Sd) → name_of kind ≡ name_of Dl → ⊥
 not_list kind data_kind same =

@@ -15,7 +15,7 @@ use Rattle.mdf_content.specs.Layouts.{field_of, layout_of, placed_channels}
 use Rattle.mdf_content.specs.Samples.{AreSamples}
 use Rattle.mdf_model.specs.declared.part.Measure.{Measure}
 use Rattle.mdf_model.specs.Measurement.{HasSamples, Measured, with_content}
-use Rattle.mdf_model.proofs.Items.{one_of}
+use Rattle.mdf_block.proofs.Items.{one_of}
 use Rattle.tool_sort.specs.Kept.{IsMeasureIn, StandsIn}
 use Rattle.tool_concat.specs.Difference.{AreAlike}
 use Rattle.tool_concat.specs.Joined.{AreJoined, IsJoined, IsJoinedGroup, joined_streams}

@@ -16,7 +16,7 @@ use Rattle.mdf_num.specs.declared.halt.Halt.{Halt}
 use Rattle.mdf_num.specs.declared.halt.Halt.TheVariants as halts
 use Rattle.mdf_port.specs.State.{SinkState}
 use Rattle.mdf_model.specs.InWords.{IsMeasurement}
-use Rattle.mdf_model.proofs.Items.{item_of}
+use Rattle.mdf_block.proofs.Items.{item_of}
 use Rattle.tool_export.specs.declared.fault.ExportFault.{ExportFault}
 use Rattle.tool_export.specs.declared.fault.ExportFault.TheVariants as export
 use Rattle.tool_export.specs.Export.{ExportEnds, ExportHalts, GivesText, IsGroupOf, NamesNone, SinkCause, fault_or_memory, fault_of_halt, halt_of_read, halt_of_table}

@@ -9,7 +9,7 @@ use Rattle.mdf_model.specs.declared.part.Measure.{Measure}
 use Rattle.mdf_model.specs.declared.whole.WholeFound.{WholeFound}
 use Rattle.mdf_model.specs.Kept.{found_for}
 use Rattle.mdf_model.specs.Measurement.{Measured, measurement, sample_of}
-use Rattle.mdf_model.proofs.Items.{item_of}
+use Rattle.mdf_block.proofs.Items.{item_of}
 use Rattle.mdf_paged.specs.Groups.{Located, groups_of}
 use Rattle.mdf_paged.proofs.Asked.{asked_counts, asked_many}
 use Rattle.tool_export.specs.Table.{count_at, count_in, sample_read}

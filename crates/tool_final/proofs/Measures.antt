@@ -25,7 +25,7 @@ use Rattle.mdf_model.specs.Bodies.{bodies}
 use Rattle.mdf_model.specs.Contents.{HasIdSize, empties_in, IsContents, IsDataSplit, sample_groups, IsDataContents}
 use Rattle.mdf_model.specs.InWords.{IsFinalizedMdf, IsMeasurement, IsValidData}
 use Rattle.mdf_model.specs.Same.{plain_head, plain_group, SameRows}
-use Rattle.mdf_model.proofs.Onces.{none_first}
+use Rattle.mdf_block.proofs.Names.{none_first}
 use Rattle.mdf_carried.specs.Recovered.{AreRecords, IsGroupContents, Recovery, IsRecovery}
 use Rattle.mdf_tree.specs.Group.{data_groups}
 use Rattle.mdf_tree.specs.Head.{placed_history}

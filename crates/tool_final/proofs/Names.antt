@@ -1,5 +1,5 @@
 -- Where the links of channels of variable length lead in a finalized file.
-use Rattle.std.proofs.Common.{◌≡◌, ◌≢◌, ◌+◌, ◌<◌, ℕ, List, [], ◌∷◌, get_or, map, Option, Some, None, refl, sym, ◌∙◌, ap, subst, inl, inr, ◌⊎◌, arith, lit<}
+use Rattle.std.proofs.Common.{◌≡◌, ◌≢◌, ◌+◌, ◌<◌, ℕ, List, [], ◌∷◌, get_or, map, Option, Some, None, refl, sym, ◌∙◌, ap, subst, inl, inr, ◌⊎◌, lit<}
 use Rattle.std.specs.Prelude.{Bool, true, false, ◌&&◌, nat_eq}
 use Rattle.std.specs.List.{AllByRecursion}
 use Rattle.std.proofs.lemmas.Bool.{cond-true, cond-false, and_parts, and_from, eqb-true, eq-eqb}
@@ -15,12 +15,13 @@ use Rattle.mdf_group.specs.declared.row.GroupRow.{GroupRow}
 use Rattle.mdf_group.specs.Group.{is_variable}
 use Rattle.mdf_group.specs.Standing.{AreDistinct}
 use Rattle.mdf_content.specs.Values.{values_group}
-use Rattle.mdf_model.proofs.Cases.{two_ways}
+use Rattle.mdf_block.proofs.Cases.{two_ways}
 use Rattle.mdf_tree.specs.Group.{group_values_behind, past_group, placed_groups}
 use Rattle.mdf_spell.specs.Counts.{counted_group, counted_groups}
 use Rattle.mdf_spell.specs.Values.{group_numbers}
 use Rattle.mdf_spell.specs.Values as spelled
 use Rattle.tool_final.proofs.Fields.{AreCounted}
+use Rattle.mdf_block.proofs.Names.{differ}
 
 abbrev address : GroupRow → ℕ
 address row = row.at
@@ -45,9 +46,6 @@ unfolding IsChain
 chain_blocks f at kind [] chain = tt
 chain_blocks f at kind (place ∷ places) chain =
     (subst (λ (n : ℕ). IsBlock f n kind) (sym chain.0) chain.1, chain_blocks f (link_at f at 0) kind places chain.2)
-
-differ : (m n : ℕ) → m ≡ n → m < n → ⊥
-differ m n same below = omega arith
 
 kinds_differ : (f : List ℕ) (at : ℕ) → IsBlock f at Cg → IsBlock f at Sd → ⊥
 kinds_differ f at one other =

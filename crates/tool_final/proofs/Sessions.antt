@@ -11,7 +11,7 @@ use Rattle.mdf_group.specs.declared.row.DataRow.{DataRow}
 use Rattle.mdf_group.specs.Standing.{IsDataGroup}
 use Rattle.mdf_content.specs.declared.contents.Contents.{Contents}
 use Rattle.mdf_session.specs.Session.{SessionParts}
-use Rattle.mdf_model.proofs.Cases.{some_injective}
+use Rattle.mdf_block.proofs.Cases.{some_injective}
 use Rattle.mdf_carried.specs.Recovered.{Recovery, IsRecovery, IsSessionOf}
 use Rattle.mdf_carried.proofs.Founds.{session_rows, session_found}
 use Rattle.mdf_carried.proofs.Grouped.{groups_have_samples}

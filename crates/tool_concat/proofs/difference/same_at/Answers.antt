@@ -1,6 +1,6 @@
 use Rattle.std.proofs.Common.{◌≡◌, subst, sym}
 use Rattle.mdf_model.specs.declared.part.GroupPart.{GroupPart}
-use Rattle.mdf_model.proofs.Items.{item_of}
+use Rattle.mdf_block.proofs.Items.{item_of}
 use Rattle.tool_concat.specs.Same.{SameGroup}
 use Rattle.tool_concat.proofs.difference.same_at.Goals as goal
 

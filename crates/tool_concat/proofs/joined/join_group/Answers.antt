@@ -4,7 +4,7 @@ use Rattle.mdf_model.specs.declared.part.GroupPart.{GroupPart}
 use Rattle.mdf_model.specs.declared.part.Measure.{Measure}
 use Rattle.mdf_model.specs.Measurement.{Measured, with_content}
 use Rattle.mdf_model.proofs.Taken.{taken_at, taken_length, then_put}
-use Rattle.mdf_model.proofs.Items.{item_of}
+use Rattle.mdf_block.proofs.Items.{item_of}
 use Rattle.tool_concat.specs.Moved.{AreMoved}
 use Rattle.tool_concat.specs.Joined.{joined_streams}
 use Rattle.tool_concat.proofs.Groups.{content_samples, same_count}

@@ -1,5 +1,5 @@
 use Rattle.std.proofs.Common.{get_or, arith}
-use Rattle.mdf_model.proofs.Items.{one_of}
+use Rattle.mdf_block.proofs.Items.{one_of}
 use Rattle.tool_concat.specs.Making.{IsLaid}
 use Rattle.tool_concat.proofs.Groups.{same_shape}
 use Rattle.tool_concat.proofs.joining.join.Goals as goal

@@ -2,7 +2,7 @@ use Rattle.std.proofs.Common.{◌*◌, ℕ, List, length, get_or, sym, ◌∙◌
 use Rattle.mdf_layout.specs.Layout.{Layout, record_size}
 use Rattle.mdf_model.specs.declared.part.GroupPart.{GroupPart}
 use Rattle.std.specs.Prelude.{IfNone}
-use Rattle.mdf_model.proofs.Items.{item_of}
+use Rattle.mdf_block.proofs.Items.{item_of}
 use Rattle.tool_concat.specs.Wide.{IsWide}
 use Rattle.tool_concat.proofs.Holds.{by_parts}
 use Rattle.tool_concat.proofs.wide.wide_at.Goals as goal

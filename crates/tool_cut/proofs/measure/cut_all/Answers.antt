@@ -1,7 +1,7 @@
 use Rattle.std.proofs.Common.{◌≡◌, ◌<◌, ℕ, List, length, get_or, set, sym, ◌∙◌, ap, subst, arith, add-one}
 use Rattle.mdf_model.specs.declared.part.Measure.{Measure}
 use Rattle.mdf_model.specs.Measurement.{HasSamples, Measured}
-use Rattle.mdf_model.proofs.Items.{item_of, one_of}
+use Rattle.mdf_block.proofs.Items.{item_of, one_of}
 use Rattle.tool_cut.specs.Kept.{cut_measure}
 use Rattle.tool_cut.proofs.Groups.{changed, changed_all, changed_length, changed_more, changed_next}
 use Rattle.tool_cut.proofs.measure.cut_all.Goals as goal

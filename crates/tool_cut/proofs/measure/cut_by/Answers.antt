@@ -4,7 +4,7 @@ use Rattle.mdf_layout.specs.Rule.{IsPlacedAs, spot_in}
 use Rattle.mdf_model.specs.declared.part.Measure.{Measure}
 use Rattle.mdf_model.specs.Measurement.{with_records}
 use Rattle.mdf_model.proofs.Taken.{taken_at, taken_length, then_put}
-use Rattle.mdf_model.proofs.Items.{item_of}
+use Rattle.mdf_block.proofs.Items.{item_of}
 use Rattle.tool_cut.specs.Kept.{cut_by}
 use Rattle.tool_cut.proofs.Groups.{by_samples, bytes_of, count_of}
 use Rattle.tool_cut.proofs.measure.cut_by.Goals as goal

@@ -1,7 +1,7 @@
 use Rattle.std.proofs.Common.{◌≡◌, ◌<◌, ◌∙◌, ℕ, Ok, Err, subst, sym}
 use Rattle.mdf_num.specs.declared.halt.Halt.{Halt}
 use Rattle.mdf_port.specs.State.{sink_state}
-use Rattle.mdf_model.proofs.Items.{item_of}
+use Rattle.mdf_block.proofs.Items.{item_of}
 use Rattle.mdf_model.proofs.Wholes.{measurement_found}
 use Rattle.mdf_model.specs.Kept.{found_for}
 use Rattle.mdf_paged.proofs.Asked.{asked_many, asked_measured}

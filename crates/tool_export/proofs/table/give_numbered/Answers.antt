@@ -1,7 +1,7 @@
 use Rattle.std.proofs.Common.{◌<◌, ℕ, Err, subst}
 use Rattle.std.proofs.lemmas.Result.{err_from_is_err_and}
 use Rattle.mdf_port.specs.State.{sink_state}
-use Rattle.mdf_model.proofs.Items.{item_of}
+use Rattle.mdf_block.proofs.Items.{item_of}
 use Rattle.tool_export.specs.Export.{ExportEnds, NamesNone, fault_of_halt}
 use Rattle.tool_export.proofs.Ends.{given_ends, none_ends, stopped_ends}
 use Rattle.tool_export.proofs.table.give_numbered.Goals as goal

@@ -2,7 +2,7 @@ use Rattle.std.proofs.Common.{◌≡◌, List, Some}
 use Rattle.std.specs.Prelude.{slice_index_or}
 use Rattle.std.proofs.lemmas.Result.{IfOk-weaker}
 use Rattle.mdf_layout.specs.declared.sample.Entry.{Entry}
-use Rattle.mdf_model.proofs.Items.{item_of}
+use Rattle.mdf_block.proofs.Items.{item_of}
 use Rattle.mdf_model.specs.Measurement.{measurement, sample_of}
 use Rattle.mdf_paged.proofs.Asked.{asked_measured}
 use Rattle.tool_export.specs.Table.{sample_read}

@@ -5,11 +5,7 @@ use Rattle.std.specs.Option.{option_to_list}
 use Rattle.mdf_block.specs.Refusal.{Refusal, Read, ◌>>=◌}
 use Rattle.mdf_block.proofs.Truths.{Refusing, refusing_none, refusing_then}
 use Rattle.mdf_block.specs.Every.{every}
-use Rattle.mdf_model.proofs.Picks.{AreNumbered}
-
--- two properties of each refusal
-pub refusing_both : {A : Type 0} (P Q : Refusal → Type 0) (read : Read A) → Refusing P read → Refusing Q read → Refusing (λ r. P r × Q r) read
-refusing_both P Q read first second = record { tells = λ refusal is. (first.tells refusal is, second.tells refusal is) }
+use Rattle.mdf_block.proofs.Picks.{AreNumbered}
 
 -- what is carried from item to item keeps what holds of it, and each item then refuses with the property
 pub refusing_every : {A B S : Type 0} (P : Refusal → Type 0) (item : ℕ → A → S → Read (Option B × S)) (Known : ℕ → A → Type 0) (Holds : ℕ → S → Type 0)

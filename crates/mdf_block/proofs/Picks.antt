@@ -1,5 +1,5 @@
 -- What is read for the items of a list, item by item.
-use Rattle.std.proofs.Common.{◌≡◌, ◌+◌, ℕ, zero, suc, List, [], ◌∷◌, ◌++◌, Ok, refl, sym, ap, subst, arith}
+use Rattle.std.proofs.Common.{◌≡◌, ◌+◌, ℕ, zero, suc, List, [], ◌∷◌, ◌++◌, Ok, refl, sym, ap, subst, arith, ◌∙◌, inl, inr}
 use Rattle.std.specs.Prelude.{Bool, true, false, filter, slice_get, Option, Some, None}
 use Rattle.std.specs.List.{AllByRecursion, AllZip, enumerate_from}
 use Rattle.std.proofs.lemmas.Bool.{cond-true, cond-false}
@@ -7,7 +7,8 @@ use Rattle.mdf_block.specs.Refusal.{Read, ◌>>=◌}
 use Rattle.mdf_block.proofs.Refusals.{bind_ok}
 use Rattle.std.specs.Option.{option_to_list}
 use Rattle.mdf_block.specs.Every.{every}
-use Rattle.mdf_model.proofs.Cases.{ok_injective}
+use Rattle.mdf_block.proofs.Cases.{ok_injective, some_injective, two_ways}
+use Rattle.mdf_block.proofs.Items.{first_get, rest_get}
 
 -- of each item nothing or one thing was read
 abbrev pub AreRead : {A B : Type 0} → (ℕ → A → Option B → Type 0) → ℕ → List A → List B → Type 0
@@ -96,3 +97,48 @@ picked {A} {B} {C} key test Is k (x ∷ xs) ys (Some y, rest, are, is, others) =
     (subst (λ (cs : List C). AllZip Is cs (y ∷ rest))
     (sym (cond-true (test (key k x)) (key k x ∷ filter test (keyed key (k + 1) xs)) (filter test (keyed key (k + 1) xs)) is.0))
     (is.1, picked key test Is (k + 1) xs rest others))
+
+pub next_on : (k j : ℕ) → k + 1 + j ≡ k + suc j
+next_on k j = omega arith
+
+pub none_on : (k : ℕ) → k ≡ k + 0
+none_on k = omega arith
+
+pub numbered_get : {A : Type 0} (P : ℕ → A → Type 0) (k : ℕ) (xs : List A) (j : ℕ) (x : A) → slice_get xs j ≡ Some x → AreNumbered P k xs → P (k + j) x
+numbered_get {A} P k [] j x is all = let wrong : ◌≡◌ {A = Option A} None (Some x) = is in cc
+numbered_get P k (y ∷ xs) zero x is all = subst (λ (n : ℕ). P n x) (none_on k) (subst (P k) (some_injective y x is) all.0)
+numbered_get P k (y ∷ xs) (suc j) x is all = subst (λ (n : ℕ). P n x) (next_on k j) (numbered_get P (k + 1) xs j x is all.1)
+
+-- and to an item that passes a test
+pub picked_get : {A B C : Type 0} (key : ℕ → A → C) (test : C → Bool) (R : C → B → Type 0) (k : ℕ) (xs : List A) (ys : List B) (j : ℕ) (x : A)
+    → slice_get xs j ≡ Some x → test (key (k + j) x) ≡ true → AllZip R (filter test (keyed key k xs)) ys → (y : B) × R (key (k + j) x) y
+picked_get {A} key test R k [] ys j x is passes all = let wrong : ◌≡◌ {A = Option A} None (Some x) = is in cc
+picked_get {A} {B} {C} key test R k (z ∷ xs) ys zero x is passes all =
+    let others = filter test (keyed key (k + 1) xs) in
+    let item : key k z ≡ key (k + 0) x = ap (key k) (some_injective z x is) ∙ ap (λ (n : ℕ). key n x) (none_on k) in
+    let here : test (key k z) ≡ true = ap test item ∙ passes in
+    let first : AllZip R (key k z ∷ others) ys =
+    subst (λ (cs : List C). AllZip R cs ys) (cond-true (test (key k z)) (key k z ∷ others) others here) all in
+    subst (λ (c : C). (y : B) × R c y) item (first_get R (key k z) others ys first)
+picked_get {A} {B} {C} key test R k (z ∷ xs) ys (suc j) x is passes all =
+    let others = filter test (keyed key (k + 1) xs) in
+    let behind = rest_get test R (key k z) others ys all in
+    subst (λ (n : ℕ). (y : B) × R (key n x) y) (next_on k j)
+    (picked_get key test R (k + 1) xs behind.0 j x is (subst (λ (n : ℕ). test (key n x) ≡ true) (sym (next_on k j)) passes) behind.1)
+
+-- an item that passes a test
+pub passed_get : {A : Type 0} (test : A → Bool) (P : A → Type 0) (xs : List A) (i : ℕ) (x : A) → slice_get xs i ≡ Some x → test x ≡ true
+    → AllByRecursion P (filter test xs) → P x
+passed_get {A} test P [] i x is passes all = let wrong : ◌≡◌ {A = Option A} None (Some x) = is in cc
+passed_get {A} test P (y ∷ xs) zero x is passes all =
+    let same : y ≡ x = some_injective y x is in
+    let here : test y ≡ true = ap test same ∙ passes in
+    let first = subst (AllByRecursion P) (cond-true (test y) (y ∷ filter test xs) (filter test xs) here) all in subst P same first.0
+passed_get {A} test P (y ∷ xs) (suc i) x is passes all =
+    elim (two_ways (test y)) [
+      | inl holds ↦
+          let first = subst (AllByRecursion P) (cond-true (test y) (y ∷ filter test xs) (filter test xs) holds) all in
+          passed_get test P xs i x is passes first.1
+      | inr fails ↦
+          passed_get test P xs i x is passes (subst (AllByRecursion P) (cond-false (test y) (y ∷ filter test xs) (filter test xs) fails) all)
+    ]

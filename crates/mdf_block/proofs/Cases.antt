@@ -1,5 +1,5 @@
 -- What is found is one, and a test goes one of two ways.
-use Rattle.std.proofs.Common.{◌≡◌, ◌⊎◌, Bool, true, false, Option, Some, Ok, Err, refl, inl, inr}
+use Rattle.std.proofs.Common.{◌≡◌, ◌⊎◌, Bool, true, false, Option, Some, Ok, Err, refl, inl, inr, sym, ◌∙◌}
 use Rattle.std.specs.Prelude.{if◌then◌else◌}
 use Rattle.mdf_block.specs.Refusal.{Read, Refusal}
 
@@ -18,3 +18,12 @@ pub if_ok : {A : Type 0} (b : Bool) (read : Read A) (refusal : Refusal) (x : A) 
     → (b ≡ true) × (read ≡ Ok x)
 if_ok true read refusal x is = (refl, is)
 if_ok {A} false read refusal x is = let wrong : ◌≡◌ {A = Read A} (Err refusal) (Ok x) = is in cc
+
+-- something is found, or refused
+pub found_or_not : {A : Type 0} (read : Read A) → ((x : A) × (read ≡ Ok x)) ⊎ ((refusal : Refusal) × (read ≡ Err refusal))
+found_or_not (Ok x) = inl (x, refl)
+found_or_not (Err refusal) = inr (refusal, refl)
+
+-- what is read is not refused
+pub not_both : {A : Type 0} (read : Read A) (x : A) (refusal : Refusal) → read ≡ Ok x → read ≡ Err refusal → ⊥
+not_both {A} read x refusal found refused = let wrong : ◌≡◌ {A = Read A} (Ok x) (Err refusal) = sym found ∙ refused in cc
