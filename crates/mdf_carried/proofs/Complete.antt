@@ -29,7 +29,7 @@ use Rattle.mdf_content.specs.declared.contents.Contents.{Contents}
 use Rattle.mdf_content.specs.Layouts.{layout_of, layout, layouts}
 use Rattle.mdf_content.specs.Records.{size_of, known_of, empties_of, places_of_one, places_without_ids, places_of}
 use Rattle.mdf_content.specs.Values.{values_group}
-use Rattle.mdf_content.proofs.Rooms.{all_at}
+use Rattle.mdf_block.proofs.Items.{one_of}
 use Rattle.mdf_model.specs.Bodies.{bodies}
 use Rattle.mdf_model.specs.Contents.{IsChannelStream, is_of_samples}
 use Rattle.mdf_model.specs.Limits.{HasFewValues}
@@ -163,7 +163,7 @@ module _ (file : List ℕ) (found : Recovery) (is : IsRecovery file found) where
       contents.0.streams contents.1.streams j channel known variable in
       let short = passed_get is_of_values (λ (c : ChannelRow). LeadsToFew file c.values) group.channels j channel known variable
       (subst (HasFewValues file) (get_or_from_slice_get row.groups k group group there)
-      (all_at (HasFewValues file) row.groups k group (slice_get_within row.groups k group there) few)) in
+      (one_of (HasFewValues file) row.groups k group few (slice_get_within row.groups k group there))) in
       let values = values_there file row records parts lists channel.values (values_group row.groups channel.values 0) one.0 one.1.values short in (
         values.0,
         values.1,

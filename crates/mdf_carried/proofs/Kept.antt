@@ -25,7 +25,7 @@ use Rattle.mdf_content.specs.Layouts.{field_of, layout_of, layout}
 use Rattle.mdf_content.specs.Records.{record_size, size_of}
 use Rattle.mdf_content.specs.Contents.{records_at}
 use Rattle.mdf_content.specs.Values.{has_value, offsets_met, DataStream, values_group, values_in, GroupRecords, offset_in, channel_values, channel_stream, channel_item, streams}
-use Rattle.mdf_content.proofs.Rooms.{all_at}
+use Rattle.mdf_block.proofs.Items.{one_of}
 use Rattle.mdf_session.specs.Counted.{group_streams, all_streams}
 use Rattle.mdf_session.specs.Counted as counted
 use Rattle.mdf_model.specs.Bodies.{bodies}
@@ -135,7 +135,7 @@ module _ (file : List ℕ) (row : DataRow) (parts : List Part) (lists : List (Li
       ap (λ (xs : List (List ℕ)). get_or xs j []) (sym there_own) ∙ get_or-map (λ (p : ℕ). bytes_at size whole p) places j 0 [] below in
       let front : take group.data_bytes (get_or own j []) ≡ bytes_at group.data_bytes whole place =
       ap (take group.data_bytes) body ∙ take_less group.data_bytes group.inval_bytes (drop place whole) in
-      let one = all_at (MeetsValue (stream_of file values) group.data_bytes channel) own j [] long met in
+      let one = one_of (MeetsValue (stream_of file values) group.data_bytes channel) own j [] met long in
       let offset_is : field_number (spot_in (field_of channel)) (take group.data_bytes (get_or own j [])) ≡ offset_in whole records_are channel (0 + j) =
       ap (field_number (spot_in (field_of channel))) front
       ∙ ap (λ (n : ℕ). offset_in whole records_are channel n) (zero_on j) in

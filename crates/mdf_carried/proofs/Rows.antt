@@ -19,10 +19,10 @@ use Rattle.mdf_layout.specs.Behind.{variables}
 use Rattle.mdf_content.specs.Layouts.{layout_of}
 use Rattle.mdf_content.specs.Records.{record_size, size_of}
 use Rattle.mdf_content.specs.Values.{values_group}
-use Rattle.mdf_content.proofs.Rooms.{all_at}
 use Rattle.mdf_model.specs.Contents.{KeepsRules}
 use Rattle.mdf_carried.proofs.Numbers.{AreNumbered}
 use Rattle.mdf_carried.proofs.Lists.{both_false}
+use Rattle.mdf_block.proofs.Items.{one_of}
 
 -- channels of variable length have their values at these addresses, from number n on
 abbrev pub NameFrom : (ℕ → ℕ) → ℕ → List ChannelRow → Type 0
@@ -110,8 +110,8 @@ found_at (group ∷ groups) a from (suc k) d below here is apart =
     let within : k < length groups = omega (arith, below) in
     let at_k : get_or (map (λ (g : GroupRow). g.at) groups) k d.at ≡ (get_or groups k d).at = get_or-map (λ (g : GroupRow). g.at) groups k d d.at within in
     let other : get_or (map (λ (g : GroupRow). g.at) groups) k d.at ≢ group.at =
-    all_at (λ (n : ℕ). n ≢ group.at) (map (λ (g : GroupRow). g.at) groups) k d.at
-    (subst (λ (n : ℕ). k < n) (sym (length-map groups (λ (g : GroupRow). g.at))) within) apart.0 in
+    one_of (λ (n : ℕ). n ≢ group.at) (map (λ (g : GroupRow). g.at) groups) k d.at apart.0
+    (subst (λ (n : ℕ). k < n) (sym (length-map groups (λ (g : GroupRow). g.at))) within) in
     let differs : group.at ≢ a = λ same. other (at_k ∙ here ∙ sym same) in
     cond-false (is_variable group && nat_eq group.at a) (Some from) (values_group groups a (from + 1))
     (ap (λ b. is_variable group && b) (ne_eqb group.at a differs) ∙ both_false (is_variable group))

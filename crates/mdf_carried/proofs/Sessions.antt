@@ -25,7 +25,7 @@ use Rattle.mdf_layout.specs.declared.sample.Sample.{Sample}
 use Rattle.mdf_content.specs.Layouts.{layout_of, layout, layouts}
 use Rattle.mdf_content.specs.Records.{known_of, places_without_ids, places_of}
 use Rattle.mdf_content.specs.Values.{values_at, values_in}
-use Rattle.mdf_content.proofs.Rooms.{all_at}
+use Rattle.mdf_block.proofs.Items.{one_of}
 use Rattle.mdf_model.specs.declared.tree.Tree.{Tree}
 use Rattle.mdf_model.specs.Tree.{tree}
 use Rattle.mdf_spell.specs.Recording.{recorded_row, recorded_head, recorded_history, IsRecordingTree, FindsHead, FindsGroups}
@@ -117,7 +117,7 @@ module _ (tells : TestTells) (file : List ℕ) (ls : List Layout) (row : DataRow
       let below = slice_get_within row.groups k group there in
       let same : get_or row.groups k group ≡ group = get_or_from_slice_get row.groups k group group there in
       subst (λ (g : GroupRow). layout g ≡ Ok (layout_of g)) same
-      (all_at (λ (g : GroupRow). layout g ≡ Ok (layout_of g)) row.groups k group below (groups_laid tells ls row is))
+      (one_of (λ (g : GroupRow). layout g ≡ Ok (layout_of g)) row.groups k group (groups_laid tells ls row is) below)
 
   -- what the data group holds is read
   pub kept_found : (blocks : List (List ℕ)) → AreFound file (opened_parts file row.content) blocks

@@ -14,18 +14,13 @@ use Rattle.mdf_data.proofs.Steps.{step_more}
 use Rattle.mdf_group.specs.declared.row.GroupRow.{GroupRow}
 use Rattle.mdf_block.specs.Every.{AllByNumber}
 use Rattle.mdf_content.specs.Records.{size_of, known_of, HasRoom}
-
--- what holds of each holds of the one at a place
-pub all_at : {A : Type 0} (P : A → Type 0) (xs : List A) (k : ℕ) (d : A) → k < length xs → AllByRecursion P xs → P (get_or xs k d)
-all_at P [] k d below all = absurd (omega (arith, below))
-all_at P (x ∷ xs) zero d below all = all.0
-all_at P (x ∷ xs) (suc k) d below all = all_at P xs k d (omega (arith, below)) all.1
+use Rattle.mdf_block.proofs.Items.{one_of}
 
 -- and so a record at one of these places fits
 pub one_fits : (size total : ℕ) (places : List ℕ) (row place : ℕ) → row < length places → place ≡ get_or places row 0
     → AllByRecursion (λ place. place + size ≤ total) places → place + size ≤ total
 one_fits size total places row place below is room =
-    subst (λ (at : ℕ). at + size ≤ total) (sym is) (all_at (λ (at : ℕ). at + size ≤ total) places row 0 below room)
+    subst (λ (at : ℕ). at + size ≤ total) (sym is) (one_of (λ (at : ℕ). at + size ≤ total) places row 0 room below)
 
 first_fits : (from step more total : ℕ) → from + step + more ≤ total → from + step ≤ total
 first_fits from step more total within = omega (arith, within)

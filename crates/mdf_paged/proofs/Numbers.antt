@@ -10,16 +10,12 @@ use Rattle.mdf_stream.specs.Parts.{ArePartsInside}
 use Rattle.mdf_group.specs.declared.row.DataRow.{DataRow}
 use Rattle.mdf_group.specs.declared.row.GroupRow.{GroupRow}
 use Rattle.mdf_content.specs.Found.{IsFoundInside, IsGroupInside}
-use Rattle.mdf_content.proofs.Rooms.{all_at}
 use Rattle.mdf_content.specs.declared.found.DataFound.{DataFound}
 use Rattle.mdf_content.specs.declared.found.Found.{Found}
 use Rattle.mdf_model.specs.declared.whole.WholeFound.{WholeFound}
 use Rattle.mdf_paged.specs.declared.index.GroupNumber.{GroupNumber}
 use Rattle.mdf_paged.specs.Groups.{Located, group_at, group_rows, groups_of, located, row_at, row_of, rows_in}
-
--- what holds of all holds of each
-pub all_there : {A : Type 0} (P : A → Type 0) (xs : List A) (k : ℕ) (x : A) → AllByRecursion P xs → slice_get xs k ≡ Some x → P x
-all_there P xs k x all there = subst P (get_or_from_slice_get xs k x x there) (all_at P xs k x (slice_get_within xs k x there) all)
+use Rattle.mdf_block.proofs.Items.{all_get}
 
 -- a number leads to a group
 pub record IsThere (parent : Option DataFound) (k : ℕ) (place : Located) : Type 0 where
@@ -191,5 +187,5 @@ module _ (found : List DataFound) (number k : ℕ) (place : Located) (leads : Is
   pub place_inside : (size : ℕ) → AllByRecursion (IsFoundInside size) found
       → ArePartsInside size place.parent.view × IsGroupInside size place.parent.view place.parent.lists place.group
   place_inside size all =
-      let inside = all_there (IsFoundInside size) found number place.parent all leads.data_is in
-      (inside.view, all_there (IsGroupInside size place.parent.view place.parent.lists) place.parent.groups k place.group inside.groups leads.group_is)
+      let inside = all_get (IsFoundInside size) found number place.parent leads.data_is all in
+      (inside.view, all_get (IsGroupInside size place.parent.view place.parent.lists) place.parent.groups k place.group leads.group_is inside.groups)

@@ -10,7 +10,7 @@ use Rattle.mdf_block.specs.Chain.{full}
 use Rattle.mdf_block.proofs.Refusals.{halts_then}
 use Rattle.mdf_block.proofs.Chains.{begins, ends}
 use Rattle.mdf_stream.specs.Link.{most_blocks, data_list, data_lists, listed_parts}
-use Rattle.mdf_stream.proofs.Streams.{differ}
+use Rattle.mdf_block.proofs.Names.{differ}
 
 pub listed_halts : {E : Type 0} (f : List ℕ) (want : Kind) (at : ℕ) (refusal : E → Option Refusal) (halt : Halt E) → at ≢ 0
     → Halts refusal halt (block f at Dl) → Halts refusal halt (listed_parts f want at)

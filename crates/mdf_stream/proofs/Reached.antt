@@ -19,7 +19,8 @@ use Rattle.mdf_block.proofs.Wholes.{is_compressed_true, block_some}
 use Rattle.mdf_stream.specs.declared.part.Part.{Part}
 use Rattle.mdf_stream.specs.Link.{one_less, part_of, data_block, named_block, data_list, joined, data_parts}
 use Rattle.mdf_stream.specs.Stream.{links_from, data_links, listed, IsStream, IsNothing, IsOne, IsListed, LeadsToFew}
-use Rattle.mdf_stream.proofs.Streams.{not_list, first_listed, differ}
+use Rattle.mdf_stream.proofs.Streams.{not_list, first_listed}
+use Rattle.mdf_block.proofs.Names.{differ}
 
 -- a block of data is no compressed one
 packed_not : (f : List ℕ) (at : ℕ) (kind : Kind) → IsBlock f at kind → (name_of kind ≡ codes "##DZ" → ⊥) → (name_of kind ≡ codes "##HL" → ⊥)

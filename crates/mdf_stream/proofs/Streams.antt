@@ -185,6 +185,7 @@ chain_same f at kind (x ∷ xs) (y ∷ ys) chain_x some_x chain_y some_y =
     ap (λ (place : ℕ). place ∷ xs) (chain_x.0 ∙ sym chain_y.0)
     ∙ ap (λ (places : List ℕ). y ∷ places) (chain_same f (link_at f at 0) kind xs ys chain_x.2 some_x.1 chain_y.2 some_y.1)
 
+-- a DLBLOCK holds no data
 pub not_list : (kind : Kind) → (kind ≡ Dt) ⊎ (kind ≡ Sd) → name_of kind ≡ name_of Dl → ⊥
 not_list kind data_kind same =
     elim data_kind [
