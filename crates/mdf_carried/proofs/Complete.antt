@@ -30,11 +30,11 @@ use Rattle.mdf_content.specs.Layouts.{layout_of, layout, layouts}
 use Rattle.mdf_content.specs.Records.{size_of, known_of, empties_of, places_of_one, places_without_ids, places_of}
 use Rattle.mdf_content.specs.Values.{values_group}
 use Rattle.mdf_block.proofs.Items.{one_of}
-use Rattle.mdf_model.specs.Bodies.{bodies}
+use Rattle.mdf_data.specs.Bodies.{bodies}
 use Rattle.mdf_model.specs.Contents.{IsChannelStream, is_of_samples}
 use Rattle.mdf_model.specs.Limits.{HasFewValues}
 use Rattle.mdf_model.proofs.Alone.{id_size_from, split_by}
-use Rattle.mdf_model.proofs.Bodies.{AreSplitAt}
+use Rattle.mdf_data.proofs.Bodies.{AreSplitAt}
 use Rattle.mdf_block.proofs.Cases.{two_ways}
 use Rattle.mdf_model.proofs.Channels.{HoldBodies}
 use Rattle.mdf_model.proofs.Complete.{values_there, tree_there}

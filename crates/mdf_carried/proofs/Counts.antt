@@ -15,11 +15,11 @@ use Rattle.mdf_group.specs.declared.row.DataRow.{DataRow}
 use Rattle.mdf_group.specs.Group.{is_variable}
 use Rattle.mdf_content.specs.Records.{record_size, size_of, known_of}
 use Rattle.mdf_content.specs.Contents.{taken}
-use Rattle.mdf_model.specs.Bodies.{is_of, bodies}
+use Rattle.mdf_data.specs.Bodies.{is_of, bodies}
 use Rattle.mdf_block.proofs.Cases.{two_ways}
 use Rattle.mdf_model.proofs.Channels.{HoldBodies}
 use Rattle.mdf_block.proofs.Picks.{AreNumbered, numbered_both, all_there}
-use Rattle.mdf_model.proofs.Stricts.{places_long}
+use Rattle.mdf_data.proofs.Bodies.{places_long}
 use Rattle.mdf_session.specs.Counted.{counts_from, records_content}
 
 abbrev bytes_of : List Record → List ℕ

@@ -34,10 +34,10 @@ use Rattle.mdf_content.specs.Contents.{records_at}
 use Rattle.mdf_block.specs.Every.{every}
 use Rattle.mdf_model.specs.declared.tree.Tree.{Tree}
 use Rattle.mdf_model.specs.Tree.{tree}
-use Rattle.mdf_model.specs.Bodies.{bodies}
+use Rattle.mdf_data.specs.Bodies.{bodies}
 use Rattle.mdf_model.specs.Contents.{HasIdSize, is_of_samples, sample_groups}
 use Rattle.mdf_model.proofs.Alone.{empties_by, split_by}
-use Rattle.mdf_model.proofs.Bodies.{AreSplitAt}
+use Rattle.mdf_data.proofs.Bodies.{AreSplitAt}
 use Rattle.mdf_block.proofs.Cases.{ok_injective, two_ways}
 use Rattle.mdf_model.proofs.Channels.{HaveRooms, HoldBodies, held_by}
 use Rattle.mdf_model.proofs.Founds.{size_found, contents_found, hold_by, rooms_by}

@@ -14,7 +14,7 @@ use Rattle.mdf_layout.specs.declared.sample.Sample.{Sample}
 use Rattle.mdf_content.specs.declared.contents.Contents.{Contents}
 use Rattle.mdf_content.specs.Samples.{record_at, sample_at}
 use Rattle.mdf_model.specs.Measurement.{holds_samples}
-use Rattle.mdf_model.specs.Bodies.{is_of, bodies}
+use Rattle.mdf_data.specs.Bodies.{is_of, bodies}
 use Rattle.mdf_model.specs.Contents.{sample_groups}
 use Rattle.mdf_block.proofs.Cases.{some_injective, two_ways}
 use Rattle.mdf_block.proofs.Picks.{all_there}

@@ -22,7 +22,7 @@ use Rattle.mdf_content.specs.declared.contents.Contents.{Contents}
 use Rattle.mdf_content.specs.Layouts.{field_of}
 use Rattle.mdf_content.specs.Samples.{record_at, AreSamples}
 use Rattle.mdf_content.specs.Values.{values_group}
-use Rattle.mdf_model.specs.Bodies.{bodies, joined}
+use Rattle.mdf_data.specs.Bodies.{bodies, joined}
 use Rattle.mdf_model.specs.Contents.{IsValuesOf, IsChannelStream, is_of_samples, sample_groups}
 use Rattle.mdf_block.specs.declared.note.Note.TheVariants as notes
 use Rattle.mdf_layout.proofs.Bridge.{length-streams}

@@ -28,9 +28,9 @@ use Rattle.mdf_content.specs.Values.{has_value, offsets_met, DataStream, values_
 use Rattle.mdf_block.proofs.Items.{one_of}
 use Rattle.mdf_session.specs.Counted.{group_streams, all_streams}
 use Rattle.mdf_session.specs.Counted as counted
-use Rattle.mdf_model.specs.Bodies.{bodies}
+use Rattle.mdf_data.specs.Bodies.{bodies}
 use Rattle.mdf_model.specs.Contents.{MeetsValue, IsChannelStream}
-use Rattle.mdf_model.proofs.Bodies.{bodies_at}
+use Rattle.mdf_data.proofs.Bodies.{bodies_at}
 use Rattle.mdf_model.proofs.Channels.{HoldBodies, held_by, values_of, take_less}
 use Rattle.mdf_block.proofs.Cases.{two_ways}
 use Rattle.mdf_model.proofs.Onces.{values_unique}

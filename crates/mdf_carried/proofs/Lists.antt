@@ -5,7 +5,7 @@ use Rattle.std.proofs.Math.Seq.{drop-append-add}
 use Rattle.std.specs.Prelude.{◌&&◌, All, slice_get, Some}
 use Rattle.std.specs.List.{AllByRecursion, AllZip, enumerate_from}
 use Rattle.mdf_format.specs.Number.{bytes_at}
-use Rattle.mdf_model.specs.Bodies.{joined}
+use Rattle.mdf_data.specs.Bodies.{joined}
 
 -- what holds at each place holds along the list
 pub all_along : {A : Type 0} (P : A → Type 0) (xs : List A) → All P xs → AllByRecursion P xs

@@ -17,7 +17,7 @@ use Rattle.mdf_stream.specs.declared.part.Part.{Part}
 use Rattle.mdf_stream.specs.Parts.{stream_of, ArePartsInside}
 use Rattle.mdf_stream.specs.Link.{part_of}
 use Rattle.mdf_block.proofs.Cases.{ok_injective, two_ways}
-use Rattle.mdf_model.proofs.Insides.{body_inside}
+use Rattle.mdf_stream.proofs.Insides.{body_inside}
 use Rattle.mdf_session.specs.Opened.{is_open, unit_of, unit, place_behind, opened_from, is_place, opened_parts}
 use Rattle.mdf_gate.specs.Recording.{IsPlace}
 

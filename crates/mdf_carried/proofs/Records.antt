@@ -20,7 +20,7 @@ use Rattle.mdf_layout.specs.Layout.{Layout, record_size}
 use Rattle.mdf_layout.specs.Behind.{first_id}
 use Rattle.mdf_layout.specs.Read.{Piece, piece_body, piece_bytes, IsPiece, stream_of}
 use Rattle.mdf_content.specs.Records.{size_of, known_of}
-use Rattle.mdf_model.specs.Bodies.{is_of, bodies, joined}
+use Rattle.mdf_data.specs.Bodies.{is_of, bodies, joined}
 use Rattle.mdf_tree.proofs.Numbers.{back32}
 use Rattle.mdf_block.proofs.Cases.{two_ways}
 use Rattle.mdf_carried.proofs.Numbers.{numbered_at}

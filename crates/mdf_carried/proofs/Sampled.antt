@@ -18,7 +18,7 @@ use Rattle.mdf_layout.specs.Behind.{variables, first_id}
 use Rattle.mdf_layout.specs.Read.{Piece, IsPiece, streams_from, samples_from}
 use Rattle.mdf_layout.specs.declared.sample.Sample.{Sample}
 use Rattle.mdf_model.specs.Measurement.{holds_samples}
-use Rattle.mdf_model.specs.Bodies.{is_of}
+use Rattle.mdf_data.specs.Bodies.{is_of}
 use Rattle.mdf_block.proofs.Cases.{two_ways}
 use Rattle.mdf_carried.specs.Recovered.{Recovery}
 use Rattle.mdf_carried.specs.Samples.{is_sample_in, is_sample, sample_number, index_of, body_of, IsSampleOf}

@@ -21,7 +21,7 @@ use Rattle.mdf_content.specs.declared.contents.Contents.{Contents}
 use Rattle.mdf_content.specs.Records.{record_size, size_of}
 use Rattle.mdf_content.specs.Samples.{record_at}
 use Rattle.mdf_model.specs.Measurement.{holds_samples}
-use Rattle.mdf_model.specs.Bodies.{is_of, bodies, joined}
+use Rattle.mdf_data.specs.Bodies.{is_of, bodies, joined}
 use Rattle.mdf_model.specs.Contents.{is_of_samples, sample_groups}
 use Rattle.mdf_block.proofs.Cases.{some_injective, two_ways}
 use Rattle.mdf_block.proofs.Picks.{all_there}

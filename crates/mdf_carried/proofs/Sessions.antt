@@ -33,9 +33,9 @@ use Rattle.mdf_session.specs.declared.session.Kept.{Kept}
 use Rattle.mdf_session.specs.Counted.{all_streams}
 use Rattle.mdf_session.specs.Opened.{opened_parts}
 use Rattle.mdf_session.specs.Session.{SessionParts, recording, kept_by, kept_of, kept, first_kept, session}
-use Rattle.mdf_model.specs.Bodies.{bodies}
+use Rattle.mdf_data.specs.Bodies.{bodies}
 use Rattle.mdf_model.specs.Contents.{IsChannelStream}
-use Rattle.mdf_model.proofs.Bodies.{AreSplitAt, places_found}
+use Rattle.mdf_data.proofs.Bodies.{AreSplitAt, places_found}
 use Rattle.mdf_model.proofs.Channels.{HoldBodies, held_by}
 use Rattle.mdf_model.proofs.Founds.{hold_by}
 use Rattle.mdf_gate.specs.Recording.{first_place}

@@ -17,10 +17,10 @@ use Rattle.mdf_group.specs.declared.row.GroupRow.{GroupRow}
 use Rattle.mdf_group.specs.declared.row.DataRow.{DataRow}
 use Rattle.mdf_group.specs.Group.{is_variable}
 use Rattle.mdf_content.specs.Records.{record_size, size_of, known_of}
-use Rattle.mdf_model.specs.Bodies.{is_of, bodies}
+use Rattle.mdf_data.specs.Bodies.{is_of, bodies}
 use Rattle.mdf_model.specs.Contents.{HasIdSize}
 use Rattle.mdf_model.proofs.Alone.{at_most_one}
-use Rattle.mdf_model.proofs.Bodies.{bodies_at, size_there}
+use Rattle.mdf_data.proofs.Bodies.{bodies_at, size_there}
 use Rattle.mdf_block.proofs.Cases.{two_ways}
 use Rattle.mdf_model.proofs.Channels.{HoldBodies}
 use Rattle.mdf_block.proofs.Picks.{AreNumbered, numbered_both, all_there}

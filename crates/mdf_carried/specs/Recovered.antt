@@ -11,7 +11,7 @@ use Rattle.mdf_group.specs.Group.{is_variable}
 use Rattle.mdf_group.specs.Standing.{AreDistinct, StandDataGroups}
 use Rattle.mdf_content.specs.declared.contents.Contents.{Contents}
 use Rattle.mdf_content.specs.Records.{known_of}
-use Rattle.mdf_model.specs.Bodies.{bodies}
+use Rattle.mdf_data.specs.Bodies.{bodies}
 use Rattle.mdf_model.specs.Contents.{HasIdSize, IsContents, sample_groups}
 use Rattle.mdf_session.specs.declared.session.Kept.{Kept}
 use Rattle.mdf_session.specs.Session.{SessionParts}

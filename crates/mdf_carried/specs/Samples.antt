@@ -10,7 +10,7 @@ use Rattle.mdf_layout.specs.declared.sample.Sample.{Sample}
 use Rattle.mdf_content.specs.declared.contents.Contents.{Contents}
 use Rattle.mdf_content.specs.Samples.{sample_at}
 use Rattle.mdf_model.specs.Measurement.{holds_samples}
-use Rattle.mdf_model.specs.Bodies.{is_of}
+use Rattle.mdf_data.specs.Bodies.{is_of}
 use Rattle.mdf_carried.specs.Recovered.{Recovery, IsRecovery}
 
 -- the group of a record is one whose records are samples

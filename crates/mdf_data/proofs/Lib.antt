@@ -5,3 +5,5 @@ pub mod Splits
 pub mod Pieces
 pub mod Alones
 pub mod Kepts
+pub mod Bodies
+pub mod Stops

@@ -4,3 +4,4 @@ pub mod Places
 pub mod Table
 pub mod Split
 pub mod Kept
+pub mod Bodies

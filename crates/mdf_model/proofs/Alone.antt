@@ -1,26 +1,22 @@
 -- The records of a data group and where they are in its stream, with ids and without.
-use Rattle.std.proofs.Common.{◌≡◌, ◌≢◌, ◌<◌, ◌≤◌, ℕ, zero, suc, List, [], ◌∷◌, length, get_or, map, Ok, Err, refl, sym, ◌∙◌, ap, subst, inl, inr, arith}
+use Rattle.std.proofs.Common.{◌≡◌, ◌≢◌, ◌≤◌, ℕ, List, [], ◌∷◌, length, map, Ok, Err, refl, sym, ◌∙◌, ap, subst, inl, inr, arith}
 use Rattle.std.specs.Prelude.{Bool, true, nat_eq, nat_le, nat_lt, ◌&&◌, ◌||◌}
 use Rattle.std.proofs.lemmas.Bool.{eqb-true, eqb-false, eq-eqb, leb-true, le-leb, and_parts, and_from, or_cases, or_left}
-use Rattle.mdf_format.specs.Number.{bytes_at}
 use Rattle.mdf_block.specs.declared.what.What.TheVariants as whats
 use Rattle.mdf_block.specs.Refusal.{TooMany, Read}
 use Rattle.mdf_block.proofs.Refusals.{bind_ok}
 use Rattle.mdf_block.proofs.Wholes.{chosen}
-use Rattle.mdf_data.specs.declared.known.Size.{Size}
-use Rattle.mdf_data.specs.declared.known.Size.TheVariants as sizes
-use Rattle.mdf_data.specs.declared.known.Known.{Known}
 use Rattle.mdf_data.specs.Places.{places, places_alone}
-use Rattle.mdf_data.specs.Split.{Record, alone_at}
+use Rattle.mdf_data.specs.Split.{alone_at}
 use Rattle.mdf_data.proofs.Alones.{alones_found}
 use Rattle.mdf_group.specs.declared.row.GroupRow.{GroupRow}
 use Rattle.mdf_group.specs.declared.row.DataRow.{DataRow}
 use Rattle.mdf_content.specs.Layouts.{has_id_size}
 use Rattle.mdf_content.specs.Records.{size_of, known_of, said_by, empties_of, places_of_one, places_without_ids, places_of}
 use Rattle.mdf_content.proofs.Rooms.{room_alone}
-use Rattle.mdf_model.specs.Bodies.{bodies}
+use Rattle.mdf_data.specs.Bodies.{bodies}
 use Rattle.mdf_model.specs.Contents.{HasIdSize, empties_in}
-use Rattle.mdf_model.proofs.Bodies.{bodies_at, AreSplitAt, places_found}
+use Rattle.mdf_data.proofs.Bodies.{bodies_at, AreSplitAt, places_found, alone_bodies, first_alone}
 use Rattle.mdf_block.proofs.Cases.{ok_injective}
 
 -- what the test of an id size says
@@ -50,22 +46,6 @@ id_size_from row (inl (inr (inl is))) = ap (λ (n : ℕ). tested n (length row.g
 id_size_from row (inl (inr (inr (inl is)))) = ap (λ (n : ℕ). tested n (length row.groups)) is
 id_size_from row (inl (inr (inr (inr is)))) = ap (λ (n : ℕ). tested n (length row.groups)) is
 id_size_from row (inr few) = or_left _ _ (and_from _ _ (eq-eqb row.id_size 0 few.0) (le-leb (length row.groups) 1 few.1))
-
--- records without ids
-steps_bodies : (stream : List ℕ) (n : ℕ) (found : List ℕ) → bodies_at stream (sizes.Fixed n) found ≡ bodies 0 (map (alone_at stream (sizes.Fixed n)) found) 0
-steps_bodies stream n [] = refl
-steps_bodies stream n (place ∷ found) = ap (λ (xs : List (List ℕ)). bytes_at n stream place ∷ xs) (steps_bodies stream n found)
-
-alone_bodies : (stream : List ℕ) (size : Size) (empties : ℕ)
-    → bodies_at stream size (places_alone (length stream) empties size)
-    ≡ bodies 0 (map (alone_at stream size) (places_alone (length stream) empties size)) 0
-alone_bodies stream (sizes.Fixed n) empties = steps_bodies stream n (places_alone (length stream) empties (sizes.Fixed n))
-alone_bodies stream sizes.Variable empties = refl
-
-first_alone : (stream : List ℕ) (known : Known) (found : List ℕ) (records : List Record) → bodies_at stream known.size found ≡ bodies 0 records 0
-    → (k : ℕ) (d : Known) → k < 1 → bodies_at stream (get_or (known ∷ []) k d).size (get_or (found ∷ []) k []) ≡ bodies 0 records k
-first_alone stream known found records same zero d below = same
-first_alone stream known found records same (suc k) d below = absurd (omega (arith, below))
 
 alone_split : (stream : List ℕ) (said : ℕ) (group : GroupRow) (found : List ℕ)
     → places_alone (length stream) (empties_of said group) (size_of group) ≡ found

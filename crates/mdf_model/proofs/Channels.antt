@@ -1,7 +1,7 @@
 -- The streams of the channels of variable length that are found, with the values in them.
 use Rattle.std.proofs.Common.{◌≡◌, ◌+◌, ℕ, zero, suc, List, [], ◌∷◌, ◌++◌, length, get_or, take, drop, Ok, refl, sym, ◌∙◌, ap, subst, inl, inr, arith}
 use Rattle.std.specs.Prelude.{true, min, nat_eq, ◌&&◌, filter, slice_get, Option, Some, None}
-use Rattle.std.specs.List.{flat_map, AllByRecursion, AllZip}
+use Rattle.std.specs.List.{AllByRecursion, AllZip}
 use Rattle.std.proofs.lemmas.Bool.{and_parts, cond-true}
 use Rattle.std.proofs.lemmas.List.{take-take}
 use Rattle.std.proofs.lemmas.List.Concat.{flat_map-append}
@@ -15,12 +15,11 @@ use Rattle.mdf_block.proofs.Wholes.{chosen}
 use Rattle.mdf_data.specs.declared.known.Size.{Size}
 use Rattle.mdf_data.specs.declared.known.Size.TheVariants as sizes
 use Rattle.mdf_stream.specs.declared.part.Part.{Part}
-use Rattle.mdf_stream.specs.Parts.{part_bytes, stream_of, stream_size, IsPartInside, ArePartsInside}
+use Rattle.mdf_stream.specs.Parts.{part_bytes, stream_of, stream_size, ArePartsInside}
 use Rattle.mdf_stream.specs.Range.{parts_between}
 use Rattle.mdf_data.specs.Split.{Record}
-use Rattle.mdf_stream.proofs.Links.{all_more}
 use Rattle.mdf_stream.proofs.Joins.{length-stream}
-use Rattle.mdf_stream.proofs.Ranges.{range_bytes, range_inside}
+use Rattle.mdf_stream.proofs.Ranges.{range_bytes}
 use Rattle.mdf_stream.proofs.Streams.{stream_found}
 use Rattle.mdf_group.specs.declared.row.ChannelRow.{ChannelRow}
 use Rattle.mdf_group.specs.declared.row.GroupRow.{GroupRow}
@@ -33,10 +32,10 @@ use Rattle.mdf_content.specs.Records.{size_of}
 use Rattle.mdf_block.specs.Every.{every}
 use Rattle.mdf_content.specs.Values.{has_value, offsets_met, DataStream, values_group, value_size, values_at, values_in, channel_values, GroupRecords, offset_in, channel_stream, channel_item, streams}
 use Rattle.mdf_content.proofs.Samples.{all_met, value_found, value_stands}
-use Rattle.mdf_model.specs.Bodies.{bodies, joined}
+use Rattle.mdf_data.specs.Bodies.{bodies, joined}
 use Rattle.mdf_model.specs.Contents.{IsValuesOf, MeetsValue, IsChannelStream}
-use Rattle.mdf_model.proofs.Insides.{data_inside}
-use Rattle.mdf_model.proofs.Bodies.{HasRoom, bodies_at}
+use Rattle.mdf_stream.proofs.Insides.{data_inside, values_inside}
+use Rattle.mdf_data.proofs.Bodies.{HasRoom, bodies_at}
 use Rattle.mdf_block.proofs.Picks.{IsPicked, all_read, picked, keyed_own}
 use Rattle.mdf_block.proofs.Cases.{ok_injective, some_injective}
 use Rattle.mdf_block.proofs.Items.{all_taken}
@@ -98,14 +97,6 @@ values_bytes f parts (place ∷ places) inside =
     ∙ ap (λ (xs : List ℕ). xs ++ stream_of f (values_at f parts places))
     (range_bytes f parts place (value_size stream (stream_size parts) place) inside ∙ ap (λ (n : ℕ). bytes_at n stream place) here)
     ∙ ap (λ (xs : List ℕ). bytes_at (value_size stream (length stream) place) stream place ++ xs) (values_bytes f parts places inside)
-
--- the parts of values lie where the stream's parts do
-values_inside : (size : ℕ) (parts : List Part) (long : ℕ → ℕ) (places : List ℕ) → ArePartsInside size parts
-    → ArePartsInside size (flat_map (λ (place : ℕ). parts_between parts place (long place)) places)
-values_inside size parts long [] inside = tt
-values_inside size parts long (place ∷ places) inside =
-    all_more (IsPartInside size) (parts_between parts place (long place)) (flat_map (λ (p : ℕ). parts_between parts p (long p)) places)
-    (range_inside size parts place (long place) inside) (values_inside size parts long places inside)
 
 -- the records of each group have room at its places in a stream
 abbrev pub HaveRooms : List ℕ → DataRow → List (List ℕ) → Type 0

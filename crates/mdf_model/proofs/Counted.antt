@@ -29,13 +29,12 @@ use Rattle.mdf_block.specs.Every.{every}
 use Rattle.mdf_content.specs.Values.{has_value, offset_met, offsets_met, values_group, values_in, channel_values, GroupRecords, offset_in}
 use Rattle.mdf_content.specs.Found.{channel_found, channel_place, data_at, group_found, group_place, groups_found, values_found}
 use Rattle.mdf_model.specs.Measurement.{holds_samples}
-use Rattle.mdf_model.specs.Bodies.{bodies}
+use Rattle.mdf_data.specs.Bodies.{bodies}
 use Rattle.mdf_model.specs.Contents.{IsDataSplit, IsValuesOf, own_records}
 use Rattle.mdf_model.specs.Truth.{MissesValue}
-use Rattle.mdf_model.proofs.Bodies.{bodies_at}
+use Rattle.mdf_data.proofs.Bodies.{bodies_at, places_long}
 use Rattle.mdf_model.proofs.Channels.{HoldBodies, held_by, values_of, take_less}
 use Rattle.mdf_model.proofs.Founds.{count_found}
-use Rattle.mdf_model.proofs.Stricts.{places_long}
 use Rattle.mdf_block.proofs.Picks.{all_there}
 use Rattle.mdf_block.proofs.Walks.{refusing_every}
 use Rattle.mdf_model.proofs.Truths.{IsTrue, link_true, layout_true, own_true}

@@ -42,7 +42,7 @@ use Rattle.mdf_model.specs.Found.{data_place, all_found, whole, whole_found}
 use Rattle.mdf_model.specs.Measurement.{holds_samples, measurement}
 use Rattle.mdf_model.specs.Contents.{empties_in, IsDataSplit}
 use Rattle.mdf_model.specs.Truth.{IsTrueOfData, sample_count, IsTrueOfFile}
-use Rattle.mdf_model.proofs.Insides.{data_inside}
+use Rattle.mdf_stream.proofs.Insides.{data_inside}
 use Rattle.mdf_model.proofs.Alone.{split_found}
 use Rattle.mdf_model.proofs.Founds.{all_of_data, size_found, hold_by}
 use Rattle.mdf_block.proofs.Picks.{all_there}

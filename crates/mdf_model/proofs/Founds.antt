@@ -35,13 +35,13 @@ use Rattle.mdf_content.specs.Records.{size_of, known_of, places_of, counted_grou
 use Rattle.mdf_content.specs.Values.{streams}
 use Rattle.mdf_content.specs.Contents.{content_of, count_of, is_strict, records_at}
 use Rattle.mdf_content.specs.Found.{data_at, data_fetched, data_found, fetched, group_found, group_place, groups_found, values_found}
-use Rattle.mdf_model.specs.Bodies.{bodies, joined}
+use Rattle.mdf_data.specs.Bodies.{bodies, joined}
 use Rattle.mdf_model.specs.Measurement.{holds_samples}
 use Rattle.mdf_model.specs.Contents.{HasIdSize, empties_in, IsDataSplit, own_records, IsContents, is_of_samples, sample_groups, IsDataContents}
 use Rattle.mdf_content.proofs.Founds.{streams_are, turned_list}
 use Rattle.mdf_content.proofs.Samples.{group_samples}
-use Rattle.mdf_model.proofs.Insides.{data_inside}
-use Rattle.mdf_model.proofs.Bodies.{HasRoom, bodies_at, AreSplitAt}
+use Rattle.mdf_stream.proofs.Insides.{data_inside}
+use Rattle.mdf_data.proofs.Bodies.{HasRoom, bodies_at, AreSplitAt}
 use Rattle.mdf_model.proofs.Alone.{id_size_is, split_found}
 use Rattle.mdf_model.proofs.Ruled.{layout_found}
 use Rattle.mdf_model.proofs.Channels.{HaveRooms, HoldBodies, held_by, streams_found}

@@ -1,6 +1,5 @@
 pub mod Alone
 mod Answers
-pub mod Bodies
 pub mod Channels
 -- what stands within the limits is read
 pub mod Complete
@@ -8,11 +7,9 @@ mod Counted
 pub mod Files
 pub mod Founds
 pub mod Fronts
-pub mod Insides
 pub mod Kepts
 pub mod Fetches
 pub mod Onces
-mod Rests
 pub mod Ruled
 pub mod Sames
 mod Samples
@@ -23,3 +20,4 @@ mod Undefined
 pub mod Wholes
 pub mod Identified
 mod Numbered
+pub mod Truths

@@ -1,16 +1,12 @@
 -- A measurement is strict exactly where its file is valid.
-use Rattle.std.proofs.Common.{◌≡◌, ◌≢◌, ◌+◌, ◌*◌, ◌≤◌, ℕ, zero, suc, List, [], ◌∷◌, length, get_or, map, refl, sym, ◌∙◌, ap, subst, inl, inr, arith, length-append}
-use Rattle.std.specs.Prelude.{Bool, true, false, not, nat_eq, ◌||◌, filter, slice_get, IsTrue, ◌↔◌, Some, Ok}
-use Rattle.std.specs.List.{flat_map, AllByRecursion, AllZip, list_all, list_any}
-use Rattle.std.proofs.lemmas.Bool.{cases_eq, eqb-true, eq-eqb, ne_eqb, and_parts, and_from, or_cases, or_left, or_right, or_parts, or_from, not-true, not_from_false, cond-true}
-use Rattle.std.proofs.lemmas.List.{length-map}
-use Rattle.std.proofs.Math.Nat.{mul-suc}
-use Rattle.mdf_format.specs.Number.{bytes_at}
+use Rattle.std.proofs.Common.{◌≡◌, ◌≢◌, ◌+◌, ◌≤◌, ℕ, zero, List, [], ◌∷◌, length, get_or, map, refl, sym, ◌∙◌, ap, subst, inl, inr, arith}
+use Rattle.std.specs.Prelude.{Bool, true, false, not, nat_eq, ◌||◌, slice_get, IsTrue, ◌↔◌, Some, Ok}
+use Rattle.std.specs.List.{AllByRecursion, AllZip, list_all, list_any}
+use Rattle.std.proofs.lemmas.Bool.{cases_eq, eqb-true, eq-eqb, ne_eqb, and_parts, and_from, or_cases, or_left, or_right, or_parts, or_from, not-true, not_from_false}
 use Rattle.mdf_block.proofs.Wholes.{chosen}
-use Rattle.mdf_data.specs.declared.known.Size.{Size}
 use Rattle.mdf_data.specs.declared.known.Size.TheVariants as sizes
 use Rattle.mdf_stream.specs.Parts.{stream_of, stream_size}
-use Rattle.mdf_data.specs.Split.{Record, IsAlone, IsSplitAlone, IsRecordSplit}
+use Rattle.mdf_data.specs.Split.{Record, IsRecordSplit}
 use Rattle.mdf_stream.proofs.Joins.{length-stream}
 use Rattle.mdf_format.specs.declared.kind.Kind.TheVariants.{Dt}
 use Rattle.mdf_head.specs.declared.identity.Ident.{Ident}
@@ -27,11 +23,11 @@ use Rattle.mdf_model.specs.declared.whole.WholeFound.{WholeFound}
 use Rattle.mdf_model.specs.Found.{whole_fetched}
 use Rattle.mdf_model.specs.Measurement as model
 use Rattle.mdf_model.specs.Measurement.{measures, Measured, measurement}
-use Rattle.mdf_model.specs.Bodies.{is_of, bodies}
+use Rattle.mdf_data.specs.Bodies.{bodies}
 use Rattle.mdf_model.specs.Contents.{empties_in, IsDataSplit}
 use Rattle.mdf_model.specs.InWords.{IsValidData, IsValidFile}
-use Rattle.mdf_model.proofs.Insides.{data_inside}
-use Rattle.mdf_model.proofs.Bodies.{bodies_at, size_there}
+use Rattle.mdf_stream.proofs.Insides.{data_inside}
+use Rattle.mdf_data.proofs.Bodies.{parted, places_long}
 use Rattle.mdf_model.proofs.Alone.{at_most_one}
 use Rattle.mdf_block.proofs.Picks.{AreNumbered, numbered_both, all_there}
 use Rattle.mdf_model.proofs.Founds.{IsDataFound, data_split}
@@ -82,49 +78,6 @@ apart_from [] all = refl
 apart_from (group ∷ groups) all =
     and_from _ _ (not_from_false (list_any (has_id group.id) groups) (none_from group.id groups all.0)) (apart_from groups all.1)
 
--- how long a stream without ids is
-turned : (m n : ℕ) → m + n ≡ n + m
-turned m n = omega arith
-
-lengths : (n : ℕ) (records : List Record) → AllByRecursion (IsAlone n) records
-    → length (flat_map (λ (r : Record). r.bytes) records) ≡ n * length (bodies 0 records 0)
-lengths n [] each = let none : 0 ≡ n * 0 = omega arith in none
-lengths n (r ∷ records) each =
-    let others = filter (is_of 0) records in
-    let rest = lengths n records each.1 in
-    let here : bodies 0 (r ∷ records) 0 ≡ r.bytes ∷ bodies 0 records 0 =
-    ap (λ (rs : List Record). map (λ (x : Record). x.bytes) rs) (cond-true (nat_eq r.which 0) (r ∷ others) others (eq-eqb r.which 0 each.0.which)) in
-    length-append r.bytes (flat_map (λ (x : Record). x.bytes) records)
-    ∙ ap (λ (m : ℕ). m + length (flat_map (λ (x : Record). x.bytes) records)) each.0.long
-    ∙ ap (λ (m : ℕ). n + m) rest
-    ∙ turned n (n * length (bodies 0 records 0))
-    ∙ sym (mul-suc n (length (bodies 0 records 0)))
-    ∙ sym (ap (λ (xs : List (List ℕ)). n * length xs) here)
-
-no_times : (n : ℕ) → n * 0 ≡ 0
-no_times n = omega arith
-
--- of a stream without ids so much is records of the one group, and the others are its rest
-parted : (size : Size) (n count : ℕ) (stream : List ℕ) (empties : ℕ) (records : List Record) (rest : List ℕ)
-    → ((m : ℕ) → size ≡ sizes.Fixed m → n ≡ m) → count ≡ length (bodies 0 records 0)
-    → IsSplitAlone empties size stream records rest → length stream ≡ n * count + length rest
-parted (sizes.Fixed zero) n count stream empties records rest is counted split =
-    let none : n ≡ 0 = is zero refl in
-    let same : n * count ≡ 0 * count = ap (λ (m : ℕ). m * count) none in
-    let long : length rest ≡ length stream = ap length split.rest_is in
-    omega (arith, same, long)
-parted (sizes.Fixed (suc m)) n count stream empties records rest is counted split =
-    let front = flat_map (λ (r : Record). r.bytes) records in
-    ap length split.whole
-    ∙ length-append front rest
-    ∙ ap (λ (k : ℕ). k + length rest)
-    (lengths (suc m) records split.each ∙ ap (λ (k : ℕ). suc m * k) (sym counted) ∙ ap (λ (k : ℕ). k * count) (sym (is (suc m) refl)))
-parted sizes.Variable n count stream empties records rest is counted split =
-    let none : count ≡ 0 = counted ∙ ap (λ (rs : List Record). length (bodies 0 rs 0)) split.records_are in
-    let same : n * count ≡ 0 = ap (λ (k : ℕ). n * k) none ∙ no_times n in
-    let long : length rest ≡ length stream = ap length split.rest_is in
-    omega (arith, same, long)
-
 fixed_injective : (m n : ℕ) → sizes.Fixed m ≡ sizes.Fixed n → m ≡ n
 fixed_injective m n same = cc
 
@@ -134,12 +87,6 @@ size_is group m is =
       | inl values ↦ let wrong : sizes.Variable ≡ sizes.Fixed m = values.1 in cc
       | inr samples ↦ fixed_injective (record_size group) m samples.1
     ]
-
--- as many places as bodies
-pub places_long : (stream : List ℕ) (size : Size) (places : List ℕ) (found : List (List ℕ)) → bodies_at stream size places ≡ found
-    → length places ≡ length found
-places_long stream size places found is =
-    sym (length-map places (λ (place : ℕ). bytes_at (size_there stream size place) stream place)) ∙ ap length is
 
 rest_left : (stream : List ℕ) (groups : List GroupRow) (lists : List (List ℕ)) (records : List Record) (rest : List ℕ) → length groups ≤ 1
     → IsRecordSplit stream 0 (map known_of groups) (empties_in groups) records rest

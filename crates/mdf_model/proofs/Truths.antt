@@ -1,5 +1,5 @@
 -- What is refused of a data group is true of it.
-use Rattle.std.proofs.Common.{◌≡◌, ◌≢◌, ◌+◌, ◌<◌, ◌≤◌, ◌⊎◌, ℕ, zero, suc, List, [], ◌∷◌, length, drop, map, Option, Some, None, Ok, Err, refl, sym, ◌∙◌, ap, subst, inl, inr, arith}
+use Rattle.std.proofs.Common.{◌≡◌, ◌≢◌, ◌+◌, ◌<◌, ◌≤◌, ◌⊎◌, ℕ, zero, suc, List, [], ◌∷◌, length, drop, map, Option, Some, None, Ok, Err, refl, sym, ◌∙◌, ap, subst, inl, inr, arith, ◌-◌}
 use Rattle.std.specs.Prelude.{true, false, nat_eq, nat_lt, slice_get}
 use Rattle.std.proofs.lemmas.Bool.{eqb-true, eqb-false, ltb-true, cond-true, cond-false, both_ways}
 use Rattle.mdf_format.specs.declared.kind.Kind.{Kind}
@@ -37,8 +37,10 @@ use Rattle.mdf_model.specs.Truth.{IsRestAt, IsSampleGroup, IsUnknownAt, IsTrueOf
 use Rattle.mdf_model.proofs.Alone.{id_size_from}
 use Rattle.mdf_block.proofs.Picks.{all_there}
 use Rattle.mdf_block.proofs.Walks.{refusing_every}
-use Rattle.mdf_model.proofs.Rests.{refused_place, IsStop, IsUnknown, IsShort, piece_stop, some_left, unknown_is}
+use Rattle.mdf_data.proofs.Stops.{refused_place, IsStop, IsUnknown, IsShort, piece_stop, some_left}
 use Rattle.mdf_block.proofs.Cases.{some_injective, two_ways}
+use Rattle.std.specs.List.{AllByRecursion}
+use Rattle.mdf_data.specs.Record.{group_of}
 
 -- where there are ids, none is told of empty records
 split_any : (stream : List ℕ) (id_size : ℕ) (known : List Known) (empties : ℕ) (records : List Record) (rest : List ℕ) → 1 ≤ id_size
@@ -257,3 +259,17 @@ module _ (f : List ℕ) (row : DataRow) (before : ℕ) where
         refusing_if IsTrue (nat_eq row.id_size 0) (places_without_ids (length stream) true row.groups) (places stream (length stream) row.id_size known)
         (λ none. without_ids row.groups (λ group there. there) (eqb-true row.id_size 0 none))
         (λ some. with_ids (some_ids row.id_size (eqb-false row.id_size 0 some)))
+
+some_none : {A : Type 0} (x : A) → ◌≡◌ {A = Option A} (Some x) None → ⊥
+some_none x is = cc
+
+-- no group has an id that is not found
+pub unknown_is : (groups : List GroupRow) (id from : ℕ) → group_of (map known_of groups) id from ≡ None
+    → AllByRecursion (λ (group : GroupRow). group.id ≢ id) groups
+unfolding group_of
+unknown_is [] id from none = tt
+unknown_is (group ∷ groups) id from none =
+    elim (chosen (nat_eq group.id id) _ (group_of (map known_of groups) id (from + 1)) None none) [
+      | inl here ↦ absurd (some_none _ here.1)
+      | inr other ↦ (eqb-false group.id id other.0, unknown_is groups id (from + 1) other.1)
+    ]

@@ -28,7 +28,7 @@ use Rattle.mdf_content.specs.Layouts.{field_of, placed_channels, layout_of}
 use Rattle.mdf_content.specs.Values.{values_group}
 use Rattle.mdf_model.specs.declared.part.Measure.{Measure}
 use Rattle.mdf_model.specs.Measurement.{measurement}
-use Rattle.mdf_model.specs.Bodies.{bodies}
+use Rattle.mdf_data.specs.Bodies.{bodies}
 use Rattle.mdf_model.specs.Contents.{IsDataSplit, IsValuesOf, MeetsValue, IsChannelStream, own_records, IsContents, is_of_samples, IsDataContents}
 use Rattle.mdf_model.specs.InWords.{IsMeasurement}
 use Rattle.mdf_model.specs.Truth.{IsSampleGroup, BreaksLayout, LacksLayout, IsRestAt, SaysMore, MissesValue, IsTrueOfOne, IsAboutData}

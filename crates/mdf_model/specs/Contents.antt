@@ -20,7 +20,7 @@ use Rattle.mdf_content.specs.Layouts.{field_of, layout_of}
 use Rattle.mdf_content.specs.Records.{known_of, empties_of}
 use Rattle.mdf_content.specs.Samples.{AreSamples}
 use Rattle.mdf_content.specs.Values.{values_group}
-use Rattle.mdf_model.specs.Bodies.{bodies, joined}
+use Rattle.mdf_data.specs.Bodies.{bodies, joined}
 
 -- record ids of 1, 2, 4 or 8 bytes, or none and at most one group
 abbrev pub HasIdSize : DataRow → Type 0

@@ -13,7 +13,7 @@ use Rattle.mdf_group.specs.Standing.{AreDistinct, StandDataGroups}
 use Rattle.mdf_content.specs.declared.contents.Contents.{Contents}
 use Rattle.mdf_model.specs.declared.part.Measure.{Measure}
 use Rattle.mdf_model.specs.Measurement.{holds_samples, paired}
-use Rattle.mdf_model.specs.Bodies.{bodies}
+use Rattle.mdf_data.specs.Bodies.{bodies}
 use Rattle.mdf_model.specs.Contents.{IsDataSplit, IsDataContents}
 
 -- the file begins as a finalized file of a version that is read

@@ -2,7 +2,6 @@ pub mod Tree
 pub mod Measurement
 pub mod Found
 pub mod Kept
-pub mod Bodies
 pub mod Contents
 pub mod InWords
 pub mod Truth

@@ -24,7 +24,7 @@ use Rattle.mdf_content.specs.Layouts.{field_of, layout_of}
 use Rattle.mdf_content.specs.Records.{known_of, has_empty_records}
 use Rattle.mdf_content.specs.Values.{values_group}
 use Rattle.mdf_model.specs.Measurement.{holds_samples}
-use Rattle.mdf_model.specs.Bodies.{bodies}
+use Rattle.mdf_data.specs.Bodies.{bodies}
 use Rattle.mdf_model.specs.Contents.{HasIdSize, empties_in, IsDataSplit, IsValuesOf, own_records}
 
 -- group k of a data group is this one, and its records are samples

@@ -9,7 +9,7 @@ use Rattle.mdf_layout.specs.Behind.{variables, first_id}
 use Rattle.mdf_layout.specs.Read.{Piece, stream_of, streams_from}
 use Rattle.mdf_layout.specs.declared.field.FieldRow.{FieldRow}
 use Rattle.mdf_content.specs.declared.contents.Contents.{Contents}
-use Rattle.mdf_model.specs.Bodies.{joined}
+use Rattle.mdf_data.specs.Bodies.{joined}
 use Rattle.mdf_block.proofs.Cases.{two_ways}
 use Rattle.mdf_carried.proofs.Holds.{contents_at, contents_from}
 use Rattle.mdf_schedule.specs.Records.{IsIdOf, has_id, records_with}

@@ -7,3 +7,4 @@ pub mod Ranges
 pub mod Reached
 pub mod Streams
 pub mod Truths
+pub mod Insides

@@ -19,7 +19,7 @@ use Rattle.mdf_layout.specs.Row.{kind_in}
 use Rattle.mdf_layout.specs.declared.field.FieldRow.{FieldRow}
 use Rattle.mdf_content.specs.Layouts.{field_of, layout_of}
 use Rattle.mdf_content.specs.Records.{known_of}
-use Rattle.mdf_model.specs.Bodies.{bodies}
+use Rattle.mdf_data.specs.Bodies.{bodies}
 use Rattle.mdf_block.proofs.Cases.{two_ways}
 use Rattle.mdf_tree.specs.Group.{written_flags, value_link, values_behind, past_channel, placed_channel, placed_channels, group_channels, group_values, group_values_behind, past_group, placed_group, placed_groups}
 use Rattle.mdf_spell.specs.Counts.{counted_group, counted_groups}

@@ -21,7 +21,7 @@ use Rattle.mdf_content.specs.declared.contents.Contents.{Contents}
 use Rattle.mdf_content.specs.Records.{known_of}
 use Rattle.mdf_model.specs.declared.part.Measure.{Measure}
 use Rattle.mdf_model.specs.Measurement.{holds_samples, paired, contents_of}
-use Rattle.mdf_model.specs.Bodies.{bodies}
+use Rattle.mdf_data.specs.Bodies.{bodies}
 use Rattle.mdf_model.specs.Contents.{HasIdSize, empties_in, IsContents, IsDataSplit, sample_groups, IsDataContents}
 use Rattle.mdf_model.specs.InWords.{IsFinalizedMdf, IsMeasurement, IsValidData}
 use Rattle.mdf_model.specs.Same.{plain_head, plain_group, SameRows}

@@ -11,7 +11,7 @@ use Rattle.mdf_group.specs.declared.row.GroupRow.{GroupRow}
 use Rattle.mdf_group.specs.Group.{is_variable}
 use Rattle.mdf_content.specs.declared.contents.Contents.{Contents}
 use Rattle.mdf_model.specs.Measurement.{holds_samples, paired, contents_of}
-use Rattle.mdf_model.specs.Bodies.{bodies}
+use Rattle.mdf_data.specs.Bodies.{bodies}
 use Rattle.mdf_model.specs.Same.{plain_channel, plain_group}
 use Rattle.mdf_tree.specs.Group.{values_behind, past_channel, placed_channels, group_channels, group_values, group_values_behind, past_group, placed_groups}
 use Rattle.mdf_spell.specs.Counts.{counted_group, counted_groups}

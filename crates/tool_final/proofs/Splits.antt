@@ -7,7 +7,7 @@ use Rattle.mdf_data.specs.declared.known.Size.TheVariants as sizes
 use Rattle.mdf_data.specs.declared.known.Known.{Known}
 use Rattle.mdf_data.specs.Split.{Record, IsAlone, IsSplitAlone, IsRecordSplit, empty_record}
 use Rattle.mdf_group.specs.declared.row.GroupRow.{GroupRow}
-use Rattle.mdf_model.specs.Bodies.{bodies}
+use Rattle.mdf_data.specs.Bodies.{bodies}
 use Rattle.mdf_model.specs.Contents.{empties_in}
 use Rattle.mdf_tree.specs.Group.{placed_groups}
 use Rattle.mdf_block.specs.declared.link.Link.{Link}

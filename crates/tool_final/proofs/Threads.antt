@@ -25,7 +25,7 @@ use Rattle.mdf_layout.specs.declared.field.FieldRow.{FieldRow}
 use Rattle.mdf_content.specs.declared.contents.Contents.{Contents}
 use Rattle.mdf_content.specs.Layouts.{field_of, layout_of}
 use Rattle.mdf_content.specs.Values.{values_group}
-use Rattle.mdf_model.specs.Bodies.{bodies, joined}
+use Rattle.mdf_data.specs.Bodies.{bodies, joined}
 use Rattle.mdf_model.specs.Contents.{KeepsRules, IsValuesOf, MeetsValue, IsChannelStream, own_records, IsContents, is_of_samples}
 use Rattle.mdf_carried.specs.Recovered.{IsGroupContents}
 use Rattle.mdf_tree.specs.Group.{past_channel, placed_channel, placed_channels, values_past, first_or_none, behind_first, group_channels, past_group, placed_groups}

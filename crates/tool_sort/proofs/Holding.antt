@@ -28,7 +28,7 @@ use Rattle.mdf_content.specs.Samples.{sample_at}
 use Rattle.mdf_content.specs.Values.{values_group}
 use Rattle.mdf_model.specs.declared.part.Measure.{Measure}
 use Rattle.mdf_model.specs.Measurement.{paired, contents_of}
-use Rattle.mdf_model.specs.Bodies.{bodies, joined}
+use Rattle.mdf_data.specs.Bodies.{bodies, joined}
 use Rattle.mdf_model.specs.Contents.{KeepsRules, IsDataSplit, IsChannelStream, own_records, IsContents, IsDataContents}
 use Rattle.mdf_model.specs.InWords.{row_measures, IsValidData}
 use Rattle.tool_sort.specs.Kept.{IsMeasureIn}

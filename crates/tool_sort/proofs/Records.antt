@@ -10,7 +10,7 @@ use Rattle.mdf_data.specs.Split.{Record, IsAlone, IsSplitAlone, IsRecordSplit, e
 use Rattle.mdf_group.specs.declared.row.GroupRow.{GroupRow}
 use Rattle.mdf_group.specs.Group.{is_variable}
 use Rattle.mdf_content.specs.Records.{record_size, known_of}
-use Rattle.mdf_model.specs.Bodies.{bodies, joined}
+use Rattle.mdf_data.specs.Bodies.{bodies, joined}
 use Rattle.mdf_model.specs.Contents.{empties_in}
 
 -- so many pieces of a size, one behind the other

@@ -1,7 +1,7 @@
 -- The parts that a data link leads to lie inside the file.
 use Rattle.std.proofs.Common.{◌≡◌, ◌+◌, ◌-◌, ℕ, zero, suc, List, [], ◌∷◌, length, Ok, sym, subst, inl, inr, arith}
 use Rattle.std.specs.Prelude.{nat_eq, if◌then◌else◌}
-use Rattle.std.specs.List.{AllByRecursion}
+use Rattle.std.specs.List.{AllByRecursion, flat_map}
 use Rattle.mdf_format.specs.Block.{link_at}
 use Rattle.mdf_format.specs.declared.kind.Kind.{Kind}
 use Rattle.mdf_format.specs.declared.kind.Kind.TheVariants.{Dl}
@@ -17,8 +17,10 @@ use Rattle.mdf_block.proofs.Chains.{full_none, chain_each}
 use Rattle.mdf_stream.specs.declared.part.Part.{Part}
 use Rattle.mdf_stream.specs.Parts.{IsPartInside, ArePartsInside}
 use Rattle.mdf_stream.specs.Link.{one_less, part_of, data_block, named_block, data_list, data_lists, joined, listed_parts, one_part, data_parts}
-use Rattle.mdf_stream.proofs.Links.{all_joined}
+use Rattle.mdf_stream.proofs.Links.{all_joined, all_more}
 use Rattle.mdf_block.proofs.Cases.{ok_injective}
+use Rattle.mdf_stream.specs.Range.{parts_between}
+use Rattle.mdf_stream.proofs.Ranges.{range_inside}
 
 -- the body of a block
 pub body_inside : (f : List ℕ) (want : Kind) (at : ℕ) (b : BlockAt) → block f at want ≡ Ok b → IsPartInside (length f) (part_of b)
@@ -83,3 +85,11 @@ data_inside f want at parts is =
             (body_inside f want at first.0 first.1, tt)
       ]
     ]
+
+-- the parts of values lie where the stream's parts do
+pub values_inside : (size : ℕ) (parts : List Part) (long : ℕ → ℕ) (places : List ℕ) → ArePartsInside size parts
+    → ArePartsInside size (flat_map (λ (place : ℕ). parts_between parts place (long place)) places)
+values_inside size parts long [] inside = tt
+values_inside size parts long (place ∷ places) inside =
+    all_more (IsPartInside size) (parts_between parts place (long place)) (flat_map (λ (p : ℕ). parts_between parts p (long p)) places)
+    (range_inside size parts place (long place) inside) (values_inside size parts long places inside)

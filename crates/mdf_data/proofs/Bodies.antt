@@ -1,10 +1,10 @@
 -- The places of records hold their bodies.
-use Rattle.std.proofs.Common.{◌≡◌, ◌≢◌, ◌+◌, ◌-◌, ◌<◌, ◌≤◌, ℕ, zero, suc, List, [], ◌∷◌, ◌++◌, length, get_or, take, drop, map, replicate, Ok, refl, sym, ◌∙◌, ap, subst, inl, inr, arith, append-nil, append_assoc, length-append}
+use Rattle.std.proofs.Common.{◌≡◌, ◌≢◌, ◌+◌, ◌-◌, ◌<◌, ◌≤◌, ℕ, zero, suc, List, [], ◌∷◌, ◌++◌, length, get_or, take, drop, map, replicate, Ok, refl, sym, ◌∙◌, ap, subst, inl, inr, arith, append-nil, append_assoc, length-append, ◌*◌}
 use Rattle.std.specs.Prelude.{Bool, min, nat_eq, filter}
-use Rattle.std.specs.List.{AllByRecursion}
+use Rattle.std.specs.List.{AllByRecursion, flat_map}
 use Rattle.std.proofs.lemmas.Bool.{cases_eq, eq-eqb, ne_eqb, cond-true, cond-false}
 use Rattle.std.proofs.lemmas.Grind.{get_or-set_at}
-use Rattle.std.proofs.lemmas.List.{get_or-set_other, get_or-replicate, length-set, length-take, take_at, drop_at, length-drop, take-append-drop, length-replicate, drop-take}
+use Rattle.std.proofs.lemmas.List.{get_or-set_other, get_or-replicate, length-set, length-take, take_at, drop_at, length-drop, take-append-drop, length-replicate, drop-take, length-map}
 use Rattle.std.proofs.Math.Seq.{drop-drop}
 use Rattle.mdf_format.specs.Number.{le_number, bytes_at}
 use Rattle.mdf_data.specs.declared.known.Size.{Size}
@@ -12,13 +12,14 @@ use Rattle.mdf_data.specs.declared.known.Size.TheVariants as sizes
 use Rattle.mdf_data.specs.declared.known.Known.{Known}
 use Rattle.mdf_data.specs.declared.known.Piece.{Piece}
 use Rattle.mdf_data.specs.Record.{least_size}
-use Rattle.mdf_data.specs.Places.{with_place, spread, pieces, places}
-use Rattle.mdf_data.specs.Split.{Record, IsValue, IsBody, IsRecord, IsRecordSplit, record_of}
+use Rattle.mdf_data.specs.Places.{with_place, spread, pieces, places, places_alone}
+use Rattle.mdf_data.specs.Split.{Record, IsValue, IsBody, IsRecord, IsRecordSplit, record_of, alone_at, IsAlone, IsSplitAlone}
 use Rattle.mdf_block.proofs.Refusals.{bind_ok}
 use Rattle.mdf_data.proofs.Groups.{group_is}
 use Rattle.mdf_data.proofs.Pieces.{records_found}
-use Rattle.mdf_model.specs.Bodies.{is_of, bodies}
+use Rattle.mdf_data.specs.Bodies.{is_of, bodies}
 use Rattle.mdf_block.proofs.Cases.{ok_injective}
+use Rattle.std.proofs.Math.Nat.{mul-suc}
 
 -- the pieces of group k
 abbrev is_piece_of : ℕ → Piece → Bool
@@ -249,3 +250,68 @@ places_found stream zero known empties lists some is = absurd (omega (arith, som
 places_found stream (suc n) known empties lists some is =
     let first = bind_ok (pieces stream (length stream) (suc n) known) (λ found. Ok (spread (suc n) (replicate (length known) []) found)) lists is in
     places_split stream n known empties first.0 lists first.1 (ok_injective _ lists first.2)
+
+-- records without ids
+pub steps_bodies : (stream : List ℕ) (n : ℕ) (found : List ℕ) → bodies_at stream (sizes.Fixed n) found ≡ bodies 0 (map (alone_at stream (sizes.Fixed n)) found) 0
+steps_bodies stream n [] = refl
+steps_bodies stream n (place ∷ found) = ap (λ (xs : List (List ℕ)). bytes_at n stream place ∷ xs) (steps_bodies stream n found)
+
+pub alone_bodies : (stream : List ℕ) (size : Size) (empties : ℕ)
+    → bodies_at stream size (places_alone (length stream) empties size)
+    ≡ bodies 0 (map (alone_at stream size) (places_alone (length stream) empties size)) 0
+alone_bodies stream (sizes.Fixed n) empties = steps_bodies stream n (places_alone (length stream) empties (sizes.Fixed n))
+alone_bodies stream sizes.Variable empties = refl
+
+pub first_alone : (stream : List ℕ) (known : Known) (found : List ℕ) (records : List Record) → bodies_at stream known.size found ≡ bodies 0 records 0
+    → (k : ℕ) (d : Known) → k < 1 → bodies_at stream (get_or (known ∷ []) k d).size (get_or (found ∷ []) k []) ≡ bodies 0 records k
+first_alone stream known found records same zero d below = same
+first_alone stream known found records same (suc k) d below = absurd (omega (arith, below))
+
+-- how long a stream without ids is
+pub turned : (m n : ℕ) → m + n ≡ n + m
+turned m n = omega arith
+
+pub lengths : (n : ℕ) (records : List Record) → AllByRecursion (IsAlone n) records
+    → length (flat_map (λ (r : Record). r.bytes) records) ≡ n * length (bodies 0 records 0)
+lengths n [] each = let none : 0 ≡ n * 0 = omega arith in none
+lengths n (r ∷ records) each =
+    let others = filter (is_of 0) records in
+    let rest = lengths n records each.1 in
+    let here : bodies 0 (r ∷ records) 0 ≡ r.bytes ∷ bodies 0 records 0 =
+    ap (λ (rs : List Record). map (λ (x : Record). x.bytes) rs) (cond-true (nat_eq r.which 0) (r ∷ others) others (eq-eqb r.which 0 each.0.which)) in
+    length-append r.bytes (flat_map (λ (x : Record). x.bytes) records)
+    ∙ ap (λ (m : ℕ). m + length (flat_map (λ (x : Record). x.bytes) records)) each.0.long
+    ∙ ap (λ (m : ℕ). n + m) rest
+    ∙ turned n (n * length (bodies 0 records 0))
+    ∙ sym (mul-suc n (length (bodies 0 records 0)))
+    ∙ sym (ap (λ (xs : List (List ℕ)). n * length xs) here)
+
+pub no_times : (n : ℕ) → n * 0 ≡ 0
+no_times n = omega arith
+
+-- of a stream without ids so much is records of the one group, and the others are its rest
+pub parted : (size : Size) (n count : ℕ) (stream : List ℕ) (empties : ℕ) (records : List Record) (rest : List ℕ)
+    → ((m : ℕ) → size ≡ sizes.Fixed m → n ≡ m) → count ≡ length (bodies 0 records 0)
+    → IsSplitAlone empties size stream records rest → length stream ≡ n * count + length rest
+parted (sizes.Fixed zero) n count stream empties records rest is counted split =
+    let none : n ≡ 0 = is zero refl in
+    let same : n * count ≡ 0 * count = ap (λ (m : ℕ). m * count) none in
+    let long : length rest ≡ length stream = ap length split.rest_is in
+    omega (arith, same, long)
+parted (sizes.Fixed (suc m)) n count stream empties records rest is counted split =
+    let front = flat_map (λ (r : Record). r.bytes) records in
+    ap length split.whole
+    ∙ length-append front rest
+    ∙ ap (λ (k : ℕ). k + length rest)
+    (lengths (suc m) records split.each ∙ ap (λ (k : ℕ). suc m * k) (sym counted) ∙ ap (λ (k : ℕ). k * count) (sym (is (suc m) refl)))
+parted sizes.Variable n count stream empties records rest is counted split =
+    let none : count ≡ 0 = counted ∙ ap (λ (rs : List Record). length (bodies 0 rs 0)) split.records_are in
+    let same : n * count ≡ 0 = ap (λ (k : ℕ). n * k) none ∙ no_times n in
+    let long : length rest ≡ length stream = ap length split.rest_is in
+    omega (arith, same, long)
+
+-- as many places as bodies
+pub places_long : (stream : List ℕ) (size : Size) (places : List ℕ) (found : List (List ℕ)) → bodies_at stream size places ≡ found
+    → length places ≡ length found
+places_long stream size places found is =
+    sym (length-map places (λ (place : ℕ). bytes_at (size_there stream size place) stream place)) ∙ ap length is

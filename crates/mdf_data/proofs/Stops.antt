@@ -1,22 +1,15 @@
 -- Where the records of a stream with ids end, and why.
-use Rattle.std.proofs.Common.{◌≡◌, ◌≢◌, ◌+◌, ◌-◌, ◌<◌, ◌≤◌, ℕ, zero, suc, List, [], ◌∷◌, length, map, Option, Some, None, Ok, Err, refl, sym, ◌∙◌, ap, inl, inr, arith}
+use Rattle.std.proofs.Common.{◌≡◌, ◌+◌, ◌-◌, ◌<◌, ◌≤◌, ℕ, zero, suc, List, [], ◌∷◌, length, Option, Some, None, Ok, Err, refl, sym, ◌∙◌, ap, inl, inr, arith}
 use Rattle.std.specs.Prelude.{Bool, true, false, nat_eq, nat_lt, if◌then◌else◌}
-use Rattle.std.specs.List.{AllByRecursion}
-use Rattle.std.proofs.lemmas.Bool.{cases_eq, eq-eqb, eqb-false, ltb-false}
+use Rattle.std.proofs.lemmas.Bool.{cases_eq, eq-eqb, ltb-false}
 use Rattle.mdf_format.specs.Number.{le_number, bytes_at}
 use Rattle.mdf_block.specs.Refusal.{Refusal, UnknownId, Cut, Read, ◌>>=◌}
 use Rattle.mdf_block.proofs.Truths.{Refusing, refusing_none, refusing_one, refusing_then, refusing_if}
-use Rattle.mdf_block.proofs.Wholes.{chosen}
 use Rattle.mdf_data.specs.declared.known.Known.{Known}
 use Rattle.mdf_data.specs.declared.known.Group.{Group}
 use Rattle.mdf_data.specs.declared.known.Piece.{Piece}
 use Rattle.mdf_data.specs.Record.{group_of, body_size, id_at, whole_piece, group_piece, piece_with, piece_at}
 use Rattle.mdf_data.specs.Places.{pieces_after, pieces_from}
-use Rattle.mdf_group.specs.declared.row.GroupRow.{GroupRow}
-use Rattle.mdf_content.specs.Records.{known_of}
-
-some_none : {A : Type 0} (x : A) → ◌≡◌ {A = Option A} (Some x) None → ⊥
-some_none x is = cc
 
 -- the place of a refusal
 module _ (stream : List ℕ) (total id_size : ℕ) (known : List Known) where
@@ -100,14 +93,3 @@ module _ (stream : List ℕ) (id_size : ℕ) (known : List Known) (place : ℕ) 
             sym (ap (λ (read : Read (Option ℕ)). read >>= piece_with stream id_size known place rest) (none_ends none)) ∙ is in cc
         | inr some ↦ grind (arith, some)
       ]
-
--- no group has an id that is not found
-pub unknown_is : (groups : List GroupRow) (id from : ℕ) → group_of (map known_of groups) id from ≡ None
-    → AllByRecursion (λ (group : GroupRow). group.id ≢ id) groups
-unfolding group_of
-unknown_is [] id from none = tt
-unknown_is (group ∷ groups) id from none =
-    elim (chosen (nat_eq group.id id) _ (group_of (map known_of groups) id (from + 1)) None none) [
-      | inl here ↦ absurd (some_none _ here.1)
-      | inr other ↦ (eqb-false group.id id other.0, unknown_is groups id (from + 1) other.1)
-    ]
