@@ -42,6 +42,20 @@ use Rattle.mdf_block.proofs.Cases.{some_injective, two_ways}
 use Rattle.std.specs.List.{AllByRecursion}
 use Rattle.mdf_data.specs.Record.{group_of}
 
+some_none : {A : Type 0} (x : A) → ◌≡◌ {A = Option A} (Some x) None → ⊥
+some_none x is = cc
+
+-- no group has an id that is not found
+pub unknown_is : (groups : List GroupRow) (id from : ℕ) → group_of (map known_of groups) id from ≡ None
+    → AllByRecursion (λ (group : GroupRow). group.id ≢ id) groups
+unfolding group_of
+unknown_is [] id from none = tt
+unknown_is (group ∷ groups) id from none =
+    elim (chosen (nat_eq group.id id) _ (group_of (map known_of groups) id (from + 1)) None none) [
+      | inl here ↦ absurd (some_none _ here.1)
+      | inr other ↦ (eqb-false group.id id other.0, unknown_is groups id (from + 1) other.1)
+    ]
+
 -- where there are ids, none is told of empty records
 split_any : (stream : List ℕ) (id_size : ℕ) (known : List Known) (empties : ℕ) (records : List Record) (rest : List ℕ) → 1 ≤ id_size
     → IsRecordSplit stream id_size known 0 records rest → IsRecordSplit stream id_size known empties records rest
@@ -259,17 +273,3 @@ module _ (f : List ℕ) (row : DataRow) (before : ℕ) where
         refusing_if IsTrue (nat_eq row.id_size 0) (places_without_ids (length stream) true row.groups) (places stream (length stream) row.id_size known)
         (λ none. without_ids row.groups (λ group there. there) (eqb-true row.id_size 0 none))
         (λ some. with_ids (some_ids row.id_size (eqb-false row.id_size 0 some)))
-
-some_none : {A : Type 0} (x : A) → ◌≡◌ {A = Option A} (Some x) None → ⊥
-some_none x is = cc
-
--- no group has an id that is not found
-pub unknown_is : (groups : List GroupRow) (id from : ℕ) → group_of (map known_of groups) id from ≡ None
-    → AllByRecursion (λ (group : GroupRow). group.id ≢ id) groups
-unfolding group_of
-unknown_is [] id from none = tt
-unknown_is (group ∷ groups) id from none =
-    elim (chosen (nat_eq group.id id) _ (group_of (map known_of groups) id (from + 1)) None none) [
-      | inl here ↦ absurd (some_none _ here.1)
-      | inr other ↦ (eqb-false group.id id other.0, unknown_is groups id (from + 1) other.1)
-    ]
