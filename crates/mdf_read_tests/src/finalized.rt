@@ -4,7 +4,7 @@ use mdf_conv::Budget;
 use mdf_group::{DataRow, read_groups};
 use mdf_head::{Head, History, read_head};
 use mdf_num::{Bytes, Memory, Rows};
-use mdf_spell::{Recovered, finalized_file};
+use mdf_spell::{FINALIZED_IDENT, Recovered, finalized_front, with_data};
 use mdf_vlsd::{Streams, ValueStream};
 use std::alloc::Global;
 
@@ -163,7 +163,10 @@ fn written(
         content,
         streams: streams.as_slice(),
     };
-    Ok(Some(finalized_file(alloc, &recovered, 0x0102_0304_0506_0708)?))
+    let front = finalized_front(alloc, &recovered, 0x0102_0304_0506_0708)?;
+    let content = Bytes::from_slice(alloc, content)?;
+    let blocks = with_data(alloc, front, content, streams.as_slice())?;
+    Ok(Some(blocks.bytes(&FINALIZED_IDENT)?))
 }
 
 // That of the first data group.

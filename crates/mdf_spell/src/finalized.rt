@@ -1,9 +1,8 @@
-ghost use Rattle.std.specs.Prelude.{ℕ, ◌≡◌, ◌<◌, ◌^◌, ◌++◌, List, IfOk, OnOk};
+ghost use Rattle.std.specs.Prelude.{◌≡◌, ◌<◌, ◌^◌, ◌++◌, IfOk, OnOk};
 ghost use Rattle.std.specs.List.{AllByRecursion};
 ghost use Rattle.mdf_spell.specs.Counts.{IsCounted};
 ghost use Rattle.mdf_spell.specs.Front.{IsFrontOf};
-ghost use Rattle.mdf_spell.specs.Session.{own_data, session_file};
-ghost use Rattle.mdf_spell.specs.Standing.{IsRecoveredOf, IsSessionTree};
+ghost use Rattle.mdf_spell.specs.Session.{own_data};
 
 use crate::data::{place_own_data, place_tree};
 use crate::history::place_head;
@@ -28,7 +27,11 @@ pub struct Front {
     pub names: Vec<Link>,
 }
 
-/// The front of the finalized file of what was read of a recording. The records and the values are not looked at.
+/// The front of the finalized file of what was read of a recording: header, the history with the entry of this finalizing
+/// at `now_ns` (ns since 1970) as its last, and the data group. Its channel groups have the cycles that are counted, and
+/// those of values the sum of their lengths in the place of the two sizes of a record (the low and the high 32 bits). A
+/// channel of variable length names its group of values where that group now stands, or else an SD of its own behind the
+/// DT. The records and the values are not looked at.
 ///
 /// # Errors
 /// `Memory` where memory runs out, or where there are more than 2^30 blocks.
@@ -51,8 +54,8 @@ pub fn finalized_front(alloc: Global, recovered: &Recovered, now_ns: u64) -> Res
     Ok(Front { blocks, names })
 }
 
-/// The blocks of a finalized file: its front, and behind it the records, which are moved, and the values of each channel of
-/// variable length that names no group of values.
+/// The blocks of a finalized file: its front, behind it all records in one DT, in their order, which are moved, and the
+/// values of each channel of variable length that names no group of values.
 ///
 /// # Errors
 /// `Memory` where memory runs out.
@@ -68,23 +71,4 @@ pub fn with_data(
     let mut blocks = blocks;
     place_own_data(alloc, &mut blocks, names.as_slice(), content, streams)?;
     Ok(blocks)
-}
-
-/// The finalized file of what was read of a recording: identification, header, the history with the entry of this finalizing
-/// at `now_ns` (ns since 1970) as its last, and the data group. Its channel groups have the cycles that are counted, and
-/// those of values the sum of their lengths in the place of the two sizes of a record (the low and the high 32 bits). All
-/// records stand in one DT, in their order. A channel of variable length names its group of values where that group now
-/// stands, or else an SD of its own behind the DT.
-///
-/// # Errors
-/// `Memory` where memory runs out, or where there are more than 2^30 blocks.
-pub fn finalized_file(alloc: Global, recovered: &Recovered, now_ns: u64) -> Result<Bytes, Memory>
-    requires { IsCounted recovered.now }
-    ensures written { IfOk result (λ bytes. bytes ≡ session_file recovered.now now_ns) }
-    ensures keeps { (file : List ℕ) → IsRecoveredOf file recovered.now → IfOk result (λ bytes. IsSessionTree bytes recovered.now now_ns) }
-{
-    let front = finalized_front(alloc, recovered, now_ns)?;
-    let content = Bytes::from_slice(alloc, recovered.content)?;
-    let blocks = with_data(alloc, front, content, recovered.streams)?;
-    blocks.bytes(&FINALIZED_IDENT)
 }

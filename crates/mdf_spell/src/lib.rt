@@ -11,7 +11,7 @@ mod recovered;
 mod variable;
 
 pub use data::{place_data, place_data_group};
-pub use finalized::{FINALIZED_IDENT, Front, finalized_file, finalized_front, with_data};
+pub use finalized::{FINALIZED_IDENT, Front, finalized_front, with_data};
 pub use history::place_head;
 pub use recording::recording_head;
 pub use recovered::Recovered;
