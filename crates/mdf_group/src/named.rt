@@ -2,26 +2,19 @@ ghost use Rattle.std.specs.Prelude.{◌≡◌, ◌||◌, ℕ, IfOk, OnOk};
 ghost use Rattle.std.specs.List.{list_any};
 ghost use Rattle.std.specs.Ordering.{nat_cmp};
 ghost use Rattle.std.specs.BTreeSet.{contains};
-ghost use Rattle.mdf_group.specs.Group.{is_variable, has_values_at, names_values, unnamed_count};
+ghost use Rattle.mdf_group.specs.Group.{has_values_at, names_values, unnamed_count};
 
 use crate::{ChannelRow, GroupRow};
 use mdf_num::Memory;
 use std::alloc::Global;
 use std::collections::BTreeSet;
 
-/// Whether the records of the group hold the values of a channel of variable length.
-fn is_variable(row: &GroupRow) -> bool
-    ensures { result ≡ is_variable row.now }
-{
-    row.flags % 2 == 1
-}
-
 /// Adds the addresses where the channels of variable length have their values.
 fn add_values(values: &mut BTreeSet<u64>, channels: &[ChannelRow]) -> Result<(), Memory>
     ensures { OnOk result ((at : ℕ) → contains nat_cmp values.new at ≡ (contains nat_cmp values.old at || list_any (has_values_at at) channels.now)) }
 {
     for channel in channels {
-        if channel.kind == 1 {
+        if channel.is_of_values() {
             values.insert(channel.values)?;
         }
     }
@@ -34,7 +27,7 @@ fn values_of(alloc: Global, rows: &[GroupRow]) -> Result<BTreeSet<u64>, Memory>
 {
     let mut values = BTreeSet::new(alloc);
     for row in rows {
-        if !is_variable(row) {
+        if !row.is_variable() {
             add_values(&mut values, row.channels.as_slice())?;
         }
     }
@@ -48,7 +41,7 @@ pub(crate) fn unnamed_count(alloc: Global, rows: &[GroupRow]) -> Result<u64, Mem
     let values = values_of(alloc, rows)?;
     let mut count = 0;
     for row in rows {
-        if is_variable(row) && !values.contains(&row.at) {
+        if row.is_variable() && !values.contains(&row.at) {
             count += 1;
         }
     }

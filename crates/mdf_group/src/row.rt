@@ -1,3 +1,7 @@
+ghost use Rattle.std.specs.Prelude.{◌≡◌};
+ghost use Rattle.mdf_group.specs.Group.{is_variable};
+ghost use Rattle.mdf_group.specs.Recordable.{is_of_values};
+
 use mdf_block::Note;
 use mdf_conv::{Conversion, SourceInfo};
 use mdf_num::Rows;
@@ -43,6 +47,15 @@ pub struct ChannelRow {
     pub extra: u64,
 }
 
+impl ChannelRow {
+    /// Whether its values are of variable length: a record then has an offset, and the value stands there in the channel's own data.
+    pub fn is_of_values(&self) -> bool
+        ensures { result ≡ is_of_values self.now }
+    {
+        self.kind == 1
+    }
+}
+
 /// A channel group (CGBLOCK): records of one form.
 #[derive(Debug, Drop)]
 pub struct GroupRow {
@@ -68,6 +81,15 @@ pub struct GroupRow {
     pub comment: Note,
     /// The channels in the order of their links.
     pub channels: Rows<ChannelRow>,
+}
+
+impl GroupRow {
+    /// Whether its records hold the values of a channel of variable length.
+    pub fn is_variable(&self) -> bool
+        ensures { result ≡ is_variable self.now }
+    {
+        self.flags % 2 == 1
+    }
 }
 
 /// A data group (DGBLOCK): channel groups whose records stand in one stream.
