@@ -71,14 +71,14 @@ pub fn past_groups(n: u32, rows: &[GroupRow]) -> Result<u32, Memory>
 fn group_values<'a>(values: &'a [Link], row: &GroupRow) -> &'a [Link]
     ensures { result.now ≡ group_values values.now row.now }
 {
-    if row.flags % 2 == 1 { &[] } else { values }
+    if row.is_variable() { &[] } else { values }
 }
 
 /// The links to values that are left behind a group.
 pub fn group_values_behind<'a>(values: &'a [Link], row: &GroupRow) -> &'a [Link]
     ensures { result.now ≡ group_values_behind values.now row.now }
 {
-    if row.flags % 2 == 1 {
+    if row.is_variable() {
         values
     } else {
         values_past(values, row.channels.as_slice())

@@ -15,7 +15,7 @@ pub fn next_if(more: bool, n: u32) -> Link
 pub(crate) fn value_link(values: &[Link], row: &ChannelRow) -> Link
     ensures { result ≡ value_link values.now row.now }
 {
-    if row.kind != 1 || values.is_empty() {
+    if !row.is_of_values() || values.is_empty() {
         return Link::Nothing;
     }
     values[0]
@@ -25,7 +25,7 @@ pub(crate) fn value_link(values: &[Link], row: &ChannelRow) -> Link
 pub(crate) fn values_behind<'a>(values: &'a [Link], row: &ChannelRow) -> &'a [Link]
     ensures { result.now ≡ values_behind values.now row.now }
 {
-    if row.kind == 1 && !values.is_empty() {
+    if row.is_of_values() && !values.is_empty() {
         &values[1..]
     } else {
         values
