@@ -14,7 +14,7 @@ use std::alloc::Global;
 fn counted_of(row: &GroupRow, count: u64, total: u64) -> Counted
     ensures { counted_row result row.now ≡ counted_group count total row.now }
 {
-    if row.flags % 2 == 1 {
+    if row.is_variable() {
         Counted {
             id: row.id,
             cycles: count,

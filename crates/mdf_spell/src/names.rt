@@ -26,7 +26,7 @@ pub(crate) fn group_numbers(alloc: Global, n: u32, rows: &[GroupRow]) -> Result<
 fn is_at(row: &GroupRow, at: u64) -> bool
     ensures { result ≡ (is_variable row.now && nat_eq row.now.at at) }
 {
-    row.flags % 2 == 1 && row.at == at
+    row.is_variable() && row.at == at
 }
 
 /// The link to the group of values at an address, if there is one.
@@ -53,7 +53,7 @@ fn push_names(
     ensures { OnOk result (names.new.items ≡ names.old.items ++ map (λ channel. values_group rows.now numbers.now channel.values) (filter is_of_values channels.now)) }
 {
     for channel in channels {
-        if channel.kind == 1 {
+        if channel.is_of_values() {
             names.push(values_group(rows, numbers, channel.values))?;
         }
     }
@@ -70,7 +70,7 @@ pub(crate) fn named_groups(
 {
     let mut names = Vec::new(alloc);
     for row in rows {
-        if row.flags % 2 == 0 {
+        if !row.is_variable() {
             push_names(&mut names, rows, numbers, row.channels.as_slice())?;
         }
     }

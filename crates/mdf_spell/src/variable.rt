@@ -14,7 +14,7 @@ fn variable_channels(rows: &[ChannelRow]) -> Result<u32, Memory>
 {
     let mut count = 0;
     for row in rows {
-        if row.kind == 1 {
+        if row.is_of_values() {
             count = plus(count, 1)?;
         }
     }
