@@ -25,7 +25,8 @@ use Rattle.mdf_content.specs.declared.wanted.Wanted.{Wanted}
 use Rattle.mdf_content.specs.declared.wanted.Wanted.TheVariants as wants
 use Rattle.mdf_content.specs.Contents.{are_ids_apart, are_said, is_strict, leaves_nothing, records_at, taken}
 use Rattle.mdf_content.specs.Found.{channel_found, channel_place, data_at, data_found, group_found, group_place, groups_found, values_found}
-use Rattle.mdf_content.specs.Kept.{data_kept, is_counted, is_variable_channel, is_without_values, kept_found, kept_lists, kept_of}
+use Rattle.mdf_group.specs.Recordable.{is_of_values}
+use Rattle.mdf_content.specs.Kept.{data_kept, is_counted, is_without_values, kept_found, kept_lists, kept_of}
 use Rattle.mdf_content.specs.Layouts.{layout, layouts}
 use Rattle.mdf_content.specs.Records.{counted, counted_group, known_of, places_of, places_without_ids, record_size}
 use Rattle.mdf_content.specs.Values.{DataStream, GroupRecords, channel_values, has_value, offset_in, offsets_met, values_at, values_group, values_in}
@@ -102,9 +103,9 @@ wanted_with (wants.Group at) group denied = ap (λ (b : Bool). b && not (nat_eq 
 
 values_wanted : (wanted : Wanted) (group : GroupRow) → is_variable group ≡ true → is_counted wanted group ≡ false
 values_wanted wanted group holds =
-    wanted_with wanted group (ap (λ (b : Bool). not b && not (list_any is_variable_channel group.channels)) holds)
+    wanted_with wanted group (ap (λ (b : Bool). not b && not (list_any is_of_values group.channels)) holds)
 
-offsets_wanted : (wanted : Wanted) (group : GroupRow) → list_any is_variable_channel group.channels ≡ true → is_counted wanted group ≡ false
+offsets_wanted : (wanted : Wanted) (group : GroupRow) → list_any is_of_values group.channels ≡ true → is_counted wanted group ≡ false
 offsets_wanted wanted group holds =
     wanted_with wanted group (ap (λ (b : Bool). not (is_variable group) && not b) holds ∙ and_no (not (is_variable group)))
 
@@ -130,11 +131,11 @@ not_placed : (b : Bool) (left : Unit {0}) (found : Read (List Part)) → b ≡ f
 not_placed b left found denied = ap (λ (c : Bool). placed c left found) denied
 
 no_values : (file : List ℕ) (held : DataStream) (records : GroupRecords) (c : ℕ) (channels : List ChannelRow) (left : Unit {0})
-    → list_any is_variable_channel channels ≡ false → every (channel_place file held records) c channels left ≡ Ok ([], left)
+    → list_any is_of_values channels ≡ false → every (channel_place file held records) c channels left ≡ Ok ([], left)
 unfolding every channel_place
 no_values file held records c [] left none = refl
 no_values file held records c (channel ∷ channels) left none =
-    let parts = or_parts (nat_eq channel.kind 1) (list_any is_variable_channel channels) none in
+    let parts = or_parts (nat_eq channel.kind 1) (list_any is_of_values channels) none in
     ap (λ (first : Read (Option (List Part) × Unit {0})). first >>= then_every (channel_place file held records) (c + 1) channels)
     (not_placed (nat_eq channel.kind 1) left (channel_found file held records channel c) parts.0)
     ∙ ap (λ (rest : Read (List (List Part) × Unit {0})). rest >>= joins None) (no_values file held records (c + 1) channels left parts.1)
@@ -179,7 +180,7 @@ module _ (file : List ℕ) (wanted : Wanted) (parts : List Part) (groups : List 
       (every_at (channel_place file less records) (channel_place file held records) 0 channels tt
       (λ j d left below. place_same records (j + 0) (get_or channels j d) left))
 
-  none_same : (records others : GroupRecords) (channels : List ChannelRow) → list_any is_variable_channel channels ≡ false
+  none_same : (records others : GroupRecords) (channels : List ChannelRow) → list_any is_of_values channels ≡ false
       → values_found file less records channels ≡ values_found file held others channels
   unfolding values_found
   none_same records others channels none =
@@ -189,7 +190,7 @@ module _ (file : List ℕ) (wanted : Wanted) (parts : List Part) (groups : List 
   abbrev records_of : GroupRow → List ℕ → GroupRecords
   records_of group places = records_at true group places
 
-  group_values : (b : Bool) (group : GroupRow) (k : ℕ) → list_any is_variable_channel group.channels ≡ b
+  group_values : (b : Bool) (group : GroupRow) (k : ℕ) → list_any is_of_values group.channels ≡ b
       → (is_counted wanted group ≡ false → get_or fewer k [] ≡ get_or lists k [])
       → values_found file less (records_of group (get_or fewer k [])) group.channels
       ≡ values_found file held (records_of group (get_or lists k [])) group.channels
@@ -209,7 +210,7 @@ module _ (file : List ℕ) (wanted : Wanted) (parts : List Part) (groups : List 
       ap (λ (n : ℕ). layout group >>= made k (min group.cycles n) (values_found file less (records_of group (get_or fewer k [])) group.channels))
       (is.long k)
       ∙ ap (λ (values : Read (List (List Part))). layout group >>= made k (min group.cycles (length (get_or lists k []))) values)
-      (group_values (list_any is_variable_channel group.channels) group k refl same)
+      (group_values (list_any is_of_values group.channels) group k refl same)
 
   abbrev grouped : Bool → Unit {0} → Read Found → Read (Option Found × Unit {0})
   grouped b left found = if b then Ok (None, left) else (found >>= λ one. Ok (Some one, left))

@@ -6,10 +6,10 @@ use Rattle.mdf_block.specs.Refusal.{Read, ◌>>=◌}
 use Rattle.mdf_stream.specs.Link.{data_parts}
 use Rattle.mdf_stream.specs.Parts.{stream_of, stream_size}
 use Rattle.mdf_data.specs.Kept.{kept, kept_places}
-use Rattle.mdf_group.specs.declared.row.ChannelRow.{ChannelRow}
 use Rattle.mdf_group.specs.declared.row.DataRow.{DataRow}
 use Rattle.mdf_group.specs.declared.row.GroupRow.{GroupRow}
 use Rattle.mdf_group.specs.Group.{is_variable}
+use Rattle.mdf_group.specs.Recordable.{is_of_values}
 use Rattle.mdf_content.specs.declared.found.DataFound.{DataFound}
 use Rattle.mdf_content.specs.declared.wanted.Wanted.{Wanted}
 use Rattle.mdf_content.specs.declared.wanted.Wanted.TheVariants as wants
@@ -17,13 +17,9 @@ use Rattle.mdf_content.specs.Found.{data_at}
 use Rattle.mdf_content.specs.Layouts.{layouts}
 use Rattle.mdf_content.specs.Records.{counted, known_of, places_without_ids}
 
--- a channel of variable length: the records of its group have the offsets of its values
-abbrev pub is_variable_channel : ChannelRow → Bool
-is_variable_channel channel = nat_eq channel.kind 1
-
 -- the records of a group hold no values of variable length, and have no offset of one
 abbrev pub is_without_values : GroupRow → Bool
-is_without_values group = not (is_variable group) && not (list_any is_variable_channel group.channels)
+is_without_values group = not (is_variable group) && not (list_any is_of_values group.channels)
 
 -- they are counted alone: where values are wanted, those without them; and where a group is wanted too, those that are not its own
 abbrev pub is_counted : Wanted → GroupRow → Bool

@@ -11,7 +11,7 @@ ghost use Rattle.mdf_content.specs.Records.{known_of, record_size};
 ghost use Rattle.mdf_content.specs.Values.{IsHeld, held_of};
 
 use crate::contents::is_strict;
-use crate::layouts::{is_variable, layout_in, layouts_in};
+use crate::layouts::{layout_in, layouts_in};
 use crate::lower::view_of;
 use crate::records::{counted_in, kept_records_in};
 use crate::values::{Held, Records, places_or, values_found_in, values_table};
@@ -130,7 +130,7 @@ impl Visit for Groups<'_> {
         state: (),
         room: &mut Room,
     ) -> Result<(Option<Found>, ()), Halt<ReadFault>> {
-        if is_variable(item) {
+        if item.is_variable() {
             return Ok((None, state));
         }
         let none = Places::empty(alloc);

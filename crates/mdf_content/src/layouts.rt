@@ -15,13 +15,6 @@ use mdf_layout::{ChannelNumbers, FieldRow, Shape, ShapeFault, field_row, shape_o
 use mdf_num::{Halt, Memory, Rows, Span};
 use std::alloc::Global;
 
-/// Whether the records of the group hold the values of a channel of variable length: bit 0 of `cg_flags`.
-pub fn is_variable(group: &GroupRow) -> bool
-    ensures { result ≡ is_variable group.now }
-{
-    group.flags % 2 == 1
-}
-
 /// The field of a channel.
 pub(crate) fn field_of(channel: &ChannelRow) -> FieldRow
     ensures { result ≡ field_of channel.now }
@@ -42,7 +35,7 @@ fn placed_channels(group: &GroupRow) -> &[ChannelRow]
     ensures { result.now ≡ placed_channels group.now }
 {
     let channels = group.channels.as_slice();
-    let count = if is_variable(group) {
+    let count = if group.is_variable() {
         0
     } else {
         channels.len()

@@ -19,7 +19,7 @@ mod wanted;
 pub use contents::{Contents, DataContents, fetch_in};
 pub use fault::ReadFault;
 pub use found::{DataFound, Found, data_found_in};
-pub use layouts::{is_variable, layout_in, layouts_in};
+pub use layouts::{layout_in, layouts_in};
 pub use mdf_block::{Kind, What};
 pub use records::{count_at, counted_in, record_size, records_in};
 pub use room::Room;

@@ -19,7 +19,6 @@ ghost use Rattle.mdf_content.specs.Records.{
 };
 
 use crate::ReadFault;
-use crate::layouts::is_variable;
 use crate::lower::places_with;
 use crate::wanted::{Wanted, counted_alone};
 use mdf_block::{Visit, What, every_in};
@@ -43,7 +42,7 @@ pub fn record_size(group: &GroupRow) -> u64
 fn size_of(group: &GroupRow) -> Size
     ensures { result ≡ size_of group.now }
 {
-    if is_variable(group) {
+    if group.is_variable() {
         Size::Variable
     } else {
         Size::Fixed(record_size(group))
@@ -75,7 +74,7 @@ fn known_groups(alloc: Global, groups: &[GroupRow]) -> Result<Rows<Known>, Memor
 fn empties_of(said: u64, group: &GroupRow) -> u64
     ensures { result ≡ empties_of said group.now }
 {
-    if !is_variable(group) && record_size(group) == 0 {
+    if !group.is_variable() && record_size(group) == 0 {
         said
     } else {
         0
@@ -222,7 +221,7 @@ impl Visit for Counts<'_> {
         number: u32,
         _room: &mut (),
     ) -> Result<(Option<()>, u32), Halt<ReadFault>> {
-        if is_variable(item) {
+        if item.is_variable() {
             return Ok((None, number));
         }
         let found = count_at(self.lists, k);

@@ -251,7 +251,7 @@ impl Visit for Channels<'_> {
         state: (),
         room: &mut Room,
     ) -> Result<(Option<ValueStream>, ()), Halt<ReadFault>> {
-        if item.kind != 1 {
+        if !item.is_of_values() {
             return Ok((None, state));
         }
         if k > u32::MAX as usize {

@@ -30,7 +30,6 @@ ghost use Rattle.mdf_content.specs.Values.{
   values_group,
 };
 
-use crate::layouts::is_variable;
 use crate::lower::view_of;
 use crate::{ReadFault, Room};
 use mdf_bits::{Field, get};
@@ -72,7 +71,7 @@ fn add_group(table: &mut BTreeMap<u64, u64>, group: &GroupRow, k: u64) -> Result
     ensures { OnOk result ((at : ℕ) → get nat_cmp table.new at
         ≡ (if is_variable group.now && nat_eq group.now.at at then Some k else get nat_cmp table.old at)) }
 {
-    if is_variable(group) {
+    if group.is_variable() {
         table.insert(group.at, k)?;
     }
     Ok(())
@@ -514,7 +513,7 @@ impl Visit for Channels<'_> {
         state: (),
         room: &mut Room,
     ) -> Result<(Option<DataView>, ()), Halt<ReadFault>> {
-        if item.kind != 1 {
+        if !item.is_of_values() {
             return Ok((None, state));
         }
         if k > u32::MAX as usize {

@@ -1,8 +1,8 @@
 ghost use Rattle.std.specs.Prelude.{◌≡◌, map, IfOk};
 ghost use Rattle.std.specs.List.{list_any};
-ghost use Rattle.mdf_content.specs.Kept.{is_counted, is_variable_channel, is_without_values};
+ghost use Rattle.mdf_group.specs.Recordable.{is_of_values};
+ghost use Rattle.mdf_content.specs.Kept.{is_counted, is_without_values};
 
-use crate::layouts::is_variable;
 use mdf_group::{ChannelRow, GroupRow};
 use mdf_num::{Memory, Rows};
 use std::alloc::Global;
@@ -21,11 +21,11 @@ pub enum Wanted {
 
 /// Whether one of the channels is of variable length.
 fn has_variable(channels: &[ChannelRow]) -> bool
-    ensures { result ≡ list_any is_variable_channel channels.now }
+    ensures { result ≡ list_any is_of_values channels.now }
 {
     let mut found = false;
     for channel in channels {
-        if channel.kind == 1 {
+        if channel.is_of_values() {
             found = true;
         }
     }
@@ -36,7 +36,7 @@ fn has_variable(channels: &[ChannelRow]) -> bool
 fn is_without_values(group: &GroupRow) -> bool
     ensures { result ≡ is_without_values group.now }
 {
-    !is_variable(group) && !has_variable(group.channels.as_slice())
+    !group.is_variable() && !has_variable(group.channels.as_slice())
 }
 
 /// Whether the records of the group are counted alone.

@@ -45,7 +45,7 @@ fn copied(note: &Note) -> Result<Note, Memory>
 fn holds_samples(row: &GroupRow) -> bool
     ensures { result ≡ holds_samples row.now }
 {
-    row.flags % 2 != 1
+    !row.is_variable()
 }
 
 /// Adds a group with what it holds.

@@ -2,7 +2,7 @@ ghost use Rattle.std.specs.Prelude.{◌≡◌, ◌+◌, Some, length, filter, sl
 ghost use Rattle.mdf_model.specs.Kept.{sample_rows, stands_at, wanted_for};
 ghost use Rattle.mdf_model.specs.Measurement.{holds_samples};
 
-use mdf_content::{Wanted, is_variable};
+use mdf_content::Wanted;
 use mdf_group::{DataRow, GroupRow};
 
 /// Where the group of this number stands, counted from 0 over those of a data group whose records are samples. Where there is none,
@@ -13,7 +13,7 @@ fn address_in(groups: &[GroupRow], number: u64) -> Result<u64, u64>
 {
     let mut left = number;
     for group in groups {
-        if !is_variable(group) {
+        if !group.is_variable() {
             if left == 0 {
                 return Ok(group.at);
             }

@@ -12,8 +12,8 @@ ghost use Rattle.mdf_session.specs.Counted.{all_streams, counts_from, joined, st
 
 use mdf_block::{Visit, every_in};
 use mdf_content::{
-    Held, ReadFault, Records, Room, count_at, is_variable, layout_in, place_at, places_or,
-    streams_in, values_table,
+    Held, ReadFault, Records, Room, count_at, layout_in, place_at, places_or, streams_in,
+    values_table,
 };
 use mdf_data::Places;
 use mdf_group::GroupRow;
@@ -88,7 +88,7 @@ impl Visit for Groups<'_> {
         state: (),
         room: &mut Room,
     ) -> Result<(Option<Streams>, ()), Halt<ReadFault>> {
-        if is_variable(item) {
+        if item.is_variable() {
             return Ok((None, state));
         }
         let none = Places::empty(alloc);
@@ -200,7 +200,7 @@ fn total_in<P: Span>(
     requires room { AllByRecursion (λ place. place + least_size (size_of group.now) ≤ stream_size view.now) places.now }
     ensures reads { Looks P.Span span.old span.new true result (λ file total. total ≡ total_of (stream_of file view.now) group.now places.now) }
 {
-    if is_variable(group) {
+    if group.is_variable() {
         values_total_in(span, view, places)
     } else {
         Ok(0)

@@ -1,7 +1,6 @@
 ghost use Rattle.std.specs.Prelude.{◌≡◌, ◌≤◌, ◌^◌, IfOk, OnErr};
 ghost use Rattle.tool_final.specs.Finalized.{IsPastCount, counted, group_count, report_for, sample_count};
 
-use mdf_content::is_variable;
 use mdf_group::GroupRow;
 use mdf_num::Memory;
 use mdf_session::Session;
@@ -11,7 +10,7 @@ use mdf_tool::Report;
 fn counted(group: &GroupRow, number: u64) -> u64
     ensures { result ≡ counted group.now number }
 {
-    if is_variable(group) { 0 } else { number }
+    if group.is_variable() { 0 } else { number }
 }
 
 /// How many of the groups hold no values of variable length. A number past the last u32 counts as want of memory.
