@@ -29,9 +29,7 @@ fn clear(out: &mut [u8])
     ensures zero { (p : ℕ) → bit_of out.new p ≡ 0 }
     ensures size { length out.new ≡ length out.old }
 {
-    for i in 0..out.len() {
-        out[i] = 0;
-    }
+    out.fill(0);
 }
 
 /// Writes bytes into a record from `start` on.
@@ -80,11 +78,7 @@ fn put_value(row: FieldRow, entry: &Entry, offset: u64, content: &mut [u8])
 fn offset_at(offsets: &[u64], stream: usize) -> u64
     ensures { result ≡ slice_index_or offsets.now stream 0 }
 {
-    if stream < offsets.len() {
-        offsets[stream]
-    } else {
-        0
-    }
+    offsets.get(stream).copied().unwrap_or(0)
 }
 
 /// Writes the values of the channels, or the offsets of them, into the data bytes of a record. No other bit changes.
