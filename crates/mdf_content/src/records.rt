@@ -182,7 +182,7 @@ pub(crate) fn kept_records_in<P: Span>(
 pub fn count_at(lists: &[Places], k: usize) -> u64
     ensures { result ≡ length (slice_index_or lists.now k []) }
 {
-    if k < lists.len() { lists[k].len() } else { 0 }
+    lists.get(k).map_or(0, Places::len)
 }
 
 /// The groups of a data group, with the places of their records.

@@ -556,13 +556,11 @@ pub(crate) fn fetch_streams_in<P: Span>(
     ensures reads { Looks P.Span span.old span.new true result (λ file streams. streams ≡ map (stream_of file) views.now) }
 {
     let mut streams = Rows::empty(alloc);
-    let mut k = 0;
-    while k < views.len() {
-        let bytes = stream_in(alloc, span, &views[k], room)?;
+    for view in views {
+        let bytes = stream_in(alloc, span, view, room)?;
         let Ok(()) = streams.push(ValueStream::from_bytes(bytes)) else {
             return Err(Stop::Memory);
         };
-        k += 1;
     }
     Ok(streams)
 }
