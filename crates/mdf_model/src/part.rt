@@ -1,4 +1,4 @@
-ghost use Rattle.std.specs.Prelude.{◌≡◌, ◌++◌, ◌∷◌, [], filter, reverse, IfOk, OnOk};
+ghost use Rattle.std.specs.Prelude.{◌≡◌, ◌++◌, ◌∷◌, [], filter, IfOk, OnOk};
 ghost use Rattle.mdf_model.specs.Measurement.{holds_samples, measure_of, paired, data_measures, measures};
 
 use mdf_block::Note;
@@ -83,30 +83,16 @@ fn sample_groups(groups: Vec<GroupRow>) -> Vec<GroupRow>
     groups
 }
 
-/// The items in the other order.
-fn turned<T>(items: Vec<T>) -> Vec<T>
-    ensures { reverse result.items ≡ items.items }
-{
-    let mut items = items;
-    items.reverse();
-    items
-}
-
-/// Adds groups with what they hold. Both stand with the last first.
+/// Adds groups with what they hold.
 fn add_paired(
     all: &mut Vec<Measure>,
     comment: &Note,
     rows: Vec<GroupRow>,
     found: Vec<Contents>,
 ) -> Result<(), Memory>
-    ensures { OnOk result (all.new.items ≡ all.old.items ++ paired comment.now (reverse rows.items) (reverse found.items)) }
+    ensures { OnOk result (all.new.items ≡ all.old.items ++ paired comment.now rows.items found.items) }
 {
-    let mut rows = rows;
-    let mut found = found;
-    'rows: while let Some(row) = rows.pop() {
-        let Some(contents) = found.pop() else {
-            return Ok(());
-        };
+    for (row, contents) in rows.into_iter().zip(found) {
         add_measure(all, comment, row, contents)?;
     }
     Ok(())
@@ -122,24 +108,19 @@ fn add_data(all: &mut Vec<Measure>, row: DataRow, found: DataContents) -> Result
         ..
     } = row;
     let DataContents { groups: found, .. } = found;
-    let rows = turned(sample_groups(groups.into_vec()));
-    add_paired(all, &comment, rows, turned(found.into_vec()))
+    let rows = sample_groups(groups.into_vec());
+    add_paired(all, &comment, rows, found.into_vec())
 }
 
-/// Adds the groups of data groups with what they hold. Both stand with the last first.
+/// Adds the groups of data groups with what they hold.
 fn add_all(
     all: &mut Vec<Measure>,
     rows: Vec<DataRow>,
     found: Vec<DataContents>,
 ) -> Result<(), Memory>
-    ensures { OnOk result (all.new.items ≡ all.old.items ++ measures (reverse rows.items) (reverse found.items)) }
+    ensures { OnOk result (all.new.items ≡ all.old.items ++ measures rows.items found.items) }
 {
-    let mut rows = rows;
-    let mut found = found;
-    'rows: while let Some(row) = rows.pop() {
-        let Some(contents) = found.pop() else {
-            return Ok(());
-        };
+    for (row, contents) in rows.into_iter().zip(found) {
         add_data(all, row, contents)?;
     }
     Ok(())
@@ -154,6 +135,6 @@ pub(crate) fn measures_of(
     ensures { IfOk result (λ all. all.items ≡ measures rows found) }
 {
     let mut all = Vec::new(alloc);
-    add_all(&mut all, turned(rows.into_vec()), turned(found.into_vec()))?;
+    add_all(&mut all, rows.into_vec(), found.into_vec())?;
     Ok(all)
 }

@@ -1,12 +1,7 @@
-use Rattle.std.proofs.Common.{◌≡◌, ◌++◌, length, reverse}
-use Rattle.std.specs.List.{flat_map, zip}
-use Rattle.mdf_model.specs.Measurement.{one_measure, paired}
+use Rattle.std.proofs.Common.{◌≡◌, ◌++◌}
+use Rattle.std.specs.List.{flat_map}
+use Rattle.mdf_model.specs.Measurement.{one_measure}
 use Rattle.mdf_model.proofs.part.add_paired.Given as goal
 
-abbrev pub invariant-rows : goal.invariant-rows
-invariant-rows l =
-    l.all.items ++ flat_map (one_measure l.comment) (zip (reverse l.rows.items) (reverse l.found.items))
-    ≡ l.initial.all.items ++ paired l.comment (reverse l.fn.rows.items) (reverse l.fn.found.items)
-
-abbrev pub decreases-rows : goal.decreases-rows
-decreases-rows l = length l.rows.items
+abbrev pub invariant-loop-row : goal.invariant-loop-row
+invariant-loop-row l = l.all.items ≡ l.initial.all.items ++ flat_map (one_measure l.comment) l.yielded
