@@ -1,4 +1,4 @@
-ghost use Rattle.std.specs.Prelude.{◌≡◌, ◌+◌, ◌≤◌, ◌<◌, ◌++◌, ◌∷◌, [], Some, length, map, reverse, false, true, IfOk, OnOk};
+ghost use Rattle.std.specs.Prelude.{◌≡◌, ◌+◌, ◌≤◌, ◌<◌, ◌++◌, ◌∷◌, [], Some, length, map, false, true, IfOk, OnOk};
 ghost use Rattle.std.specs.List.{AllByRecursion};
 ghost use Rattle.mdf_block.specs.Reads.{Looks, Reads};
 ghost use Rattle.mdf_stream.specs.Parts.{ArePartsInside, stream_of, stream_size};
@@ -98,12 +98,11 @@ impl Visit for Groups<'_> {
     }
 }
 
-/// Adds the streams of lists, which stand with the last list first.
+/// Adds the streams of lists, one behind the other.
 fn add_streams(all: &mut Vec<ValueStream>, lists: Vec<Streams>) -> Result<(), Memory>
-    ensures { OnOk result (all.new.items ≡ all.old.items ++ joined (reverse lists.items)) }
+    ensures { OnOk result (all.new.items ≡ all.old.items ++ joined lists.items) }
 {
-    let mut lists = lists;
-    'lists: while let Some(list) = lists.pop() {
+    for list in lists {
         let mut items = list.into_vec();
         all.append(&mut items)?;
     }
@@ -114,10 +113,8 @@ fn add_streams(all: &mut Vec<ValueStream>, lists: Vec<Streams>) -> Result<(), Me
 fn joined_of(alloc: Global, lists: Rows<Streams>) -> Result<Streams, Memory>
     ensures { IfOk result (λ all. all ≡ joined lists) }
 {
-    let mut lists = lists.into_vec();
-    lists.reverse();
     let mut all = Vec::new(alloc);
-    add_streams(&mut all, lists)?;
+    add_streams(&mut all, lists.into_vec())?;
     Ok(Rows::from_vec(all))
 }
 
