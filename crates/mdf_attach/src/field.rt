@@ -76,9 +76,7 @@ pub(crate) fn content_in<P: Span>(
     requires holds { 40 + len ≤ block.now.body_len }
     ensures reads { Looks P.Span span.old span.new true result (λ file content. content ≡ bytes_at len file (block.now.body_at + 40)) }
 {
-    let Ok(mut items) = vec![in alloc; 0u8; len as usize] else {
-        return Err(Stop::Memory);
-    };
+    let mut items = vec![in alloc; 0u8; len as usize]?;
     span.fill(block.body_at + 40, items.as_mut_slice())?;
     Ok(Bytes::from_vec(items))
 }

@@ -67,9 +67,7 @@ fn bytes_in<P: Span>(alloc: Global, span: &mut P, at: u64, len: u64) -> Result<B
     requires { at + len ≤ P.size span.old }
     ensures reads { Looks P.Span span.old span.new true result (λ file b. b ≡ bytes_at len file at) }
 {
-    let Ok(mut items) = vec![in alloc; 0u8; len as usize] else {
-        return Err(Stop::Memory);
-    };
+    let mut items = vec![in alloc; 0u8; len as usize]?;
     span.fill(at, items.as_mut_slice())?;
     Ok(Bytes::from_vec(items))
 }

@@ -265,9 +265,7 @@ pub(crate) fn add_fetched_in<P: Span>(
     let mut groups = groups;
     'groups: while let Some(found) = groups.pop() {
         let contents = group_fetched_in(alloc, span, view, lists, found, room)?;
-        let Ok(()) = all.push(contents) else {
-            return Err(Stop::Memory);
-        };
+        all.push(contents)?;
     }
     Ok(())
 }

@@ -120,9 +120,7 @@ fn values_stream_in<P: Span>(
     ensures reads { Looks P.Span span.old span.new true result (λ file bytes. bytes ≡ stream_of file (values_at file view.now places.now)) }
 {
     let len = values_len_in(span, view, places)?;
-    let Ok(mut bytes) = room.zeros(alloc, len) else {
-        return Err(Stop::Memory);
-    };
+    let mut bytes = room.zeros(alloc, len)?;
     put_values(span, view, places, bytes.as_mut_slice())?;
     Ok(Bytes::from_vec(bytes))
 }

@@ -155,9 +155,7 @@ fn add_value<P: Span>(
     ensures lies { ArePartsInside (P.size span.old) values.old → OnOk result (ArePartsInside (P.size span.old) values.new) }
 {
     let len = value_len_in(span, view, place, near)?;
-    let Ok(()) = add_range(values, view, place, len, near) else {
-        return Err(Stop::Memory);
-    };
+    add_range(values, view, place, len, near)?;
     Ok(())
 }
 
@@ -426,9 +424,7 @@ pub(crate) fn bytes_in<P: Span>(
     requires within { len ≤ stream_size view.now }
     ensures reads { Looks P.Span span.old span.new true result (λ file bytes. bytes ≡ bytes_at len (stream_of file view.now) 0) }
 {
-    let Ok(mut bytes) = room.zeros(alloc, len) else {
-        return Err(Stop::Memory);
-    };
+    let mut bytes = room.zeros(alloc, len)?;
     view.read_in(span, 0, bytes.as_mut_slice())?;
     Ok(Bytes::from_vec(bytes))
 }
@@ -558,9 +554,7 @@ pub(crate) fn fetch_streams_in<P: Span>(
     let mut streams = Rows::empty(alloc);
     for view in views {
         let bytes = stream_in(alloc, span, view, room)?;
-        let Ok(()) = streams.push(ValueStream::from_bytes(bytes)) else {
-            return Err(Stop::Memory);
-        };
+        streams.push(ValueStream::from_bytes(bytes))?;
     }
     Ok(streams)
 }

@@ -52,9 +52,7 @@ fn numbers_in<P: Span>(alloc: Global, span: &mut P, start: u64, count: u64) -> R
     while k < count {
         let mut word = [0u8; 8];
         span.fill(start + 8 * k, &mut word)?;
-        let Ok(()) = numbers.push(u64_field(&word, 0)) else {
-            return Err(Stop::Memory);
-        };
+        numbers.push(u64_field(&word, 0))?;
         k += 1;
     }
     Ok(numbers)

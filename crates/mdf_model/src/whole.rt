@@ -174,9 +174,7 @@ pub(crate) fn add_fetched_in<P: Span>(
     let mut found = found;
     'found: while let Some(one) = found.pop() {
         let contents = fetch_in(alloc, span, one, room)?;
-        let Ok(()) = all.push(contents) else {
-            return Err(Stop::Memory);
-        };
+        all.push(contents)?;
     }
     Ok(())
 }

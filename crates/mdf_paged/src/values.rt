@@ -27,9 +27,7 @@ pub(crate) fn read_into<P: Span>(
     ensures reads { Looks P.Span span.old span.new true result (λ file _. scratch.new.items ≡ bytes_at len (stream_of file view.now) at) }
     ensures long { OnOk result (length scratch.new.items ≡ len) }
 {
-    let Ok(()) = scratch.resize(len as usize, 0) else {
-        return Err(Stop::Memory);
-    };
+    scratch.resize(len as usize, 0)?;
     view.read_near(span, at, scratch.as_mut_slice(), near)?;
     Ok(())
 }
@@ -47,9 +45,7 @@ fn bytes_in<P: Span>(
     requires within { at + len ≤ stream_size view.now }
     ensures reads { Looks P.Span span.old span.new true result (λ file bytes. bytes ≡ bytes_at len (stream_of file view.now) at) }
 {
-    let Ok(mut bytes) = Vec::with_capacity(alloc, len as usize) else {
-        return Err(Stop::Memory);
-    };
+    let mut bytes = Vec::with_capacity(alloc, len as usize)?;
     read_into(span, view, at, len, near, &mut bytes)?;
     Ok(Bytes::from_vec(bytes))
 }

@@ -36,9 +36,7 @@ pub(crate) fn read_page<D: Disk>(
 {
     let at = page * PAGE_LEN;
     let count = (size - at).min(PAGE_LEN);
-    let Ok(mut bytes) = vec![in alloc; 0u8; count as usize] else {
-        return Err(Stop::Memory);
-    };
+    let mut bytes = vec![in alloc; 0u8; count as usize]?;
     let Ok(()) = disk.read_at(at, &mut bytes) else {
         return Err(Stop::Failed);
     };

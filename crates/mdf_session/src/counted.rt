@@ -218,10 +218,8 @@ fn add_total<P: Span>(
     ensures longer { OnOk result (length totals.new ≡ length totals.old + 1) }
 {
     let total = total_in(span, view, group, places)?;
-    match totals.push(total) {
-        Ok(()) => Ok(()),
-        Err(_) => Err(Stop::Memory),
-    }
+    totals.push(total)?;
+    Ok(())
 }
 
 /// How many bytes the values of each group have.

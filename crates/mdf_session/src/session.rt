@@ -61,9 +61,7 @@ fn front_in<P: Span>(alloc: Global, span: &mut P, view: &DataView, size: u64) ->
     requires within { size ≤ stream_size view.now }
     ensures reads { Looks P.Span span.old span.new true result (λ file front. front ≡ bytes_at size (stream_of file view.now) 0) }
 {
-    let Ok(mut front) = vec![in alloc; 0u8; size as usize] else {
-        return Err(Stop::Memory);
-    };
+    let mut front = vec![in alloc; 0u8; size as usize]?;
     view.read_in(span, 0, front.as_mut_slice())?;
     Ok(Bytes::from_vec(front))
 }

@@ -13,7 +13,7 @@ groups-preserved g c =
     let items : loop.groups.items ≡ rest ++ c.in-Some.found ∷ [] = search rules in record {
       fetched = λ f told.
           one_popped (fetched f view lists) loop.groups.items rest c.in-Some.found loop.all c.push.new.self _ c.in_ok-contents.contents items
-          (read.reads.seen f (loop.invariant.same ∙ told)) c.in-Ok.ensures.ok (loop.invariant.fetched f told);
+          (read.reads.seen f (loop.invariant.same ∙ told)) c.in_ok-push.ensures.ok (loop.invariant.fetched f told);
       inside = rest_all (IsGroupInside (g.P.Span.size c.args.span.now) view lists) loop.groups.items rest c.in-Some.found items loop.invariant.inside;
       same = read.reads.same ∙ loop.invariant.same;
       size = read.reads.size ∙ loop.invariant.size;

@@ -15,7 +15,7 @@ loop-k-preserved g c = record {
       let word = c.in_ok-fill.ensures.filled f (loop.invariant.same ∙ told) in
       let number : c.u64_field.result ≡ le_number (bytes_at 8 f (start + 8 * loop.k)) =
       c.u64_field.ensures ∙ word_is f c.fill.new.buf (start + 8 * loop.k) word in
-      rw c.in-Ok.ensures.ok (
+      rw c.in_ok-push.ensures.ok (
       append_assoc loop.numbers (c.u64_field.result ∷ []) rest
       ∙ ap (λ (n : ℕ). loop.numbers ++ n ∷ rest) number
       ∙ ap (λ (numbers : List ℕ). loop.numbers ++ numbers) (sym (numbers_next f start loop.k count c.loop-k-test.true))

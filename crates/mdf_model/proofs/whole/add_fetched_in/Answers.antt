@@ -11,7 +11,7 @@ found-preserved g c =
     let items : loop.found.items ≡ rest ++ c.in-Some.one ∷ [] = search rules in record {
       fetched = λ f told.
           one_popped (data_fetched f) loop.found.items rest c.in-Some.one loop.all c.push.new.self _ c.in_ok-contents.contents items
-          (read.reads.seen f (loop.invariant.same ∙ told)) c.in-Ok.ensures.ok (loop.invariant.fetched f told);
+          (read.reads.seen f (loop.invariant.same ∙ told)) c.in_ok-push.ensures.ok (loop.invariant.fetched f told);
       inside = rest_all (IsFoundInside (g.P.Span.size c.args.span.now)) loop.found.items rest c.in-Some.one items loop.invariant.inside;
       same = read.reads.same ∙ loop.invariant.same;
       size = read.reads.size ∙ loop.invariant.size;
