@@ -130,9 +130,7 @@ pub(crate) fn content_in<P: Span>(
     let Some(total) = count.checked_mul(size) else {
         return Err(Stop::Memory);
     };
-    let Ok(mut content) = room.zeros(alloc, total) else {
-        return Err(Stop::Memory);
-    };
+    let mut content = room.zeros(alloc, total)?;
     put_records(
         span,
         view,
