@@ -1,5 +1,5 @@
 -- The items of a list by their places.
-use Rattle.std.proofs.Common.{◌<◌, ℕ, zero, suc, List, [], ◌∷◌, length, get_or, arith, ◌≡◌, Option, Some, None, subst, inl, inr, refl, ap, map, ◌∙◌, set, take}
+use Rattle.std.proofs.Common.{◌<◌, ℕ, zero, suc, List, [], ◌∷◌, length, get_or, arith, ◌≡◌, Option, Some, None, subst, inl, inr, refl, ap, map, ◌∙◌, take}
 use Rattle.std.specs.List.{AllByRecursion, AllZip}
 use Rattle.std.specs.Prelude.{Bool, cond, slice_get, true, filter, min}
 use Rattle.std.proofs.lemmas.Bool.{cond-true, cond-false}
@@ -33,7 +33,7 @@ pub first_get : {A B : Type 0} (R : A → B → Type 0) (x : A) (xs : List A) (y
 first_get R x xs [] all = absurd all
 first_get R x xs (y ∷ ys) all = (y, all.0)
 
-pub behind_get : {A B : Type 0} (R : A → B → Type 0) (x : A) (xs : List A) (ys : List B) → AllZip R (x ∷ xs) ys → (zs : List B) × AllZip R xs zs
+behind_get : {A B : Type 0} (R : A → B → Type 0) (x : A) (xs : List A) (ys : List B) → AllZip R (x ∷ xs) ys → (zs : List B) × AllZip R xs zs
 behind_get R x xs [] all = absurd all
 behind_get R x xs (y ∷ ys) all = (ys, all.1)
 
@@ -76,12 +76,6 @@ zip_unique R one (x ∷ xs) [] zs is_y is_z = absurd is_y
 zip_unique R one (x ∷ xs) (y ∷ ys) [] is_y is_z = absurd is_z
 zip_unique {A} {B} R one (x ∷ xs) (y ∷ ys) (z ∷ zs) is_y is_z =
     ap (λ (w : B). w ∷ ys) (one x y z is_y.0 is_z.0) ∙ ap (λ (ws : List B). z ∷ ws) (zip_unique R one xs ys zs is_y.1 is_z.1)
-
--- one of them is replaced
-pub all_set : {A : Type 0} (P : A → Type 0) (xs : List A) (k : ℕ) (y : A) → AllByRecursion P xs → P y → AllByRecursion P (set xs k y)
-all_set P [] k y all one = tt
-all_set P (x ∷ xs) zero y all one = (one, all.1)
-all_set P (x ∷ xs) (suc k) y all one = (all.0, all_set P xs k y all.1 one)
 
 -- what holds of each of the first places
 pub all_taken : (P : List ℕ → Type 0) (f : ℕ → List ℕ) (count : ℕ) (places : List ℕ)

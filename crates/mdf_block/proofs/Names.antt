@@ -72,10 +72,11 @@ none_of name none Dl same = none 10 (lit< tt) same
 none_of name none Sd same = none 11 (lit< tt) same
 none_of name none At same = none 12 (lit< tt) same
 
--- no block stands at the beginning of an MDF file
+-- a number is not below itself
 pub differ : (m n : ℕ) → m ≡ n → m < n → ⊥
 differ m n same below = omega arith
 
+-- no block stands at the beginning of an MDF file
 hashes : (kind : Kind) → get_or (name_of kind) 0 0 ≡ 35
 hashes Hd = refl
 hashes Fh = refl

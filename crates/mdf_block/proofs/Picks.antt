@@ -98,10 +98,10 @@ picked {A} {B} {C} key test Is k (x ∷ xs) ys (Some y, rest, are, is, others) =
     (sym (cond-true (test (key k x)) (key k x ∷ filter test (keyed key (k + 1) xs)) (filter test (keyed key (k + 1) xs)) is.0))
     (is.1, picked key test Is (k + 1) xs rest others))
 
-pub next_on : (k j : ℕ) → k + 1 + j ≡ k + suc j
+next_on : (k j : ℕ) → k + 1 + j ≡ k + suc j
 next_on k j = omega arith
 
-pub none_on : (k : ℕ) → k ≡ k + 0
+none_on : (k : ℕ) → k ≡ k + 0
 none_on k = omega arith
 
 pub numbered_get : {A : Type 0} (P : ℕ → A → Type 0) (k : ℕ) (xs : List A) (j : ℕ) (x : A) → slice_get xs j ≡ Some x → AreNumbered P k xs → P (k + j) x

@@ -252,7 +252,7 @@ places_found stream (suc n) known empties lists some is =
     places_split stream n known empties first.0 lists first.1 (ok_injective _ lists first.2)
 
 -- records without ids
-pub steps_bodies : (stream : List ℕ) (n : ℕ) (found : List ℕ) → bodies_at stream (sizes.Fixed n) found ≡ bodies 0 (map (alone_at stream (sizes.Fixed n)) found) 0
+steps_bodies : (stream : List ℕ) (n : ℕ) (found : List ℕ) → bodies_at stream (sizes.Fixed n) found ≡ bodies 0 (map (alone_at stream (sizes.Fixed n)) found) 0
 steps_bodies stream n [] = refl
 steps_bodies stream n (place ∷ found) = ap (λ (xs : List (List ℕ)). bytes_at n stream place ∷ xs) (steps_bodies stream n found)
 
@@ -268,10 +268,10 @@ first_alone stream known found records same zero d below = same
 first_alone stream known found records same (suc k) d below = absurd (omega (arith, below))
 
 -- how long a stream without ids is
-pub turned : (m n : ℕ) → m + n ≡ n + m
+turned : (m n : ℕ) → m + n ≡ n + m
 turned m n = omega arith
 
-pub lengths : (n : ℕ) (records : List Record) → AllByRecursion (IsAlone n) records
+lengths : (n : ℕ) (records : List Record) → AllByRecursion (IsAlone n) records
     → length (flat_map (λ (r : Record). r.bytes) records) ≡ n * length (bodies 0 records 0)
 lengths n [] each = let none : 0 ≡ n * 0 = omega arith in none
 lengths n (r ∷ records) each =
@@ -286,7 +286,7 @@ lengths n (r ∷ records) each =
     ∙ sym (mul-suc n (length (bodies 0 records 0)))
     ∙ sym (ap (λ (xs : List (List ℕ)). n * length xs) here)
 
-pub no_times : (n : ℕ) → n * 0 ≡ 0
+no_times : (n : ℕ) → n * 0 ≡ 0
 no_times n = omega arith
 
 -- of a stream without ids so much is records of the one group, and the others are its rest

@@ -1,5 +1,5 @@
 -- What is read along a data link is its stream, and a link has one stream.
-use Rattle.std.proofs.Common.{◌≡◌, ◌≢◌, ◌+◌, ◌-◌, ℕ, zero, suc, List, [], ◌∷◌, ◌++◌, get_or, Ok, refl, sym, ◌∙◌, ap, subst, inl, inr, ◌⊎◌, append-nil, ◌<◌, lit<}
+use Rattle.std.proofs.Common.{◌≡◌, ◌≢◌, ◌+◌, ◌-◌, ℕ, zero, suc, List, [], ◌∷◌, ◌++◌, get_or, Ok, refl, sym, ◌∙◌, ap, subst, inl, inr, ◌⊎◌, append-nil, lit<}
 use Rattle.std.proofs.lemmas.Bool.{eqb-true, eqb-false}
 use Rattle.std.proofs.lemmas.List.Concat.{flat_map-append}
 use Rattle.std.specs.Prelude.{nat_eq, if◌then◌else◌}
