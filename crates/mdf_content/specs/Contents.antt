@@ -8,7 +8,7 @@ use Rattle.mdf_content.specs.declared.contents.Contents.{Contents}
 use Rattle.mdf_content.specs.declared.contents.DataContents.{DataContents}
 use Rattle.mdf_content.specs.Records.{record_size}
 use Rattle.mdf_content.specs.Samples.{AreSamples}
-use Rattle.mdf_content.specs.Values.{GroupRecords, streams}
+use Rattle.mdf_content.specs.Values.{GroupRecords}
 
 -- how many records of a group are looked at: as many as it says, where that is believed
 abbrev pub count_of : Bool → GroupRow → List ℕ → ℕ
