@@ -1,6 +1,6 @@
 -- Numbers of a script.
 use Rattle.std.proofs.Common.{◌≡◌, ◌∙◌, sym, ap, ℕ, zero, suc, ◌+◌, ◌*◌, ◌^◌, ◌<◌, ◌≤◌, Bool, true, false, cond, Option, Some, None, List, length, get_or, take, refl, arith, tests, rules}
-use Rattle.std.specs.Prelude.{◌==◌, nat_lt, not, ◌&&◌, ◌||◌, IfSome, codes}
+use Rattle.std.specs.Prelude.{◌==◌, nat_lt, not, ◌&&◌, ◌||◌, MatchOption, codes}
 use Rattle.std.specs.List.{list_all}
 use Rattle.std.specs.Char.{is_ascii_digit}
 use Rattle.std.specs.Str.Parse.{digits_value}
@@ -12,7 +12,7 @@ use Rattle.std.proofs.lemmas.Str.Parse.{digits_value-take-le, IsNumeralModel, nu
 use Rattle.std.specs.Fmt.{decimal}
 use Rattle.std.proofs.lemmas.Fmt.{decimal-digits_value, digits_decimal, digits_value-decimal, decimal_nonempty, decimal_digit, first_decimal}
 use Rattle.std.proofs.lemmas.Int.Digits.{digits_value_more}
-use Rattle.script_line.specs.Number.{value_of, is_numeral, number_of}
+use Rattle.script_line.specs.Number.{IsNoNumber, IsNumber, value_of, is_numeral, number_of}
 
 none_if : (b : Bool) (n : ℕ) → b ≡ false → cond b (Some n) None ≡ None
 none_if b n e = rw e
@@ -153,9 +153,10 @@ of_decimal word n small e =
     ap number_of e ∙ its_value (decimal n) (numeral_of (decimal n) digits)
     ∙ small_enough (decimal n) n (sym (digits_value-decimal digits_model n small)) small
 
-pub if_some : (word : List ℕ) (o : Option ℕ) → o ≡ number_of word → IfSome o (λ n. word ≡ decimal n)
-if_some word None e = tt
-if_some word (Some n) e = is_decimal word n (sym e)
+-- so a word says the number that it is, or none
+pub says_number : (word : List ℕ) (o : Option ℕ) → o ≡ number_of word → MatchOption o (IsNoNumber word) (IsNumber word)
+says_number word None e = λ number is. let found : None ≡ Some number = e ∙ of_decimal word number is.1 is.0 in absurd (cc)
+says_number word (Some n) e = (is_decimal word n (sym e), number_below word n (sym e))
 
 pub decimal_digits : (n : ℕ) → n < 2 ^ 64 → list_all is_ascii_digit (decimal n) ≡ true
 decimal_digits n small = digits_decimal digits_model n small

@@ -1,6 +1,10 @@
 -- The values of a sample.
-use Rattle.std.specs.Prelude.{ℕ, ◌≡◌, ◌≤◌, ◌+◌, ◌-◌, ◌*◌, ◌/◌, ◌^◌, Bool, true, false, ◌&&◌, ◌==◌, nat_le, nat_lt, if◌then◌else◌, List, [], ◌∷◌, length, take, drop, slice_index, Option, Some, None, is_some, pos, neg_ℤ}
+use Rattle.std.specs.Prelude.{ℕ, ◌≡◌, ◌≤◌, ◌-◌, ◌/◌, ◌^◌, Bool, true, false, ◌&&◌, ◌==◌, nat_le, nat_lt, if◌then◌else◌, List, [], ◌∷◌, length, take, drop, slice_index, Option, Some, None, is_some, pos, neg_ℤ}
 use Rattle.std.specs.Option.{option_map, option_and_then}
+use Rattle.std.specs.Result.{result_ok}
+use Rattle.std.specs.List.{list_any}
+use Rattle.std.specs.Char.{is_ascii_uppercase}
+use Rattle.hex.specs.Hex.{decode_of}
 use Rattle.mdf_layout.specs.declared.field.FieldKind.{FieldKind}
 use Rattle.mdf_layout.specs.declared.field.FieldKind.TheVariants as kinds
 use Rattle.mdf_layout.specs.declared.field.FieldRow.{FieldRow}
@@ -35,20 +39,9 @@ signed_value bits word =
     if begins_with 45 word then option_and_then (negative_in bits) (number_of (drop 1 word))
     else option_and_then (positive_in bits) (number_of word)
 
--- the digits of bytes: 0 to 9 and a to f
-abbrev pub digit_of : ℕ → Option ℕ
-digit_of c = if nat_le 48 c && nat_le c 57 then Some (c - 48) else (if nat_le 97 c && nat_le c 102 then Some (c - 97 + 10) else None)
-
--- the byte of two digits, and in front of others
-abbrev pub byte_of : Option ℕ → Option ℕ → Option ℕ
-byte_of high low = option_and_then (λ h. option_map (λ l. 16 * h + l) low) high
-
--- the bytes that pairs of digits are
+-- the bytes that pairs of hexadecimal digits are, whose letters are small
 unfoldable pub pairs_of : List ℕ → Option (List ℕ)
-pairs_of [] = Some []
-pairs_of (high ∷ []) = None
-pairs_of (high ∷ low ∷ digits) =
-    option_and_then (λ byte. option_map (λ bytes. byte ∷ bytes) (pairs_of digits)) (byte_of (digit_of high) (digit_of low))
+pairs_of digits = if list_any is_ascii_uppercase digits then None else result_ok (decode_of digits)
 
 -- `x` and two digits for each byte
 unfoldable pub bytes_of : List ℕ → Option (List ℕ)

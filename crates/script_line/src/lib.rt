@@ -15,5 +15,6 @@ mod value;
 
 pub use kind::ValueType;
 pub use line::{ChannelForm, Line, Marks, line_of};
+pub use number::number_of;
 pub use sample::entries_of;
 pub use text::cut;

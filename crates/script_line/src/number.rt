@@ -1,8 +1,7 @@
-ghost use Rattle.std.specs.Prelude.{◌≡◌, ◌<◌, ◌^◌, ℕ, Some, None, IfSome, if◌then◌else◌};
-ghost use Rattle.std.specs.Fmt.{decimal};
+ghost use Rattle.std.specs.Prelude.{◌≡◌, None, MatchOption, if◌then◌else◌};
 ghost use Rattle.std.specs.List.{list_all};
 ghost use Rattle.std.specs.Char.{is_ascii_digit};
-ghost use Rattle.script_line.specs.Number.{number_of, value_of};
+ghost use Rattle.script_line.specs.Number.{IsNoNumber, IsNumber, number_of, value_of};
 
 /// The number that the bytes of a word are as decimal digits, if all are digits and it is below 2^64.
 fn value_of(word: &[u8]) -> Option<u64>
@@ -20,11 +19,10 @@ fn value_of(word: &[u8]) -> Option<u64>
 
 /// The number that a word is, if it is one below 2^64: decimal, without a sign and without leading zeros.
 #[tactic(auto, unfolding(crate::specs::Number::number_of))]
-pub(crate) fn number_of(word: &[u8]) -> Option<u64>
+pub fn number_of(word: &[u8]) -> Option<u64>
     ensures number { result ≡ number_of word.now }
     // A number is written in one way.
-    ensures decimal { IfSome result (λ n. word.now ≡ decimal n) }
-    ensures only { (n : ℕ) → n < 2 ^ 64 → word.now ≡ decimal n → result ≡ Some n }
+    ensures says { MatchOption result (IsNoNumber word.now) (IsNumber word.now) }
 {
     if word.is_empty() || (word.len() > 1 && word[0] == b'0') {
         return None;

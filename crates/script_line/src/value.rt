@@ -1,8 +1,11 @@
 // The values of a sample.
 ghost use Rattle.std.specs.Prelude.{◌≡◌, ◌<◌, ◌≤◌, ◌^◌, ◌+◌, ◌*◌, ◌↔◌, IsTrue, IfOk, IfSome, Some, None};
-ghost use Rattle.script_line.specs.Value.{begins_with, is_marked, unsigned_value, negative_in, positive_in, signed_value, digit_of, pairs_of, bytes_of, fixed_value, long_value, value_of, entry_of, IsReadable};
+ghost use Rattle.std.specs.List.{list_any};
+ghost use Rattle.std.specs.Char.{is_ascii_uppercase};
+ghost use Rattle.script_line.specs.Value.{begins_with, is_marked, unsigned_value, negative_in, positive_in, signed_value, pairs_of, bytes_of, fixed_value, long_value, value_of, entry_of, IsReadable};
 
 use crate::number::number_of;
+use hex::FromHexError;
 use mdf_layout::{Entry, FieldKind, FieldRow, Value};
 use mdf_num::{Bytes, Memory};
 use std::alloc::Global;
@@ -79,36 +82,26 @@ fn signed_value(bits: u32, word: &[u8]) -> Option<Value>
     positive_in(bits, number)
 }
 
-/// What a digit of a byte stands for: 0 to 9 and a to f.
-fn digit_of(digit: u8) -> Option<u8>
-    ensures digit { result ≡ digit_of digit }
-    ensures small { IfSome result (λ value. value ≤ 15) }
+/// Whether one of the bytes is a capital letter.
+fn has_capital(word: &[u8]) -> bool
+    ensures { result ≡ list_any is_ascii_uppercase word.now }
 {
-    match digit {
-        b'0'..=b'9' => Some(digit - b'0'),
-        b'a'..=b'f' => Some(digit - b'a' + 10),
-        _ => None,
-    }
+    word.iter().any(|byte| byte.is_ascii_uppercase())
 }
 
-/// The bytes that pairs of digits are.
+/// The bytes that pairs of hexadecimal digits are, whose letters are small.
+#[tactic(auto, unfolding(crate::specs::Value::pairs_of))]
 fn pairs_of(alloc: Global, digits: &[u8]) -> Result<Option<Bytes>, Memory>
     ensures { IfOk result (λ bytes. bytes ≡ pairs_of digits.now) }
 {
-    if digits.len() % 2 != 0 {
+    if has_capital(digits) {
         return Ok(None);
     }
-    let mut bytes = Vec::with_capacity(alloc, digits.len() / 2)?;
-    for i in 0..digits.len() / 2 {
-        let Some(high) = digit_of(digits[2 * i]) else {
-            return Ok(None);
-        };
-        let Some(low) = digit_of(digits[2 * i + 1]) else {
-            return Ok(None);
-        };
-        bytes.push(16 * high + low)?;
+    match hex::decode(alloc, digits) {
+        Ok(bytes) => Ok(Some(Bytes::from_vec(bytes))),
+        Err(FromHexError::OutOfMemory) => Err(Memory),
+        Err(_) => Ok(None),
     }
-    Ok(Some(Bytes::from_vec(bytes)))
 }
 
 /// The bytes that a word is: `x` and two digits for each byte.
