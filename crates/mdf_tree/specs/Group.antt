@@ -14,6 +14,7 @@ use Rattle.mdf_group.specs.declared.row.GroupRow.{GroupRow}
 use Rattle.mdf_group.specs.declared.row.DataRow.{DataRow}
 use Rattle.mdf_group.specs.Channel.{is_refused_kind}
 use Rattle.mdf_group.specs.Group.{is_variable}
+use Rattle.mdf_group.specs.Recordable.{is_of_values}
 use Rattle.mdf_tree.specs.Text.{note_blocks, note_link, IsWritable}
 use Rattle.mdf_tree.specs.Conv.{words_of, source_blocks, conv_blocks, IsSourceWritable, IsConvWritable}
 
@@ -102,10 +103,10 @@ behind_first [] = []
 behind_first (first ∷ rest) = rest
 
 abbrev pub value_link : List Link → ChannelRow → Link
-value_link values row = if nat_eq row.kind 1 then first_or_none values else links.Nothing
+value_link values row = if is_of_values row then first_or_none values else links.Nothing
 
 abbrev pub values_behind : List Link → ChannelRow → List Link
-values_behind values row = if nat_eq row.kind 1 then behind_first values else values
+values_behind values row = if is_of_values row then behind_first values else values
 
 -- the links that are left behind channels
 unfoldable pub values_past : List Link → List ChannelRow → List Link

@@ -158,12 +158,9 @@ pub(crate) fn place_channels(
     ensures sized { OnOk result (AllByRecursion IsChannelSized rows.now) }
 {
     let mut rest = values;
-    let mut i = 0;
-    while i < rows.len() {
-        let row = &rows[i];
+    for (i, row) in rows.iter().enumerate() {
         place_channel(alloc, draft, row, i + 1 < rows.len(), value_link(rest, row))?;
         rest = values_behind(rest, row);
-        i += 1;
     }
     Ok(())
 }

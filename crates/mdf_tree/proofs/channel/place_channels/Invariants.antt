@@ -1,4 +1,4 @@
-use Rattle.std.proofs.Common.{◌≡◌, ◌-◌, ◌++◌, length, take, drop}
+use Rattle.std.proofs.Common.{◌≡◌, ◌++◌, length, take, drop}
 use Rattle.std.specs.List.{AllByRecursion}
 use Rattle.mdf_tree.specs.Group.{channels_blocks, IsChannelSized}
 use Rattle.mdf_tree.proofs.channel.place_channels.Given as goal
@@ -10,6 +10,3 @@ invariant-loop-i l = record {
       ≡ l.initial.draft ++ channels_blocks (length l.initial.draft) l.values l.rows;
   sized : AllByRecursion IsChannelSized (take l.i l.rows);
 }
-
-abbrev pub decreases-loop-i : goal.decreases-loop-i
-decreases-loop-i l = length l.rows - l.i
