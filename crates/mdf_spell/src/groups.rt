@@ -47,13 +47,10 @@ pub(crate) fn place_groups(
     ensures fit { OnOk result (AllByRecursion (λ count. count < 2 ^ 64) counts.now) }
 {
     let mut rest = values;
-    let mut i = 0;
-    while i < rows.len() {
-        let row = &rows[i];
+    for (i, row) in rows.iter().enumerate() {
         let counted = counted_of(row, counts[i], totals[i]);
         place_group(alloc, draft, row, counted, i + 1 < rows.len(), rest)?;
         rest = group_values_behind(rest, row);
-        i += 1;
     }
     Ok(())
 }

@@ -99,9 +99,7 @@ fn place_numbered(
     ensures sized { OnOk result (AllByRecursion IsWholeSized rows.now) }
 {
     let mut rest = values;
-    let mut i = 0;
-    while i < rows.len() {
-        let row = &rows[i];
+    for (i, row) in rows.iter().enumerate() {
         let counted = Counted {
             id: i as u64 + 1,
             cycles: 0,
@@ -117,7 +115,6 @@ fn place_numbered(
             rest,
         )?;
         rest = group_values_behind(rest, row);
-        i += 1;
     }
     Ok(())
 }

@@ -1,4 +1,4 @@
-use Rattle.std.proofs.Common.{◌≡◌, ◌+◌, ◌-◌, ◌++◌, length, take, drop}
+use Rattle.std.proofs.Common.{◌≡◌, ◌+◌, ◌++◌, length, take, drop}
 use Rattle.std.specs.List.{AllByRecursion}
 use Rattle.mdf_tree.specs.Group.{groups_blocks}
 use Rattle.mdf_spell.specs.Recording.{numbered, values_rows}
@@ -12,6 +12,3 @@ invariant-loop-i l = record {
       ≡ l.initial.draft ++ groups_blocks (length l.initial.draft) l.values (numbered 1 l.rows ++ values_rows (length l.rows + 1) l.count);
   sized : AllByRecursion IsWholeSized (take l.i l.rows);
 }
-
-abbrev pub decreases-loop-i : goal.decreases-loop-i
-decreases-loop-i l = length l.rows - l.i
