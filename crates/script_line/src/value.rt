@@ -1,5 +1,5 @@
 // The values of a sample.
-ghost use Rattle.std.specs.Prelude.{◌≡◌, ◌<◌, ◌≤◌, ◌^◌, ◌+◌, ◌*◌, ◌↔◌, IsTrue, IfOk, IfSome, Some, None};
+ghost use Rattle.std.specs.Prelude.{◌≡◌, ◌<◌, ◌≤◌, ◌^◌, ◌↔◌, IsTrue, IfOk, Some, None};
 ghost use Rattle.std.specs.List.{list_any};
 ghost use Rattle.std.specs.Char.{is_ascii_uppercase};
 ghost use Rattle.script_line.specs.Value.{begins_with, is_marked, unsigned_value, negative_in, positive_in, signed_value, pairs_of, bytes_of, fixed_value, long_value, value_of, entry_of, IsReadable};
