@@ -14,13 +14,10 @@ pub(crate) fn extra_in<P: Span>(span: &mut P, block: &BlockAt) -> Result<u64, St
     ensures reads { Looks P.Span span.old span.new P.may_want result (λ file n. n ≡ links_named file block.now.at 8 (block.now.links - 8)) }
     ensures few { IfOk result (λ n. n ≤ block.now.links) }
 {
-    let links = block.links;
     let mut extra = 0;
-    let mut k = 8;
-    while k < links {
+    for k in 8..block.links {
         let link = link_in(span, block, k)?;
         extra += link_count(link);
-        k += 1;
     }
     Ok(extra)
 }

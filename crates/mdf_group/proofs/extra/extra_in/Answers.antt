@@ -22,4 +22,4 @@ pub returns-clause-reads : goal.returns-clause-reads
 returns-clause-reads g c = looks_of (search rules) (λ f told.
     let loop = c.loop-k in
     let block = c.args.block.now in
-    all_counted f block.at loop.k block.links loop.extra _ (loop.invariant.found f told) c.loop-k-test.false)
+    all_counted f block.at loop.k block.links loop.extra _ (loop.invariant.found f told) (omega (arith, c.loop-k-test.false)))
