@@ -1,5 +1,5 @@
 /* What the programs in C that the benches compare with read an MDF file by: the file is read whole, and its blocks, its links and the
-   parts of the stream of a data group are found in it. */
+   parts of the stream of a data group are found in it. And what they write one by. */
 #include <fcntl.h>
 #include <stdbool.h>
 #include <stdint.h>
@@ -91,4 +91,67 @@ static uint64_t take(uint8_t *to, uint64_t len) {
         }
     }
     return done;
+}
+
+// ---- the stream by a pointer ----
+
+// the rest of the block that the next byte lies in
+static const uint8_t *next, *next_end;
+
+// goes on to the block with the next byte, and answers whether there is one
+static bool is_left(void) {
+    while (next == next_end && part < part_count) {
+        next = parts[part].at;
+        next_end = next + parts[part].len;
+        part++;
+    }
+    return next != next_end;
+}
+
+// the next bytes, copied together from the blocks that they lie in
+static const uint8_t *joined(uint64_t len) {
+    static uint8_t *room;
+    static uint64_t room_size;
+    if (room_size < len) {
+        room = realloc(room, room_size = len);
+        need(room != NULL, "memory");
+    }
+    for (uint64_t done = 0; done < len;) {
+        need(is_left(), "cut");
+        uint64_t rest = (uint64_t)(next_end - next), step = len - done < rest ? len - done : rest;
+        memcpy(room + done, next, step);
+        done += step;
+        next += step;
+    }
+    return room;
+}
+
+// the next bytes, until the next call
+static inline const uint8_t *bytes_next(uint64_t len) {
+    if (len > (uint64_t)(next_end - next)) return joined(len);
+    const uint8_t *here = next;
+    next += len;
+    return here;
+}
+
+// ---- a file that is made ----
+
+static void write_at(int out, const uint8_t *bytes, uint64_t len, uint64_t at) {
+    for (uint64_t done = 0; done < len;) {
+        ssize_t count = pwrite(out, bytes + done, len - done, (off_t)(at + done));
+        need(count > 0, "write");
+        done += (uint64_t)count;
+    }
+}
+
+static void write_sealed(const char *name, const uint8_t *bytes, uint64_t len) {
+    int out = open(name, O_RDWR | O_CREAT | O_EXCL, 0644);
+    need(out >= 0, name);
+    write_at(out, (const uint8_t *)"", 1, 0);
+    need(fdatasync(out) == 0, "sync");
+    write_at(out, bytes + 1, len - 1, 1);
+    need(fdatasync(out) == 0, "sync");
+    write_at(out, bytes, 1, 0);
+    need(fdatasync(out) == 0, "sync");
+    close(out);
 }

@@ -41,9 +41,8 @@ cost() {
 #
 # usage: peak PROGRAM WORD...
 peak() {
-    python3 -c 'import resource, subprocess, sys
-subprocess.run(sys.argv[1:], check=True, stdout=subprocess.DEVNULL)
-print(1024 * resource.getrusage(resource.RUSAGE_CHILDREN).ru_maxrss)' "$@"
+    [ -x "$work/peak" ] || "${CC:-cc}" -O2 -o "$work/peak" "$here/../peak.c"
+    "$work/peak" "$@"
 }
 
 # Times the program and a plain copy of a file with one sync, in turn, once that file lies on the disk: with the setting of mdf4rec, but

@@ -1,11 +1,16 @@
 /* Makes a sorted file of a finalized one as `sort` and `cut` do, or of two as `concat` does, in straight C: it reads the files whole,
-   goes over the records once for each group, and writes the same file with the same calls. It takes files of one data group whose
-   blocks have names and no other texts, as make.py makes them, masters and offsets of 64 bits, and two files with the same groups.
-   The time of the new entry of the history is that of a file that was made first.
+   goes over the records, and writes the same file with the same calls. WAY is how it goes over them:
 
-   usage: made sort FIRST IN OUT
-          made cut FIRST IN OUT FROM TO
-          made concat FIRST IN IN OUT */
+   once    one time, with a table of the groups by their ids and a pointer in the block, and puts each record behind those of its group
+   often   one time for each group and byte by byte of the stream, without memory beside what is made
+
+   It takes files of one data group whose blocks have names and no other texts, as make.py makes them, ids of one byte (`often` of any
+   size), masters and offsets of 64 bits, and two files with the same groups. The time of the new entry of the history is that of a
+   file that was made first.
+
+   usage: made WAY sort FIRST IN OUT
+          made WAY cut FIRST IN OUT FROM TO
+          made WAY concat FIRST IN IN OUT */
 #include "blocks.h"
 
 enum { GROUPS = 256, TREE = 1 << 20 };
@@ -15,6 +20,8 @@ struct group {
     uint64_t id, size, values; // the address of the group of the values of its channel, or 0
     uint32_t master, offset;   // the bytes of the master and of the offset in a record
     bool holds_values, mastered;
+    uint8_t *records, *end; // those that were found in one pass
+    uint64_t count, shift;  // how many they are, and what their offsets grow by
 };
 
 // a file, and the parts of its stream
@@ -31,6 +38,7 @@ static struct source sources[2];
 static size_t source_count;
 static struct group groups[GROUPS];
 static uint32_t group_count;
+static bool once;
 static const char *title; // of the new entry of the history
 static bool cuts;
 static uint64_t from, to; // of the masters that are kept
@@ -69,10 +77,9 @@ static const struct group *group_of(uint64_t id) {
     return NULL;
 }
 
-// whether the record is kept that stands behind what is made
-static bool is_kept(const struct group *group) {
+static bool is_kept(const struct group *group, const uint8_t *record) {
     if (!cuts || !group->mastered) return true;
-    uint64_t master = number(made + used + group->master, 8);
+    uint64_t master = number(record + group->master, 8);
     return from <= master && master < to;
 }
 
@@ -82,7 +89,62 @@ static void read_from(const struct source *source) {
     parts = source->parts;
     part_count = source->part_count;
     part = place = 0;
+    next = next_end = NULL;
 }
+
+// ---- in one pass ----
+
+// goes over all records of a file, and puts each behind those of its group
+static void split_from(const struct source *source, uint8_t id_size) {
+    struct group *of_id[256] = {0};
+    for (uint32_t k = group_count; k-- > 0;) of_id[groups[k].id & 255] = &groups[k];
+    read_from(source);
+    while (is_left()) {
+        struct group *group = id_size == 0 ? groups : of_id[*bytes_next(1)];
+        need(group != NULL, "id");
+        uint64_t len = group->size;
+        if (group->holds_values) {
+            const uint8_t *head = bytes_next(4);
+            len = number(head, 4);
+            memcpy(group->end, head, 4);
+            group->end += 4;
+        }
+        const uint8_t *record = bytes_next(len);
+        if (!is_kept(group, record)) continue;
+        memcpy(group->end, record, len);
+        if (group->shift != 0) {
+            uint64_t offset = number(record + group->offset, 8) + group->shift;
+            memcpy(group->end + group->offset, &offset, 8);
+        }
+        group->end += len;
+        group->count++;
+    }
+}
+
+// goes over the records of all files
+static void split(uint8_t id_size) {
+    need(id_size <= 1, "ids of more than one byte");
+    for (uint32_t k = 0; k < group_count; k++) {
+        groups[k].records = groups[k].end = malloc(sources[0].size + sources[1].size);
+        need(groups[k].records != NULL, "memory");
+    }
+    split_from(&sources[0], id_size);
+    if (source_count == 1) return;
+    for (uint32_t k = 0; k < group_count; k++)
+        for (uint32_t n = 0; n < group_count; n++)
+            if (sources[0].file + groups[k].values == groups[n].block) groups[k].shift = (uint64_t)(groups[n].end - groups[n].records);
+    split_from(&sources[1], id_size);
+}
+
+// puts the records of a group behind what is made, and answers how many they are
+static uint64_t put_records(const struct group *group) {
+    uint64_t len = (uint64_t)(group->end - group->records);
+    memcpy(made + used, group->records, len);
+    used += len;
+    return group->count;
+}
+
+// ---- in a pass for each group ----
 
 // goes over all records of a file, and puts those of a group behind what is made, with their offsets so much larger; answers how
 // many they are
@@ -102,7 +164,7 @@ static uint64_t gather_from(const struct source *source, const struct group *wan
             if (kept) used += 4;
         }
         need(take(kept ? made + used : NULL, len) == len, "cut");
-        if (!kept || !is_kept(group)) continue;
+        if (!kept || !is_kept(group, made + used)) continue;
         if (group->values != 0 && shift != 0) put(used + group->offset, number(made + used + group->offset, 8) + shift);
         used += len;
         count++;
@@ -122,6 +184,7 @@ static uint64_t values_of(const struct group *group, uint8_t id_size) {
 
 // the same of all files one behind the other
 static uint64_t gather(const struct group *wanted, uint8_t id_size) {
+    if (once) return put_records(wanted);
     uint64_t count = gather_from(&sources[0], wanted, id_size, 0);
     if (source_count == 2) {
         uint64_t shift = wanted->values == 0 ? 0 : values_of(wanted, id_size);
@@ -263,26 +326,6 @@ static uint64_t add_sorted(const struct group *group, uint8_t id_size) {
 
 // ---- the file ----
 
-static void write_at(int out, const uint8_t *bytes, uint64_t len, uint64_t at) {
-    for (uint64_t done = 0; done < len;) {
-        ssize_t count = pwrite(out, bytes + done, len - done, (off_t)(at + done));
-        need(count > 0, "write");
-        done += (uint64_t)count;
-    }
-}
-
-static void write_sealed(const char *name) {
-    int out = open(name, O_RDWR | O_CREAT | O_EXCL, 0644);
-    need(out >= 0, name);
-    write_at(out, (const uint8_t *)"", 1, 0);
-    need(fdatasync(out) == 0, "sync");
-    write_at(out, made + 1, used - 1, 1);
-    need(fdatasync(out) == 0, "sync");
-    write_at(out, made, 1, 0);
-    need(fdatasync(out) == 0, "sync");
-    close(out);
-}
-
 // reads a file, and follows the link to its data; answers its data group
 static const uint8_t *add_source(const char *name) {
     struct source *source = &sources[source_count++];
@@ -296,24 +339,29 @@ static const uint8_t *add_source(const char *name) {
 }
 
 int main(int words, char **word) {
-    const char *usage = "usage: made sort FIRST IN OUT, made cut FIRST IN OUT FROM TO, or made concat FIRST IN IN OUT";
-    need(words >= 5, usage);
-    title = word[1];
+    const char *usage = "usage: made once|often sort FIRST IN OUT, cut FIRST IN OUT FROM TO, or concat FIRST IN IN OUT";
+    need(words >= 6, usage);
+    once = strcmp(word[1], "once") == 0;
+    title = word[2];
     cuts = strcmp(title, "cut") == 0;
     bool joins = strcmp(title, "concat") == 0;
-    need(words == (cuts ? 7 : joins ? 6 : 5) && (cuts || joins || strcmp(title, "sort") == 0), usage);
+    need(words == (cuts ? 8 : joins ? 7 : 6) && (cuts || joins || strcmp(title, "sort") == 0), usage);
     if (cuts) {
-        from = strtoull(word[5], NULL, 10);
-        to = strtoull(word[6], NULL, 10);
+        from = strtoull(word[6], NULL, 10);
+        to = strtoull(word[7], NULL, 10);
     }
-    uint64_t time = time_of(word[2]);
-    const uint8_t *data = add_source(word[3]);
-    if (joins) add_source(word[4]);
+    uint64_t time = time_of(word[3]);
+    const uint8_t *data = add_source(word[4]);
+    if (joins) add_source(word[5]);
     made = malloc(sources[0].size + sources[1].size + TREE);
     need(made != NULL, "memory");
     read_from(&sources[0]);
     add_head(block(64, "##HD"), time);
     read_groups(link_of(data, 1));
+    if (once) {
+        split(body(data)[0]);
+        read_from(&sources[0]);
+    }
     uint64_t last = 64, samples = 0;
     uint32_t count = 0;
     for (uint32_t k = 0; k < group_count; k++) {
@@ -324,7 +372,7 @@ int main(int words, char **word) {
         samples += number(made + link_of(made + at, 1) + 80, 8);
         count++;
     }
-    write_sealed(word[joins ? 5 : 4]);
+    write_sealed(word[joins ? 6 : 5], made, used);
     printf("groups %u samples %llu dropped 0\n", count, (unsigned long long)samples);
     return 0;
 }

@@ -12,8 +12,13 @@ wide       such a recording of one channel group: a time and 99 numbers of 64 bi
 offsets    a finalized file of one channel group without records: a channel of variable length for each 200 bytes, whose offsets
            lie in no order
 hole       as `sorted`, but all records lie in one data block and are a hole of the file, which reads as zeros
+groups     a finalized file with ids of 2 bytes without records: a channel group of one channel for each 328 bytes
+channels   a finalized file of one channel group without records: a number of 16 bits for each 192 bytes
+texts      as `channels`, but each channel has a unit and a comment of 200 bytes, and 656 bytes
+blocks     as `sorted`, but the records lie in data blocks of 96 bytes
+gates      as `recording`, but the records lie in data blocks of 98 bytes
 
-The records of a finalized file lie in data blocks (DTBLOCK) of 4,000,000 bytes, the last a shorter one, which a chain of lists
+Else the records of a finalized file lie in data blocks (DTBLOCK) of 4,000,000 bytes, the last a shorter one, which a chain of lists
 (DLBLOCK) of at most 50 names, so some records lie across two blocks. Those of a recording lie in blocks of whole records of at
 most 65,536 bytes, one behind the other, with a byte 0 behind the last.
 """
@@ -28,9 +33,10 @@ ALL = 98  # the records of `both`
 WIDE = 801  # a record of `wide`, with its id
 
 shape, size, out = sys.argv[1], int(sys.argv[2]), open(sys.argv[3], "wb")
-is_recording = shape in ("recording", "wide")
+is_recording = shape in ("recording", "wide", "gates")
 whole = WIDE if shape == "wide" else ALL
 mark, flags, PART = (b"UnFinMF ", (33, 1), 65_536 // whole * whole) if is_recording else (b"MDF     ", (0, 0), 4_000_000)
+PART = {"blocks": 96, "gates": ALL}.get(shape, PART)
 head = bytearray(mark + b"4.10    example " + bytes(4) + struct.pack("<H30x2H", 410, *flags))
 
 
@@ -50,9 +56,9 @@ def text(words):
     return place(b"TX", [], words.encode() + bytes(8 - len(words) % 8))
 
 
-def channel(after, name, kind, data_type, byte, bits, values=0):
+def channel(after, name, kind, data_type, byte, bits, values=0, unit=0, comment=0):
     body = struct.pack("<BBBBIIII", kind, kind == 2, data_type, 0, byte, bits, 0, 0) + bytes(52)
-    return place(b"CN", [after, 0, text(name), 0, 0, values, 0, 0], body)
+    return place(b"CN", [after, 0, text(name), 0, 0, values, unit, comment], body)
 
 
 def timed(first):
@@ -83,6 +89,15 @@ def offsets(count):
     return first
 
 
+def many(count, said):
+    """The first of so many channels of 16 bits, with texts of 200 bytes or without."""
+    first = 0
+    for k in reversed(range(count)):
+        texts = [text(f"{name} of the channel {k}".ljust(200, ".")) for name in ("unit", "comment")] if said else [0, 0]
+        first = channel(first, f"n{k}", 0, 0, 2 * k, 16, 0, *texts)
+    return first
+
+
 def group(after, first, name, number, count, flags, length):
     body = struct.pack("<QQHHIII", number, count, flags, 0, 0, length, 0)
     return place(b"CG", [after, first, text(name), 0, 0, 0], body)
@@ -108,11 +123,11 @@ comment = place(b"MD", [], b"<FHcomment><TX>example</TX></FHcomment>\0")
 entry = place(b"FH", [0, comment], bytes(16))
 
 # The groups, and the bytes of their records.
-if shape in ("sorted", "hole"):
+if shape in ("sorted", "hole", "blocks"):
     id_size, count = 0, size // 16
     first = group(0, timed(numbers()), "numbers", 0, count, 0, 16)
     total, records = 16 * count, map(plain, range(count))
-elif shape in ("unsorted", "recording"):
+elif shape in ("unsorted", "recording", "gates"):
     id_size, count = 1, size // ALL
     said = 0 if is_recording else 2 * count
     first = group(0, timed(numbers()), "numbers", 3, said, 0, 16)
@@ -126,6 +141,15 @@ elif shape == "wide":
 elif shape == "offsets":
     id_size, count = 0, size // 200
     first = group(0, offsets(count), "offsets", 0, 0, 0, 8 * count)
+    total, records = 0, iter(())
+elif shape in ("channels", "texts"):
+    id_size, count = 0, size // (656 if shape == "texts" else 192)
+    first = group(0, many(count, shape == "texts"), shape, 0, 0, 0, 2 * count)
+    total, records = 0, iter(())
+elif shape == "groups":
+    id_size, first = 2, 0
+    for k in reversed(range(size // 328)):
+        first = group(first, timed(0), f"g{k}", k + 1, 0, 0, 8)
     total, records = 0, iter(())
 else:
     sys.exit(__doc__)

@@ -16,7 +16,7 @@ import sys
 import tempfile
 
 TOP = os.path.dirname(os.path.dirname(os.path.dirname(os.path.abspath(__file__))))
-PROGRAM = f"{TOP}/crates/mdf_cli/out/mdf_cli"
+PROGRAM = os.environ.get("PROGRAM", f"{TOP}/crates/mdf_cli/out/mdf_cli")
 COUNTING = f"{TOP}/examples/counting.txt"
 
 

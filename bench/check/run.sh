@@ -1,7 +1,8 @@
 #!/usr/bin/env bash
 # Compares `check` of finalized files with a twin in straight C that reads a file whole and goes over its records in a plain
-# loop. Of files of 500 MB, one whose records have no ids and one of three groups with ids, it prints the best time of each in
-# microseconds and their ratio, which is to be at most 3; of files of 5 MB, where valgrind is there, the same of instructions.
+# loop, by a pointer in the block or byte by byte. Of files of 500 MB, one whose records have no ids and one of three groups with ids, it
+# prints the best time of each in microseconds and the ratios, of which the second is to be at most 3; of files of 5 MB, where valgrind is
+# there, the same of instructions.
 # Last it prints the best times for 100,000 and for 10,000 channels of variable length in one group, whose ratio is to be at most 20.
 #
 # usage: bench/check/run.sh [RUNS]
@@ -13,20 +14,22 @@ set -euo pipefail
 here="$(cd "$(dirname "$0")" && pwd)"
 . "$here/../program.sh"
 
-"${CC:-cc}" -O2 -o "$work/twin" "$here/twin.c"
+"${CC:-cc}" -O2 -o "$work/twin" "$here/../read.c"
 
 # compares both on a file of this shape and size, by this measure of what a program costs
 compare() {
-    local file="$work/$1.mf4" measure="$3" ours twin
+    local file="$work/$1.mf4" measure="$3" ours twin way
     python3 "$here/../make.py" "$1" "$2" "$file"
     "$program" check "$file" > "$work/ours"
-    "$work/twin" "$file" > "$work/twins"
-    cmp "$work/ours" "$work/twins"
     grep -qx valid "$work/ours"
     ours="$("$measure" /dev/null "$program" check "$file")"
-    twin="$("$measure" /dev/null "$work/twin" "$file")"
+    for way in once often; do
+        "$work/twin" "$way" check "$file" > "$work/twins"
+        cmp "$work/ours" "$work/twins"
+        twin="$("$measure" /dev/null "$work/twin" "$way" check "$file")"
+        ratio "$1, $2 bytes, $4: check" "$ours" "C $way" "$twin"
+    done
     rm "$file"
-    ratio "$1, $2 bytes, $4: check" "$ours" C "$twin"
 }
 
 for shape in sorted unsorted; do

@@ -1,7 +1,7 @@
 #!/usr/bin/env bash
 # Counts the instructions, or without valgrind the best time in microseconds, of `concat` of a finalized file of 5 MB of three groups
-# with record ids and itself, and of a twin in straight C that reads both files whole, goes over their records once for each group and
-# writes the same file with the same calls. Prints both numbers and their ratio. Of two files of 125 MB, one of three such groups and
+# with record ids and itself, and of a twin in straight C that reads both files whole, goes over their records once, or once for each group,
+# and writes the same file with the same calls. Prints the numbers and the ratio to each way. Of two files of 125 MB, one of three such groups and
 # one of a single group without ids, each joined with itself, it prints the times of `concat` and of a plain copy of what it makes
 # with one sync, run in turn, in microseconds, and their ratio, which is to be at most 2; and the peak memory of `concat` in bytes and its ratio to
 # the size of what it makes.
@@ -27,7 +27,7 @@ beside_maker concat
 compare() {
     local file="$work/$1.mf4" memory
     python3 "$here/../make.py" "$1" 125000000 "$file"
-    memory="$(before && peak "$top/mdf4rec" concat "$file" "$file" "$work/made.mf4")"
+    memory="$(before && peak "${tuned[@]}" concat "$file" "$file" "$work/made.mf4")"
     mv "$work/made.mf4" "$work/joined.mf4"
     beside_copy "$work/joined.mf4" "concat, $1" "$program" concat "$file" "$file" "$work/made.mf4"
     ratio "$1, memory: concat" "$memory" made "$(stat -c %s "$work/joined.mf4")"

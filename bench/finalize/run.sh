@@ -19,7 +19,7 @@ compare() {
     local file="$work/$1.mf4" memory
     python3 "$here/../make.py" "$1" 250000000 "$file"
     beside_copy "$file" "finalize, $1" "$program" finalize "$file" "$work/made.mf4"
-    memory="$(before && peak "$top/mdf4rec" finalize "$file" "$work/made.mf4")"
+    memory="$(before && peak "${tuned[@]}" finalize "$file" "$work/made.mf4")"
     "$program" check "$work/made.mf4" | grep -qx valid
     ratio "$1, memory: finalize" "$memory" file "$(stat -c %s "$file")"
     rm "$file"

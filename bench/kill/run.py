@@ -16,7 +16,7 @@ import tempfile
 import time
 
 TOP = os.path.dirname(os.path.dirname(os.path.dirname(os.path.abspath(__file__))))
-PROGRAM = f"{TOP}/crates/mdf_cli/out/mdf_cli"
+PROGRAM = os.environ.get("PROGRAM", f"{TOP}/crates/mdf_cli/out/mdf_cli")
 SOURCES, SAMPLES, BEHIND_EACH = 4, 2000, 20
 
 

@@ -1,11 +1,14 @@
-"""Prints a script of 60,000 samples of two groups with channels of all kinds."""
+"""Prints a script of so many samples of two groups with channels of all kinds, 60,000 without a number.
+
+usage: mixed.py [SAMPLES]"""
 
 import sys
 
+samples = int(sys.argv[1]) if len(sys.argv) > 1 else 60_000
 lines = ["group 0 g", "channel t u64 master", "channel a u7", "channel b u9", "channel c s13 inv", "channel d ub12"]
 lines += ["channel e sb20", "unit km", "channel f f64", "channel g bytes4 inv", "channel h u1", "channel n var"]
 lines += ["group 0 h", "channel t f64 master", "channel w u32", "channel s s16", "channel m vartext inv", "begin"]
-for i in range(60_000):
+for i in range(samples):
     v = (1664525 * i + 1013904223) % 2**32
     word = f"x{v:08x}"
     text = "x" + "61" * (i % 5)

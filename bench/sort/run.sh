@@ -1,8 +1,8 @@
 #!/usr/bin/env bash
 # Counts the instructions, or without valgrind the best time in microseconds, of `sort` of a finalized file of 5 MB of three groups
-# with record ids, and of a twin in straight C that reads the file whole, goes over its records once for each group and writes the
-# same file with the same calls. Prints both numbers and their ratio, which is to be at most 2; and of a file of 250 MB the peak
-# memory of `sort` in bytes and its ratio to the size of the file, which is to be at most 2.2.
+# with record ids, and of a twin in straight C that reads the file whole, goes over its records once, or once for each group, and
+# writes the same file with the same calls. Prints the numbers and the ratio to each way; and of a file of 250 MB the peak memory of
+# `sort` in bytes and its ratio to the size of the file, which is to be at most 2.2.
 #
 # usage: bench/sort/run.sh [RUNS]
 #
@@ -23,5 +23,5 @@ beside_maker sort
 
 file="$work/large.mf4"
 python3 "$here/../make.py" unsorted 250000000 "$file"
-memory="$(before && peak "$top/mdf4rec" sort "$file" "$work/made.mf4")"
+memory="$(before && peak "$program" sort "$file" "$work/made.mf4")"
 ratio "memory: sort" "$memory" file "$(stat -c %s "$file")"
