@@ -1,9 +1,7 @@
 //! Recordings of the generated script.
 
-use crate::files::{finalized, sorted_from};
-use crate::runs::{Given, asking, file_made, record, said};
-use crate::told::is_told;
 use mdf_num::Bytes;
+use mdf_run_rig::{Given, asking, file_made, finalized, is_told, record, said, sorted_from};
 use std::sync::Wait;
 use std::test::Fail;
 use std::thread::Threads;
@@ -39,7 +37,7 @@ end
 const TEN_TOLD: &str =
     "0 source 0 accepted 3\nsource 1 accepted 3\nsource 2 accepted 2\nsource 3 accepted 2\nsamples 10 durable 10\n";
 
-pub const GEN_TEN: &[&str] = &["gen", "10", "out.mf4"];
+const GEN_TEN: &[&str] = &["gen", "10", "out.mf4"];
 
 // Behind each thousandth sample of a source stands a flush: of 4,004 samples each source has 1,001.
 const FLUSHED: &str =
@@ -85,7 +83,7 @@ fn ten_samples_are_generated(rt: HostRuntime) -> Result<(), Fail> {
 #[test]
 fn generated_samples_are_recorded(rt: HostRuntime) -> Result<(), Fail> {
     for (words, want) in GENERATED {
-        is_told(&rt, said(&rt, *words, Bytes::empty(rt.alloc())), *want)?;
+        is_told(said(&rt, *words, Bytes::empty(rt.alloc())), *want)?;
     }
     Ok(())
 }
@@ -96,5 +94,5 @@ const MILLION: &str =
 #[test]
 fn a_million_samples_are_recorded(rt: HostRuntime) -> Result<(), Fail> {
     let words = ["gen", "1000000", "out.mf4"];
-    is_told(&rt, said(&rt, &words, Bytes::empty(rt.alloc())), MILLION)
+    is_told(said(&rt, &words, Bytes::empty(rt.alloc())), MILLION)
 }

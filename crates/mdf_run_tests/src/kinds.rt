@@ -1,8 +1,7 @@
 //! Recordings of channels of every type.
 
-use crate::recordings::Part;
-use crate::runs::{all_stand, recorded};
 use mdf_gate::opened;
+use mdf_run_rig::{EMPTY, Part, all_stand, recorded};
 use std::sync::Wait;
 use std::test::Fail;
 use std::thread::Threads;
@@ -151,17 +150,12 @@ const VALUE_GROUPS: [Part; 14] = [
 fn groups_of_values_stand_behind_the_groups(rt: HostRuntime) -> Result<(), Fail> {
     let file = recorded(&rt, TWO_VALUES)?;
     assert!(rt; file.as_slice().len() == 1305);
-    all_stand(&rt, file.as_slice(), &VALUE_GROUPS);
-    Ok(())
+    all_stand(file.as_slice(), &VALUE_GROUPS)
 }
-
-// One group with one channel, and no samples.
-pub const EMPTY: &str = "group 0 g\nchannel t u64 master\nbegin\nend\n";
 
 #[test]
 fn an_empty_recording_is_a_head_and_a_closed_place(rt: HostRuntime) -> Result<(), Fail> {
     let file = recorded(&rt, EMPTY)?;
     assert!(rt; file.as_slice().len() == 769);
-    all_stand(&rt, file.as_slice(), &[(768, b"\0")]);
-    Ok(())
+    all_stand(file.as_slice(), &[(768, b"\0")])
 }

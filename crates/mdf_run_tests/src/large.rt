@@ -1,13 +1,13 @@
 //! Files that are larger than what a command holds of them.
 ghost use Rattle.std.specs.Prelude.{◌≡◌, None, IfOk};
 
-use crate::files::{FINALIZE_WORDS, File, bytes_of, changed};
-use crate::recordings::Part;
-use crate::runs::{COUNTING, OPEN, asking, disk_with, over_taken, ran};
-use crate::told::is_told;
+use crate::runs::OPEN;
 use mdf_disk::{Disk, MemoryDisk, Role};
 use mdf_num::{Bytes, Failed, FaultCount};
-use std::process::Abort;
+use mdf_run_rig::{
+    COUNTING, FINALIZE_WORDS, File, Part, asking, bytes_of, changed, disk_with, is_told,
+    over_taken, ran,
+};
 use std::sync::Wait;
 use std::test::Fail;
 use std::thread::Threads;
@@ -187,13 +187,13 @@ fn with_nothing_made<R: AllocGlobal>(rt: &R, text: &str) -> Result<String, Fail>
     Ok(format!(in rt.alloc(); "{text}file 5 history 0 marks []")?)
 }
 
-/// Asserts of a row that its text is printed, and that no file is made.
+/// Fails where another text is printed than that of a row, or a file is made.
 fn is_so<R>(rt: &R, row: &(bool, u64, &[&str], &str)) -> Result<(), Fail>
 where
-    R: AllocGlobal + Threads + Wait + Sync + Abort,
+    R: AllocGlobal + Threads + Wait + Sync,
 {
     let want = with_nothing_made(rt, row.3)?;
-    is_told(rt, large_told(rt, row.0, row.1, row.2), want.as_str())
+    is_told(large_told(rt, row.0, row.1, row.2), want.as_str())
 }
 
 #[test]

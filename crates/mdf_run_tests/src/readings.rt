@@ -1,8 +1,6 @@
 //! The commands that read a finalized file.
 
-use crate::files::{Asked, FLAGS, File, MARK, all_are_told};
-use crate::recordings::Part;
-use crate::runs::COUNTING;
+use mdf_run_rig::{Asked, COUNTING, FLAGS, File, MARK, Part, all_are_told};
 use std::test::Fail;
 
 // The data link of the recording of three samples names its first block, of two records: the cycle count of the group.

@@ -1,51 +1,11 @@
-use crate::told::is_told;
+//! What is opened of recordings, and what is no recording.
+
 use mdf_gate::opened;
-use mdf_num::Bytes;
+use mdf_run_rig::{Part, Row, all_are_told, recording};
 use std::alloc::Global;
-use std::process::Abort;
+use std::sync::Wait;
 use std::test::Fail;
-
-/// Bytes that stand at a place of a file.
-pub type Part = (usize, &'static [u8]);
-
-// A recording without history: the header at 64, the data group at 168, the places from 232 on. A block of 10 bytes
-// stands at 232, one of 16 at 272, and the place at 312 is closed. All other bytes are 0.
-const TWO_BLOCKS: &[Part] = &[
-    (0, b"UnFinMF 4.10    mdf4rec "),
-    (28, b"\x9A\x01"),
-    (60, b"\x21\x00\x01\x00"),
-    (64, b"##HD"),
-    (72, b"\x68"),
-    (80, b"\x06"),
-    (88, b"\xA8"),
-    (168, b"##DG"),
-    (176, b"\x40"),
-    (184, b"\x04"),
-    (208, b"\xE8"),
-    (224, b"\x01"),
-    (232, b"##DT"),
-    (240, b"\x22"),
-    (256, b"0123456789"),
-    (272, b"##DT"),
-    (280, b"\x28"),
-];
-
-pub fn put(file: &mut Vec<u8>, (at, part): Part) {
-    if at <= file.len() && part.len() <= file.len() - at {
-        file[at..at + part.len()].copy_from_slice(part);
-    }
-}
-
-/// The recording of two blocks, so many bytes of it, with another part put in.
-pub fn recording(alloc: Global, length: usize, change: Part) -> Result<Bytes, Fail> {
-    let mut file = vec![in alloc; 0u8; 313]?;
-    for part in TWO_BLOCKS {
-        put(&mut file, *part);
-    }
-    put(&mut file, change);
-    file.truncate(length);
-    Ok(Bytes::from_vec(file))
-}
+use std::thread::Threads;
 
 /// What is opened of a file that is short.
 fn opened_told(alloc: Global, file: &[u8]) -> Result<String, Fail> {
@@ -59,20 +19,15 @@ fn opened_told(alloc: Global, file: &[u8]) -> Result<String, Fail> {
 /// So many bytes of that recording, with this part put in.
 struct Changed(usize, Part);
 
-// Its opened blocks, their bytes and their first and last place; or why it is none.
-fn changed_told(alloc: Global, row: &Changed) -> Result<String, Fail> {
-    let file = recording(alloc, row.0, row.1)?;
-    opened_told(alloc, file.as_slice())
-}
-
-fn all_are_told<R>(rt: &R, rows: &[(Changed, &str)]) -> Result<(), Fail>
-where
-    R: AllocGlobal + Abort,
-{
-    for (row, want) in rows {
-        is_told(rt, changed_told(rt.alloc(), row), *want)?;
+impl Row for Changed {
+    // Its opened blocks, their bytes and their first and last place; or why it is none.
+    fn told<R>(&self, rt: &R) -> Result<String, Fail>
+    where
+        R: AllocGlobal + Threads + Wait + Sync,
+    {
+        let file = recording(rt.alloc(), self.0, self.1)?;
+        opened_told(rt.alloc(), file.as_slice())
     }
-    Ok(())
 }
 
 // The length of the file and the part that is put into it; what is told.

@@ -1,324 +1,14 @@
-ghost use Rattle.std.specs.Prelude.{◌≡◌, None, IfOk};
+//! What `opened` prints, what is printed of words that are no command, and what is printed and left of recordings.
 
-use crate::files::{Asked, File, all_are_told};
-use crate::kinds::EMPTY;
-use crate::recordings::Part;
-use crate::told::is_told;
-use book_owned::Marks;
-use mdf_disk::{Disk, Fuse, MemoryDisk};
-use mdf_num::{Bytes, Memory, Numbers, Rows};
-use mdf_port::{MemorySink, MemorySource};
-use mdf_run::{Finished, Gate, Open, run};
+use mdf_num::{Bytes, Memory};
+use mdf_run_rig::{
+    Asked, COUNTING, EMPTY, File, Part, Row, THREE_TEXTS, all_are_told, all_stand, failing_disk,
+    is_told, record, record_told, recorded, said,
+};
 use std::alloc::Global;
-use std::process::Abort;
 use std::sync::Wait;
 use std::test::Fail;
 use std::thread::Threads;
-
-/// What a run is given: the command words, the text at the source, the bytes of the second input, and which calls of the
-/// source, of that input's disk and of the sink fail.
-#[derive(Clone, Copy)]
-pub struct Given<'a> {
-    pub words: &'a [&'a str],
-    pub script: &'a str,
-    pub second: &'a [u8],
-    pub broken: &'a [u64],
-    pub lost: &'a [u64],
-    pub failing: &'a [u64],
-}
-
-/// What a run left, and what it was given, of which the sink has what it printed.
-#[derive(Drop)]
-pub struct Ended<A, C> {
-    pub finished: Finished<A, C>,
-    inputs: Inputs,
-}
-
-fn words(alloc: Global, texts: &[&str]) -> Result<Rows<Bytes>, Fail> {
-    let mut words = Rows::empty(alloc);
-    for text in texts {
-        words.push(Bytes::from_slice(alloc, text.as_bytes())?)?;
-    }
-    Ok(words)
-}
-
-pub fn numbers(alloc: Global, items: &[u64]) -> Result<Numbers, Fail> {
-    Ok(Numbers::from_vec(items.to_vec(alloc)?))
-}
-
-fn source_of(alloc: Global, given: Given<'_>) -> Result<MemorySource, Fail> {
-    let broken = numbers(alloc, given.broken)?;
-    let script = Bytes::from_slice(alloc, given.script.as_bytes())?;
-    Ok(MemorySource::new(script, broken))
-}
-
-/// A disk with this file that fails at these calls.
-pub fn disk_with(alloc: Global, file: Bytes, failing: &[u64]) -> Result<MemoryDisk, Fail>
-    ensures { IfOk result (λ disk. ⟦<MemoryDisk as Disk>⟧.asked disk ≡ None) }
-{
-    let failing = numbers(alloc, failing)?;
-    let mut disk = MemoryDisk::holding(alloc, file);
-    disk.fail_at(failing);
-    Ok(disk)
-}
-
-/// The words and the streams of a run.
-#[derive(Drop)]
-struct Streams {
-    words: Rows<Bytes>,
-    source: MemorySource,
-    sink: MemorySink,
-}
-
-fn streams_of(alloc: Global, given: Given<'_>) -> Result<Streams, Fail> {
-    let failing = numbers(alloc, given.failing)?;
-    let source = source_of(alloc, given)?;
-    Ok(Streams {
-        words: words(alloc, given.words)?,
-        source,
-        sink: MemorySink::new(alloc, failing),
-    })
-}
-
-/// Those, and the disk of the second input.
-#[derive(Drop)]
-struct Inputs {
-    streams: Streams,
-    second: MemoryDisk,
-}
-
-fn inputs_of(alloc: Global, given: Given<'_>) -> Result<Inputs, Fail>
-    ensures { IfOk result (λ inputs. ⟦<MemoryDisk as Disk>⟧.asked inputs.second ≡ None) }
-{
-    let second = disk_with(alloc, Bytes::from_slice(alloc, given.second)?, given.lost)?;
-    Ok(Inputs {
-        streams: streams_of(alloc, given)?,
-        second,
-    })
-}
-
-/// Runs what is given over these disks, with this gate for the sources of a recording.
-pub fn ran_under<R, A, C, G>(
-    rt: &R,
-    given: Given<'_>,
-    first: A,
-    out: C,
-    gate: &G,
-) -> Result<Ended<A, C>, Fail>
-where
-    R: AllocGlobal + Threads + Wait + Sync,
-    A: Disk + Drop,
-    C: Disk + Send + Drop,
-    G: Gate + Sync,
-    requires first { A.asked first ≡ None }
-    requires out { C.asked out ≡ None }
-{
-    let alloc = rt.alloc();
-    let mut inputs = inputs_of(alloc, given)?;
-    let finished = run(
-        rt,
-        alloc,
-        &inputs.streams.words,
-        0,
-        &mut inputs.streams.source,
-        &mut inputs.streams.sink,
-        first,
-        &mut inputs.second,
-        out,
-        gate,
-    );
-    Ok(Ended { finished, inputs })
-}
-
-/// Runs what is given over these disks.
-pub fn ran<R, A, C>(rt: &R, given: Given<'_>, first: A, out: C) -> Result<Ended<A, C>, Fail>
-where
-    R: AllocGlobal + Threads + Wait + Sync,
-    A: Disk + Drop,
-    C: Disk + Send + Drop,
-    requires first { A.asked first ≡ None }
-    requires out { C.asked out ≡ None }
-{
-    ran_under(rt, given, first, out, &Open)
-}
-
-/// The status and the printed text.
-fn line<A, C>(alloc: Global, ended: &Ended<A, C>) -> Result<String, Fail> {
-    let status = ended.finished.status;
-    let text = str::from_utf8(ended.inputs.streams.sink.bytes())?;
-    Ok(format!(in alloc; "{status} {text}")?)
-}
-
-/// A disk in memory, or one behind a fuse.
-pub trait Kept {
-    /// The disk in memory.
-    fn kept(&self) -> &MemoryDisk;
-}
-
-impl Kept for MemoryDisk {
-    fn kept(&self) -> &MemoryDisk {
-        self
-    }
-}
-
-impl Kept for Fuse<MemoryDisk> {
-    fn kept(&self) -> &MemoryDisk {
-        self.disk()
-    }
-}
-
-/// How many samples each mark has.
-fn marked(alloc: Global, marks: &Marks) -> Result<Vec<u64>, Fail> {
-    let mut counts = Vec::new(alloc);
-    for mark in marks.rest(0) {
-        counts.push(mark.through)?;
-    }
-    Ok(counts)
-}
-
-/// That line; how many bytes the file that was made has, and how many samples were accepted; and how many samples each
-/// mark has.
-fn record_line<A, C: Kept>(alloc: Global, ended: &Ended<A, C>) -> Result<String, Fail> {
-    let line = line(alloc, ended)?;
-    let marks = marked(alloc, &ended.finished.marks)?;
-    let length = ended.finished.out.kept().bytes().len();
-    let accepted = ended.finished.history.len();
-    Ok(format!(in alloc; "{line}file {length} history {accepted} marks {marks:?}")?)
-}
-
-/// What a run left: its status; that and the printed text; the same with what was recorded; and the bytes of the file that it made.
-#[derive(Drop)]
-pub struct Left {
-    pub status: u8,
-    pub line: String,
-    pub recorded: String,
-    pub file: Bytes,
-}
-
-fn left_of<A, C: Kept>(alloc: Global, ended: &Ended<A, C>) -> Result<Left, Fail> {
-    let line = line(alloc, ended)?;
-    let recorded = record_line(alloc, ended)?;
-    let file = Bytes::from_slice(alloc, ended.finished.out.kept().bytes())?;
-    Ok(Left {
-        status: ended.finished.status,
-        line,
-        recorded,
-        file,
-    })
-}
-
-/// Runs what is given over these disks, with this gate, and answers what that left.
-pub fn left_under<R, A, C, G>(
-    rt: &R,
-    given: Given<'_>,
-    first: A,
-    out: C,
-    gate: &G,
-) -> Result<Left, Fail>
-where
-    R: AllocGlobal + Threads + Wait + Sync,
-    A: Disk + Drop,
-    C: Disk + Kept + Send + Drop,
-    G: Gate + Sync,
-    requires first { A.asked first ≡ None }
-    requires out { C.asked out ≡ None }
-{
-    let ended = ran_under(rt, given, first, out, gate)?;
-    left_of(rt.alloc(), &ended)
-}
-
-/// Runs what is given over this disk, and answers what that left.
-pub fn left_by<R, A>(rt: &R, given: Given<'_>, first: A) -> Result<Left, Fail>
-where
-    R: AllocGlobal + Threads + Wait + Sync,
-    A: Disk + Drop,
-    requires { A.asked first ≡ None }
-{
-    left_under(rt, given, first, MemoryDisk::new(rt.alloc()), &Open)
-}
-
-pub fn told<R, A>(rt: &R, given: Given<'_>, first: A) -> Result<String, Fail>
-where
-    R: AllocGlobal + Threads + Wait + Sync,
-    A: Disk + Drop,
-    requires { A.asked first ≡ None }
-{
-    let left = left_by(rt, given, first)?;
-    Ok(left.line)
-}
-
-/// What is left of a command over this file.
-pub fn made_of<R>(rt: &R, given: Given<'_>, file: Bytes) -> Result<Left, Fail>
-where
-    R: AllocGlobal + Threads + Wait + Sync,
-{
-    left_by(rt, given, MemoryDisk::holding(rt.alloc(), file))
-}
-
-/// The file that a command makes of this one.
-pub fn file_made<R>(rt: &R, given: Given<'_>, file: Bytes) -> Result<Bytes, Fail>
-where
-    R: AllocGlobal + Threads + Wait + Sync,
-{
-    let left = made_of(rt, given, file)?;
-    Ok(left.file)
-}
-
-/// What a command prints of this file.
-pub fn said<R>(rt: &R, words: &[&str], file: Bytes) -> Result<String, Fail>
-where
-    R: AllocGlobal + Threads + Wait + Sync,
-{
-    told(
-        rt,
-        asking(words, &[]),
-        MemoryDisk::holding(rt.alloc(), file),
-    )
-}
-
-/// What is printed and left of a command over this disk, where a file of five bytes has the name of the output.
-pub fn over_taken<R, A>(rt: &R, given: Given<'_>, first: A) -> Result<String, Fail>
-where
-    R: AllocGlobal + Threads + Wait + Sync,
-    A: Disk + Drop,
-    requires { A.asked first ≡ None }
-{
-    let taken = disk_with(rt.alloc(), Bytes::from_slice(rt.alloc(), b"taken")?, &[])?;
-    let left = left_under(rt, given, first, taken, &Open)?;
-    Ok(left.recorded)
-}
-
-pub fn record_told<R>(rt: &R, given: Given<'_>, out: MemoryDisk) -> Result<String, Fail>
-where
-    R: AllocGlobal + Threads + Wait + Sync,
-    requires { ⟦<MemoryDisk as Disk>⟧.asked out ≡ None }
-{
-    let left = left_under(rt, given, MemoryDisk::new(rt.alloc()), out, &Open)?;
-    Ok(left.recorded)
-}
-
-/// A command of these words, whose sink fails at these calls.
-pub const fn asking<'a>(words: &'a [&'a str], failing: &'a [u64]) -> Given<'a> {
-    Given {
-        words,
-        script: "",
-        second: &[],
-        broken: &[],
-        lost: &[],
-        failing,
-    }
-}
-
-pub const fn record<'a>(script: &'a str, broken: &'a [u64], failing: &'a [u64]) -> Given<'a> {
-    Given {
-        words: &["record", "out.mf4"],
-        script,
-        second: &[],
-        broken,
-        lost: &[],
-        failing,
-    }
-}
 
 pub const OPEN: &[&str] = &["opened", "in.mf4"];
 
@@ -447,17 +137,14 @@ where
 
 #[test]
 fn wrong_words_print_the_usage(rt: HostRuntime) -> Result<(), Fail> {
-    is_told(&rt, words_told(&rt, &[]), USAGE)?;
+    is_told(words_told(&rt, &[]), USAGE)?;
     for line in WRONG.lines() {
-        is_told(&rt, line_told(&rt, line), USAGE)?;
+        is_told(line_told(&rt, line), USAGE)?;
     }
     Ok(())
 }
 
-// Three samples of one channel, with a flush after the second.
-pub const COUNTING: &str = "group 0 g\nchannel t u64 master\nbegin\n0 1\n0 2\n! 0\n0 3\nend\n";
-
-// The same with one record of 9 bytes a block, and with session limits that have room for one sample and for two, of which
+// Three samples of one channel, with a flush after the second, with one record of 9 bytes a block, and with session limits that have room for one sample and for two, of which
 // each costs 145.
 const SMALL_BLOCKS: &str =
     "block 9\ngroup 0 g\nchannel t u64 master\nbegin\n0 1\n0 2\n! 0\n0 3\nend\n";
@@ -471,10 +158,6 @@ const TWO_SAMPLES: &str =
 // Two groups of two sources. The second group adds 328 bytes to the head; each record has its id and a byte.
 pub const TWO_SOURCES: &str =
     "group 0 a\nchannel x u8\ngroup 1 b\nchannel y u8\nbegin\n0 1\n0 2\n1 7\n1 8\nend\n";
-
-// A channel of variable length, whose group of values adds 104 bytes to the head. Each sample has 9 bytes, and 5 and the
-// length of its value.
-pub const THREE_TEXTS: &str = "group 0 g\nchannel v var\nbegin\n0 x\n0 x6162\n0 x63\nend\n";
 
 // The first sample fills a block, and the second is longer.
 const FULL_BLOCK: &str =
@@ -571,15 +254,6 @@ const RECORDED: &[(Recording, &str)] = &[
     ),
 ];
 
-pub fn failing_disk(alloc: Global, failing: &[u64]) -> Result<MemoryDisk, Fail>
-    ensures { IfOk result (λ disk. ⟦<MemoryDisk as Disk>⟧.asked disk ≡ None) }
-{
-    let failing = numbers(alloc, failing)?;
-    let mut disk = MemoryDisk::new(alloc);
-    disk.fail_at(failing);
-    Ok(disk)
-}
-
 /// A script, and which calls of the source, of the disk and of the sink fail.
 pub struct Recording(
     pub &'static str,
@@ -588,36 +262,19 @@ pub struct Recording(
     pub &'static [u64],
 );
 
-fn recording_told<R>(rt: &R, row: &Recording) -> Result<String, Fail>
-where
-    R: AllocGlobal + Threads + Wait + Sync,
-{
-    let out = failing_disk(rt.alloc(), row.2)?;
-    record_told(rt, record(row.0, row.1, row.3), out)
-}
-
-/// Asserts of each row that its recording is told as the text beside it.
-pub fn all_are_recorded<R>(rt: &R, rows: &[(Recording, &str)]) -> Result<(), Fail>
-where
-    R: AllocGlobal + Threads + Wait + Sync + Abort,
-{
-    for (row, want) in rows {
-        is_told(rt, recording_told(rt, row), *want)?;
+impl Row for Recording {
+    fn told<R>(&self, rt: &R) -> Result<String, Fail>
+    where
+        R: AllocGlobal + Threads + Wait + Sync,
+    {
+        let out = failing_disk(rt.alloc(), self.2)?;
+        record_told(rt, record(self.0, self.1, self.3), out)
     }
-    Ok(())
 }
 
 #[test]
 fn a_script_is_recorded(rt: HostRuntime) -> Result<(), Fail> {
-    all_are_recorded(&rt, RECORDED)
-}
-
-/// The bytes of a recording of this script.
-pub fn recorded<R>(rt: &R, script: &str) -> Result<Bytes, Fail>
-where
-    R: AllocGlobal + Threads + Wait + Sync,
-{
-    file_made(rt, record(script, &[], &[]), Bytes::empty(rt.alloc()))
+    all_are_told(&rt, RECORDED)
 }
 
 // The blocks of the head of that recording and the names in them, its two blocks of data, and the closed place behind
@@ -643,24 +300,11 @@ const COUNTED: [Part; 18] = [
     (849, b"\0\0\0\0\0\0\0\0"),
 ];
 
-/// Whether the part stands in the file.
-pub fn stands(file: &[u8], (at, part): Part) -> bool {
-    at <= file.len() && file[at..].starts_with(part)
-}
-
-/// Asserts that these parts stand in the file.
-pub fn all_stand<R: Abort>(rt: &R, file: &[u8], parts: &[Part]) {
-    for part in parts {
-        assert!(rt; stands(file, *part), "at {}", part.0);
-    }
-}
-
 #[test]
 fn a_recording_has_its_blocks(rt: HostRuntime) -> Result<(), Fail> {
     let file = recorded(&rt, COUNTING)?;
-    all_stand(&rt, file.as_slice(), &COUNTED);
+    all_stand(file.as_slice(), &COUNTED)?;
     is_told(
-        &rt,
         said(&rt, &["opened", "in.mf4"], file),
         "0 blocks 2 bytes 27\n",
     )

@@ -1,12 +1,13 @@
 //! The sources of a recording at work at once.
 
-use crate::files::{finalized, sorted, sorted_from};
-use crate::recordings::Part;
-use crate::runs::{TWO_SOURCES, all_stand, left_under, record, record_told, stands};
-use crate::told::is_told;
+use crate::runs::TWO_SOURCES;
 use mdf_disk::MemoryDisk;
 use mdf_num::Bytes;
 use mdf_run::Gate;
+use mdf_run_rig::{
+    Part, all_stand, finalized, is_told, left_under, record, record_told, sorted, sorted_from,
+    stands,
+};
 use std::process::Abort;
 use std::sync::Wait;
 use std::sync::atomic::Ordering::SeqCst;
@@ -67,7 +68,6 @@ fn two_sources_record_at_once(rt: HostRuntime) -> Result<(), Fail> {
         in_vain: AtomicBool::new(false),
     };
     is_told(
-        &rt,
         told_under(&rt, &meeting),
         "0 source 0 accepted 2\nsource 1 accepted 2\nsamples 4 durable 4\n",
     )?;
@@ -191,7 +191,7 @@ where
     R: AllocGlobal + Threads + Wait + Sync + Abort,
 {
     assert!(rt; want.len() == 1640);
-    all_stand(rt, want, &ORDERED);
+    all_stand(want, &ORDERED)?;
     for row in ORDERS {
         assert!(rt; sorted_in(rt, row)?.as_slice() == want);
     }

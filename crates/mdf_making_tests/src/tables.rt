@@ -1,11 +1,10 @@
 //! What `cut` makes of a finished file, and the tables that `export` prints.
 
-use crate::files::{Asked, File, all_are_told, bytes_of};
-use crate::runs::{COUNTING, Given, Left, asking, made_of, said};
-use crate::told::is_told;
 use mdf_num::Bytes;
+use mdf_run_rig::{
+    Asked, COUNTING, File, Given, Left, Row, all_are_told, asking, bytes_of, made_of, said,
+};
 use std::alloc::Global;
-use std::process::Abort;
 use std::sync::Wait;
 use std::test::Fail;
 use std::thread::Threads;
@@ -103,23 +102,14 @@ where
     made_of(rt, given, file.copy()?)
 }
 
-fn row_told<R>(rt: &R, row: &Made) -> Result<String, Fail>
-where
-    R: AllocGlobal + Threads + Wait + Sync,
-{
-    let left = left_of(rt, row)?;
-    made_told(rt, &left)
-}
-
-/// Asserts of each row that it is told as the text beside it.
-pub fn all_are_made<R>(rt: &R, rows: &[(Made, &str)]) -> Result<(), Fail>
-where
-    R: AllocGlobal + Threads + Wait + Sync + Abort,
-{
-    for (row, want) in rows {
-        is_told(rt, row_told(rt, row), *want)?;
+impl Row for Made {
+    fn told<R>(&self, rt: &R) -> Result<String, Fail>
+    where
+        R: AllocGlobal + Threads + Wait + Sync,
+    {
+        let left = left_of(rt, self)?;
+        made_told(rt, &left)
     }
-    Ok(())
 }
 
 // The words and the file; what is printed, and what `check` and `export` say of the file that is made.
@@ -130,7 +120,7 @@ const SORTED: &[(Made, &str)] = &[(
 
 #[test]
 fn finalized_checked_sorted_exported(rt: HostRuntime) -> Result<(), Fail> {
-    all_are_made(&rt, SORTED)
+    all_are_told(&rt, SORTED)
 }
 
 // The range of the master, whose numbers are 1, 2 and 3; what is printed, and what `check` and `export` say of the file that
@@ -176,5 +166,5 @@ const CUTS: &[(Made, &str)] = &[
 
 #[test]
 fn cut_to_nothing_and_to_two(rt: HostRuntime) -> Result<(), Fail> {
-    all_are_made(&rt, CUTS)
+    all_are_told(&rt, CUTS)
 }

@@ -1,11 +1,11 @@
 //! Two files that are joined into one, and pairs that are not.
 
-use crate::files::{FINALIZE, File, bytes_of, changed, finished};
-use crate::recordings::Part;
-use crate::runs::{COUNTING, Given, Left, THREE_TEXTS, made_of};
-use crate::tables::{Made, all_are_made};
-use crate::told::is_told;
+use crate::tables::Made;
 use mdf_num::Bytes;
+use mdf_run_rig::{
+    COUNTING, FINALIZE, File, Given, Left, Part, Row, THREE_TEXTS, all_are_told, bytes_of, changed,
+    finished, is_told, made_of,
+};
 use std::alloc::Global;
 use std::sync::Wait;
 use std::test::Fail;
@@ -53,7 +53,7 @@ const JOINED: &[(Made, &str)] = &[
 
 #[test]
 fn joined_with_itself(rt: HostRuntime) -> Result<(), Fail> {
-    all_are_made(&rt, JOINED)
+    all_are_told(&rt, JOINED)
 }
 
 /// Two files.
@@ -65,13 +65,15 @@ fn length_told(alloc: Global, left: &Left) -> Result<String, Fail> {
     Ok(format!(in alloc; "{text}{}", left.file.as_slice().len())?)
 }
 
-fn apart_told<R>(rt: &R, row: &Apart) -> Result<String, Fail>
-where
-    R: AllocGlobal + Threads + Wait + Sync,
-{
-    let second = bytes_of(rt, &row.1)?;
-    let left = concat_of(rt, bytes_of(rt, &row.0)?, &second)?;
-    length_told(rt.alloc(), &left)
+impl Row for Apart {
+    fn told<R>(&self, rt: &R) -> Result<String, Fail>
+    where
+        R: AllocGlobal + Threads + Wait + Sync,
+    {
+        let second = bytes_of(rt, &self.1)?;
+        let left = concat_of(rt, bytes_of(rt, &self.0)?, &second)?;
+        length_told(rt.alloc(), &left)
+    }
 }
 
 // Two files that can't be joined, and why, and that nothing is made.
@@ -96,10 +98,7 @@ const APART: &[(Apart, &str)] = &[
 
 #[test]
 fn joined_with_another_type(rt: HostRuntime) -> Result<(), Fail> {
-    for (row, want) in APART {
-        is_told(&rt, apart_told(&rt, row), *want)?;
-    }
-    Ok(())
+    all_are_told(&rt, APART)
 }
 
 /// What is put into the first file and into the second of those of three texts.
@@ -135,7 +134,7 @@ const CHANGED: &[(Changed, &str)] = &[
 fn changed_files_are_joined_or_refused(rt: HostRuntime) -> Result<(), Fail> {
     let file = finished(&rt, THREE_TEXTS)?;
     for (row, want) in CHANGED {
-        is_told(&rt, changed_told(&rt, &file, row), *want)?;
+        is_told(changed_told(&rt, &file, row), *want)?;
     }
     Ok(())
 }

@@ -1,57 +1,17 @@
 //! Attachments that are listed, and carried into a finished file.
 
-use crate::files::{Asked, FINALIZE, File, all_are_told, bytes_of, changed};
-use crate::recordings::{Part, put};
-use crate::runs::{COUNTING, Given, Left, all_stand, made_of, said};
-use crate::told::is_told;
 use mdf_num::Bytes;
-use std::alloc::Global;
+use mdf_run_rig::{
+    Asked, COUNTING, FINALIZE, File, Given, Left, Part, Row, all_are_told, all_stand, bytes_of,
+    changed, made_of, said,
+};
 use std::sync::Wait;
 use std::test::Fail;
 use std::thread::Threads;
 
 const LIST: &[&str] = &["attachments", "in.mf4"];
 
-// A finalized file without data groups. Its header names an attachment, with the MD5 of `abc` as md5sum prints it, its name and its
-// MIME type. All other bytes are 0.
-const ATTACHED: &[Part] = &[
-    (0, b"MDF     4.10    example "),
-    (28, b"\x9A\x01"),
-    (64, b"##HD"),
-    (72, b"\x68"),
-    (80, b"\x06"),
-    (112, b"\xA8"),
-    (168, b"##AT"),
-    (176, b"\x63"),
-    (184, b"\x04"),
-    (200, b"\x10\x01"),
-    (208, b"\x30\x01"),
-    (224, b"\x05"),
-    (
-        232,
-        b"\x90\x01\x50\x98\x3C\xD2\x4F\xB0\xD6\x96\x3F\x7D\x28\xE1\x7F\x72",
-    ),
-    (248, b"\x03"),
-    (256, b"\x03"),
-    (264, b"abc"),
-    (272, b"##TX"),
-    (280, b"\x20"),
-    (296, b"a.txt"),
-    (304, b"##TX"),
-    (312, b"\x28"),
-    (328, b"text/plain"),
-];
-
-/// The file of this attachment.
-pub fn attached(alloc: Global) -> Result<Bytes, Fail> {
-    let mut file = vec![in alloc; 0u8; 344]?;
-    for part in ATTACHED {
-        put(&mut file, *part);
-    }
-    Ok(Bytes::from_vec(file))
-}
-
-// What is put into that file; which calls of its disk and of the sink fail; and what is printed.
+// What is put into the file of an attachment; which calls of its disk and of the sink fail; and what is printed.
 const LISTED: &[(Asked, &str)] = &[
     (
         Asked(LIST, File::Attached, &[], &[], &[]),
@@ -160,17 +120,19 @@ impl Carried {
     }
 }
 
-/// What is printed, how many bytes the file has that is made, and what `attachments` and `check` say of it.
-fn carried_told<R>(rt: &R, row: &Carried) -> Result<String, Fail>
-where
-    R: AllocGlobal + Threads + Wait + Sync,
-{
-    let left = row.left(rt)?;
-    let line = left.line.as_str();
-    let size = left.file.as_slice().len();
-    let list = said(rt, LIST, left.file.copy()?)?;
-    let check = said(rt, &["check", "out.mf4"], left.file.copy()?)?;
-    Ok(format!(in rt.alloc(); "{line}{size}\n{list}{check}")?)
+impl Row for Carried {
+    // What is printed, how many bytes the file has that is made, and what `attachments` and `check` say of it.
+    fn told<R>(&self, rt: &R) -> Result<String, Fail>
+    where
+        R: AllocGlobal + Threads + Wait + Sync,
+    {
+        let left = self.left(rt)?;
+        let line = left.line.as_str();
+        let size = left.file.as_slice().len();
+        let list = said(rt, LIST, left.file.copy()?)?;
+        let check = said(rt, &["check", "out.mf4"], left.file.copy()?)?;
+        Ok(format!(in rt.alloc(); "{line}{size}\n{list}{check}")?)
+    }
 }
 
 const SORTED: File = File::Sorted(COUNTING);
@@ -211,10 +173,7 @@ const CARRIED: &[(Carried, &str)] = &[
 
 #[test]
 fn attachments_are_carried(rt: HostRuntime) -> Result<(), Fail> {
-    for (row, want) in CARRIED {
-        is_told(&rt, carried_told(&rt, row), *want)?;
-    }
-    Ok(())
+    all_are_told(&rt, CARRIED)
 }
 
 // The attachment behind the sorted file, whose header names it.
@@ -236,6 +195,5 @@ const BEHIND: [Part; 9] = [
 #[test]
 fn a_carried_attachment_has_its_blocks(rt: HostRuntime) -> Result<(), Fail> {
     let left = Carried(File::Attached, &[], SORTED, &[]).left(&rt)?;
-    all_stand(&rt, left.file.as_slice(), &BEHIND);
-    Ok(())
+    all_stand(left.file.as_slice(), &BEHIND)
 }

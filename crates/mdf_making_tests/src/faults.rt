@@ -3,19 +3,16 @@ ghost use Rattle.std.specs.Prelude.{◌≡◌, None};
 
 use crate::attached::ATTACH;
 use crate::cuts::CUT;
-use crate::files::{FINALIZE, File, SORT, bytes_of, finalized};
-use crate::generated::GEN_TEN;
 use crate::joined::CONCAT;
-use crate::runs::{
-    COUNTING, Given, Kept, asking, disk_with, failing_disk, file_made, left_by, over_taken, ran,
-    record, said, stands,
-};
-use crate::told::{is_status, is_told};
 use book_owned::Marks;
 use mdf_disk::{Disk, Fuse, MemoryDisk};
 use mdf_layout::{Sample, Samples, Value};
 use mdf_num::Bytes;
 use mdf_run::Finished;
+use mdf_run_rig::{
+    COUNTING, FINALIZE, File, Given, Kept, SORT, asking, bytes_of, disk_with, failing_disk,
+    file_made, finalized, is_status, is_told, left_by, over_taken, ran, record, said, stands,
+};
 use std::process::Abort;
 use std::sync::Wait;
 use std::test::Fail;
@@ -241,9 +238,9 @@ where
 #[test]
 fn a_recording_stands_a_fault_of_each_call_of_its_disk(rt: HostRuntime) -> Result<(), Fail> {
     for call in 0..CALLS {
-        is_status(&rt, status_failing_at(&rt, call), 4)?;
+        is_status(status_failing_at(&rt, call), 4)?;
     }
-    is_status(&rt, status_failing_at(&rt, CALLS), 0)
+    is_status(status_failing_at(&rt, CALLS), 0)
 }
 
 /// The status of a recording that is stopped after so many calls of its disk.
@@ -257,9 +254,9 @@ where
 #[test]
 fn a_recording_stands_a_stop_at_each_call_of_its_disk(rt: HostRuntime) -> Result<(), Fail> {
     for calls in 0..CALLS {
-        is_status(&rt, status_stopped_after(&rt, calls), 4)?;
+        is_status(status_stopped_after(&rt, calls), 4)?;
     }
-    is_status(&rt, status_stopped_after(&rt, CALLS), 0)
+    is_status(status_stopped_after(&rt, CALLS), 0)
 }
 
 /// How many samples are found in what a crash inside each call leaves, by each pick; 9 where it is not finalized.
@@ -305,7 +302,7 @@ where
     R: AllocGlobal + Threads + Wait + Sync + Abort,
 {
     assert!(rt; has_second_write(disk)?);
-    is_told(rt, found_in_each(rt, disk), FOUND)
+    is_told(found_in_each(rt, disk), FOUND)
 }
 
 #[test]
@@ -339,9 +336,9 @@ where
     R: AllocGlobal + Threads + Wait + Sync + Abort,
 {
     for call in 0u64..7 {
-        is_status(rt, made_status(rt, given, input, whole, call), 4)?;
+        is_status(made_status(rt, given, input, whole, call), 4)?;
     }
-    is_status(rt, made_status(rt, given, input, whole, 7), 0)
+    is_status(made_status(rt, given, input, whole, 7), 0)
 }
 
 fn stands_faults_of_its_output<R>(rt: &R, given: Given<'_>, input: &Bytes) -> Result<(), Fail>
@@ -432,11 +429,11 @@ where
 /// Asserts that a fault of each of these calls of an input is told, and that no other call is made.
 fn tells_faults_of_input<R>(rt: &R, words: &[&str], calls: u64, file: &Bytes) -> Result<(), Fail>
 where
-    R: AllocGlobal + Threads + Wait + Sync + Abort,
+    R: AllocGlobal + Threads + Wait + Sync,
 {
     for call in 0u64..5 {
         let want = if call < calls { 4 } else { 0 };
-        is_status(rt, input_status(rt, words, file, call), want)?;
+        is_status(input_status(rt, words, file, call), want)?;
     }
     Ok(())
 }
@@ -444,7 +441,7 @@ where
 /// The same of this file.
 fn tells_faults_over<R>(rt: &R, words: &[&str], calls: u64, file: &File) -> Result<(), Fail>
 where
-    R: AllocGlobal + Threads + Wait + Sync + Abort,
+    R: AllocGlobal + Threads + Wait + Sync,
 {
     tells_faults_of_input(rt, words, calls, &bytes_of(rt, file)?)
 }
@@ -481,7 +478,7 @@ fn a_fault_of_each_call_of_the_second_input_is_told(rt: HostRuntime) -> Result<(
     let file = bytes_of(&rt, &FINISHED)?;
     for call in 0u64..4 {
         let want = if call < 3 { 4 } else { 0 };
-        is_status(&rt, second_status(&rt, &file, call), want)?;
+        is_status(second_status(&rt, &file, call), want)?;
     }
     Ok(())
 }
@@ -501,7 +498,7 @@ where
 fn a_fault_of_each_call_of_the_source_is_told(rt: HostRuntime) -> Result<(), Fail> {
     for call in 0u64..3 {
         let want = if call < 2 { 2 } else { 0 };
-        is_status(&rt, source_status(&rt, call), want)?;
+        is_status(source_status(&rt, call), want)?;
     }
     Ok(())
 }
@@ -545,7 +542,7 @@ const NO_FILE: File = File::TwoBlocks(0);
 
 // The other command that records.
 const GEN: Given<'static> = Given {
-    words: GEN_TEN,
+    words: &["gen", "10", "out.mf4"],
     ..FINALIZE
 };
 
@@ -583,7 +580,6 @@ where
 fn a_taken_name_is_told_before_an_input_is_refused(rt: HostRuntime) -> Result<(), Fail> {
     for (given, file) in TAKEN {
         is_told(
-            &rt,
             taken_told(&rt, *given, file),
             "4 device fault\nfile 5 history 0 marks []",
         )?;

@@ -1,18 +1,23 @@
-//! The files that commands are asked about, and rows that change them.
-ghost use Rattle.std.specs.Prelude.{◌≡◌, None, IfOk};
+//! The files that commands are asked about, and the commands that make them.
 
-use crate::attached::attached;
-use crate::foreign::engine_and_gearbox;
-use crate::recordings::{Part, put, recording};
-use crate::runs::{Given, asking, disk_with, file_made, recorded, told};
-use crate::told::is_told;
-use mdf_disk::{Disk, MemoryDisk};
+use crate::foreign::{attached, engine_and_gearbox};
+use crate::left::file_made;
+use crate::parts::{Part, recording};
+use crate::runs::{Given, record};
 use mdf_num::Bytes;
-use std::alloc::Global;
-use std::process::Abort;
 use std::sync::Wait;
 use std::test::Fail;
 use std::thread::Threads;
+
+// Three samples of one channel, with a flush after the second.
+pub const COUNTING: &str = "group 0 g\nchannel t u64 master\nbegin\n0 1\n0 2\n! 0\n0 3\nend\n";
+
+// A channel of variable length, whose group of values adds 104 bytes to the head. Each sample has 9 bytes, and 5 and the
+// length of its value.
+pub const THREE_TEXTS: &str = "group 0 g\nchannel v var\nbegin\n0 x\n0 x6162\n0 x63\nend\n";
+
+// One group with one channel, and no samples.
+pub const EMPTY: &str = "group 0 g\nchannel t u64 master\nbegin\nend\n";
 
 pub const FINALIZE_WORDS: &[&str] = &["finalize", "in.mf4", "out.mf4"];
 
@@ -93,50 +98,10 @@ where
     }
 }
 
-/// A file with these parts put in.
-pub fn changed(alloc: Global, file: &Bytes, parts: &[Part]) -> Result<Bytes, Fail> {
-    let mut bytes = Vec::from_slice(alloc, file.as_slice())?;
-    for part in parts {
-        put(&mut bytes, *part);
-    }
-    Ok(Bytes::from_vec(bytes))
-}
-
-/// The words of a command; a file, and the parts that are put into it; and which calls of its disk and of the sink fail.
-pub struct Asked(
-    pub &'static [&'static str],
-    pub File,
-    pub &'static [Part],
-    pub &'static [u64],
-    pub &'static [u64],
-);
-
-/// The disk of that file.
-fn disk_of<R>(rt: &R, asked: &Asked) -> Result<MemoryDisk, Fail>
-where
-    R: AllocGlobal + Threads + Wait + Sync,
-    ensures { IfOk result (λ disk. ⟦<MemoryDisk as Disk>⟧.asked disk ≡ None) }
-{
-    let file = bytes_of(rt, &asked.1)?;
-    disk_with(rt.alloc(), changed(rt.alloc(), &file, asked.2)?, asked.3)
-}
-
-/// What is printed.
-fn asked_told<R>(rt: &R, asked: &Asked) -> Result<String, Fail>
+/// The bytes of a recording of this script.
+pub fn recorded<R>(rt: &R, script: &str) -> Result<Bytes, Fail>
 where
     R: AllocGlobal + Threads + Wait + Sync,
 {
-    let first = disk_of(rt, asked)?;
-    told(rt, asking(asked.0, asked.4), first)
-}
-
-/// Asserts of each row that the text beside it is printed.
-pub fn all_are_told<R>(rt: &R, rows: &[(Asked, &str)]) -> Result<(), Fail>
-where
-    R: AllocGlobal + Threads + Wait + Sync + Abort,
-{
-    for (asked, want) in rows {
-        is_told(rt, asked_told(rt, asked), *want)?;
-    }
-    Ok(())
+    file_made(rt, record(script, &[], &[]), Bytes::empty(rt.alloc()))
 }

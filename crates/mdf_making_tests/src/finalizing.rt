@@ -1,10 +1,10 @@
 //! What `finalize` makes of a recording, and `sort` of a finished file.
 
-use crate::files::{FINALIZE, File, SORT, bytes_of, sorted};
-use crate::kinds::EMPTY;
-use crate::recordings::Part;
-use crate::runs::{COUNTING, Given, Left, THREE_TEXTS, all_stand, made_of};
 use mdf_num::Bytes;
+use mdf_run_rig::{
+    COUNTING, EMPTY, FINALIZE, File, Given, Left, Part, SORT, THREE_TEXTS, all_stand, bytes_of,
+    made_of, sorted,
+};
 use std::process::Abort;
 use std::sync::Wait;
 use std::test::Fail;
@@ -103,10 +103,16 @@ const MADE: &[Makes] = &[
 ];
 
 /// Asserts what is printed, how long the file is that was made, and parts of it.
-fn is_made<R: Abort>(rt: &R, made: &Left, want: &str, length: usize, parts: &[Part]) {
+fn is_made<R: Abort>(
+    rt: &R,
+    made: &Left,
+    want: &str,
+    length: usize,
+    parts: &[Part],
+) -> Result<(), Fail> {
     assert_eq!(rt; made.line.as_str(), want);
     assert_eq!(rt; made.file.as_slice().len(), length);
-    all_stand(rt, made.file.as_slice(), parts);
+    all_stand(made.file.as_slice(), parts)
 }
 
 /// Asserts that of a row.
@@ -116,8 +122,7 @@ where
 {
     let (given, file, want, length, parts) = row;
     let made = made_of(rt, *given, bytes_of(rt, file)?)?;
-    is_made(rt, &made, *want, *length, *parts);
-    Ok(())
+    is_made(rt, &made, *want, *length, *parts)
 }
 
 #[test]
@@ -176,7 +181,7 @@ where
     R: AllocGlobal + Threads + Wait + Sync + Abort,
 {
     assert!(rt; want.as_slice().len() == 1696);
-    all_stand(rt, want.as_slice(), &TWO_SORTED);
+    all_stand(want.as_slice(), &TWO_SORTED)?;
     for order in &ORDERS {
         assert!(rt; is_sorted_to(rt, *order, want)?);
     }

@@ -1,14 +1,11 @@
 //! Files that are cut to each length, and files whose blocks lead back to themselves or reach too far.
 
-use crate::files::{
-    Asked, FINALIZE, FINALIZE_WORDS, FLAGS, File, MARK, SORT, all_are_told, bytes_of,
-};
-use crate::recordings::Part;
-use crate::runs::{COUNTING, Given, told};
-use crate::told::is_told;
 use mdf_disk::MemoryDisk;
 use mdf_num::Bytes;
-use std::process::Abort;
+use mdf_run_rig::{
+    Asked, COUNTING, FINALIZE, FINALIZE_WORDS, FLAGS, File, Given, MARK, Part, SORT, all_are_told,
+    bytes_of, is_told, told,
+};
 use std::sync::Wait;
 use std::test::Fail;
 use std::thread::Threads;
@@ -124,19 +121,19 @@ where
 
 fn cut_as_told<R>(rt: &R, given: Given<'_>, file: &Bytes, cuts: Cuts) -> Result<(), Fail>
 where
-    R: AllocGlobal + Threads + Wait + Sync + Abort,
+    R: AllocGlobal + Threads + Wait + Sync,
 {
     let (from, to, want) = cuts;
     for length in from..to {
-        is_told(rt, said_of_cut(rt, given, file, length), want)?;
+        is_told(said_of_cut(rt, given, file, length), want)?;
     }
     Ok(())
 }
 
-/// Asserts what a command says of a file that is cut to each length.
+/// Fails where a command says something else of a file that is cut to each length.
 fn all_cut_as_told<R>(rt: &R, given: Given<'_>, file: &Bytes, table: &[Cuts]) -> Result<(), Fail>
 where
-    R: AllocGlobal + Threads + Wait + Sync + Abort,
+    R: AllocGlobal + Threads + Wait + Sync,
 {
     for cuts in table {
         cut_as_told(rt, given, file, *cuts)?;
@@ -150,7 +147,7 @@ type Said = (File, &'static [Given<'static>], &'static [Cuts]);
 /// Asserts that of a row.
 fn row_as_told<R>(rt: &R, row: &Said) -> Result<(), Fail>
 where
-    R: AllocGlobal + Threads + Wait + Sync + Abort,
+    R: AllocGlobal + Threads + Wait + Sync,
 {
     let (file, commands, table) = row;
     let file = bytes_of(rt, file)?;
@@ -163,7 +160,7 @@ where
 /// And of each row.
 fn rows_as_told<R>(rt: &R, rows: &[Said]) -> Result<(), Fail>
 where
-    R: AllocGlobal + Threads + Wait + Sync + Abort,
+    R: AllocGlobal + Threads + Wait + Sync,
 {
     for row in rows {
         row_as_told(rt, row)?;
