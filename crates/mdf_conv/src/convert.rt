@@ -61,14 +61,11 @@ fn refs_in<P: Span>(
 {
     let mut refs = Rows::empty(alloc);
     let mut left = budget;
-    let links = block.links;
-    let mut k = 4;
-    while k < links {
+    for k in 4..block.links {
         let link = link_in(span, block, k)?;
         let (found, rest) = ref_in(alloc, span, link, left, levels)?;
         refs.push(found)?;
         left = rest;
-        k += 1;
     }
     Ok((refs, left))
 }

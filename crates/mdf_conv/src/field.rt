@@ -48,12 +48,10 @@ fn numbers_in<P: Span>(alloc: Global, span: &mut P, start: u64, count: u64) -> R
     ensures reads { Looks P.Span span.old span.new true result (λ file numbers. numbers ≡ numbers_at file start count) }
 {
     let mut numbers = Numbers::empty(alloc);
-    let mut k = 0;
-    while k < count {
+    for k in 0..count {
         let mut word = [0u8; 8];
         span.fill(start + 8 * k, &mut word)?;
         numbers.push(u64_field(&word, 0))?;
-        k += 1;
     }
     Ok(numbers)
 }

@@ -68,5 +68,5 @@ refs_in-returns g t c = record {
       let loop = c.loop-k in
       let inner = conv c.args.levels f in
       sym (loop.invariant.found f told)
-      ∙ is_done (item_by inner f c.args.block.now.at) loop.refs loop.k c.args.block.now.links loop.left c.loop-k-test.false);
+      ∙ is_done (item_by inner f c.args.block.now.at) loop.refs loop.k c.args.block.now.links loop.left (omega (arith, c.loop-k-test.false)));
 }

@@ -22,12 +22,9 @@ decreases-whole_in g l = 5 * l.levels + 4
 abbrev pub invariant-refs_in-loop-k : goal.invariant-refs_in-loop-k
 invariant-refs_in-loop-k g l = record {
   found : (f : List ℕ) → g.P.Span.bytes l.initial.span ≡ Some f
-      → with_front l.refs (each (item_by (conv l.levels f) f l.block.at) l.k (l.links - l.k) l.left)
-      ≡ each (item_by (conv l.levels f) f l.block.at) 4 (l.links - 4) l.fn.budget;
+      → with_front l.refs (each (item_by (conv l.levels f) f l.block.at) l.k (l.block.links - l.k) l.left)
+      ≡ each (item_by (conv l.levels f) f l.block.at) 4 (l.block.links - 4) l.fn.budget;
   same : g.P.Span.bytes l.span ≡ g.P.Span.bytes l.initial.span;
   size : g.P.Span.size l.span ≡ g.P.Span.size l.initial.span;
   later : g.P.Span.faults l.initial.span ≤ g.P.Span.faults l.span;
 }
-
-abbrev pub decreases-refs_in-loop-k : goal.decreases-refs_in-loop-k
-decreases-refs_in-loop-k g l = l.links - l.k

@@ -11,6 +11,3 @@ invariant-loop-k g l = record {
   size : g.P.Span.size l.span ≡ g.P.Span.size l.initial.span;
   later : g.P.Span.faults l.initial.span ≤ g.P.Span.faults l.span;
 }
-
-abbrev pub decreases-loop-k : goal.decreases-loop-k
-decreases-loop-k g l = l.count - l.k
