@@ -152,10 +152,8 @@ fn place_value_group(alloc: Global, draft: &mut Draft, id: u64, more: bool) -> R
 fn place_values(alloc: Global, draft: &mut Draft, id: u32, count: u32) -> Result<(), Memory>
     ensures { OnOk result (draft.new ≡ draft.old ++ groups_blocks (length draft.old) [] (values_rows id count)) }
 {
-    let mut i = 0;
-    while i < count {
+    for i in 0..count {
         place_value_group(alloc, draft, id as u64 + i as u64, i + 1 < count)?;
-        i += 1;
     }
     Ok(())
 }

@@ -1,4 +1,4 @@
-use Rattle.std.proofs.Common.{◌+◌, ◌-◌, List, [], ◌++◌, length, sym, ◌∙◌, ap}
+use Rattle.std.proofs.Common.{◌+◌, ◌-◌, List, [], ◌++◌, length, sym, ◌∙◌, ap, arith}
 use Rattle.mdf_group.specs.declared.row.GroupRow.{GroupRow}
 use Rattle.mdf_tree.specs.Group.{past_group, groups_blocks}
 use Rattle.mdf_spell.specs.Recording.{values_row, values_rows}
@@ -21,4 +21,4 @@ loop-i-preserved c =
     ∙ c.loop-i.invariant
 
 pub returns : goal.returns
-returns c = values_done c.loop-i.draft c.args.id c.args.count c.loop-i.i c.loop-i-test.false ∙ c.loop-i.invariant
+returns c = values_done c.loop-i.draft c.args.id c.args.count c.loop-i.i (omega (arith, c.loop-i-test.false)) ∙ c.loop-i.invariant

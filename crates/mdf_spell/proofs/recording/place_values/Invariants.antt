@@ -8,6 +8,3 @@ abbrev pub invariant-loop-i : goal.invariant-loop-i
 invariant-loop-i l =
     l.draft ++ groups_blocks (length l.draft) [] (values_rows (l.id + l.i) (l.count - l.i))
     ≡ l.initial.draft ++ groups_blocks (length l.initial.draft) [] (values_rows l.id l.count)
-
-abbrev pub decreases-loop-i : goal.decreases-loop-i
-decreases-loop-i l = l.count - l.i
