@@ -5,7 +5,8 @@ use Rattle.std.specs.Fmt.{decimal, signed_decimal}
 use Rattle.std.specs.Str.Parse.{AllDigits}
 use Rattle.std.proofs.lemmas.Fmt.{decimal_injective, decimal_is_IsNumeral}
 use Rattle.std.proofs.lemmas.Str.Parse.{digit_from_value}
-use Rattle.mdf_command.specs.Words.{IsBound, IsNoNumber, IsNumber, SaysNoBound}
+use Rattle.script_line.specs.Number.{IsNoNumber, IsNumber}
+use Rattle.mdf_command.specs.Words.{IsBound, SaysNoBound}
 
 -- no number without a sign begins with `-`
 no_minus : (n : ℕ) (ds : List ℕ) → n < 2 ^ 64 → ¬ (decimal n ≡ 45 ∷ ds)

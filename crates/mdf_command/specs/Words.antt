@@ -12,13 +12,6 @@ use Rattle.mdf_command.specs.declared.command.Union.TheVariants.{Concat, Attach}
 use Rattle.mdf_command.specs.declared.command.Origin.{Origin}
 use Rattle.mdf_command.specs.declared.command.Origin.TheVariants.{Source, Generated}
 
--- a word is this number, below 2 ^ 64, in decimal without a sign and without leading zeros; and it is none
-abbrev pub IsNumber : List ℕ → ℕ → Type 0
-IsNumber word number = (word ≡ decimal number) × (number < 2 ^ 64)
-
-abbrev pub IsNoNumber : List ℕ → Type 0
-IsNoNumber word = (number : ℕ) → ¬ IsNumber word number
-
 -- an end of a range of numbers is from -2 ^ 63 to 2 ^ 64 - 1
 abbrev pub IsBound : ℤ → Type 0
 IsBound (pos n) = n < 2 ^ 64

@@ -2,7 +2,7 @@
 ghost use Rattle.std.specs.Prelude.{◌∷◌, MatchOption};
 ghost use Rattle.mdf_command.specs.Words.{SaysBound, SaysNoBound};
 
-use crate::number::number_of;
+use script_line::number_of;
 
 /// The negative number from -2^63 on that the digits behind a `-` say, if any.
 fn negative_of(digits: &[u8]) -> Option<i128>

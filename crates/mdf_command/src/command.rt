@@ -3,8 +3,8 @@ ghost use Rattle.mdf_command.specs.Words.{Asks, IsCount, IsNoCount, IsUsage};
 ghost use Rattle.mdf_command.specs.Commands.{request_of};
 
 use crate::bound::bound_of;
-use crate::number::number_of;
 use mdf_num::{Bytes, Rows};
+use script_line::number_of;
 
 /// How many samples are generated at most.
 const MOST_GENERATED: u64 = 1_000_000;

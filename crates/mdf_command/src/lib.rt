@@ -7,7 +7,6 @@ mod bound;
 mod command;
 mod fault;
 mod input;
-mod number;
 mod parts;
 mod report;
 
