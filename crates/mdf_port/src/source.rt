@@ -80,7 +80,7 @@ pub fn take_all<S: Source>(alloc: Global, source: &mut S, limit: u64) -> Result<
     ensures calm { OnOk result (S.faults source.new ≡ S.faults source.old) }
 {
     let mut all = Bytes::empty(alloc);
-    let mut buf = [0u8; 4096];
+    let mut buf = [0u8; 65536];
     'taking: loop {
         let count = source.take(&mut buf)?;
         if count == 0 {
