@@ -16,9 +16,10 @@ trap 'rm -rf "$work"' EXIT
 . "$here/../cost.sh"
 
 mkdir -p "$work/crates/bench_fields/src"
-cp -r "$top/crates/mdf_format" "$top/crates/mdf_bits" "$work/crates/"
+cp -r "$top/crates/mdf_format" "$top/crates/mdf_num" "$top/crates/mdf_bits" "$work/crates/"
 cp "$here/program.rt.txt" "$work/crates/bench_fields/src/main.rt"
-printf '%s\n' 'mdf_format:' 'mdf_bits: mdf_format' 'bench_fields: mdf_bits' > "$work/crates.txt"
+grep -E '^(mdf_format|mdf_num|mdf_bits):' "$top/crates.txt" > "$work/crates.txt"
+echo 'bench_fields: mdf_bits' >> "$work/crates.txt"
 build bench_fields
 awk -v ours="$(best /dev/null "$ours")" -v twin="$(best /dev/null "$work/twin")" \
     'BEGIN { printf "mdf_bits %.0f ms, C %.0f ms, ratio %.2f\n", ours / 1000, twin / 1000, ours / twin }'

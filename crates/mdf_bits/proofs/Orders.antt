@@ -148,10 +148,10 @@ low_bytes_small first zero n i = subst (λ (b : ℕ). b < 256) (sym (get_or_past
 low_bytes_small first (suc count) n zero = byte_small first n
 low_bytes_small first (suc count) n (suc i) = low_bytes_small (suc first) count n i
 
--- the eight bytes of a number, the lowest first, have its bits
-pub bit_of-eight : (word k : ℕ) → word < 2 ^ 64 → bit_of (to_le_bytes w64 word) k ≡ bit_at word k
-bit_of-eight word k small =
-    sym (bit_at-le_number (to_le_bytes w64 word) k (record { small = low_bytes_small 0 8 word })) ∙ ap (λ (n : ℕ). bit_at n k) number
-  where
-    number : le_number (to_le_bytes w64 word) ≡ word
-    number = omega (arith, small)
+-- bytes that are the lowest of a number which has no more have its bits
+pub bit_of-low : (big : Bool) (bytes : List ℕ) (count word k : ℕ) → big ≡ false → bytes ≡ bytes_low_first 0 count word
+    → le_number (bytes_low_first 0 count word) ≡ word → bit_of (lowest_first big bytes) k ≡ bit_at word k
+bit_of-low big bytes count word k little are whole =
+    let low = bytes_low_first 0 count word in
+    ap (λ (order : Bool). bit_of (lowest_first order bytes) k) little ∙ ap (λ (xs : List ℕ). bit_of xs k) are
+    ∙ sym (bit_at-le_number low k (record { small = low_bytes_small 0 count word })) ∙ ap (λ (n : ℕ). bit_at n k) whole

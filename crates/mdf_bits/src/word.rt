@@ -3,6 +3,8 @@ ghost use Rattle.std.specs.Prelude.{◌≡◌, ℕ, ◌+◌, ◌-◌, ◌*◌, �
 ghost use Rattle.std.specs.Int.{bit_at};
 ghost use Rattle.mdf_format.specs.Field.{bit_of, lowest_first};
 
+use mdf_num::number_of;
+
 /// Where byte `i` of `len` bytes stands, counted from the lowest one.
 fn byte_place(len: usize, big: bool, i: usize) -> usize
     requires { i < len }
@@ -11,8 +13,9 @@ fn byte_place(len: usize, big: bool, i: usize) -> usize
     if big { len - 1 - i } else { i }
 }
 
-/// The number that the bytes are.
-pub(crate) fn word_of(bytes: &[u8], big: bool) -> u128
+/// The number that the bytes are, read one after another.
+#[inline(never)]
+fn word_of_each_byte(bytes: &[u8], big: bool) -> u128
     requires { length bytes.now ≤ 16 }
     ensures bits { (k : ℕ) → bit_at result k ≡ bit_of (lowest_first big bytes.now) k }
     ensures fits { result < 2 ^ (8 * length bytes.now) }
@@ -24,7 +27,21 @@ pub(crate) fn word_of(bytes: &[u8], big: bool) -> u128
     word
 }
 
+/// The number that the bytes are. Up to eight bytes with the lowest first are read at once.
+#[inline]
+pub(crate) fn word_of(bytes: &[u8], big: bool) -> u128
+    requires { length bytes.now ≤ 16 }
+    ensures bits { (k : ℕ) → bit_at result k ≡ bit_of (lowest_first big bytes.now) k }
+    ensures fits { result < 2 ^ (8 * length bytes.now) }
+{
+    if 0 < bytes.len() && bytes.len() <= 8 && !big {
+        return number_of(bytes) as u128;
+    }
+    word_of_each_byte(bytes, big)
+}
+
 /// Writes the number into all of the bytes, one after another.
+#[inline(never)]
 fn put_each_byte(bytes: &mut [u8], big: bool, word: u128)
     requires { word < 2 ^ (8 * length bytes.old) }
     ensures bits { (k : ℕ) → bit_of (lowest_first big bytes.new) k ≡ bit_at word k }
@@ -38,17 +55,24 @@ fn put_each_byte(bytes: &mut [u8], big: bool, word: u128)
     }
 }
 
-/// Writes the number into all of the bytes. Eight bytes with the lowest first are written at once.
+/// Writes the number into all of the bytes. One, two, four and eight bytes with the lowest first are written at once.
+#[inline]
 pub(crate) fn put_word(bytes: &mut [u8], big: bool, word: u128)
     requires { word < 2 ^ (8 * length bytes.old) }
     ensures bits { (k : ℕ) → bit_of (lowest_first big bytes.new) k ≡ bit_at word k }
     ensures len { length bytes.new ≡ length bytes.old }
 {
-    if bytes.len() == 8 && !big {
-        bytes.copy_from_slice(&(word as u64).to_le_bytes());
+    if big {
+        put_each_byte(bytes, big, word);
         return;
     }
-    put_each_byte(bytes, big, word);
+    match bytes.len() {
+        1 => bytes.copy_from_slice(&(word as u8).to_le_bytes()),
+        2 => bytes.copy_from_slice(&(word as u16).to_le_bytes()),
+        4 => bytes.copy_from_slice(&(word as u32).to_le_bytes()),
+        8 => bytes.copy_from_slice(&(word as u64).to_le_bytes()),
+        _ => put_each_byte(bytes, big, word),
+    }
 }
 
 /// The `bits` bits of the word from `bit` on, as a number.

@@ -2,7 +2,7 @@ use Rattle.std.proofs.Common.{◌≡◌, ◌-◌, suc, drop, sym, ◌∙◌, ap,
 use Rattle.mdf_format.specs.Field.{lowest_first}
 use Rattle.mdf_format.specs.Number.{le_number}
 use Rattle.mdf_bits.proofs.Orders.{are_bytes, bit_at-le_number, le_number-lower, le_number-lt, length-lowest_first, lowest_first_bytes}
-use Rattle.mdf_bits.proofs.word.word_of.Goals as goal
+use Rattle.mdf_bits.proofs.word.word_of_each_byte.Goals as goal
 
 pub loop-i-preserved : goal.loop-i-preserved
 loop-i-preserved c =
