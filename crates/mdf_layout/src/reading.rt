@@ -273,7 +273,9 @@ pub fn decode_in<V: Values, P: Span>(
     ensures size { P.size span.new ≡ P.size span.old }
     ensures cause { HaltCause true (P.faults span.old) (P.faults span.new) result }
 {
-    let mut entries = Rows::empty(alloc);
+    let Ok(mut entries) = Vec::with_capacity(alloc, rows.len()) else {
+        return Err(Halt::Memory);
+    };
     let mut stream = 0;
     for channel in 0..rows.len() {
         let row = row_at(rows, channel);
@@ -281,10 +283,12 @@ pub fn decode_in<V: Values, P: Span>(
             Ok(entry) => entry,
             Err(lack) => return Err(missing_at(lack, channel as u32)),
         };
-        entries.push(entry)?;
+        let Ok(()) = entries.push(entry) else {
+            return Err(Halt::Memory);
+        };
         stream = streams_with(row, stream);
     }
-    Ok(entries)
+    Ok(Rows::from_vec(entries))
 }
 
 /// The sample of a record, as `decode_in`, with streams in memory.

@@ -8,7 +8,7 @@ use Rattle.mdf_layout.proofs.reading.decode_in.Goals as goal
 pub loop-channel-init : goal.loop-channel-init
 unfolding sample_by
 loop-channel-init g c = record {
-  entries_are = λ f told. ap Some (sym c.empty-entries.ensures);
+  entries_are = λ f told. ap Some (sym c.in-Ok.ensures.items);
   before = refl;
   few = omega arith;
   same = refl;
@@ -23,7 +23,7 @@ returns-in-Err-clause-fault g c = λ f told.
     let lacks = subst (λ n. LackCause row c.args.content.now (finder_at finders n) c.in-Err.lack) c.loop-channel.invariant.before
     (c.in-Err.ensures.lack f (c.loop-channel.invariant.same ∙ told)) in
     subst (MissingCause c.args.rows.now c.args.content.now c.args.inval.now finders c.args.index) (sym c.missing_at.ensures)
-    (missing_behind c.args.rows.now c.loop-channel.channel row c.args.content.now c.args.inval.now finders c.args.index c.loop-channel.entries c.in-Err.lack c.row_at-row.ensures
+    (missing_behind c.args.rows.now c.loop-channel.channel row c.args.content.now c.args.inval.now finders c.args.index c.loop-channel.entries.items c.in-Err.lack c.row_at-row.ensures
     (c.loop-channel.invariant.entries_are f told) lacks)
 
 pub loop-channel-preserved : goal.loop-channel-preserved
@@ -35,13 +35,13 @@ loop-channel-preserved g c =
       entries_are = λ f told.
           let finders = g.V.Values.finders c.args.values.now f in
           let here = ap (λ n. entry_of row c.args.content.now c.args.inval.now (finder_at finders n) c.args.index) (sym loop.invariant.before)
-          ∙ c.in-Ok.ensures.entry f (loop.invariant.same ∙ told) in
-          sample_more rows loop.channel row c.args.content.now c.args.inval.now finders c.args.index loop.entries c.in-Ok.entry c.row_at-row.ensures
+          ∙ c.in-Ok-entry_of.ensures.entry f (loop.invariant.same ∙ told) in
+          sample_more rows loop.channel row c.args.content.now c.args.inval.now finders c.args.index loop.entries.items c.in-Ok-entry_of.entry c.row_at-row.ensures
           (loop.invariant.entries_are f told) here
-          ∙ ap Some (sym c.in_ok-push.ensures.ok);
+          ∙ ap Some (sym c.in-Ok-push.ensures.items);
       before = c.streams_with-stream.ensures ∙ omega (arith, loop.invariant.before) ∙ sym (streams_more rows loop.channel row c.row_at-row.ensures);
       few = omega (arith, c.streams_with-stream.ensures, few_more (is_variable row) loop.stream loop.channel loop.invariant.few);
-      same = c.in-Ok.ensures.same ∙ loop.invariant.same;
-      size = c.in-Ok.ensures.size ∙ loop.invariant.size;
-      later = omega (arith, loop.invariant.later, c.in-Ok.ensures.cause.later);
+      same = c.in-Ok-entry_of.ensures.same ∙ loop.invariant.same;
+      size = c.in-Ok-entry_of.ensures.size ∙ loop.invariant.size;
+      later = omega (arith, loop.invariant.later, c.in-Ok-entry_of.ensures.cause.later);
     }

@@ -6,7 +6,7 @@ use Rattle.mdf_layout.proofs.reading.decode_in.Given as goal
 abbrev pub invariant-loop-channel : goal.invariant-loop-channel
 invariant-loop-channel g l = record {
   entries_are : (f : List ℕ) → g.P.Span.bytes l.initial.span ≡ Some f
-      → sample_by (take l.channel l.rows) l.content l.inval (g.V.Values.finders l.values f) l.index ≡ Some l.entries;
+      → sample_by (take l.channel l.rows) l.content l.inval (g.V.Values.finders l.values f) l.index ≡ Some l.entries.items;
   before : l.stream ≡ streams_before l.rows l.channel;
   few : l.stream ≤ l.channel;
   same : g.P.Span.bytes l.span ≡ g.P.Span.bytes l.initial.span;
