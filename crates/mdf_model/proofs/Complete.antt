@@ -12,7 +12,7 @@ use Rattle.mdf_format.specs.declared.kind.Kind.TheVariants.{Hd, Fh, Dg, Cg, Cn, 
 use Rattle.mdf_block.specs.declared.what.What.TheVariants as whats
 use Rattle.mdf_block.specs.Refusal as refusals
 use Rattle.mdf_block.specs.Refusal.{Refusal, NotMdf, Version, Unfinalized, TooMany, UnknownId, Cut, Cycles, Offset, Read, ◌>>=◌}
-use Rattle.mdf_block.specs.Block.{block, the_block}
+use Rattle.mdf_block.specs.Block.{the_block}
 use Rattle.mdf_block.specs.Every.{every}
 use Rattle.mdf_block.proofs.Wholes.{block_some}
 use Rattle.mdf_stream.specs.declared.part.Part.{Part}
@@ -27,19 +27,18 @@ use Rattle.mdf_head.specs.declared.identity.Ident.{Ident}
 use Rattle.mdf_head.specs.declared.entry.Head.{Head}
 use Rattle.mdf_head.specs.declared.entry.History.{History}
 use Rattle.mdf_head.specs.Ident.{is_mdf, has_read_version, the_ident, identify}
-use Rattle.mdf_head.specs.Head.{head, IsHead}
+use Rattle.mdf_head.specs.Head.{IsHead}
 use Rattle.mdf_head.proofs.Identities.{mdf_is_true, read_version_is_true}
 use Rattle.mdf_head.proofs.Reached.{head_reached}
 use Rattle.mdf_head.proofs.Spends.{head_spends}
 use Rattle.mdf_group.specs.declared.row.ChannelRow.{ChannelRow}
 use Rattle.mdf_group.specs.declared.row.DataRow.{DataRow}
-use Rattle.mdf_group.specs.Group.{groups}
 use Rattle.mdf_group.specs.Recordable.{is_of_values}
 use Rattle.mdf_group.specs.Cost.{rows_cost}
 use Rattle.mdf_group.proofs.Enough.{rows_there}
 use Rattle.mdf_content.specs.declared.contents.Contents.{Contents}
 use Rattle.mdf_content.specs.declared.found.DataFound.{DataFound}
-use Rattle.mdf_content.specs.Values.{values_in, streams}
+use Rattle.mdf_content.specs.Values.{values_in}
 use Rattle.mdf_content.specs.Found.{data_found}
 use Rattle.mdf_model.specs.declared.part.Measure.{Measure}
 use Rattle.mdf_model.specs.declared.whole.WholeFound.{WholeFound}

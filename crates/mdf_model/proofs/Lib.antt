@@ -20,4 +20,4 @@ mod Undefined
 pub mod Wholes
 pub mod Identified
 mod Numbered
-pub mod Truths
+mod Pairs

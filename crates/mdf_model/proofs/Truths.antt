@@ -1,5 +1,5 @@
 -- What is refused of a data group is true of it.
-use Rattle.std.proofs.Common.{◌≡◌, ◌≢◌, ◌+◌, ◌<◌, ◌≤◌, ◌⊎◌, ℕ, zero, suc, List, [], ◌∷◌, length, drop, map, Option, Some, None, Ok, Err, refl, sym, ◌∙◌, ap, subst, inl, inr, arith, ◌-◌}
+use Rattle.std.proofs.Common.{◌≡◌, ◌≢◌, ◌+◌, ◌<◌, ◌≤◌, ◌⊎◌, ℕ, zero, suc, List, [], ◌∷◌, length, drop, map, Option, Some, None, Ok, Err, refl, sym, ◌∙◌, ap, subst, inl, inr, arith}
 use Rattle.std.specs.Prelude.{true, false, nat_eq, nat_lt, slice_get}
 use Rattle.std.proofs.lemmas.Bool.{eqb-true, eqb-false, ltb-true, cond-true, cond-false, both_ways}
 use Rattle.mdf_format.specs.declared.kind.Kind.{Kind}
@@ -204,7 +204,7 @@ module _ (f : List ℕ) (row : DataRow) (before : ℕ) where
     abbrev known : List Known
     known = map known_of row.groups
 
-    rest_at : 1 ≤ row.id_size → (place other : ℕ) → place < length stream → place ≡ other → (records : List Record)
+    abbrev rest_at : 1 ≤ row.id_size → (place other : ℕ) → place < length stream → place ≡ other → (records : List Record)
         → IsRecordSplit stream row.id_size known 0 records (drop other stream) → IsRestAt f row place
     rest_at some place other within same records split = record {
       ids = λ none. omega (arith, some, none);

@@ -39,7 +39,7 @@ use Rattle.mdf_model.specs.declared.whole.WholeFound.{WholeFound}
 use Rattle.mdf_model.specs.Tree.{finalized_by, finalized, whole_budget, header_of, passed_over, tree}
 use Rattle.mdf_model.specs.Found as founds
 use Rattle.mdf_model.specs.Found.{data_place, whole, whole_found}
-use Rattle.mdf_model.specs.Measurement.{measures, Measured, measurement}
+use Rattle.mdf_model.specs.Measurement.{measures, Measured, measured_from, measurement}
 use Rattle.mdf_model.specs.Contents.{IsContents, IsDataContents, sample_groups}
 use Rattle.mdf_model.specs.InWords.{IsFinalizedMdf, row_measures, IsMeasurement}
 use Rattle.mdf_model.specs.Passed.{links_passed_over}
@@ -141,14 +141,14 @@ data_all_found f rows found is =
 abbrev groups_of : List ℕ → DataFound → List Contents
 groups_of f found = (data_fetched f found).groups
 
-all_contents : (f : List ℕ) (rows : List DataRow) (found : List DataFound) → AllZip (IsDataFound f) rows found
+pub all_contents : (f : List ℕ) (rows : List DataRow) (found : List DataFound) → AllZip (IsDataFound f) rows found
     → AllZip (IsDataContents f) rows (map (groups_of f) found)
 all_contents f [] [] all = tt
 all_contents f [] (y ∷ found) all = absurd all
 all_contents f (row ∷ rows) [] all = absurd all
 all_contents f (row ∷ rows) (y ∷ found) all = (contents_are f row y all.0, all_contents f rows found all.1)
 
-same_measures : (f : List ℕ) (rows : List DataRow) (found : List DataFound)
+pub same_measures : (f : List ℕ) (rows : List DataRow) (found : List DataFound)
     → measures rows (map (data_fetched f) found) ≡ flat_map row_measures (zip rows (map (groups_of f) found))
 same_measures f [] found = refl
 same_measures f (row ∷ rows) [] = refl
