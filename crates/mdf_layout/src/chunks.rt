@@ -37,43 +37,45 @@ impl Model for Chunks {
     ghost invariant = { λ chunks. AreParts chunks.parts.items chunks.len };
 }
 
-/// The samples from `at` on; those before stay. Where that is all of a vector that is at least half full its memory goes with
-/// them, and as much is found anew; else they are copied. After an error all stay.
-fn detach(samples: &mut Vec<Sample>, at: usize) -> Result<Vec<Sample>, Memory>
-    requires { at ≤ vec_len samples.old }
-    ensures behind { IfOk result (λ behind. behind.items ≡ drop at samples.old.items) }
-    ensures rest { OnOk result (samples.new.items ≡ take at samples.old.items) }
+/// The first samples; those behind stay. Where they fill at least half of the vector its memory goes with them, and as much is found
+/// anew for those behind; else they are copied. After an error all stay.
+fn detach_first(samples: &mut Vec<Sample>, count: usize) -> Result<Vec<Sample>, Memory>
+    requires { count ≤ vec_len samples.old }
+    ensures first { IfOk result (λ first. first.items ≡ take count samples.old.items) }
+    ensures rest { OnOk result (samples.new.items ≡ drop count samples.old.items) }
     ensures err { OnErr result (samples.new.items ≡ samples.old.items) }
     ensures capacity { vec_capacity samples.old ≤ vec_capacity samples.new }
 {
     let capacity = samples.capacity();
-    if at != 0 || samples.len() < capacity - samples.len() {
-        return Ok(samples.split_off(at)?);
+    if count < capacity - count {
+        return copy_first(samples, count);
     }
-    let empty = Vec::with_capacity(*samples.allocator(), capacity)?;
-    let mut whole = mem::replace(samples, empty);
-    whole.shrink_to_fit();
-    Ok(whole)
+    let mut rest = Vec::with_capacity(*samples.allocator(), capacity)?;
+    let mut behind = samples.split_off(count)?;
+    match rest.append(&mut behind) {
+        Ok(()) => {}
+        Err(_) => unreachable!(),
+    }
+    let mut first = mem::replace(samples, rest);
+    first.shrink_to_fit();
+    Ok(first)
 }
 
-/// The samples from `at` on as a chunk; those before stay. After an error all stay.
-fn split(samples: &mut Vec<Sample>, at: usize) -> Result<Arc<Chunk>, Memory>
-    requires { at ≤ vec_len samples.old }
-    ensures chunk { IfOk result (λ chunk. arc_value chunk ≡ drop at samples.old.items) }
-    ensures rest { OnOk result (samples.new.items ≡ take at samples.old.items) }
+/// The first samples in memory of their own; those behind stay. After an error all stay.
+fn copy_first(samples: &mut Vec<Sample>, count: usize) -> Result<Vec<Sample>, Memory>
+    requires { count ≤ vec_len samples.old }
+    ensures first { IfOk result (λ first. first.items ≡ take count samples.old.items) }
+    ensures rest { OnOk result (samples.new.items ≡ drop count samples.old.items) }
     ensures err { OnErr result (samples.new.items ≡ samples.old.items) }
     ensures capacity { vec_capacity samples.old ≤ vec_capacity samples.new }
 {
-    let alloc = *samples.allocator();
-    let behind = detach(samples, at)?;
-    match Arc::new(alloc, Chunk::of(behind)) {
-        Ok(chunk) => Ok(chunk),
-        Err(failed) => {
-            let mut behind = failed.value.into_vec();
-            match samples.append(&mut behind) {
-                Ok(()) => Err(Memory),
-                Err(_) => unreachable!(),
-            }
+    samples.rotate_left(count);
+    let behind = samples.len() - count;
+    match samples.split_off(behind) {
+        Ok(first) => Ok(first),
+        Err(_) => {
+            samples.rotate_right(count);
+            Err(Memory)
         }
     }
 }
@@ -86,13 +88,20 @@ fn split_first(samples: &mut Vec<Sample>, count: usize) -> Result<Arc<Chunk>, Me
     ensures err { OnErr result (samples.new.items ≡ samples.old.items) }
     ensures capacity { vec_capacity samples.old ≤ vec_capacity samples.new }
 {
-    samples.rotate_left(count);
-    let behind = samples.len() - count;
-    match split(samples, behind) {
+    let alloc = *samples.allocator();
+    let first = detach_first(samples, count)?;
+    match Arc::new(alloc, Chunk::of(first)) {
         Ok(chunk) => Ok(chunk),
-        Err(memory) => {
-            samples.rotate_right(count);
-            Err(memory)
+        Err(failed) => {
+            let mut first = failed.value.into_vec();
+            let behind = samples.len();
+            match samples.append(&mut first) {
+                Ok(()) => {
+                    samples.rotate_left(behind);
+                    Err(Memory)
+                }
+                Err(_) => unreachable!(),
+            }
         }
     }
 }
