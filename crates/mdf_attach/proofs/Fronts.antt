@@ -1,5 +1,6 @@
 -- Fields of the front of a body are fields of the body.
-use Rattle.std.proofs.Common.{◌≡◌, ◌+◌, ◌≤◌, ℕ, List, length, drop, ap, arith}
+use Rattle.std.proofs.Common.{◌≡◌, ◌+◌, ◌≤◌, ℕ, List, ◌++◌, length, take, drop, ◌∙◌, ap, arith}
+use Rattle.std.proofs.Math.Seq.{take-add, drop-drop}
 use Rattle.std.proofs.lemmas.List.{length-take-le, length-drop}
 use Rattle.mdf_format.specs.Number.{le_number, bytes_at}
 use Rattle.mdf_format.specs.Block.{body_at}
@@ -29,3 +30,7 @@ body_is f at kind b is = ap (λ (block : BlockAt). body_of f block) is
 -- bytes that are there are so many
 pub length-bytes : (n at : ℕ) (bytes : List ℕ) → at + n ≤ length bytes → length (bytes_at n bytes at) ≡ n
 length-bytes n at bytes within = length-take-le n (drop at bytes) (omega (arith, length-drop at bytes, within))
+
+-- bytes, and those behind them
+pub bytes_more : (m n : ℕ) (bytes : List ℕ) (at : ℕ) → bytes_at (m + n) bytes at ≡ bytes_at m bytes at ++ bytes_at n bytes (at + m)
+bytes_more m n bytes at = take-add m n (drop at bytes) ∙ ap (λ (xs : List ℕ). bytes_at m bytes at ++ take n xs) (drop-drop m at bytes)

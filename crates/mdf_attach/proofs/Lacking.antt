@@ -1,20 +1,23 @@
 -- Why the attachments are refused.
-use Rattle.std.proofs.Common.{◌≡◌, ◌+◌, ◌-◌, ◌<◌, ◌≤◌, ℕ, List, [], ◌∷◌, length, map, Ok, Err, refl, sym, ◌∙◌, ap, subst, ◌⊎◌, inl, inr, arith}
-use Rattle.std.proofs.lemmas.Bool.{leb-false}
+use Rattle.std.proofs.Common.{◌≡◌, ◌≢◌, ◌+◌, ◌-◌, ◌<◌, ◌≤◌, ℕ, false, List, [], ◌∷◌, get_or, length, map, Ok, Err, refl, sym, ◌∙◌, ap, subst, ◌⊎◌, inl, inr, arith}
+use Rattle.std.proofs.lemmas.Bool.{leb-false, false_from_ne_true, cond-true, cond-false}
+use Rattle.std.proofs.lemmas.Slice.Eq.{bytes_eq-Decides}
 use Rattle.std.proofs.lemmas.List.{length-map}
 use Rattle.std.proofs.lemmas.List.Sums.{sum_by-cons}
-use Rattle.std.specs.Prelude.{nat_le, sum_by}
+use Rattle.std.specs.Prelude.{nat_le, sum_by, if◌then◌else◌}
 use Rattle.std.specs.List.{AllByRecursion}
-use Rattle.mdf_format.specs.Block.{link_at, body_at, body_size, IsBlock}
+use Rattle.mdf_format.specs.Number.{bytes_at}
+use Rattle.mdf_format.specs.Block.{name_of, link_at, body_at, body_size, IsBlock}
 use Rattle.mdf_format.specs.declared.kind.Kind.{Kind}
-use Rattle.mdf_format.specs.declared.kind.Kind.TheVariants.{Hd, At, Tx}
+use Rattle.mdf_format.specs.declared.kind.Kind.TheVariants.{Hd, At, Tx, Md}
 use Rattle.mdf_block.specs.declared.what.What.{What}
 use Rattle.mdf_block.specs.declared.what.What.TheVariants as whats
 use Rattle.mdf_block.specs.declared.note.Note.{Note}
+use Rattle.mdf_block.specs.declared.note.Note.TheVariants as notes
 use Rattle.mdf_block.specs.declared.place.BlockAt.{BlockAt}
 use Rattle.mdf_block.specs.Refusal.{Refusal, NotMdf, Version, Unfinalized, Bad, TooMany, Read}
-use Rattle.mdf_block.specs.Block.{block, body_of}
-use Rattle.mdf_block.specs.Text.{note, note_size, LacksNote}
+use Rattle.mdf_block.specs.Block.{block, body_of, is_named}
+use Rattle.mdf_block.specs.Text.{note, note_size, IsNote, LacksNote}
 use Rattle.mdf_block.specs.Chain.{AreAlong}
 use Rattle.mdf_block.proofs.Refusals.{bind_err}
 use Rattle.mdf_block.proofs.Wholes.{chosen, block_found, block_lacks}
@@ -166,10 +169,37 @@ one_more f at left x next rest places last found behind =
 abbrev IsPast : List ℕ → ℕ → Type 0
 IsPast f at = IsPastMost f at ⊎ (IsPastContents f at ⊎ IsPastTexts f at)
 
-abbrev LacksList : List ℕ → Refusal → Type 0
+-- of what there is too many, the block at the address says
+abbrev pub what_of : List ℕ → ℕ → What
+what_of f at = if is_named f at At then whats.Block else whats.Text
+
+abbrev pub LacksList : List ℕ → Refusal → Type 0
 LacksList f refusal =
     ((at : ℕ) × (want : Kind) × (refusal ≡ Bad at want) × IsMissing f at want)
-    ⊎ ((at : ℕ) × (what : What) × (refusal ≡ TooMany what at) × IsPast f at)
+    ⊎ ((at : ℕ) × (what : What) × (refusal ≡ TooMany what at) × (what ≡ what_of f at) × IsPast f at)
+
+block_is : (f : List ℕ) (at : ℕ) → IsWhole f at → whats.Block ≡ what_of f at
+block_is f at is = sym (cond-true (is_named f at At) whats.Block whats.Text ((bytes_eq-Decides (bytes_at 4 f at) (name_of At)).1 is.block.named))
+
+-- no ATBLOCK is named where another block is
+not_named : (f : List ℕ) (at : ℕ) (kind : Kind) → IsBlock f at kind → name_of kind ≢ name_of At → is_named f at At ≡ false
+not_named f at kind is other =
+    false_from_ne_true (is_named f at At) (λ named. other (sym is.named ∙ (bytes_eq-Decides (bytes_at 4 f at) (name_of At)).0 named))
+
+-- their names differ in the third letter
+apart : (m n letter : ℕ) → m ≡ letter → n ≡ 65 → 65 < letter → m ≢ n
+apart m n letter is other above same = omega (arith, is, other, above, same)
+
+third_differs : (kind : Kind) (letter : ℕ) → get_or (name_of kind) 2 0 ≡ letter → 65 < letter → name_of kind ≢ name_of At
+third_differs kind letter is above same =
+    apart (get_or (name_of kind) 2 0) (get_or (name_of At) 2 0) letter is refl above (ap (λ (xs : List ℕ). get_or xs 2 0) same)
+
+text_is : (f : List ℕ) (at : ℕ) (note : Note) (left : ℕ) → IsNote f at note → left < note_size note → whats.Text ≡ what_of f at
+text_is f at notes.Nothing left is long = absurd (omega (arith, long))
+text_is f at (notes.Plain bytes) left is long =
+    sym (cond-false (is_named f at At) whats.Block whats.Text (not_named f at Tx is.1 (third_differs Tx 84 refl (omega arith))))
+text_is f at (notes.Xml bytes) left is long =
+    sym (cond-false (is_named f at At) whats.Block whats.Text (not_named f at Md is.1 (third_differs Md 77 refl (omega arith))))
 
 module _ (f : List ℕ) (refusal : Refusal) (rows : List Attachment) (last : ℕ) (rest : Budget) (behind : IsBehind f rows last) (texts : rest.text + texts_size rows ≡ 67108864) (contents : rest.embedded + contents_size rows ≡ 536870912) where
   text_lacks : IsWhole f last → length rows < 65535 → embedded_size f last ≤ rest.embedded → LacksText f last rest.text refusal → LacksList f refusal
@@ -184,6 +214,7 @@ module _ (f : List ℕ) (refusal : Refusal) (rows : List Attachment) (last : ℕ
           at,
           whats.Text,
           long.0,
+          text_is f at long.1.0 _ long.1.1 long.1.2,
           inr (inr (rows, text.earlier, long.1.0, there, long.1.1, omega (arith, long.1.2, texts, text.spends))),
         )
       ]
@@ -191,7 +222,7 @@ module _ (f : List ℕ) (refusal : Refusal) (rows : List Attachment) (last : ℕ
   one_lacks : length rows < 65535 → LacksOne f last rest refusal → LacksList f refusal
   one_lacks few (inl none) = inl (last, At, none.0, inr (inl (refl, (rows, behind, omega (arith, few), none.1))))
   one_lacks few (inr (is_whole, inl long)) =
-      inr (last, whats.Block, long.0, inr (inl (rows, record { behind = behind; whole = is_whole; few = few }, omega (arith, contents, long.1))))
+      inr (last, whats.Block, long.0, block_is f last is_whole, inr (inl (rows, record { behind = behind; whole = is_whole; few = few }, omega (arith, contents, long.1))))
   one_lacks few (inr (is_whole, inr text)) = text_lacks is_whole few text.0 text.1
 
   past_lacks : length rows ≡ 65535 → past {A = List Attachment × ℕ × Budget} f last ≡ Err refusal → LacksList f refusal
@@ -205,7 +236,7 @@ module _ (f : List ℕ) (refusal : Refusal) (rows : List Attachment) (last : ℕ
         | inr some ↦
             let same : ◌≡◌ {A = Read (List Attachment × ℕ × Budget)} (Err (TooMany whats.Block last)) (Err refusal) = some.2 in
             let is_whole = (whole_found f last some.0 some.1).0 in
-            inr (last, whats.Block, cc, inl (rows, behind, is_whole, many))
+            inr (last, whats.Block, cc, block_is f last is_whole, inl (rows, behind, is_whole, many))
       ]
 
 from_lacks : (f : List ℕ) (refusal : Refusal) → IsBlock f 64 Hd → attachments_from f (link_at f 64 3) ≡ Err refusal → LacksList f refusal
@@ -220,7 +251,7 @@ from_lacks f refusal there is =
       | inr over ↦ past_lacks f refusal between.rows stops.last stops.rest behind between.texts between.contents (count ∙ over.0) over.1
     ]
 
-header_lacks : (f : List ℕ) (refusal : Refusal) → header_attachments f ≡ Err refusal → LacksList f refusal
+pub header_lacks : (f : List ℕ) (refusal : Refusal) → header_attachments f ≡ Err refusal → LacksList f refusal
 unfolding header_attachments
 header_lacks f refusal is = elim (bind_err (block f 64 Hd) _ refusal is) [
   | inl none ↦ let lacks = block_lacks f 64 Hd refusal refl none in inl (64, Hd, lacks.0, inl (refl, refl, lacks.1))
@@ -265,6 +296,6 @@ fault_lacks f (faults.TooMany at) begins first there = elim (header_lacks f (Too
   | inr many ↦
       let same : TooMany first.0 at ≡ TooMany many.1 many.0 = many.2 in
       let place : at ≡ many.0 = cc in
-      (begins, subst (IsPast f) (sym place) many.3)
+      (begins, subst (IsPast f) (sym place) many.4)
 ]
 fault_lacks f faults.Memory begins first there = (begins, there refl)

@@ -4,3 +4,5 @@ pub mod Lacking
 pub mod Reached
 pub mod Identified
 pub mod Answering
+pub mod Made
+pub mod Refused

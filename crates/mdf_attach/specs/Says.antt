@@ -1,5 +1,5 @@
 -- What is said of the MD5 of an attachment.
-use Rattle.std.specs.Prelude.{ℕ, ◌≡◌, ◌≢◌, ◌/◌, ◌%◌, Bool, ◌&&◌, nat_eq, if◌then◌else◌}
+use Rattle.std.specs.Prelude.{ℕ, ◌≡◌, ◌≢◌, ◌/◌, ◌%◌, Bool, ◌&&◌, nat_eq, if◌then◌else◌, List}
 use Rattle.std.specs.Str.{bytes_eq}
 use Rattle.md5.specs.Md5.{md5}
 use Rattle.mdf_attach.specs.declared.attachment.Attachment.{Attachment}
@@ -19,6 +19,11 @@ HasVerdict attachment says.Unchecked = ¬ IsChecked attachment.flags
 abbrev pub is_checked : ℕ → Bool
 is_checked flags = nat_eq (flags % 2) 1 && nat_eq (flags / 2 % 2) 0 && nat_eq (flags / 4 % 2) 1
 
+abbrev pub compared : List ℕ → List ℕ → Verdict
+compared digest stored = if bytes_eq digest stored then says.Ok else says.Differs
+
+abbrev pub verdict_of : ℕ → List ℕ → List ℕ → Verdict
+verdict_of flags stored content = if is_checked flags then compared (md5 content) stored else says.Unchecked
+
 abbrev pub the_verdict : Attachment → Verdict
-the_verdict attachment =
-    if is_checked attachment.flags then (if bytes_eq (md5 attachment.content) attachment.md5 then says.Ok else says.Differs) else says.Unchecked
+the_verdict attachment = verdict_of attachment.flags attachment.md5 attachment.content

@@ -25,10 +25,12 @@ pub enum AttachFault {
 }
 
 /// Why the list of the attachments is refused.
-#[derive(Clone, Copy)]
-pub(crate) enum ListFault {
+#[derive(Clone, Copy, Debug, Error)]
+pub enum ListFault {
     /// No block of that kind stands whole at the address; for a text the kind is Tx.
+    #[error("no whole block of the kind that is wanted at {at}")]
     Bad { at: u64, want: Kind },
     /// The attachment or the text at the address is one too many; an attachment counts as a block.
+    #[error("too many at {at}")]
     TooMany { what: What, at: u64 },
 }
