@@ -2,7 +2,6 @@ ghost use Rattle.std.specs.Prelude.{◌≡◌, ◌≤◌, ◌⊎◌, Some, None,
 ghost use Rattle.mdf_disk.specs.State.{state_of};
 ghost use Rattle.mdf_disk.specs.declared.role.Role.TheVariants.{Read};
 ghost use Rattle.mdf_command.specs.Load.{IsCalm, LoadComes, LoadFaultOf};
-ghost use Rattle.mdf_command.specs.Faults.{READING_LIMIT};
 
 use crate::fault::Fault;
 use mdf_disk::{Disk, Role, read_whole};
@@ -10,10 +9,10 @@ use mdf_num::Bytes;
 use std::alloc::Global;
 
 /// How many bytes an input file has at most that is held whole.
-const INPUT_LIMIT: u64 = 536_870_912;
+pub const INPUT_LIMIT: u64 = 536_870_912;
 
 /// How many bytes an input file has at most that is read piece by piece.
-const READING_LIMIT: u64 = 1_099_511_627_776;
+pub const READING_LIMIT: u64 = 1_099_511_627_776;
 
 /// Loads the file of this name.
 ///
@@ -36,12 +35,12 @@ pub fn load<A: Disk>(alloc: Global, input: &Bytes, first: &mut A) -> Result<Byte
 /// Attaches the file of this name, to be read piece by piece.
 ///
 /// # Errors
-/// `Device` where the disk failed, `InputOver` where the file has more than 1,099,511,627,776 bytes, and `Memory` where memory
-/// runs out for its name.
-pub fn open<A: Disk>(input: &Bytes, first: &mut A) -> Result<(), Fault>
+/// `Device` where the disk failed, `InputOver` where the file has more than `most` bytes, and `Memory` where memory runs out for its
+/// name.
+pub fn open<A: Disk>(input: &Bytes, first: &mut A, most: u64) -> Result<(), Fault>
     requires { A.asked first.old ≡ None }
-    ensures short { OnOk result (IfSome (A.content first.old) (λ file. length file ≤ READING_LIMIT)) }
-    ensures fault { IfErr result (LoadFaultOf READING_LIMIT (state_of A.Disk first.old) (state_of A.Disk first.new)) }
+    ensures short { OnOk result (IfSome (A.content first.old) (λ file. length file ≤ most)) }
+    ensures fault { IfErr result (LoadFaultOf most (state_of A.Disk first.old) (state_of A.Disk first.new)) }
     ensures attached { IsOk result → A.attached first.new ≡ true }
     ensures calm { OnOk result (IsCalm (state_of A.Disk first.old) (state_of A.Disk first.new)) }
     ensures named { OnOk result (A.asked first.new ≡ Some (input.now, Read)) }
@@ -52,11 +51,8 @@ pub fn open<A: Disk>(input: &Bytes, first: &mut A) -> Result<(), Fault>
     let name = input.copy()?;
     first.attach(name, Role::Read)?;
     let size = first.size()?;
-    if size > READING_LIMIT {
-        return Err(Fault::InputOver {
-            size,
-            limit: READING_LIMIT,
-        });
+    if size > most {
+        return Err(Fault::InputOver { size, limit: most });
     }
     Ok(())
 }

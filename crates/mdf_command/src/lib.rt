@@ -13,5 +13,5 @@ mod report;
 pub use attached::attach_fault;
 pub use command::{Aspect, Command, Origin, Product, Union, command_of};
 pub use fault::Fault;
-pub use input::{load, open};
+pub use input::{INPUT_LIMIT, READING_LIMIT, load, open};
 pub use report::{Piece, give_line, status_after};

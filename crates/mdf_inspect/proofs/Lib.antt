@@ -1,6 +1,7 @@
 mod Groups
 mod Printed
 mod Paging
+mod Shows
 mod Tables
 mod Totals
 mod Truths

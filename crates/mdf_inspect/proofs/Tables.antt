@@ -15,7 +15,7 @@ use Rattle.mdf_command.specs.Faults.{READING_LIMIT}
 use Rattle.mdf_command.specs.Load.{LoadFaultOf}
 use Rattle.mdf_command.specs.declared.fault.Fault.{Fault}
 use Rattle.mdf_command.specs.declared.fault.Fault.TheVariants as fault
-use Rattle.mdf_inspect.specs.Reading.{StopComes}
+use Rattle.mdf_inspect.specs.Paged.{StopComes}
 use Rattle.mdf_inspect.specs.Export.{GaveAtMostFront, StopsTable, TableAnswers, TableComes, TableFaultComes}
 use Rattle.mdf_inspect.specs.declared.table.TableEnd.{TableEnd}
 use Rattle.mdf_inspect.specs.declared.table.TableEnd.TheVariants.{Given, Unwritten, Refused}
@@ -39,7 +39,7 @@ front_then (Some file) group sink sink' short gave calm = ⊎_elim (λ same. inl
 module _ (group : ℕ) (mid new : DiskState) (attached : new.attached ≡ true) (short : IsShort mid.content) (sink sink' : SinkState) where
   stopped_table : (problem : Fault) → StopComes mid.faults new.faults problem → GaveAtMostFront mid group sink sink' → TableFaultComes group mid new sink sink' problem
   stopped_table fault.Device rose gave = (rose, gave)
-  stopped_table fault.Memory calm gave = (stopped mid new attached short fault.Memory calm, gave)
+  stopped_table fault.Memory calm gave = (stopped READING_LIMIT mid new attached short fault.Memory calm, gave)
   stopped_table problem comes gave = absurd comes
 
   stopped_end : (end : TableEnd) → StopsTable mid.faults new.faults end → GaveAtMostFront mid group sink sink' → TableComes group mid new sink sink' end
@@ -50,15 +50,15 @@ module _ (group : ℕ) (mid new : DiskState) (attached : new.attached ≡ true) 
       → ExportCause sink sink' table → ((file : List ℕ) → mid.content ≡ Some file → ExportHalts file group sink sink' table)
       → TableComes group mid new sink sink' end
   table_comes (Ok rows) end is plain cause ends =
-      subst (TableComes group mid new sink sink') (sym is) (if_read mid (λ file. ExportEnds file group sink sink' (Ok rows)) short ends)
+      subst (TableComes group mid new sink sink') (sym is) (if_read READING_LIMIT mid (λ file. ExportEnds file group sink sink' (Ok rows)) short ends)
   table_comes (Err (halts.Fault (export.Read refused))) end is plain cause ends =
       subst (TableComes group mid new sink sink') (sym is)
-      ((plain, if_read mid (λ file. Fails (read_refusal refused) (measurement file)) short (λ file told. (ends file told).1)), cause.moves)
+      ((plain, if_read READING_LIMIT mid (λ file. Fails (read_refusal refused) (measurement file)) short (λ file told. (ends file told).1)), cause.moves)
   table_comes (Err (halts.Fault (export.NoGroup said groups))) end is plain cause ends =
       subst (TableComes group mid new sink sink') (sym is)
-      (plain.0, (subst (λ (n : ℕ). groups ≤ n) plain.0 plain.1, if_read mid (λ file. HasNoGroup file group groups) short (λ file told. (ends file told).1)), cause.moves)
+      (plain.0, (subst (λ (n : ℕ). groups ≤ n) plain.0 plain.1, if_read READING_LIMIT mid (λ file. HasNoGroup file group groups) short (λ file told. (ends file told).1)), cause.moves)
   table_comes (Err (halts.Fault export.Failed)) end is plain cause ends =
-      subst (TableComes group mid new sink sink') (sym is) (if_read mid (λ file. GaveFront file group sink sink') short (λ file told. (ends file told).0), cause.moves)
+      subst (TableComes group mid new sink sink') (sym is) (if_read READING_LIMIT mid (λ file. GaveFront file group sink sink') short (λ file told. (ends file told).0), cause.moves)
   table_comes (Err (halts.Fault export.Memory)) end is plain cause ends = absurd plain
   table_comes (Err halts.Failed) end is plain cause ends = stopped_end end is (front_then mid.content group sink sink' short ends cause.moves)
   table_comes (Err halts.Memory) end is plain cause ends = stopped_end end is (front_then mid.content group sink sink' short ends cause.moves)
@@ -68,19 +68,19 @@ module _ (group : ℕ) (old mid new : DiskState) (content : mid.content ≡ old.
     (short : IsShort old.content) (sink sink' : SinkState) where
   front_from : GaveAtMostFront mid group sink sink' → GaveAtMostFront old group sink sink'
   front_from (inl same) = inl same
-  front_from (inr gave) = inr (read_from old mid new content calm attached short (λ file. GaveFront file group sink sink') gave.0, gave.1)
+  front_from (inr gave) = inr (read_from READING_LIMIT old mid new content calm attached short (λ file. GaveFront file group sink sink') gave.0, gave.1)
 
   fault_from : (problem : Fault) → TableFaultComes group mid new sink sink' problem → TableFaultComes group old new sink sink' problem
-  fault_from fault.Device comes = (load_from old mid new content calm attached short fault.Device comes.0, front_from comes.1)
-  fault_from (fault.InputOver size limit) comes = (load_from old mid new content calm attached short (fault.InputOver size limit) comes.0, comes.1)
-  fault_from fault.Memory comes = (load_from old mid new content calm attached short fault.Memory comes.0, front_from comes.1)
+  fault_from fault.Device comes = (load_from READING_LIMIT old mid new content calm attached short fault.Device comes.0, front_from comes.1)
+  fault_from (fault.InputOver size limit) comes = (load_from READING_LIMIT old mid new content calm attached short (fault.InputOver size limit) comes.0, comes.1)
+  fault_from fault.Memory comes = (load_from READING_LIMIT old mid new content calm attached short fault.Memory comes.0, front_from comes.1)
   fault_from (fault.Read refused) comes =
-      ((comes.0.0, read_from old mid new content calm attached short (λ file. Fails (read_refusal refused) (measurement file)) comes.0.1), comes.1)
+      ((comes.0.0, read_from READING_LIMIT old mid new content calm attached short (λ file. Fails (read_refusal refused) (measurement file)) comes.0.1), comes.1)
   fault_from (fault.NoGroup said groups) comes =
-      (comes.0, (comes.1.0, read_from old mid new content calm attached short (λ file. HasNoGroup file group groups) comes.1.1), comes.2)
+      (comes.0, (comes.1.0, read_from READING_LIMIT old mid new content calm attached short (λ file. HasNoGroup file group groups) comes.1.1), comes.2)
   fault_from problem comes = absurd comes
 
   pub table_from : (end : TableEnd) → TableComes group mid new sink sink' end → TableComes group old new sink sink' end
-  table_from (Given rows) comes = read_from old mid new content calm attached short (λ file. ExportEnds file group sink sink' (Ok rows)) comes
-  table_from Unwritten comes = (read_from old mid new content calm attached short (λ file. GaveFront file group sink sink') comes.0, comes.1)
+  table_from (Given rows) comes = read_from READING_LIMIT old mid new content calm attached short (λ file. ExportEnds file group sink sink' (Ok rows)) comes
+  table_from Unwritten comes = (read_from READING_LIMIT old mid new content calm attached short (λ file. GaveFront file group sink sink') comes.0, comes.1)
   table_from (Refused problem) comes = fault_from problem comes

@@ -19,7 +19,8 @@ use Rattle.mdf_command.specs.Faults.{READING_LIMIT, fault_line, fault_status}
 use Rattle.mdf_command.specs.Load.{IsOverOf, LoadWantsOf}
 use Rattle.mdf_command.specs.declared.fault.Fault.{Fault}
 use Rattle.mdf_command.specs.declared.fault.Fault.TheVariants as fault
-use Rattle.mdf_inspect.specs.Reading.{IfRead, StopComes}
+use Rattle.mdf_inspect.specs.Paged.{StopComes}
+use Rattle.mdf_inspect.specs.Reading.{IfRead}
 use Rattle.mdf_inspect.specs.declared.table.TableEnd.{TableEnd}
 use Rattle.mdf_inspect.specs.declared.table.TableEnd.TheVariants.{Given, Unwritten, Refused}
 

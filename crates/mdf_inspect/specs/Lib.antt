@@ -1,4 +1,5 @@
 pub mod Opened
+pub mod Paged
 pub mod Reading
 pub mod Check
 pub mod Info

@@ -1,8 +1,5 @@
 -- What the commands `check IN` and `info IN` show of a file.
-use Rattle.std.specs.Prelude.{ℕ, Bool, ◌≡◌, ◌≤◌, ◌↔◌, List, length, map, IsTrue, IsSome, IfSome, Result, Ok, Err}
-use Rattle.mdf_format.specs.Cause.{Rose}
-use Rattle.mdf_num.specs.declared.halt.Halt.{Halt}
-use Rattle.mdf_num.specs.declared.halt.Halt.TheVariants as halts
+use Rattle.std.specs.Prelude.{ℕ, Bool, ◌≡◌, ◌↔◌, List, map, IsTrue, IsSome, IfSome, Result, Ok, Err}
 use Rattle.mdf_block.specs.Refusal.{Read, ◌>>=◌, Fails}
 use Rattle.mdf_head.specs.Ident.{identify}
 use Rattle.mdf_group.specs.declared.row.GroupRow.{GroupRow}
@@ -21,6 +18,7 @@ use Rattle.mdf_command.specs.Faults.{READING_LIMIT, fault_line, fault_status}
 use Rattle.mdf_command.specs.Load.{LoadFaultOf}
 use Rattle.mdf_command.specs.declared.fault.Fault.{Fault}
 use Rattle.mdf_command.specs.declared.fault.Fault.TheVariants as fault
+use Rattle.mdf_inspect.specs.Paged.{IfReadOf}
 
 -- what is shown of a file: its version, its groups, each with how many samples it has, how many links were passed over, and
 -- whether it is as the standard has a finalized one
@@ -64,7 +62,7 @@ reading file = do
 
 -- the file that the disk tells, if it tells one, is no longer than a file may be that is read piece by piece, and this holds of it
 abbrev pub IfRead : DiskState → (List ℕ → Type 0) → Type 0
-IfRead disk Holds = IfSome disk.content (λ file. (length file ≤ READING_LIMIT) × Holds file)
+IfRead = IfReadOf READING_LIMIT
 
 -- The file is refused, and what is said of it is true: of its identification, of a block at the address, or of one of its
 -- data groups. It is never refused for want of memory.
@@ -78,18 +76,6 @@ pub record IsRefused (refused : ReadFault) (file : List ℕ) : Type 0 where
 abbrev pub ReadingFaultComes : DiskState → DiskState → Fault → Type 0
 ReadingFaultComes old new (fault.Read refused) = IsSome (read_refusal refused) × IfRead old (IsRefused refused)
 ReadingFaultComes old new problem = LoadFaultOf READING_LIMIT old new problem
-
--- Why a reader over pages stopped: their disk failed, or memory was wanted and it did not fail.
-abbrev pub StopComes : ℕ → ℕ → Fault → Type 0
-StopComes before now fault.Device = Rose before now
-StopComes before now fault.Memory = now ≡ before
-StopComes before now problem = ⊥
-
--- or the file is refused
-abbrev pub HaltComes : ℕ → ℕ → Halt ReadFault → Fault → Type 0
-HaltComes before now (halts.Fault refused) problem = problem ≡ fault.Read refused
-HaltComes before now halts.Failed problem = StopComes before now problem
-HaltComes before now halts.Memory problem = StopComes before now problem
 
 -- What is shown of a file is of its measurement, and it is strict exactly where the file is valid.
 pub record IsReading (found : Reading) (file : List ℕ) : Type 0 where

@@ -8,7 +8,7 @@ ghost use Rattle.mdf_inspect.specs.Question.{text_for};
 
 use crate::check::give_verdict;
 use crate::info::give_contents;
-use crate::reading::{read_input, status};
+use crate::reading::{Counted, read_input, status};
 use crate::shown::Shown;
 use mdf_command::{Fault, status_after};
 use mdf_disk::Disk;
@@ -70,7 +70,7 @@ pub fn run_reading<K: Sink, A: Disk>(
     ensures content { A.content result.first ≡ A.content first }
     ensures untouched { A.asked result.first ≡ None → result.first ≡ first }
 {
-    let (end, first) = read_input(alloc, input, first);
+    let (end, first) = read_input::<A, Counted>(alloc, input, first);
     let given = give_end(sink, question, &end);
     let status = status_after(given, status(&end));
     Shown { status, first }

@@ -1,31 +1,90 @@
 ghost use Rattle.std.specs.Prelude.{◌≡◌, ◌⊎◌, Some, None};
+ghost use Rattle.mdf_content.specs.Fault.{read_refusal};
+ghost use Rattle.mdf_attach.specs.Listed.{list_refusal};
 ghost use Rattle.mdf_disk.specs.State.{state_of};
 ghost use Rattle.mdf_disk.specs.declared.role.Role.TheVariants.{Read};
 ghost use Rattle.mdf_port.specs.State.{sink_state};
 ghost use Rattle.mdf_command.specs.Texts.{Gives, numbered};
-ghost use Rattle.mdf_inspect.specs.Attachments.{ListingComes, EndsListing, attachment_line, says_text, listing_text, listing_status};
+ghost use Rattle.mdf_inspect.specs.Attachments.{ListingComes, EndsListing, attachment_line, listing_fault, says_text, listing_text, listing_status};
 
 use crate::info::text_of;
-use mdf_attach::{Attachment, Verdict, read_attachments, verdict};
+use crate::reading::{Reader, read_input};
+use crate::shown::Shown;
+use mdf_attach::{Entry, ListFault, Verdict, list_in};
+use mdf_block::What;
 use mdf_command::Piece::{Name, Number, Text};
-use mdf_command::{Fault, attach_fault, give_line, load, status_after};
+use mdf_command::{Fault, INPUT_LIMIT, give_line, status_after};
+use mdf_content::ReadFault;
 use mdf_disk::Disk;
-use mdf_num::{Bytes, Failed, Rows};
+use mdf_model::finalized_in;
+use mdf_num::{Bytes, Failed, Halt, Rows, Span};
 use mdf_port::Sink;
 use std::alloc::Global;
 
-/// Reads the attachments of the file of this name.
-fn list<A: Disk>(alloc: Global, input: &Bytes, first: &mut A) -> Result<Rows<Attachment>, Fault>
-    requires { A.asked first.old ≡ None }
-    ensures comes { ListingComes (state_of A.Disk first.old) (state_of A.Disk first.new) result }
-    ensures asked { (A.asked first.new ≡ None) ⊎ (A.asked first.new ≡ Some (input.now, Read)) }
-    ensures content { A.content first.new ≡ A.content first.old }
-    ensures untouched { A.asked first.new ≡ None → first.new ≡ first.old }
+/// The fault of a list of attachments, as one of a reader of files.
+fn read_fault_of(fault: ListFault) -> ReadFault
+    ensures { read_refusal result ≡ list_refusal fault }
 {
-    let file = load(alloc, input, first)?;
-    match read_attachments(alloc, file.as_slice()) {
-        Ok(rows) => Ok(rows),
-        Err(fault) => Err(attach_fault(file.as_slice(), fault)),
+    match fault {
+        ListFault::Bad { at, want } => ReadFault::Block { at, want },
+        ListFault::TooMany { what, at } => ReadFault::TooMany { what, at },
+    }
+}
+
+/// What is listed of the attachments. Of the embedded data no more is in memory than the pages.
+struct Listing;
+
+impl Reader for Listing {
+    ghost use Rattle.mdf_command.specs.Faults.{INPUT_LIMIT};
+    ghost use Rattle.mdf_inspect.specs.Attachments.{entries};
+
+    type Found = Rows<Entry>;
+
+    ghost most = { INPUT_LIMIT };
+
+    ghost found = { entries };
+
+    fn most() -> u64 {
+        INPUT_LIMIT
+    }
+
+    #[tactic(auto, unfolding(crate::specs::Attachments::entries))]
+    fn read_in<P: Span>(alloc: Global, span: &mut P) -> Result<Rows<Entry>, Halt<ReadFault>> {
+        finalized_in(span)?;
+        match list_in(alloc, span) {
+            Ok(rows) => Ok(rows),
+            Err(Halt::Fault(fault)) => Err(Halt::Fault(read_fault_of(fault))),
+            Err(Halt::Failed) => Err(Halt::Failed),
+            Err(Halt::Memory) => Err(Halt::Memory),
+        }
+    }
+}
+
+/// The fault that is printed. Where a file is refused for too many blocks, these are attachments.
+fn listing_fault(fault: Fault) -> Fault
+    ensures { result ≡ listing_fault fault }
+{
+    match fault {
+        Fault::Read(ReadFault::TooMany {
+            what: What::Block,
+            at,
+        }) => Fault::Attached { at },
+        _ => fault,
+    }
+}
+
+/// Reads what is listed of the attachments of the file of this name. The disk is handed back.
+fn list<A: Disk>(alloc: Global, input: &Bytes, first: A) -> (Result<Rows<Entry>, Fault>, A)
+    requires { A.asked first ≡ None }
+    ensures comes { ListingComes (state_of A.Disk first) (state_of A.Disk result.1) result.0 }
+    ensures asked { (A.asked result.1 ≡ None) ⊎ (A.asked result.1 ≡ Some (input.now, Read)) }
+    ensures content { A.content result.1 ≡ A.content first }
+    ensures untouched { A.asked result.1 ≡ None → result.1 ≡ first }
+{
+    let (end, first) = read_input::<A, Listing>(alloc, input, first);
+    match end {
+        Ok(entries) => (Ok(entries), first),
+        Err(fault) => (Err(listing_fault(fault)), first),
     }
 }
 
@@ -41,7 +100,7 @@ fn says_text(verdict: Verdict) -> &'static [u8]
 }
 
 /// Gives the line of an attachment.
-fn give_attachment<K: Sink>(sink: &mut K, number: u64, row: &Attachment) -> Result<(), Failed>
+fn give_attachment<K: Sink>(sink: &mut K, number: u64, row: &Entry) -> Result<(), Failed>
     ensures { Gives (attachment_line number row.now) (sink_state K.Sink sink.old) (sink_state K.Sink sink.new) result }
 {
     give_line(
@@ -54,15 +113,15 @@ fn give_attachment<K: Sink>(sink: &mut K, number: u64, row: &Attachment) -> Resu
             Text(b" size "),
             Number(row.original),
             Text(b" embedded "),
-            Number(row.content.as_slice().len() as u64),
+            Number(row.embedded),
             Text(b" md5 "),
-            Text(says_text(verdict(row))),
+            Text(says_text(row.verdict)),
         ],
     )
 }
 
 /// Gives the lines of the attachments.
-fn give_attachments<K: Sink>(sink: &mut K, rows: &[Attachment]) -> Result<(), Failed>
+fn give_attachments<K: Sink>(sink: &mut K, rows: &[Entry]) -> Result<(), Failed>
     ensures { Gives (numbered attachment_line 0 rows.now) (sink_state K.Sink sink.old) (sink_state K.Sink sink.new) result }
 {
     let mut i = 0;
@@ -75,7 +134,7 @@ fn give_attachments<K: Sink>(sink: &mut K, rows: &[Attachment]) -> Result<(), Fa
 }
 
 /// Gives the lines with which the command ends.
-fn give_end<K: Sink>(sink: &mut K, end: &Result<Rows<Attachment>, Fault>) -> Result<(), Failed>
+fn give_end<K: Sink>(sink: &mut K, end: &Result<Rows<Entry>, Fault>) -> Result<(), Failed>
     ensures { Gives (listing_text end.now) (sink_state K.Sink sink.old) (sink_state K.Sink sink.new) result }
 {
     match end {
@@ -85,7 +144,7 @@ fn give_end<K: Sink>(sink: &mut K, end: &Result<Rows<Attachment>, Fault>) -> Res
 }
 
 /// The status with which it ends.
-fn status(end: &Result<Rows<Attachment>, Fault>) -> u8
+fn status(end: &Result<Rows<Entry>, Fault>) -> u8
     ensures { result ≡ listing_status end.now }
 {
     match end {
@@ -95,21 +154,22 @@ fn status(end: &Result<Rows<Attachment>, Fault>) -> u8
 }
 
 /// `attachments IN`: prints the attachments of a finalized file, each with its sizes and whether its MD5 is right, or why they are not
-/// read.
+/// read. The file is read through pages. Answers the program's status, with the disk.
 pub fn run_attachments<K: Sink, A: Disk>(
     alloc: Global,
     input: &Bytes,
     sink: &mut K,
-    first: &mut A,
-) -> u8
-    requires { A.asked first.old ≡ None }
-    ensures ends { EndsListing (state_of A.Disk first.old) (state_of A.Disk first.new)
-        (sink_state K.Sink sink.old) (sink_state K.Sink sink.new) result }
-    ensures asked { (A.asked first.new ≡ None) ⊎ (A.asked first.new ≡ Some (input.now, Read)) }
-    ensures content { A.content first.new ≡ A.content first.old }
-    ensures untouched { A.asked first.new ≡ None → first.new ≡ first.old }
+    first: A,
+) -> Shown<A>
+    requires { A.asked first ≡ None }
+    ensures ends { EndsListing (state_of A.Disk first) (state_of A.Disk result.first)
+        (sink_state K.Sink sink.old) (sink_state K.Sink sink.new) result.status }
+    ensures asked { (A.asked result.first ≡ None) ⊎ (A.asked result.first ≡ Some (input.now, Read)) }
+    ensures content { A.content result.first ≡ A.content first }
+    ensures untouched { A.asked result.first ≡ None → result.first ≡ first }
 {
-    let end = list(alloc, input, first);
+    let (end, first) = list(alloc, input, first);
     let given = give_end(sink, &end);
-    status_after(given, status(&end))
+    let status = status_after(given, status(&end));
+    Shown { status, first }
 }

@@ -1,18 +1,67 @@
-ghost use Rattle.std.specs.Prelude.{◌≡◌, ◌≤◌, ◌⊎◌, List, length, true, IfSome, Some, None};
+ghost use Rattle.std.specs.Prelude.{◌≡◌, ◌≤◌, ◌⊎◌, ℕ, List, length, true, IfSome, Some, None};
 ghost use Rattle.mdf_num.specs.Halt.{HaltReason};
-ghost use Rattle.mdf_command.specs.Faults.{READING_LIMIT};
+ghost use Rattle.mdf_block.specs.Refusal.{Read as Answer};
+ghost use Rattle.mdf_block.specs.Reads.{Reads};
+ghost use Rattle.mdf_content.specs.Fault.{read_refusal};
 ghost use Rattle.mdf_disk.specs.State.{state_of};
 ghost use Rattle.mdf_disk.specs.declared.role.Role.TheVariants.{Read};
-ghost use Rattle.mdf_inspect.specs.Reading.{HaltComes, ReadingComes, StopComes, reading_end, reading_status};
+ghost use Rattle.mdf_inspect.specs.Paged.{HaltComes, PagedComes, StopComes};
+ghost use Rattle.mdf_inspect.specs.Reading.{reading_end, reading_status};
 
-use mdf_command::{Fault, open};
+use mdf_command::{Fault, READING_LIMIT, open};
 use mdf_content::ReadFault;
 use mdf_disk::Disk;
-use mdf_num::{Bytes, Halt, Stop};
+use mdf_num::{Bytes, Halt, Span, Stop};
 use mdf_paged::PagedMeasurement;
 use mdf_pages::{Asked, Kept};
 use std::alloc::Global;
 use std::marker::Brand;
+
+/// What is read of a file through pages.
+pub(crate) trait Reader {
+    /// What is read.
+    type Found;
+
+    /// How many bytes the file has at most.
+    ghost most: { ℕ };
+
+    /// What is read of its bytes, or why they are refused.
+    ghost found: { List ℕ → Answer Self.Found };
+
+    /// How many bytes the file has at most.
+    fn most() -> u64
+        ensures { result ≡ most };
+
+    /// What is read of the file.
+    fn read_in<P: Span>(alloc: Global, span: &mut P) -> Result<Self::Found, Halt<ReadFault>>
+        ensures reads { Reads P.Span span.old span.new true read_refusal result (λ file. found file) };
+}
+
+/// The measurement, with as much of its records as their numbers need.
+pub(crate) struct Counted;
+
+impl Reader for Counted {
+    ghost use Rattle.mdf_command.specs.Faults.{READING_LIMIT};
+    ghost use Rattle.mdf_model.specs.Kept.{found_kept};
+    ghost use Rattle.mdf_content.specs.declared.wanted.Wanted.TheVariants as wants;
+
+    type Found = PagedMeasurement;
+
+    ghost most = { READING_LIMIT };
+
+    ghost found = { found_kept wants.Values };
+
+    fn most() -> u64 {
+        READING_LIMIT
+    }
+
+    fn read_in<P: Span>(
+        alloc: Global,
+        span: &mut P,
+    ) -> Result<PagedMeasurement, Halt<ReadFault>> {
+        PagedMeasurement::read_counted(alloc, span)
+    }
+}
 
 /// The fault where memory was wanted, and the count of faults of the disk was `before` and is `now`. A disk that failed goes
 /// before want of memory.
@@ -41,11 +90,14 @@ fn fault_of_halt(halt: Halt<ReadFault>, before: u64, now: u64) -> Fault
 }
 
 /// Reads the attached file of a disk that was asked for `K`, through pages. The disk is handed back.
-fn read_branded<A: Disk, K: Asked>(alloc: Global, first: A) -> (Result<PagedMeasurement, Fault>, A)
+fn read_branded<A: Disk, K: Asked, R: Reader>(
+    alloc: Global,
+    first: A,
+) -> (Result<R::Found, Fault>, A)
     requires attached { A.attached first ≡ true }
     requires asked { A.asked first ≡ K.asked }
-    requires short { IfSome (A.content first) (λ file. length file ≤ READING_LIMIT) }
-    ensures comes { ReadingComes (state_of A.Disk first) (state_of A.Disk result.1) (reading_end result.0) }
+    requires short { IfSome (A.content first) (λ file. length file ≤ R.most) }
+    ensures comes { PagedComes R.most R.found (state_of A.Disk first) (state_of A.Disk result.1) result.0 }
     ensures asked { A.asked result.1 ≡ K.asked }
     ensures content { A.content result.1 ≡ A.content first }
 {
@@ -53,7 +105,7 @@ fn read_branded<A: Disk, K: Asked>(alloc: Global, first: A) -> (Result<PagedMeas
     match Kept::<A, K>::begin(alloc, first) {
         Ok(kept) => {
             let mut kept = kept;
-            let read = PagedMeasurement::read_counted(alloc, &mut kept);
+            let read = R::read_in(alloc, &mut kept);
             let first = kept.into_disk();
             match read {
                 Ok(found) => (Ok(found), first),
@@ -69,31 +121,31 @@ fn read_branded<A: Disk, K: Asked>(alloc: Global, first: A) -> (Result<PagedMeas
 }
 
 /// Reads the attached file of a disk through pages. The disk is handed back.
-fn read_kept<A: Disk>(alloc: Global, first: A) -> (Result<PagedMeasurement, Fault>, A)
+fn read_kept<A: Disk, R: Reader>(alloc: Global, first: A) -> (Result<R::Found, Fault>, A)
     requires attached { A.attached first ≡ true }
-    requires short { IfSome (A.content first) (λ file. length file ≤ READING_LIMIT) }
-    ensures comes { ReadingComes (state_of A.Disk first) (state_of A.Disk result.1) (reading_end result.0) }
+    requires short { IfSome (A.content first) (λ file. length file ≤ R.most) }
+    ensures comes { PagedComes R.most R.found (state_of A.Disk first) (state_of A.Disk result.1) result.0 }
     ensures asked { A.asked result.1 ≡ A.asked first }
     ensures content { A.content result.1 ≡ A.content first }
 {
-    read_branded::<A, Brand>(alloc, first)
+    read_branded::<A, Brand, R>(alloc, first)
 }
 
 /// Reads the file of this name through pages. The disk is handed back.
-pub fn read_input<A: Disk>(
+pub(crate) fn read_input<A: Disk, R: Reader>(
     alloc: Global,
     input: &Bytes,
     first: A,
-) -> (Result<PagedMeasurement, Fault>, A)
+) -> (Result<R::Found, Fault>, A)
     requires { A.asked first ≡ None }
-    ensures comes { ReadingComes (state_of A.Disk first) (state_of A.Disk result.1) (reading_end result.0) }
+    ensures comes { PagedComes R.most R.found (state_of A.Disk first) (state_of A.Disk result.1) result.0 }
     ensures asked { (A.asked result.1 ≡ None) ⊎ (A.asked result.1 ≡ Some (input.now, Read)) }
     ensures content { A.content result.1 ≡ A.content first }
     ensures untouched { A.asked result.1 ≡ None → result.1 ≡ first }
 {
     let mut first = first;
-    match open(input, &mut first) {
-        Ok(()) => read_kept(alloc, first),
+    match open(input, &mut first, R::most()) {
+        Ok(()) => read_kept::<A, R>(alloc, first),
         Err(fault) => (Err(fault), first),
     }
 }

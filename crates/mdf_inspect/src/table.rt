@@ -9,7 +9,7 @@ ghost use Rattle.mdf_inspect.specs.Export.{EndsExport, PrintsEnd, TableAnswers, 
 
 use crate::reading::fault_of_want;
 use crate::shown::Shown;
-use mdf_command::{Fault, open, status_after};
+use mdf_command::{Fault, READING_LIMIT, open, status_after};
 use mdf_disk::Disk;
 use mdf_num::{Bytes, Halt, Stop};
 use mdf_pages::{Asked, Kept};
@@ -109,7 +109,7 @@ fn give_table<S: Sink, A: Disk>(
     ensures untouched { A.asked result.1 ≡ None → result.1 ≡ first }
 {
     let mut first = first;
-    match open(input, &mut first) {
+    match open(input, &mut first, READING_LIMIT) {
         Ok(()) => give_kept(alloc, group, sink, first),
         Err(fault) => (TableEnd::Refused(fault), first),
     }

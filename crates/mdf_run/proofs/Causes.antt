@@ -8,7 +8,7 @@ use Rattle.mdf_disk.specs.State.{DiskState}
 use Rattle.mdf_block.specs.Refusal.{Refusal}
 use Rattle.mdf_content.specs.Fault.{read_refusal}
 use Rattle.mdf_gate.specs.declared.answer.Opened.{Opened}
-use Rattle.mdf_attach.specs.declared.attachment.Attachment.{Attachment}
+use Rattle.mdf_attach.specs.declared.entry.Entry.{Entry}
 use Rattle.mdf_tool.specs.declared.made.Report.{Report}
 use Rattle.mdf_command.specs.Texts.{Prints, unwritten_status}
 use Rattle.mdf_command.specs.Faults.{fault_line, fault_status, refused_status}
@@ -115,7 +115,7 @@ module _ (disk disk' : DiskState) (sink sink' : SinkState) (status : ℕ) where
   reading_caused text ends =
       printed ⊥ (Rose disk.faults disk'.faults) (answer_text text ends.0) (reading_status ends.0) sink sink' status (reading_coded ends.0 ends.1) ends.2
 
-  listing_coded : (end : Result (List Attachment) Fault) → ListingComes disk disk' end → Coded ⊥ (Rose disk.faults disk'.faults) (listing_status end)
+  listing_coded : (end : Result (List Entry) Fault) → ListingComes disk disk' end → Coded ⊥ (Rose disk.faults disk'.faults) (listing_status end)
   listing_coded (Ok rows) comes = done ⊥ (Rose disk.faults disk'.faults)
   listing_coded (Err problem) comes =
       fault_coded ⊥ (Rose disk.faults disk'.faults) problem (λ is. subst (λ p. ListingFaultComes disk disk' p) is comes)

@@ -6,6 +6,7 @@ use Rattle.mdf_disk.specs.State.{DiskState}
 use Rattle.mdf_block.specs.Refusal.{Refusal, Read, Fails}
 use Rattle.mdf_content.specs.Fault.{read_refusal}
 use Rattle.mdf_attach.specs.declared.attachment.Attachment.{Attachment}
+use Rattle.mdf_attach.specs.declared.entry.Entry.{Entry}
 use Rattle.mdf_attach.specs.declared.fault.AttachFault.{AttachFault}
 use Rattle.mdf_attach.specs.declared.fault.AttachFault.TheVariants as attach
 use Rattle.mdf_attach.specs.Listed.{attachments}
@@ -28,7 +29,8 @@ use Rattle.tool_export.specs.Export.{HasNoGroup}
 use Rattle.mdf_inspect.specs.Export.{EndsExport, LacksGroup, PrintsEnd, TableComes, TableFaultComes}
 use Rattle.mdf_inspect.specs.declared.table.TableEnd.{TableEnd}
 use Rattle.mdf_inspect.specs.declared.table.TableEnd.TheVariants.{Given, Unwritten, Refused}
-use Rattle.mdf_inspect.specs.Attachments.{AreRefusedWith, EndsListing, ListingComes, ListingFaultComes, OfLoaded, listing_status, listing_text}
+use Rattle.mdf_inspect.specs.Attachments.{AreRefusedWith, EndsListing, ListingComes, ListingFaultComes, listing_status, listing_text}
+use Rattle.mdf_inspect.specs.Paged.{IfReadOf}
 use Rattle.mdf_run.specs.Kept.{HasGroup, IsDoneOrLacked, IsListable, IsMeasured}
 use Rattle.mdf_run.proofs.Keeps.{was_status}
 
@@ -131,20 +133,20 @@ not_refused_with file listable problem refused = not_listed file listable refuse
 
 -- a command that lists them
 module _ (disk disk' : DiskState) (file : List ℕ) (told : disk.content ≡ Some file) (short : length file ≤ INPUT_LIMIT) (listable : IsListable file) where
-  of_loaded : (problem : Fault) → ¬ OfLoaded disk (λ loaded. AreRefusedWith loaded problem)
-  of_loaded problem comes =
-      not_refused_with file listable problem (subst (λ f. AreRefusedWith f problem) (loaded_is disk file told comes.0 comes.1) comes.2)
+  of_read : (problem : Fault) → ¬ IfReadOf INPUT_LIMIT disk (λ f. AreRefusedWith f problem)
+  of_read problem comes =
+      not_refused_with file listable problem (said disk file told (λ f. (length f ≤ INPUT_LIMIT) × AreRefusedWith f problem) comes).1
 
   listing_fault : (problem : Fault) → ListingFaultComes disk disk' problem
       → (fault_status problem ≡ 0) ⊎ ((fault_status problem ≡ 4) ⊎ (fault_status problem ≡ 7))
   listing_fault fault.Device comes = inr (inl refl)
   listing_fault (fault.InputOver size limit) comes = absurd (not_over disk file told INPUT_LIMIT short size limit comes)
   listing_fault fault.Memory comes = inr (inr refl)
-  listing_fault (fault.Read refused) comes = absurd (of_loaded (fault.Read refused) comes)
-  listing_fault (fault.Attached at) comes = absurd (of_loaded (fault.Attached at) comes)
+  listing_fault (fault.Read refused) comes = absurd (of_read (fault.Read refused) comes.1)
+  listing_fault (fault.Attached at) comes = absurd (of_read (fault.Attached at) comes)
   listing_fault problem comes = absurd comes
 
-  listing_end : (end : Result (List Attachment) Fault) → ListingComes disk disk' end
+  listing_end : (end : Result (List Entry) Fault) → ListingComes disk disk' end
       → (listing_status end ≡ 0) ⊎ ((listing_status end ≡ 4) ⊎ (listing_status end ≡ 7))
   listing_end (Ok rows) comes = inl refl
   listing_end (Err problem) comes = listing_fault problem comes

@@ -34,10 +34,6 @@ pub(crate) fn show<K: Sink, A: Disk>(
         Aspect::Verdict => run_reading(alloc, Question::Verdict, input, sink, first),
         Aspect::Contents => run_reading(alloc, Question::Contents, input, sink, first),
         Aspect::Table { group } => run_export(alloc, input, group, sink, first),
-        Aspect::Attachments => {
-            let mut first = first;
-            let status = run_attachments(alloc, input, sink, &mut first);
-            Shown { status, first }
-        }
+        Aspect::Attachments => run_attachments(alloc, input, sink, first),
     }
 }

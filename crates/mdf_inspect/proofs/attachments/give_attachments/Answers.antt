@@ -3,7 +3,7 @@ use Rattle.std.proofs.lemmas.List.{take_all}
 use Rattle.std.specs.Io.KnownBytes.{Appends}
 use Rattle.std.proofs.lemmas.Result.{err_from_is_err_and}
 use Rattle.mdf_port.proofs.Streams.{appends_more, appends_none}
-use Rattle.mdf_attach.specs.declared.attachment.Attachment.{Attachment}
+use Rattle.mdf_attach.specs.declared.entry.Entry.{Entry}
 use Rattle.mdf_command.specs.Texts.{numbered}
 use Rattle.mdf_command.proofs.Pieces.{gives_behind, gives_failed, gives_same, numbered_more, numbered_around}
 use Rattle.mdf_inspect.specs.Attachments.{attachment_line}
@@ -21,7 +21,7 @@ returns-in_err-give_attachment g c =
     let p = err_from_is_err_and c.from_residual.result c.from_residual.ensures.1 in
     let rest = numbered attachment_line (0 + suc i) (drop (suc i) xs) in
     let here = gives_failed (attachment_line i row) rest _ _ _ _ c.in_err-give_attachment.ensures in
-    let all = ap (λ (one : Attachment). numbered attachment_line 0 (take i xs) ++ (attachment_line i one ++ rest)) c.index-rows-i.is
+    let all = ap (λ (one : Entry). numbered attachment_line 0 (take i xs) ++ (attachment_line i one ++ rest)) c.index-rows-i.is
     ∙ sym (numbered_around attachment_line xs i row within) in
     rw (p.1) (gives_same _ _ _ _ _ all (gives_behind _ _ _ _ _ _ c.loop-i.invariant.given c.loop-i.invariant.later here))
 
@@ -31,7 +31,7 @@ loop-i-preserved g c =
     let i = c.loop-i.i in
     let row = c.index-rows-i.result in
     let within = c.loop-i-test.true in
-    let all = ap (λ (one : Attachment). numbered attachment_line 0 (take i xs) ++ attachment_line i one) c.index-rows-i.is
+    let all = ap (λ (one : Entry). numbered attachment_line 0 (take i xs) ++ attachment_line i one) c.index-rows-i.is
     ∙ sym (numbered_more attachment_line xs i row within) in record {
       given = subst (Appends _ _) all (appends_more _ _ _ _ _ c.loop-i.invariant.given c.in_ok-give_attachment.ensures.ok);
       later = omega (arith, c.loop-i.invariant.later, c.give_attachment.ensures.cause.later);

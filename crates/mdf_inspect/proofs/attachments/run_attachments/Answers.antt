@@ -5,9 +5,9 @@ use Rattle.mdf_inspect.proofs.attachments.run_attachments.Goals as goal
 
 pub returns-clause-ends : goal.returns-clause-ends
 returns-clause-ends g c =
-    let end = c.list-end.result in (
+    let end = c.list-end.result.0 in (
       end,
       c.list-end.ensures.comes,
-      rw (c.status_after.ensures, c.status.ensures) (printed (listing_text end) (listing_status end) (sink_state g.K.Sink c.args.sink.now)
+      rw (c.status_after-status.ensures, c.status.ensures) (printed (listing_text end) (listing_status end) (sink_state g.K.Sink c.args.sink.now)
           (sink_state g.K.Sink c.give_end-given.new.sink) c.give_end-given.result c.give_end-given.ensures),
     )
