@@ -4,3 +4,5 @@ mod Standing
 mod Keeping
 mod Taking
 mod Ends
+mod Among
+mod Bytes

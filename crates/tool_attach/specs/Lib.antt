@@ -1,3 +1,4 @@
 pub mod Attached
+pub mod Bytes
 pub mod Carry
 pub mod Making

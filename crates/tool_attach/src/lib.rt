@@ -11,5 +11,5 @@ mod read;
 
 pub use attaching::attach;
 pub use fault::CarryFault;
-pub use law::none_is_the_sorted_file;
+pub use law::{attachments_stand_behind_the_sorted_file, none_is_the_sorted_file};
 pub use mdf_tool::Report;
