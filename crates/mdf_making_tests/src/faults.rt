@@ -393,7 +393,7 @@ const READING: &[(&[&str], u64, File)] = &[
     (&["cut", "in.mf4", "out.mf4", "1", "3"], 3, FINISHED),
     (&["concat", "in.mf4", "in.mf4", "out.mf4"], 3, FINISHED),
     (&["export", "in.mf4", "0"], 4, FINISHED),
-    (&["attachments", "in.mf4"], 3, File::Attached),
+    (&["attachments", "in.mf4"], 4, File::Attached),
     (&["attach", "in.mf4", "in.mf4", "out.mf4"], 3, FINISHED),
 ];
 

@@ -1,9 +1,9 @@
 use crate::files::{Piece, marked_file, put_numbers};
 use crate::finalized::IDENT;
 use crate::told::{Told, all_are_told, shown};
-use mdf_attach::{Attachment, read_attachments, verdict};
+use mdf_attach::{Attachment, Entry, list_in, read_attachments, verdict};
 use mdf_block::Note;
-use mdf_num::{Bytes, Memory};
+use mdf_num::{Bytes, Memory, SliceSpan};
 use std::alloc::Global;
 
 // A header whose fourth link names an attachment with a name, a MIME type, and three embedded bytes: the flags 5, the MD5
@@ -60,6 +60,20 @@ pub(crate) const TWO: &[Piece] = &[
         b"##MD",
         &[],
         b"<ATcomment><TX>x</TX></ATcomment>\0\0\0\0\0\0\0",
+    ),
+];
+
+// An attachment of 10,000 bytes 0, which stand behind its blocks, with their MD5 as md5sum prints it.
+const LONG: &[Piece] = &[
+    HEADER,
+    (
+        168,
+        b"##AT",
+        &[0, 0, 0, 0],
+        &[
+            5, 0, 0, 0, 0, 0, 0, 0, 184, 93, 111, 185, 239, 66, 96, 220, 241, 206, 10, 27, 11, 255,
+            128, 211, 16, 39, 0, 0, 0, 0, 0, 0, 16, 39, 0, 0, 0, 0, 0, 0,
+        ],
     ),
 ];
 
@@ -223,4 +237,73 @@ impl Told for Whole {
 #[test]
 fn all_of_an_attachment_is_read(rt: HostRuntime) -> Result<(), Memory> {
     all_are_told(&rt, WHOLE)
+}
+
+/// What is listed of such a file, of so many bytes.
+struct Listed(usize, Attached);
+
+fn entry_lines(alloc: Global, rows: &[Entry]) -> Result<String, Memory> {
+    let mut text = String::new(alloc);
+    for row in rows {
+        let (name, original) = (name_of(&row.name), row.original);
+        let (embedded, says) = (row.embedded, row.verdict);
+        let told = format!(in alloc; "{name} {original} {embedded} {says:?}\n")?;
+        text.push_str(told.as_str())?;
+    }
+    Ok(text)
+}
+
+impl Told for Listed {
+    fn told(&self, alloc: Global) -> Result<String, Memory> {
+        let mut file = marked_file(alloc, self.0, IDENT, &[self.1.0])?;
+        put_numbers(file.as_mut_slice(), self.1.1);
+        match list_in(alloc, &mut SliceSpan::new(file.as_slice())) {
+            Ok(rows) => entry_lines(alloc, rows.as_slice()),
+            Err(halt) => shown(alloc, &halt),
+        }
+    }
+}
+
+// Embedded data of less than a piece, of more than two, and with its last byte changed; and what is refused.
+const LISTED: &[(Listed, &str)] = &[
+    (Listed(544, Attached(ONE, &[])), "a.txt 3 3 Ok\n"),
+    (
+        Listed(544, Attached(ONE, &[(264, 0x64_6261)])),
+        "a.txt 3 3 Differs\n",
+    ),
+    (
+        Listed(544, Attached(ONE, &[(224, 7)])),
+        "a.txt 3 3 Unchecked\n",
+    ),
+    (
+        Listed(544, Attached(TWO, &[])),
+        "m.bin 8 8 Ok\n- 99 5 Unchecked\n",
+    ),
+    (
+        Listed(10_264, Attached(LONG, &[(176, 10_096)])),
+        "- 10000 10000 Ok\n",
+    ),
+    (
+        Listed(
+            10_264,
+            Attached(LONG, &[(176, 10_096), (10_256, 0x0100_0000_0000_0000)]),
+        ),
+        "- 10000 10000 Differs\n",
+    ),
+    (
+        Listed(544, Attached(ONE, &[(256, 4)])),
+        "Fault(Bad { at: 168, want: At })",
+    ),
+    (
+        Listed(
+            544,
+            Attached(ONE, &[(192, 168), (200, 0), (208, 0), (224, 0)]),
+        ),
+        "Fault(TooMany { what: Block, at: 168 })",
+    ),
+];
+
+#[test]
+fn what_is_listed_is_told(rt: HostRuntime) -> Result<(), Memory> {
+    all_are_told(&rt, LISTED)
 }

@@ -12,21 +12,23 @@ use std::sync::Wait;
 use std::test::Fail;
 use std::thread::Threads;
 
-/// A disk whose file begins with these bytes, and has zeros behind them up to its size. It tells nothing of it.
+/// A disk whose file begins with these bytes, and has this byte behind them up to its size. It tells nothing of it.
 #[derive(Drop)]
 struct Large {
     front: Bytes,
+    behind: u8,
     size: u64,
     asked: Option<(Bytes, Role)>,
     faults: FaultCount,
 }
 
 impl Large {
-    fn new(front: Bytes, size: u64) -> Large
+    fn new(front: Bytes, behind: u8, size: u64) -> Large
         ensures { ⟦<Large as Disk>⟧.asked result ≡ None }
     {
         Large {
             front,
+            behind,
             size,
             asked: None,
             faults: FaultCount::zero(),
@@ -72,7 +74,7 @@ impl Disk for Large {
             *byte = if place < front.len() as u64 {
                 front[place as usize]
             } else {
-                0
+                self.behind
             };
             place = place.wrapping_add(1);
         }
@@ -160,6 +162,8 @@ const INFO: &[&str] = &["info", "in.mf4"];
 
 const EXPORT: &[&str] = &["export", "in.mf4", "0"];
 
+const LIST: &[&str] = &["attachments", "in.mf4"];
+
 /// A disk with such a file.
 fn disk_of<R>(rt: &R, many: bool, size: u64) -> Result<Large, Fail>
 where
@@ -167,10 +171,10 @@ where
     ensures { IfOk result (λ disk. ⟦<Large as Disk>⟧.asked disk ≡ None) }
 {
     if !many {
-        return Ok(Large::new(Bytes::empty(rt.alloc()), size));
+        return Ok(Large::new(Bytes::empty(rt.alloc()), 0, size));
     }
     let sorted = bytes_of(rt, &File::Sorted(COUNTING))?;
-    Ok(Large::new(changed(rt.alloc(), &sorted, MANY)?, size))
+    Ok(Large::new(changed(rt.alloc(), &sorted, MANY)?, 0, size))
 }
 
 /// What is printed and left of a command over that disk, where the name of the output is taken.
@@ -218,8 +222,102 @@ where
 // The attach, the size twice, and the one page.
 #[test]
 fn a_small_file_takes_four_calls(rt: HostRuntime) -> Result<(), Fail> {
-    for words in [CHECK, INFO, EXPORT] {
+    for words in [CHECK, INFO, EXPORT, LIST] {
         assert!(&rt; calls_of(&rt, words)? == 4);
+    }
+    Ok(())
+}
+
+/// The file of an attachment with other bytes put into it, the byte behind it, and its size.
+struct Attached(&'static [Part], u8, u64);
+
+// Two attachments that share their embedded data, so that a file of half as many bytes has all that are read, and one byte more;
+// and an attachment of which the MIME type and the comment are the same text, up to the end of the file, so that it has twice all bytes
+// of texts that are read, and a name of one byte more before them.
+const AT_THE_LIMITS: &[(Attached, &str)] = &[
+    (
+        Attached(
+            &[
+                (176, b"\x60\0\0\x10"),
+                (192, b"\x30\x01"),
+                (200, b"\0\0"),
+                (208, b"\0\0"),
+                (224, b"\0"),
+                (256, b"\0\0\0\x10"),
+                (304, b"##AT\0\0\0\0\x60\0\0\x10\0\0\0\0\x04"),
+                (328, b"\0\0\0\0\0\0\0\0\0\0"),
+                (392, b"\0\0\0\x10"),
+            ],
+            0,
+            268_435_856,
+        ),
+        "0 attachment 0 - size 3 embedded 268435456 md5 none\nattachment 1 - size 0 embedded 268435456 md5 none\n",
+    ),
+    (
+        Attached(
+            &[
+                (176, b"\x60\0\0\x10"),
+                (192, b"\x30\x01"),
+                (200, b"\0\0"),
+                (208, b"\0\0"),
+                (224, b"\0"),
+                (256, b"\0\0\0\x10"),
+                (304, b"##AT\0\0\0\0\x61\0\0\x10\0\0\0\0\x04"),
+                (328, b"\0\0\0\0\0\0\0\0\0\0"),
+                (392, b"\x01\0\0\x10"),
+            ],
+            0,
+            268_435_864,
+        ),
+        "3 too many AT at 304\n",
+    ),
+    (
+        Attached(
+            &[
+                (200, b"\0\0"),
+                (216, b"\x30\x01"),
+                (312, b"\x18\0\0\x02"),
+                (338, TEXT),
+            ],
+            b'a',
+            33_554_760,
+        ),
+        "0 attachment 0 - size 3 embedded 3 md5 ok\n",
+    ),
+    (
+        Attached(
+            &[
+                (216, b"\x30\x01"),
+                (297, b"\0"),
+                (312, b"\x18\0\0\x02"),
+                (338, TEXT),
+            ],
+            b'a',
+            33_554_760,
+        ),
+        "3 too many text at 304\n",
+    ),
+];
+
+// What stands behind a text up to the length of the front.
+const TEXT: &[u8] = b"aaaaaaaaaaaaaaaaaaaaaaaaaaaaaaaaaaaaaaaaaaaaaaaaaaaaaaaaaaaaaa";
+
+/// What is listed of the attachments of such a file.
+fn listed<R>(rt: &R, file: &Attached) -> Result<String, Fail>
+where
+    R: AllocGlobal + Threads + Wait + Sync,
+{
+    let mut front = bytes_of(rt, &File::Attached)?;
+    front.push_slice(&[0u8; 56])?;
+    let first = Large::new(changed(rt.alloc(), &front, file.0)?, file.1, file.2);
+    over_taken(rt, asking(LIST, &[]), first)
+}
+
+#[test]
+fn as_many_bytes_of_attachments_are_listed_as_may_be(rt: HostRuntime) -> Result<(), Fail> {
+    for (file, text) in AT_THE_LIMITS {
+        let want = with_nothing_made(&rt, *text)?;
+        is_told(listed(&rt, file), want.as_str())?;
     }
     Ok(())
 }
