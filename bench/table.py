@@ -150,7 +150,8 @@ class Bench:
             return None
         self.run(row, ["strace", "-f", "-c", "-o", self.path("calls"), *self.command(words, size)])
         with open(self.path("calls"), encoding="utf8") as lines:
-            return int(re.search(r"^100\.00 +\S+ +(?:\d+ +)?(\d+)", lines.read(), re.MULTILINE)[1])
+            each = re.findall(r"^ *[\d.]+ +[\d.]+ +\d+ +(\d+) +(?:\d+ +)?(\w+)$", lines.read(), re.MULTILINE)
+            return sum(int(count) for count, name in each if name != "total")
 
     def peak(self, row, words, size):
         self.run(row, [self.programs["peak"], *self.command(words, size)], "held")
