@@ -2,8 +2,8 @@
 
 use mdf_num::Bytes;
 use mdf_run_rig::{
-    Asked, COUNTING, FINALIZE, File, Given, Left, Part, Row, all_are_told, all_stand, bytes_of,
-    changed, made_of, said,
+    Asked, COUNTING, FINALIZE, File, Given, Left, Part, all_are_told, all_stand, bytes_of, changed,
+    is_told, made_of, said,
 };
 use std::sync::Wait;
 use std::test::Fail;
@@ -125,19 +125,17 @@ impl Carried {
     }
 }
 
-impl Row for Carried {
-    // What is printed, how many bytes the file has that is made, and what `attachments` and `check` say of it.
-    fn told<R>(&self, rt: &R) -> Result<String, Fail>
-    where
-        R: AllocGlobal + Threads + Wait + Sync,
-    {
-        let left = self.left(rt)?;
-        let line = left.line.as_str();
-        let size = left.file.as_slice().len();
-        let list = said(rt, LIST, left.file.copy()?)?;
-        let check = said(rt, &["check", "out.mf4"], left.file.copy()?)?;
-        Ok(format!(in rt.alloc(); "{line}{size}\n{list}{check}")?)
-    }
+/// What is printed, how many bytes the file has that is made, and what `attachments` and `check` say of it.
+fn carried_told<R>(rt: &R, row: &Carried) -> Result<String, Fail>
+where
+    R: AllocGlobal + Threads + Wait + Sync,
+{
+    let left = row.left(rt)?;
+    let line = left.line.as_str();
+    let size = left.file.as_slice().len();
+    let list = said(rt, LIST, left.file.copy()?)?;
+    let check = said(rt, &["check", "out.mf4"], left.file.copy()?)?;
+    Ok(format!(in rt.alloc(); "{line}{size}\n{list}{check}")?)
 }
 
 const SORTED: File = File::Sorted(COUNTING);
@@ -178,7 +176,10 @@ const CARRIED: &[(Carried, &str)] = &[
 
 #[test]
 fn attachments_are_carried(rt: HostRuntime) -> Result<(), Fail> {
-    all_are_told(&rt, CARRIED)
+    for (row, want) in CARRIED {
+        is_told(carried_told(&rt, row), *want)?;
+    }
+    Ok(())
 }
 
 // The attachment behind the sorted file, whose header names it.

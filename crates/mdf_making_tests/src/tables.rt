@@ -2,7 +2,7 @@
 
 use mdf_num::Bytes;
 use mdf_run_rig::{
-    Asked, COUNTING, File, Given, Left, Row, all_are_told, asking, bytes_of, made_of, said,
+    Asked, COUNTING, File, Given, Left, all_are_told, asking, bytes_of, is_told, made_of, said,
 };
 use std::alloc::Global;
 use std::sync::Wait;
@@ -102,14 +102,23 @@ where
     made_of(rt, given, file.copy()?)
 }
 
-impl Row for Made {
-    fn told<R>(&self, rt: &R) -> Result<String, Fail>
-    where
-        R: AllocGlobal + Threads + Wait + Sync,
-    {
-        let left = left_of(rt, self)?;
-        made_told(rt, &left)
+fn row_told<R>(rt: &R, row: &Made) -> Result<String, Fail>
+where
+    R: AllocGlobal + Threads + Wait + Sync,
+{
+    let left = left_of(rt, row)?;
+    made_told(rt, &left)
+}
+
+/// Fails where a row is told as another text than the one beside it.
+pub fn all_are_made<R>(rt: &R, rows: &[(Made, &str)]) -> Result<(), Fail>
+where
+    R: AllocGlobal + Threads + Wait + Sync,
+{
+    for (row, want) in rows {
+        is_told(row_told(rt, row), *want)?;
     }
+    Ok(())
 }
 
 // The words and the file; what is printed, and what `check` and `export` say of the file that is made.
@@ -120,7 +129,7 @@ const SORTED: &[(Made, &str)] = &[(
 
 #[test]
 fn finalized_checked_sorted_exported(rt: HostRuntime) -> Result<(), Fail> {
-    all_are_told(&rt, SORTED)
+    all_are_made(&rt, SORTED)
 }
 
 // The range of the master, whose numbers are 1, 2 and 3; what is printed, and what `check` and `export` say of the file that
@@ -166,5 +175,5 @@ const CUTS: &[(Made, &str)] = &[
 
 #[test]
 fn cut_to_nothing_and_to_two(rt: HostRuntime) -> Result<(), Fail> {
-    all_are_told(&rt, CUTS)
+    all_are_made(&rt, CUTS)
 }

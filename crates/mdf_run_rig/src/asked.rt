@@ -5,7 +5,7 @@ use crate::files::{File, bytes_of};
 use crate::left::told;
 use crate::parts::{Part, changed};
 use crate::runs::{asking, disk_with};
-use crate::table::Row;
+use crate::table::is_told;
 use mdf_disk::{Disk, MemoryDisk};
 use std::sync::Wait;
 use std::test::Fail;
@@ -30,12 +30,22 @@ where
     disk_with(rt.alloc(), changed(rt.alloc(), &file, asked.2)?, asked.3)
 }
 
-impl Row for Asked {
-    fn told<R>(&self, rt: &R) -> Result<String, Fail>
-    where
-        R: AllocGlobal + Threads + Wait + Sync,
-    {
-        let first = disk_of(rt, self)?;
-        told(rt, asking(self.0, self.4), first)
+/// What is printed.
+fn asked_told<R>(rt: &R, asked: &Asked) -> Result<String, Fail>
+where
+    R: AllocGlobal + Threads + Wait + Sync,
+{
+    let first = disk_of(rt, asked)?;
+    told(rt, asking(asked.0, asked.4), first)
+}
+
+/// Fails where another text is printed of a row than the one beside it.
+pub fn all_are_told<R>(rt: &R, rows: &[(Asked, &str)]) -> Result<(), Fail>
+where
+    R: AllocGlobal + Threads + Wait + Sync,
+{
+    for (asked, want) in rows {
+        is_told(asked_told(rt, asked), *want)?;
     }
+    Ok(())
 }

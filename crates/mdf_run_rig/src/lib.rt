@@ -12,7 +12,7 @@ mod parts;
 mod runs;
 mod table;
 
-pub use asked::Asked;
+pub use asked::{Asked, all_are_told};
 pub use files::{
     COUNTING, EMPTY, FINALIZE, FINALIZE_WORDS, FLAGS, File, MARK, SORT, THREE_TEXTS, bytes_of,
     finalized, finished, recorded, sorted, sorted_from,
@@ -22,4 +22,4 @@ pub use left::{
 };
 pub use parts::{Part, all_stand, changed, put, recording, stands};
 pub use runs::{Ended, Given, asking, disk_with, failing_disk, ran, record};
-pub use table::{Row, all_are_told, is_status, is_told};
+pub use table::{is_status, is_told};

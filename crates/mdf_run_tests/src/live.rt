@@ -1,7 +1,6 @@
 //! What the line `live` of a script adds to what is printed of its recording. The file is the same.
 
-use crate::runs::Recording;
-use mdf_run_rig::all_are_told;
+use crate::runs::{Recording, all_are_recorded};
 use std::test::Fail;
 
 // A script of three samples with a flush after the second; one of two sources; and one with room for one sample alone, of
@@ -48,5 +47,5 @@ const LIVE: &[(Recording, &str)] = &[
 
 #[test]
 fn live_line(rt: HostRuntime) -> Result<(), Fail> {
-    all_are_told(&rt, LIVE)
+    all_are_recorded(&rt, LIVE)
 }

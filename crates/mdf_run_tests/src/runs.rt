@@ -2,7 +2,7 @@
 
 use mdf_num::{Bytes, Memory};
 use mdf_run_rig::{
-    Asked, COUNTING, EMPTY, File, Part, Row, THREE_TEXTS, all_are_told, all_stand, failing_disk,
+    Asked, COUNTING, EMPTY, File, Part, THREE_TEXTS, all_are_told, all_stand, failing_disk,
     is_told, record, record_told, recorded, said,
 };
 use std::alloc::Global;
@@ -262,19 +262,28 @@ pub struct Recording(
     pub &'static [u64],
 );
 
-impl Row for Recording {
-    fn told<R>(&self, rt: &R) -> Result<String, Fail>
-    where
-        R: AllocGlobal + Threads + Wait + Sync,
-    {
-        let out = failing_disk(rt.alloc(), self.2)?;
-        record_told(rt, record(self.0, self.1, self.3), out)
+fn recording_told<R>(rt: &R, row: &Recording) -> Result<String, Fail>
+where
+    R: AllocGlobal + Threads + Wait + Sync,
+{
+    let out = failing_disk(rt.alloc(), row.2)?;
+    record_told(rt, record(row.0, row.1, row.3), out)
+}
+
+/// Fails where the recording of a row is told as another text than the one beside it.
+pub fn all_are_recorded<R>(rt: &R, rows: &[(Recording, &str)]) -> Result<(), Fail>
+where
+    R: AllocGlobal + Threads + Wait + Sync,
+{
+    for (row, want) in rows {
+        is_told(recording_told(rt, row), *want)?;
     }
+    Ok(())
 }
 
 #[test]
 fn a_script_is_recorded(rt: HostRuntime) -> Result<(), Fail> {
-    all_are_told(&rt, RECORDED)
+    all_are_recorded(&rt, RECORDED)
 }
 
 // The blocks of the head of that recording and the names in them, its two blocks of data, and the closed place behind
