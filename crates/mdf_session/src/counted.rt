@@ -157,10 +157,8 @@ pub(crate) fn counts_of(
     ensures count { IfOk result (λ counts. length counts ≡ length groups.now) }
 {
     let mut counts = Rows::empty(alloc);
-    let mut k = 0;
-    while k < groups.len() {
+    for k in 0..groups.len() {
         counts.push(count_at(lists, k))?;
-        k += 1;
     }
     Ok(counts)
 }
@@ -173,15 +171,13 @@ fn values_total_in<P: Span>(span: &mut P, view: &DataView, places: &Places) -> R
     ensures reads { Looks P.Span span.old span.new true result (λ file total. total ≡ values_total (stream_of file view.now) places.now) }
 {
     let mut total = 0u64;
-    let mut row = 0;
     let mut near = 0;
-    while row < places.len() {
+    for row in 0..places.len() {
         let len = view.u32_near(span, place_at(places, row), &mut near)? as u64;
         let Some(sum) = total.checked_add(len) else {
             return Err(Stop::Memory);
         };
         total = sum;
-        row += 1;
     }
     Ok(total)
 }
@@ -237,11 +233,9 @@ pub(crate) fn totals_in<P: Span>(
 {
     let none = Places::empty(alloc);
     let mut totals = Rows::empty(alloc);
-    let mut k = 0;
-    while k < groups.len() {
+    for (k, group) in groups.iter().enumerate() {
         let places = places_or(lists, k, &none);
-        add_total(span, view, &groups[k], places, &mut totals)?;
-        k += 1;
+        add_total(span, view, group, places, &mut totals)?;
     }
     Ok(totals)
 }

@@ -6,7 +6,7 @@ use Rattle.mdf_session.proofs.counted.counts_of.Goals as goal
 pub loop-k-preserved : goal.loop-k-preserved
 loop-k-preserved c = record {
   counts = rw c.in_ok-push.ensures.ok (
-      counts_more c.args.lists.now c.args.groups.now c.loop-k.counts c.loop-k.k c.count_at.result c.loop-k-test.true c.count_at.ensures
+      counts_more c.args.lists.now c.args.groups.now c.loop-k.counts c.loop-k.k c.count_at.result (omega (arith, c.loop-k-test.true)) c.count_at.ensures
       c.loop-k.invariant.counts
       );
   count = rw c.in_ok-push.ensures.ok (
@@ -16,4 +16,4 @@ loop-k-preserved c = record {
 }
 
 pub returns-clause-counts : goal.returns-clause-counts
-returns-clause-counts c = counts_done c.args.lists.now c.args.groups.now c.loop-k.counts c.loop-k.k c.loop-k-test.false c.loop-k.invariant.counts
+returns-clause-counts c = counts_done c.args.lists.now c.args.groups.now c.loop-k.counts c.loop-k.k (omega (arith, c.loop-k-test.false)) c.loop-k.invariant.counts

@@ -1,4 +1,4 @@
-use Rattle.std.proofs.Common.{◌≡◌, ◌-◌, ◌≤◌, ◌++◌, length, drop}
+use Rattle.std.proofs.Common.{◌≡◌, ◌≤◌, ◌++◌, length, drop}
 use Rattle.mdf_session.specs.Counted.{counts_from}
 use Rattle.mdf_session.proofs.counted.counts_of.Given as goal
 
@@ -8,6 +8,3 @@ invariant-loop-k l = record {
   count : length l.counts ≡ l.k;
   within : l.k ≤ length l.groups;
 }
-
-abbrev pub decreases-loop-k : goal.decreases-loop-k
-decreases-loop-k l = length l.groups - l.k

@@ -1,4 +1,4 @@
-use Rattle.std.proofs.Common.{◌≡◌, ◌-◌, ◌≤◌, ◌++◌, ℕ, List, Some, length, drop}
+use Rattle.std.proofs.Common.{◌≡◌, ◌≤◌, ◌++◌, ℕ, List, Some, length, drop}
 use Rattle.mdf_stream.specs.Parts.{stream_of}
 use Rattle.mdf_session.specs.Counted.{totals_from}
 use Rattle.mdf_session.proofs.counted.totals_in.Given as goal
@@ -13,6 +13,3 @@ invariant-loop-k g l = record {
   size : g.P.Span.size l.span ≡ g.P.Span.size l.initial.span;
   later : g.P.Span.faults l.initial.span ≤ g.P.Span.faults l.span;
 }
-
-abbrev pub decreases-loop-k : goal.decreases-loop-k
-decreases-loop-k g l = length l.groups - l.k

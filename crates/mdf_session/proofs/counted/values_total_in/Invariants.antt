@@ -1,4 +1,4 @@
-use Rattle.std.proofs.Common.{◌≡◌, ◌+◌, ◌-◌, ◌≤◌, ℕ, List, Some, length, drop}
+use Rattle.std.proofs.Common.{◌≡◌, ◌+◌, ◌≤◌, ℕ, List, Some, drop}
 use Rattle.mdf_stream.specs.Parts.{stream_of}
 use Rattle.mdf_session.specs.Counted.{values_total}
 use Rattle.mdf_session.proofs.counted.values_total_in.Given as goal
@@ -11,6 +11,3 @@ invariant-loop-row g l = record {
   size : g.P.Span.size l.span ≡ g.P.Span.size l.initial.span;
   later : g.P.Span.faults l.initial.span ≤ g.P.Span.faults l.span;
 }
-
-abbrev pub decreases-loop-row : goal.decreases-loop-row
-decreases-loop-row g l = length l.places - l.row
