@@ -1,6 +1,6 @@
 -- The finalized file of a session, and what is told of it.
 use Rattle.std.specs.Prelude.{ℕ, ◌≡◌, ◌⊎◌, ◌+◌, ◌≤◌, ◌<◌, ◌^◌, if◌then◌else◌, List, [], ◌∷◌, sum_by, Some, Ok, slice_get}
-use Rattle.std.specs.List.{AllByRecursion}
+use Rattle.std.specs.List.{AllByRecursion, zip}
 use Rattle.mdf_block.specs.Draft.{Placed}
 use Rattle.mdf_group.specs.declared.row.GroupRow.{GroupRow}
 use Rattle.mdf_group.specs.declared.row.DataRow.{DataRow}
@@ -61,10 +61,11 @@ abbrev pub group_count : List GroupRow → ℕ
 group_count groups = sum_by (λ (group : GroupRow). counted group 1) groups
 
 -- how many records these have, where each group has so many
-unfoldable pub sample_count : List GroupRow → List ℕ → ℕ
-sample_count [] counts = 0
-sample_count (group ∷ groups) [] = 0
-sample_count (group ∷ groups) (count ∷ counts) = counted group count + sample_count groups counts
+abbrev pub counted_pair : GroupRow × ℕ → ℕ
+counted_pair pair = counted pair.0 pair.1
+
+abbrev pub sample_count : List GroupRow → List ℕ → ℕ
+sample_count groups counts = sum_by counted_pair (zip groups counts)
 
 -- the groups of the first data group
 abbrev pub first_groups : List DataRow → List GroupRow

@@ -38,13 +38,11 @@ fn sample_count(groups: &[GroupRow], counts: &[u64]) -> Result<u64, Memory>
     ensures past { OnErr result (2 ^ 64 ≤ sample_count groups.now counts.now) }
 {
     let mut count = 0u64;
-    let mut k = 0;
-    while k < groups.len() && k < counts.len() {
-        let Some(sum) = count.checked_add(counted(&groups[k], counts[k])) else {
+    for (group, number) in groups.iter().zip(counts) {
+        let Some(sum) = count.checked_add(counted(group, *number)) else {
             return Err(Memory);
         };
         count = sum;
-        k += 1;
     }
     Ok(count)
 }

@@ -1,12 +1,8 @@
-use Rattle.std.proofs.Common.{◌≡◌, ◌+◌, ◌-◌, ◌≤◌, length, drop}
-use Rattle.tool_final.specs.Finalized.{sample_count}
+use Rattle.std.proofs.Common.{◌≡◌, length, take}
+use Rattle.std.specs.Prelude.{sum_by}
+use Rattle.std.specs.List.{zip}
+use Rattle.tool_final.specs.Finalized.{counted_pair}
 use Rattle.tool_final.proofs.report.sample_count.Given as goal
 
-abbrev pub invariant-loop-k : goal.invariant-loop-k
-invariant-loop-k l = record {
-  counted : l.count + sample_count (drop l.k l.groups) (drop l.k l.counts) ≡ sample_count l.groups l.counts;
-  within : l.k ≤ length l.groups;
-}
-
-abbrev pub decreases-loop-k : goal.decreases-loop-k
-decreases-loop-k l = length l.groups - l.k
+abbrev pub invariant-loop-group : goal.invariant-loop-group
+invariant-loop-group l = l.count ≡ sum_by counted_pair (take (length l.yielded) (zip l.groups l.counts))
