@@ -33,9 +33,11 @@ counted_reading now file read =
 
 module _ (old new : DiskState) where
   fault_shown : (problem : Fault) → PagedFaultComes READING_LIMIT (found_kept wants.Values) old new problem → ReadingFaultComes old new problem
-  fault_shown (fault.Read refused) comes =
-      (comes.0, also_read READING_LIMIT old (λ file. Refuses (read_refusal refused) (found_kept wants.Values file)) (IsRefused refused)
-      (λ file refuses. is_refused file refused (kept_refused wants.Values file (read_refusal refused) refuses)) comes.1)
+  fault_shown (fault.Read refused) comes = (
+    comes.0,
+    also_read READING_LIMIT old (λ file. Refuses (read_refusal refused) (found_kept wants.Values file)) (IsRefused refused)
+        (λ file refuses. is_refused file refused (kept_refused wants.Values file (read_refusal refused) refuses)) comes.1,
+  )
   fault_shown problem comes = comes
 
   pub reading_shown : (end : Result WholeFound Fault) → PagedComes READING_LIMIT (found_kept wants.Values) old new end

@@ -65,10 +65,12 @@ fn listing_fault(fault: Fault) -> Fault
     ensures { result ≡ listing_fault fault }
 {
     match fault {
-        Fault::Read(ReadFault::TooMany {
-            what: What::Block,
-            at,
-        }) => Fault::Attached { at },
+        Fault::Read(
+            ReadFault::TooMany {
+                what: What::Block,
+                at,
+            },
+        ) => Fault::Attached { at },
         _ => fault,
     }
 }

@@ -55,10 +55,7 @@ impl Reader for Counted {
         READING_LIMIT
     }
 
-    fn read_in<P: Span>(
-        alloc: Global,
-        span: &mut P,
-    ) -> Result<PagedMeasurement, Halt<ReadFault>> {
+    fn read_in<P: Span>(alloc: Global, span: &mut P) -> Result<PagedMeasurement, Halt<ReadFault>> {
         PagedMeasurement::read_counted(alloc, span)
     }
 }

@@ -187,7 +187,7 @@ module _ (blocks : List Placed) where
       let comment = note_blocks row.comment in
       let texts = name ++ (mime ++ comment) in
       let first = has_whole n next row more has in
-      let is_name : address_of blocks (n + 1) ≡ name_place at row = 
+      let is_name : address_of blocks (n + 1) ≡ name_place at row =
       behind_part n (attachment_own n next row ∷ []) texts first ∙ omega (arith, is, sum_by-cons room_of (attachment_own n next row) []) in
       let words = has_more blocks n (attachment_own n next row) texts first in
       let is_mime : address_of blocks (mime_number n row) ≡ mime_place at row =
