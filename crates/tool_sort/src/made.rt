@@ -16,13 +16,11 @@ fn sample_count(measurement: &Measurement) -> Result<u64, Memory>
 {
     let groups = measurement.groups();
     let mut count = 0u64;
-    let mut i = 0;
-    while i < groups {
+    for i in 0..groups {
         let Some(sum) = count.checked_add(measurement.samples(i)) else {
             return Err(Memory);
         };
         count = sum;
-        i += 1;
     }
     Ok(count)
 }

@@ -42,10 +42,8 @@ fn place_groups(
     ensures fit { OnOk result (AllByRecursion (λ (m : Measure). m.count < 2 ^ 64) measurement.old.groups) }
 {
     let count = measurement.groups();
-    let mut i = 0;
-    while i < count {
+    for i in 0..count {
         place_next(alloc, draft, measurement, i, i + 1 < count)?;
-        i += 1;
     }
     Ok(())
 }

@@ -1,4 +1,4 @@
-use Rattle.std.proofs.Common.{◌≡◌, ◌<◌, ◌^◌, ◌-◌, ◌++◌, length, take, drop}
+use Rattle.std.proofs.Common.{◌≡◌, ◌<◌, ◌^◌, ◌++◌, length, take, drop}
 use Rattle.std.specs.List.{AllByRecursion}
 use Rattle.mdf_model.specs.declared.part.Measure.{Measure}
 use Rattle.tool_sort.specs.Sorted.{measures_blocks}
@@ -12,6 +12,3 @@ invariant-loop-i l = record {
   fit : AllByRecursion (λ (m : Measure). m.count < 2 ^ 64) (take l.i l.initial.measurement.groups);
   rest : drop l.i l.measurement.groups ≡ drop l.i l.initial.measurement.groups;
 }
-
-abbrev pub decreases-loop-i : goal.decreases-loop-i
-decreases-loop-i l = l.count - l.i
