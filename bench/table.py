@@ -7,7 +7,7 @@ The first table has for each command, of an input and of one ten times as large,
 that prints the same lines and makes the same file with the same calls, and their ratio; for `sort`, `cut`, `concat`, `check` and `info` it
 has two twins, one that goes over the records once and one that goes over them byte by byte (`sort`, `cut` and `concat`: once for each
 group). Of the larger input it has the system calls of both (strace, if it is there) and the most memory that both held. The second table
-has the instructions for inputs in which one thing is ten and a hundred times as many.
+has the instructions and calls for inputs in which one thing is ten times as many.
 
 The program is the one that was built (MDF4REC_PROVE=1 ./mdf4rec), or the one that the variable PROGRAM names. It is run by hand and is no
 part of the gate. It needs python3, valgrind, a C compiler and 2 GB of memory, and works in a folder of its own under out/. Each twin's lines and
@@ -196,13 +196,12 @@ def beside_c(bench, row):
 def growth(bench, row):
     """The cells of a row of the second table."""
     counts, calls = [], []
-    for size in (row.size, 10 * row.size, 100 * row.size):
+    for size in (row.size, 10 * row.size):
         bench.input_of(row, size)
         bench.run(row, bench.command(row.ours, size))
         counts.append(bench.instructions(row, row.ours, size))
         calls.append(bench.calls(row, row.ours, size))
-    steps = ", ".join(f"{b / a:.1f}" for a, b in zip(counts, counts[1:]))
-    return [millions(counts), steps, " / ".join(str(count) for count in calls)]
+    return [millions(counts), f"{counts[1] / counts[0]:.1f}", " / ".join(str(count) for count in calls)]
 
 
 def main():
@@ -218,7 +217,7 @@ def main():
         if rows and grown:
             print()
         if grown:
-            heading("command", "what grows", "bytes, times 1, 10, 100", "ours, M", "growth", "calls")
+            heading("command", "what grows", "bytes, ten times", "ours, M", "growth", "calls")
         for row in grown:
             line(f"`{row.name}`", row.what, f"{row.size:,}", *growth(bench, row))
 
