@@ -1,18 +1,21 @@
 -- What an append does to a file at rest, on a disk that may tell its content and its story.
 use Rattle.std.proofs.Common.{◌≡◌, inl, ⊎_elim, ℕ, ◌+◌, ◌%◌, ◌^◌, ◌≤◌, ◌<◌, List, [], ◌∷◌, ◌++◌, length, take, Option, Some, None, is_some, Result, Ok, Err, refl, sym, ◌∙◌, ap, subst, arith}
 use Rattle.std.specs.Prelude.{IfSome, OnOk}
+use Rattle.std.specs.Option.{option_map}
 use Rattle.std.proofs.lemmas.List.{take_at}
 use Rattle.std.proofs.lemmas.Option.{same_Some}
 use mathlib.Core.List.{IsPrefix}
-use Rattle.mdf_format.specs.Number.{aligned}
-use Rattle.mdf_format.specs.Recording.{AreUnits}
 use Rattle.mdf_disk.specs.Story.{Moment, Story, MayLeave, Agrees, LeftInOne, LeftSince, settled}
 use Rattle.mdf_disk.specs.Crash.{Adds, HoldsSince}
 use Rattle.mdf_disk.proofs.Crash.{adds_more, now_more, settled_leaves}
 use Rattle.mdf_seal.specs.Seal.{IsKept, synced}
-use Rattle.mdf_gate.specs.Gated.{Rests, RestsOn, room_of, payload_of}
+use Rattle.mdf_form.specs.Form.{form_of}
+use Rattle.mdf_gate.specs.Unit.{AreUnits}
+use Rattle.mdf_gate.specs.Written.{opened_at, payload_of, room_of}
+use Rattle.mdf_gate.specs.Gated.{Rests, RestsOn}
 use Rattle.mdf_gate.specs.Images.{head_of, Opens, OpensEither, IsStage, IsStaged}
-use Rattle.mdf_gate.proofs.Resting.{rests_after, rests_opens, stage_opens, length-head}
+use Rattle.mdf_form.specs.declared.form.Form.{Form}
+use Rattle.mdf_gate.proofs.Resting.{rests_after, rests_opens, stage_opens, still_form, length-head}
 
 -- a file that is kept is at rest where its bytes are
 pub kept_rests : (content : Option (List ℕ)) (story : Option Story) (first : ℕ) (blocks : List (List ℕ)) (place : ℕ) (file : List ℕ) → IsKept content story file
@@ -50,41 +53,49 @@ staged_after old new None clock first blocks place payload agrees rests staged =
 staged_after old new (Some file) clock first blocks place payload agrees rests staged =
     staged file (rests_kept old file clock first blocks place agrees rests) rests.rests.ends
 
-pub next_is : (place count : ℕ) → place % 8 ≡ 0 → place + room_of count ≡ aligned (place + 24 + count)
-next_is place count on_eight = omega (arith, on_eight)
+-- a file whose content is told is of this form
+abbrev IsOfForm : Option (List ℕ) → Form → Type 0
+IsOfForm content form = IfSome content (λ file. form_of file ≡ form)
 
--- the file is at rest with the block too
-pub rests_on_after : (E : Type 0) (result : Result Unit E) (old new : Option Story) (content after : Option (List ℕ)) (clock first : ℕ) (blocks : List (List ℕ)) (place : ℕ) (body : List ℕ)
-    → Agrees old content clock → RestsOn content old first blocks place → place % 8 ≡ 0 → 24 + length body < 2 ^ 64
+-- the file is at rest with the unit of the block too
+pub rests_on_after : (E : Type 0) (result : Result Unit E) (old new : Option Story) (content after : Option (List ℕ)) (clock first : ℕ) (blocks : List (List ℕ)) (place : ℕ) (form : Form) (offset : ℕ) (body : List ℕ)
+    → Agrees old content clock → RestsOn content old first blocks place → IsOfForm content form → place % 8 ≡ 0 → place + length body + 88 < 2 ^ 64
     → is_some after ≡ is_some content → is_some new ≡ is_some old
-    → ((kept : List ℕ) → IsKept content old kept → length kept ≡ place + 1 → OnOk result (IsKept after new (take place kept ++ 35 ∷ payload_of body)))
-    → OnOk result (RestsOn after new first (blocks ++ body ∷ []) (aligned (place + 24 + length body)))
-rests_on_after E (Err e) old new content after clock first blocks place body agrees rests on_eight small told_content told ok = tt
-rests_on_after E (Ok done) old new (Some file) after clock first blocks place body agrees rests on_eight small told_content told ok =
-    let next = next_is place (length body) on_eight in
+    → ((kept : List ℕ) → IsKept content old kept → length kept ≡ place + 1 → OnOk result (IsKept after new (take place kept ++ 35 ∷ payload_of form place offset body)))
+    → OnOk result (RestsOn after new first (blocks ++ body ∷ []) (place + room_of form (length body)))
+rests_on_after E (Err e) old new content after clock first blocks place form offset body agrees rests is on_eight small told_content told ok = tt
+rests_on_after E (Ok done) old new (Some file) after clock first blocks place form offset body agrees rests is on_eight small told_content told ok =
     let kept = ok file (rests_kept old file clock first blocks place agrees rests) rests.rests.ends in
-    subst (RestsOn after new first (blocks ++ body ∷ [])) next
-    (kept_rests after new first (blocks ++ body ∷ []) (place + room_of (length body)) _ kept (rests_after first blocks place file rests.rests body on_eight small))
-rests_on_after E (Ok done) (Some s) new None after clock first blocks place body agrees rests on_eight small told_content told ok = absurd (cc agrees.content_is)
-rests_on_after E (Ok done) None None None None clock first blocks place body agrees rests on_eight small told_content told ok = record { rests = tt; kept = tt }
-rests_on_after E (Ok done) None (Some s) None after clock first blocks place body agrees rests on_eight small told_content told ok = absurd (cc told)
-rests_on_after E (Ok done) None None None (Some file) clock first blocks place body agrees rests on_eight small told_content told ok = absurd (cc told_content)
+    kept_rests after new first (blocks ++ body ∷ []) (place + room_of form (length body)) _ kept (rests_after first blocks place file rests.rests form is offset body on_eight small)
+rests_on_after E (Ok done) (Some s) new None after clock first blocks place form offset body agrees rests is on_eight small told_content told ok = absurd (cc agrees.content_is)
+rests_on_after E (Ok done) None None None None clock first blocks place form offset body agrees rests is on_eight small told_content told ok = record { rests = tt; kept = tt }
+rests_on_after E (Ok done) None (Some s) None after clock first blocks place form offset body agrees rests is on_eight small told_content told ok = absurd (cc told)
+rests_on_after E (Ok done) None None None (Some file) clock first blocks place form offset body agrees rests is on_eight small told_content told ok = absurd (cc told_content)
+
+-- and of the same form
+pub form_on_after : (E : Type 0) (result : Result Unit E) (story : Option Story) (content after : Option (List ℕ)) (first : ℕ) (blocks : List (List ℕ)) (place : ℕ) (form : Form) (offset : ℕ) (body : List ℕ)
+    → RestsOn content story first blocks place → IsOfForm content form
+    → OnOk result (after ≡ option_map (opened_at place (payload_of form place offset body)) content) → OnOk result (IsOfForm after form)
+form_on_after E (Err e) story content after first blocks place form offset body rests is written = tt
+form_on_after E (Ok done) story None after first blocks place form offset body rests is written =
+    subst (λ (c : Option (List ℕ)). IsOfForm c form) (sym written) tt
+form_on_after E (Ok done) story (Some file) after first blocks place form offset body rests is written =
+    subst (λ (c : Option (List ℕ)). IsOfForm c form) (sym written) (still_form first blocks place file rests.rests (35 ∷ payload_of form place offset body) ∙ is)
 
 -- no file joins but those with the blocks, or with the block too
-pub adds_after : (old new : Option Story) (content : Option (List ℕ)) (clock first : ℕ) (blocks : List (List ℕ)) (place : ℕ) (body : List ℕ)
-    → Agrees old content clock → RestsOn content old first blocks place → place % 8 ≡ 0 → 24 + length body < 2 ^ 64 → is_some new ≡ is_some old
-    → ((kept : List ℕ) → IsKept content old kept → length kept ≡ place + 1 → Adds old new (IsStage place kept (payload_of body)))
-    → Adds old new (OpensEither (head_of old first) blocks body (aligned (place + 24 + length body)))
-adds_after None None content clock first blocks place body agrees rests on_eight small told adds = λ t file left. inl left
-adds_after None (Some s) content clock first blocks place body agrees rests on_eight small told adds = absurd (cc told)
-adds_after (Some s) new None clock first blocks place body agrees rests on_eight small told adds = absurd (cc agrees.content_is)
-adds_after (Some s) new (Some file) clock first blocks place body agrees rests on_eight small told adds =
-    let is : file ≡ s.now.content = same_Some _ _ agrees.content_is in
-    subst (λ (bytes : List ℕ). Adds (Some s) new (OpensEither (take first bytes) blocks body (aligned (place + 24 + length body)))) is
-    (subst (λ (last : ℕ). Adds (Some s) new (OpensEither (take first file) blocks body last)) (next_is place (length body) on_eight)
-    (adds_more (Some s) new (IsStage place file (payload_of body)) (OpensEither (take first file) blocks body (place + room_of (length body)))
-    (stage_opens first blocks place file rests.rests body on_eight small)
-    (adds file (rests_kept (Some s) file clock first blocks place agrees rests) rests.rests.ends)))
+pub adds_after : (old new : Option Story) (content : Option (List ℕ)) (clock first : ℕ) (blocks : List (List ℕ)) (place : ℕ) (form : Form) (offset : ℕ) (body : List ℕ)
+    → Agrees old content clock → RestsOn content old first blocks place → IsOfForm content form → place % 8 ≡ 0 → place + length body + 88 < 2 ^ 64 → is_some new ≡ is_some old
+    → ((kept : List ℕ) → IsKept content old kept → length kept ≡ place + 1 → Adds old new (IsStage place kept (payload_of form place offset body)))
+    → Adds old new (OpensEither (head_of old first) blocks body (place + room_of form (length body)))
+adds_after None None content clock first blocks place form offset body agrees rests is on_eight small told adds = λ t file left. inl left
+adds_after None (Some s) content clock first blocks place form offset body agrees rests is on_eight small told adds = absurd (cc told)
+adds_after (Some s) new None clock first blocks place form offset body agrees rests is on_eight small told adds = absurd (cc agrees.content_is)
+adds_after (Some s) new (Some file) clock first blocks place form offset body agrees rests is on_eight small told adds =
+    let same : file ≡ s.now.content = same_Some _ _ agrees.content_is in
+    subst (λ (bytes : List ℕ). Adds (Some s) new (OpensEither (take first bytes) blocks body (place + room_of form (length body)))) same
+    (adds_more (Some s) new (IsStage place file (payload_of form place offset body)) (OpensEither (take first file) blocks body (place + room_of form (length body)))
+    (stage_opens first blocks place file rests.rests form is offset body on_eight small)
+    (adds file (rests_kept (Some s) file clock first blocks place agrees rests) rests.rests.ends))
 
 -- no moment is as late as the present one
 pub none_later : (past : List Moment) (t : ℕ) (file : List ℕ) → length past ≤ t → LeftInOne past t file → ⊥

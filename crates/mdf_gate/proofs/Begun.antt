@@ -1,8 +1,9 @@
 -- What a crash may leave while a head is written under a seal.
 use Rattle.std.proofs.Common.{◌≡◌, inl, inr, ⊎_elim, ℕ, ◌+◌, ◌≤◌, ◌<◌, List, [], ◌∷◌, ◌++◌, length, take, drop, get_or, codes, Option, Some, None, is_some, sym, ◌∙◌, ap, subst, arith, length-append}
-use Rattle.std.proofs.lemmas.List.{take_at, drop_more, get_or-drop, get_or_append_left}
+use Rattle.std.proofs.lemmas.List.{take_all, take_at, drop_more, get_or-drop, get_or_append_left}
 use Rattle.std.proofs.lemmas.Bool.{cases_eq}
 use Rattle.mdf_seal.specs.Images.{IsClosed, IsWholeButFirst}
+use Rattle.mdf_form.specs.Form.{form_of}
 use Rattle.mdf_gate.specs.Gated.{IsRecordingHead}
 use Rattle.mdf_disk.specs.Story.{Moment, Story, MayLeave, Agrees, LeftSince, settled}
 use Rattle.mdf_disk.specs.Crash.{Adds, NowHas, HoldsSince}
@@ -12,6 +13,7 @@ use Rattle.std.specs.Prelude.{IfSome}
 use Rattle.mdf_seal.proofs.Marks.{in_mark, closed_unmarked}
 use Rattle.mdf_gate.specs.Images.{IsBegun, Opens, head_of}
 use Rattle.mdf_gate.proofs.Appends.{none_later}
+use Rattle.mdf_gate.proofs.Fronts.{form_stays}
 use Rattle.mdf_gate.proofs.Resting.{rests_opens, head_rests}
 
 pub short_begun : (head file : List ℕ) → length file ≤ 1 → IsBegun head file
@@ -85,6 +87,16 @@ pub kept_head : (head : List ℕ) (content : Option (List ℕ)) (story : Option 
 kept_head head content None kept = tt
 kept_head head content (Some s) kept =
     ap (λ (m : Moment). take (length head) m.content) kept.kept ∙ take_at head (0 ∷ []) (length head) (omega arith)
+
+-- its form is that of the head
+pub kept_form : (head : List ℕ) (content : Option (List ℕ)) (story : Option Story) → IsRecordingHead head → IsKept content story (head ++ 0 ∷ [])
+    → IfSome content (λ file. form_of file ≡ form_of head)
+kept_form head None story recording kept = tt
+kept_form head (Some file) story recording kept =
+    ap form_of kept.whole ∙ form_stays head (head ++ 0 ∷ []) (record {
+      same = take_all (length head) head (omega arith) ∙ sym (take_at head (0 ∷ []) (length head) (omega arith));
+      long = omega (arith, length-append head (0 ∷ []));
+    }) recording.recording
 
 -- how far the clock rises, where the story is told: in one call, and in one more
 pub rises_more : (story : Option Story) (before now few most : ℕ) → few ≤ most → IfSome story (λ s. now ≤ before + few) → IfSome story (λ s. now ≤ before + most)

@@ -3,11 +3,15 @@ use Rattle.std.proofs.Common.{◌≡◌, inr, ℕ, ◌+◌, ◌*◌, ◌≤◌, 
 use Rattle.mdf_format.specs.Number.{le_number, bytes_at}
 use Rattle.mdf_format.specs.Block.{IsBlock, least_body, size_at, links_at, link_at, header_size, body_size, body_at}
 use Rattle.mdf_format.specs.Identification.{version_of, custom_flags}
-use Rattle.mdf_format.specs.Recording.{AreUnits, next_place}
 use Rattle.mdf_format.specs.declared.kind.Kind.{Kind}
-use Rattle.mdf_format.specs.declared.kind.Kind.TheVariants.{Hd, Dg, Dt}
+use Rattle.mdf_format.specs.declared.kind.Kind.TheVariants.{Hd, Dg, Dl, Dt}
 use Rattle.mdf_block.proofs.Parts.{bytes_at-bytes_at}
+use Rattle.mdf_form.specs.Form.{NamesForm, form_named, form_of}
+use Rattle.mdf_form.specs.Form.{lead}
+use Rattle.mdf_gate.specs.Unit.{block_place, AreUnits, IsLed, IsLinkedOn, IsUnit, next_place, unit_data}
 use Rattle.mdf_gate.specs.Recording.{HEADER, first_group, first_place, IsPlace, IsRecording}
+use Rattle.mdf_form.specs.declared.form.Form.{Form}
+use Rattle.mdf_form.specs.declared.form.Form.TheVariants.{Bare, Listed}
 
 -- the first n bytes of one file are those of another
 pub record AgreeTo (n : ℕ) (one other : List ℕ) : Type 0 where
@@ -21,10 +25,10 @@ in_front n file count at within =
     bytes_at-bytes_at count n at 0 file within ∙ ap (bytes_at count file) from_start
 
 -- a run of units goes up
-pub units_rise : (file : List ℕ) (place : ℕ) (bodies : List (List ℕ)) (last : ℕ) → AreUnits file place bodies last → place ≤ last
+pub units_rise : (form : Form) (file : List ℕ) (place : ℕ) (bodies : List (List ℕ)) (last : ℕ) → AreUnits form file place bodies last → place ≤ last
 unfolding AreUnits
-units_rise file place [] last are = omega (arith, are)
-units_rise file place (body ∷ bodies) last are = omega (arith, units_rise file (next_place file place) bodies last are.2)
+units_rise form file place [] last are = omega (arith, are)
+units_rise form file place (body ∷ bodies) last are = omega (arith, units_rise form file (next_place form file place) bodies last are.2)
 
 module _ (n : ℕ) (one other : List ℕ) (agree : AgreeTo n one other) where
   pub bytes_stay : (count at : ℕ) → at + count ≤ n → bytes_at count other at ≡ bytes_at count one at
@@ -65,16 +69,50 @@ module _ (n : ℕ) (one other : List ℕ) (agree : AgreeTo n one other) where
       filled = omega (arith, block.filled, size_of_body, ap (least_body kind) body_stays);
     }
 
-  pub units_stay : (place : ℕ) (bodies : List (List ℕ)) (last : ℕ) → AreUnits one place bodies last → last ≤ n → AreUnits other place bodies last
+  -- the list block of a unit, its data block, and the link to the place behind
+  led_stays : (form : Form) (place : ℕ) → IsLed form one place → place + lead form ≤ n → IsLed form other place
+  led_stays Bare place led within = tt
+  led_stays Listed place led within =
+      let inside : place + size_at one place ≤ n = omega (arith, led.size, within) in record {
+        block = block_stays place Dl led.block inside;
+        size = size_stays place Dl led.block inside ∙ led.size;
+        links = links_stay place Dl led.block inside ∙ led.links;
+        names = link_stays place Dl led.block inside 1 (omega (arith, led.links)) ∙ led.names;
+      }
+
+  linked_stays : (form : Form) (place : ℕ) → IsLed form one place → place + lead form ≤ n → next_place form other place ≡ next_place form one place
+      → IsLinkedOn form one place → IsLinkedOn form other place
+  linked_stays Bare place led within same linked = tt
+  linked_stays Listed place led within same linked =
+      let inside : place + size_at one place ≤ n = omega (arith, led.size, within) in
+      link_stays place Dl led.block inside 0 (omega (arith, led.links)) ∙ linked ∙ sym same
+
+  module _ (form : Form) (place : ℕ) (unit : IsUnit form one place) (within : next_place form one place ≤ n) where
+    unit_within : block_place form place + size_at one (block_place form place) ≤ n
+    unit_within = omega (arith, within)
+
+    next_stays : next_place form other place ≡ next_place form one place
+    next_stays = omega (arith, size_stays (block_place form place) Dt unit.block unit_within)
+
+    unit_stays : IsUnit form other place
+    unit_stays = record {
+      led = led_stays form place unit.led (omega (arith, unit_within));
+      block = block_stays (block_place form place) Dt unit.block unit_within;
+      linked = linked_stays form place unit.led (omega (arith, unit_within)) next_stays unit.linked;
+    }
+
+    data_stay : unit_data form other place ≡ unit_data form one place
+    data_stay = body_stays (block_place form place) Dt unit.block unit_within
+
+  pub units_stay : (form : Form) (place : ℕ) (bodies : List (List ℕ)) (last : ℕ) → AreUnits form one place bodies last → last ≤ n → AreUnits form other place bodies last
   unfolding AreUnits
-  units_stay place [] last are within = are
-  units_stay place (body ∷ bodies) last are within =
-      let rise = units_rise one (next_place one place) bodies last are.2 in
-      let inside : place + size_at one place ≤ n = omega (arith, rise, within) in
-      let size = size_stays place Dt are.0 inside in (
-        block_stays place Dt are.0 inside,
-        are.1 ∙ sym (body_stays place Dt are.0 inside),
-        subst (λ (p : ℕ). AreUnits other p bodies last) (omega (arith, size)) (units_stay (next_place one place) bodies last are.2 within),
+  units_stay form place [] last are within = are
+  units_stay form place (body ∷ bodies) last are within =
+      let rise = units_rise form one (next_place form one place) bodies last are.2 in
+      let inside : next_place form one place ≤ n = omega (arith, rise, within) in (
+        unit_stays form place are.0 inside,
+        are.1 ∙ sym (data_stay form place are.0 inside),
+        subst (λ (p : ℕ). AreUnits form other p bodies last) (sym (next_stays form place are.0 inside)) (units_stay form (next_place form one place) bodies last are.2 within),
       )
 
 -- what stands behind a recording leaves it one, with the same first place
@@ -105,6 +143,9 @@ module _ (head other : List ℕ) (agree : AgreeTo (length head) head other) (rec
   custom_stays : custom_flags other ≡ custom_flags head
   custom_stays = ap le_number (bytes_stay (length head) head other agree 2 62 (omega (arith, long)))
 
+  pub form_stays : form_of other ≡ form_of head
+  form_stays = ap form_named custom_stays
+
   pub recording_stays : IsRecording other
   recording_stays = record {
     identified = record { long = omega (arith, long, agree.long); marked = inr (mark_stays ∙ recording.form.unfinalized) };
@@ -112,7 +153,7 @@ module _ (head other : List ℕ) (agree : AgreeTo (length head) head other) (rec
       not_below = omega (arith, version_stays, recording.version.not_below);
       not_above = omega (arith, version_stays, recording.version.not_above);
     };
-    form = record { unfinalized = mark_stays ∙ recording.form.unfinalized; custom = custom_stays ∙ recording.form.custom };
+    form = record { unfinalized = mark_stays ∙ recording.form.unfinalized; custom = subst NamesForm (sym custom_stays) recording.form.custom };
     header = block_stays (length head) head other agree HEADER Hd recording.header header_within;
     group = subst (λ (at : ℕ). IsBlock other at Dg) (sym group_stays) (block_stays (length head) head other agree (first_group head) Dg recording.group group_within);
     place = subst IsPlace (sym place_stays) recording.place;

@@ -7,7 +7,7 @@ use Rattle.mdf_format.specs.Number.{patched}
 use Rattle.mdf_disk.specs.Story.{Moment, Story, settled}
 use Rattle.mdf_disk.specs.Crash.{NowHas}
 use Rattle.mdf_seal.specs.Seal.{synced}
-use Rattle.mdf_gate.specs.Gated.{opened_at}
+use Rattle.mdf_gate.specs.Written.{opened_at}
 use Rattle.mdf_gate.specs.Images.{IsTorn, IsStage, IsStaged}
 use Rattle.mdf_gate.proofs.Left.{left_behind, left_one, patched_gate}
 

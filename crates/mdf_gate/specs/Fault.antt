@@ -1,14 +1,16 @@
 -- Why a file has no opened blocks. What makes a file a recording is looked at in order: the identification, the version,
 -- the form, the header, the first data group, the data link of that, and then each place. The first that fails is told.
 use Rattle.std.specs.Prelude.{ℕ, ◌≡◌, ◌⊎◌, List}
-use Rattle.mdf_format.specs.Identification.{IsMdf, HasReadVersion, IsInRecordingForm, version_of, standard_flags, custom_flags}
+use Rattle.mdf_format.specs.Identification.{IsMdf, HasReadVersion, version_of, standard_flags, custom_flags}
 use Rattle.mdf_format.specs.Block.{IsBlock}
-use Rattle.mdf_format.specs.Recording.{IsOpenPlace, IsUnit, AreUnits}
 use Rattle.mdf_format.specs.declared.kind.Kind.{Kind}
-use Rattle.mdf_format.specs.declared.kind.Kind.TheVariants.{Hd, Dg, Dt}
+use Rattle.mdf_format.specs.declared.kind.Kind.TheVariants.{Hd, Dg, Dl, Dt}
 use Rattle.mdf_head.specs.declared.fault.IdentFault.{IdentFault}
 use Rattle.mdf_head.specs.declared.fault.IdentFault.TheVariants as ident
+use Rattle.mdf_form.specs.Form.{IsInRecordingForm, form_of}
 use Rattle.mdf_gate.specs.Recording.{HEADER, first_group, first_place, IsPlace, IsRecording}
+use Rattle.mdf_gate.specs.Unit.{block_place, AreUnits, IsLed, IsLinkedOn, IsOpenPlace}
+use Rattle.mdf_form.specs.declared.form.Form.{Form}
 use Rattle.mdf_gate.specs.declared.answer.GateFault.{GateFault}
 use Rattle.mdf_gate.specs.declared.answer.GateFault.TheVariants.{NotMdf, Version, NotRecording, Bad}
 
@@ -42,18 +44,44 @@ pub record LacksPlace (file : List ℕ) (at : ℕ) (want : Kind) : Type 0 where
   pub kind : want ≡ Dt
   pub none : ¬ IsPlace (first_place file)
 
--- units stand from a place on up to this one, which is open and has no unit
-pub record IsStuck (file : List ℕ) (first place : ℕ) : Type 0 where
+-- no list block stands at the place, where the form has one
+pub record LacksList (form : Form) (file : List ℕ) (place at : ℕ) (want : Kind) : Type 0 where
+  pub at_place : at ≡ place
+  pub kind : want ≡ Dl
+  pub none : ¬ IsLed form file place
+
+-- no data block stands behind it
+pub record LacksData (form : Form) (file : List ℕ) (place at : ℕ) (want : Kind) : Type 0 where
+  pub led : IsLed form file place
+  pub at_block : at ≡ block_place form place
+  pub kind : want ≡ Dt
+  pub none : ¬ IsBlock file (block_place form place) Dt
+
+-- the list block does not name the place behind the unit
+pub record LacksLink (form : Form) (file : List ℕ) (place at : ℕ) (want : Kind) : Type 0 where
+  pub led : IsLed form file place
+  pub block : IsBlock file (block_place form place) Dt
+  pub at_place : at ≡ place
+  pub kind : want ≡ Dl
+  pub none : ¬ IsLinkedOn form file place
+
+-- why no unit stands at the place, in this order
+abbrev pub HasNoUnit : Form → List ℕ → ℕ → ℕ → Kind → Type 0
+HasNoUnit form file place at want =
+    LacksList form file place at want ⊎ LacksData form file place at want ⊎ LacksLink form file place at want
+
+-- units stand from a place on up to this one, which is open
+pub record IsReached (form : Form) (file : List ℕ) (first place : ℕ) : Type 0 where
   pub bodies : List (List ℕ)
-  pub units : AreUnits file first bodies place
+  pub units : AreUnits form file first bodies place
   pub is_open : IsOpenPlace file place
-  pub none : ¬ IsUnit file place
 
 -- no unit stands at an open place
 pub record LacksUnit (file : List ℕ) (at : ℕ) (want : Kind) : Type 0 where
   pub recording : IsRecording file
-  pub stuck : IsStuck file (first_place file) at
-  pub kind : want ≡ Dt
+  pub place : ℕ
+  pub reached : IsReached (form_of file) file (first_place file) place
+  pub unit : HasNoUnit (form_of file) file place at want
 
 abbrev pub LacksBlock : List ℕ → ℕ → Kind → Type 0
 LacksBlock file at want =

@@ -1,3 +1,6 @@
+pub mod Unit
+pub mod Chain
+pub mod Written
 pub mod Recording
 pub mod Opened
 pub mod Scan

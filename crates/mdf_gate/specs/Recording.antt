@@ -1,9 +1,10 @@
 -- A recording, and its opened blocks.
 use Rattle.std.specs.Prelude.{ℕ, ◌≡◌, ◌≢◌, ◌%◌, List}
-use Rattle.mdf_format.specs.Identification.{IsMdf, HasReadVersion, IsInRecordingForm}
+use Rattle.mdf_format.specs.Identification.{IsMdf, HasReadVersion}
 use Rattle.mdf_format.specs.Block.{IsBlock, link_at}
-use Rattle.mdf_format.specs.Recording.{AreUnits, IsOpenPlace}
 use Rattle.mdf_format.specs.declared.kind.Kind.TheVariants.{Hd, Dg}
+use Rattle.mdf_form.specs.Form.{IsInRecordingForm, form_of}
+use Rattle.mdf_gate.specs.Unit.{AreUnits, IsOpenPlace}
 
 -- the address of the header (HDBLOCK)
 abbrev pub HEADER : ℕ
@@ -31,10 +32,11 @@ pub record IsRecording (file : List ℕ) : Type 0 where
   pub group : IsBlock file (first_group file) Dg
   pub place : IsPlace (first_place file)
 
--- The recording has these opened blocks, and its last place is the one behind them, which is closed.
+-- The recording has these opened blocks: they are the data of the units of its form from the first place on, and its last
+-- place is the one behind them, which is closed.
 pub record IsOpenedTo (file : List ℕ) (blocks : List (List ℕ)) (last : ℕ) : Type 0 where
   pub recording : IsRecording file
-  pub units : AreUnits file (first_place file) blocks last
+  pub units : AreUnits (form_of file) file (first_place file) blocks last
   pub closed : ¬ IsOpenPlace file last
 
 -- the opened blocks of a recording; a file that is none, or has no unit at an open place, has none

@@ -1,4 +1,4 @@
-ghost use Rattle.std.specs.Prelude.{◌≡◌, ◌+◌, ◌≤◌, ◌<◌, ◌^◌, ◌↔◌, ℕ, List, [], ◌∷◌, ◌++◌, length, take, true, is_some, All, IsTrue, IfSome, IfOk, OnOk, OnErr};
+ghost use Rattle.std.specs.Prelude.{◌≡◌, ◌+◌, ◌-◌, ◌≤◌, ◌<◌, ◌^◌, ◌↔◌, ℕ, List, [], ◌∷◌, ◌++◌, length, take, drop, true, is_some, All, IsTrue, IfSome, IfOk, OnOk, OnErr};
 ghost use Rattle.std.specs.Option.{option_map};
 ghost use Rattle.mdf_format.specs.Number.{bytes_at, patched};
 ghost use Rattle.mdf_format.specs.Cause.{HasCause};
@@ -10,25 +10,33 @@ ghost use Rattle.mdf_layout.specs.Behind.{first_id, IsEncodingBehind};
 ghost use Rattle.mdf_layout.specs.Next.{AreNext};
 ghost use Rattle.mdf_layout.specs.declared.sample.Sample.{Sample};
 ghost use Rattle.mdf_seal.specs.Seal.{IsKept, synced};
-ghost use Rattle.mdf_gate.specs.Gated.{header_of, room_of, payload_of, opened_at};
+ghost use Rattle.mdf_form.specs.Form.{lead};
+ghost use Rattle.mdf_gate.specs.Written.{block_header, lead_bytes, list_block, opened_at, payload_of, room_of};
 ghost use Rattle.mdf_gate.specs.Images.{IsStage, IsStaged};
 
 use crate::stage::write_block;
 use mdf_disk::Disk;
+use mdf_form::Form;
 use mdf_layout::{NextValues, Sample, Shapes};
 use mdf_num::{Failed, Memory, align8, put_u64};
 use std::alloc::Global;
 use std::marker::Model;
 
-/// How many bytes of a header follow its first one.
+/// How many bytes of a list block follow its first one, and the first byte of the data block behind it.
+const LEAD: usize = 56;
+
+/// How many bytes of the header of a data block follow its first one.
 const HEADER: usize = 23;
+
+/// Where the data stand in a buffer.
+const DATA: usize = LEAD + HEADER;
 
 /// How many bytes at most follow the data, up to the next multiple of 8 and on it.
 const BEHIND: usize = 8;
 
-/// The buffer of a data block (DTBLOCK): the data of at most `limit` bytes, with room before them for the 23 bytes of
-/// the header that follow its first, and behind them for the 1 to 8 zero bytes up to the next place and on it. It is
-/// reserved once.
+/// The buffer of a unit: the data of at most `limit` bytes of its data block (DTBLOCK), with room before them for what
+/// follows the first byte of the unit in either form, a list block (DLBLOCK) and the header of the data block, and behind
+/// them for the 1 to 8 zero bytes up to the next place and on it. It is reserved once.
 #[derive(Debug, Drop)]
 pub struct Block {
     limit: u32,
@@ -37,15 +45,15 @@ pub struct Block {
 }
 
 impl Model for Block {
-    ghost use Rattle.std.specs.Prelude.{◌≡◌, ◌+◌, ◌≤◌, length};
+    ghost use Rattle.std.specs.Prelude.{◌≡◌, ◌+◌, ◌-◌, ◌≤◌, length};
     ghost use Rattle.mdf_gate.specs.Gated.{Buffered};
     ghost use Rattle.mdf_format.specs.Number.{bytes_at};
 
     ghost Value = { Buffered };
 
-    ghost view = { λ b. record { limit = b.limit; bytes = bytes_at b.used b.bytes.items 23 } };
+    ghost view = { λ b. record { limit = b.limit; bytes = bytes_at b.used b.bytes.items 79 } };
 
-    ghost invariant = { λ b. (b.used ≤ b.limit) × (length b.bytes.items ≡ b.limit + 31) };
+    ghost invariant = { λ b. (b.used ≤ b.limit) × (length b.bytes.items ≡ b.limit + 87) };
 }
 
 /// Writes bytes over those from a place on.
@@ -56,25 +64,57 @@ fn put(bytes: &mut [u8], at: usize, part: &[u8])
     bytes[at..at + part.len()].copy_from_slice(part);
 }
 
-/// Writes the header but for its first byte: `#DT`, 4 reserved bytes, the length of the block and no links.
+/// Writes the header of a data block but for its first byte: `#DT`, 4 reserved bytes, the length of the block and no links.
 fn put_header(bytes: &mut [u8], count: u32)
-    requires { 23 ≤ length bytes.old }
-    ensures { bytes.new ≡ patched 0 (header_of count) bytes.old }
+    requires { 79 ≤ length bytes.old }
+    ensures { bytes.new ≡ patched 56 (drop 1 (block_header count)) bytes.old }
 {
-    put(bytes, 0, b"#DT\0\0\0\0");
-    put_u64(bytes, 7, 24 + u64::from(count));
-    put_u64(bytes, 15, 0);
+    put(bytes, LEAD, b"#DT\0\0\0\0");
+    put_u64(bytes, LEAD + 7, 24 + u64::from(count));
+    put_u64(bytes, LEAD + 15, 0);
 }
 
-/// Writes the header before so many bytes of data and zero bytes behind them. The data stay.
-fn frame(bytes: &mut [u8], used: u32)
-    requires { 31 + used ≤ length bytes.old }
-    ensures payload { take (room_of used) bytes.new ≡ payload_of (bytes_at used bytes.old 23) }
-    ensures data_bytes { bytes_at used bytes.new 23 ≡ bytes_at used bytes.old 23 }
+/// Writes a list block but for its first byte, and the first byte of the data block behind it.
+fn put_list(bytes: &mut [u8], place: u64, next: u64, offset: u64)
+    requires room { 56 ≤ length bytes.old }
+    requires small { place < 2 ^ 62 }
+    ensures { bytes.new ≡ patched 0 (drop 1 (list_block place next offset) ++ 35 ∷ []) bytes.old }
+{
+    put(bytes, 0, b"#DL\0\0\0\0");
+    put_u64(bytes, 7, 56);
+    put_u64(bytes, 15, 2);
+    put_u64(bytes, 23, next);
+    put_u64(bytes, 31, place + 56);
+    put(bytes, 39, b"\0\0\0\0\x01\0\0\0");
+    put_u64(bytes, 47, offset);
+    put(bytes, 55, b"#");
+}
+
+/// Writes what stands before the data block in the form, but for the first byte of the unit.
+fn put_lead(bytes: &mut [u8], form: Form, place: u64, offset: u64, count: u32)
+    requires room { 79 ≤ length bytes.old }
+    requires small { place < 2 ^ 62 }
+    ensures lead { bytes_at (lead form) bytes.new (56 - lead form) ≡ take (lead form) (drop 1 (lead_bytes form place offset count ++ block_header count)) }
+    ensures behind { drop 56 bytes.new ≡ drop 56 bytes.old }
     ensures length { length bytes.new ≡ length bytes.old }
 {
+    match form {
+        Form::Bare => {}
+        Form::Listed => put_list(bytes, place, place + align8(80 + u64::from(count)), offset),
+    }
+}
+
+/// Writes what stands before so many bytes of data, and zero bytes behind them. The data stay.
+fn frame(bytes: &mut [u8], form: Form, place: u64, offset: u64, used: u32)
+    requires room { 87 + used ≤ length bytes.old }
+    requires small { place < 2 ^ 62 }
+    ensures payload { bytes_at (room_of form used) bytes.new (56 - lead form) ≡ payload_of form place offset (bytes_at used bytes.old 79) }
+    ensures data_bytes { bytes_at used bytes.new 79 ≡ bytes_at used bytes.old 79 }
+    ensures length { length bytes.new ≡ length bytes.old }
+{
+    put_lead(bytes, form, place, offset, used);
     put_header(bytes, used);
-    put(bytes, HEADER + used as usize, &[0; BEHIND]);
+    put(bytes, DATA + used as usize, &[0; BEHIND]);
 }
 
 /// Writes the records of a sample over the bytes from a place on, and answers their length.
@@ -101,7 +141,7 @@ fn put_records(
 }
 
 impl Block {
-    /// A buffer for blocks of at most `limit` bytes of data. It takes 31 bytes more than that.
+    /// A buffer for blocks of at most `limit` bytes of data. It takes 87 bytes more than that.
     ///
     /// # Errors
     /// Want of memory.
@@ -110,7 +150,7 @@ impl Block {
         ensures limit { IfOk result (λ block. block.limit ≡ limit) }
         ensures none { IfOk result (λ block. block.bytes ≡ []) }
     {
-        let bytes = Vec::from_elem(alloc, 0, HEADER + limit as usize + BEHIND)?;
+        let bytes = Vec::from_elem(alloc, 0, DATA + limit as usize + BEHIND)?;
         Ok(Block {
             limit,
             used: 0,
@@ -132,7 +172,7 @@ impl Block {
             → (added : List ℕ) × (self.new.bytes ≡ self.old.bytes ++ added) × IsEncodingBehind shapes.now before added sample.now }
         ensures limit { self.new.limit ≡ self.old.limit }
     {
-        let at = HEADER + self.used as usize;
+        let at = DATA + self.used as usize;
         let size = put_records(&mut self.bytes, at, next, shapes, sample);
         self.used += size as u32;
         size as u64
@@ -163,7 +203,7 @@ impl Block {
     pub fn as_slice(&self) -> &[u8]
         ensures { result.now ≡ self.now.bytes }
     {
-        &self.bytes[HEADER..HEADER + self.used as usize]
+        &self.bytes[DATA..DATA + self.used as usize]
     }
 
     /// Drops all data. It keeps the buffer.
@@ -174,19 +214,26 @@ impl Block {
         self.used = 0;
     }
 
-    /// Writes the block at a place, which is the last of a file that is kept. The data stay.
-    pub(crate) fn write<D: Disk>(&mut self, disk: &mut D, place: u64) -> Result<(), Failed>
+    /// Writes the unit of these data at a place, which is the last of a file that is kept, behind so many bytes of data in the
+    /// units before it. The data stay.
+    pub(crate) fn write<D: Disk>(
+        &mut self,
+        disk: &mut D,
+        form: Form,
+        place: u64,
+        offset: u64,
+    ) -> Result<(), Failed>
         requires attached { D.attached disk.old ≡ true }
         requires small { place < 2 ^ 62 }
         requires ends { IfSome (D.content disk.old) (λ file. length file ≡ place + 1) }
         ensures same { self.new ≡ self.old }
         ensures ok { (kept : List ℕ) → IsKept (D.content disk.old) (D.story disk.old) kept → length kept ≡ place + 1
-            → OnOk result (IsKept (D.content disk.new) (D.story disk.new) (take place kept ++ 35 ∷ payload_of self.old.bytes)) }
-        ensures content { OnOk result (D.content disk.new ≡ option_map (opened_at place (payload_of self.old.bytes)) (D.content disk.old)) }
+            → OnOk result (IsKept (D.content disk.new) (D.story disk.new) (take place kept ++ 35 ∷ payload_of form place offset self.old.bytes)) }
+        ensures content { OnOk result (D.content disk.new ≡ option_map (opened_at place (payload_of form place offset self.old.bytes)) (D.content disk.old)) }
         ensures any_moment { (kept : List ℕ) → IsKept (D.content disk.old) (D.story disk.old) kept → length kept ≡ place + 1
-            → Adds (D.story disk.old) (D.story disk.new) (IsStage place kept (payload_of self.old.bytes)) }
+            → Adds (D.story disk.old) (D.story disk.new) (IsStage place kept (payload_of form place offset self.old.bytes)) }
         ensures staged { (kept : List ℕ) → IsKept (D.content disk.old) (D.story disk.old) kept → length kept ≡ place + 1
-            → OnErr result (IfSome (synced (D.story disk.new)) (IsStaged kept (payload_of self.old.bytes))) }
+            → OnErr result (IfSome (synced (D.story disk.new)) (IsStaged kept (payload_of form place offset self.old.bytes))) }
         ensures in_flight { (kept : List ℕ) → IsKept (D.content disk.old) (D.story disk.old) kept
             → OnErr result (NowHas (D.story disk.new) (λ moment. length moment.writes ≤ 1)) }
         ensures told { is_some (D.story disk.new) ≡ is_some (D.story disk.old) }
@@ -198,8 +245,9 @@ impl Block {
         ensures asked { D.asked disk.new ≡ D.asked disk.old }
         ensures attached { D.attached disk.new ≡ D.attached disk.old }
     {
-        let end = align8(24 + u64::from(self.used)) as usize;
-        frame(&mut self.bytes, self.used);
-        write_block(disk, place, &self.bytes[..end])
+        let begin = LEAD - form.lead() as usize;
+        let end = LEAD + align8(24 + u64::from(self.used)) as usize;
+        frame(&mut self.bytes, form, place, offset, self.used);
+        write_block(disk, place, &self.bytes[begin..end])
     }
 }

@@ -1,25 +1,30 @@
 ghost use Rattle.std.specs.Prelude.{◌≡◌, ◌+◌, ◌%◌, ◌≤◌, ◌<◌, ◌^◌, ◌++◌, ℕ, List, [], ◌∷◌, length, is_some, true, false, IsSome, IfSome, IfOk, OnOk, OnErr};
 ghost use Rattle.std.specs.Option.{option_map};
-ghost use Rattle.mdf_format.specs.Number.{aligned};
 ghost use Rattle.mdf_format.specs.Cause.{Rose, HasCause};
 ghost use Rattle.mdf_disk.specs.Crash.{Adds, NowHas, HoldsSince};
 ghost use Rattle.mdf_seal.specs.Seal.{IsBlank, IsKept, synced};
 ghost use Rattle.mdf_seal.specs.Images.{IsUnopened};
-ghost use Rattle.mdf_gate.specs.Gated.{IsRecordingHead, RestsOn, disk_of, payload_of, opened_at};
+ghost use Rattle.mdf_form.specs.Form.{form_of};
+ghost use Rattle.mdf_gate.specs.Written.{opened_at, payload_of, room_of};
+ghost use Rattle.mdf_gate.specs.Gated.{IsRecordingHead, RestsOn, disk_of};
 ghost use Rattle.mdf_gate.specs.Images.{head_of, Opens, OpensEither, IsBegun, IsStaged};
 
 use crate::Block;
+use crate::recording::form_of;
 use mdf_disk::Disk;
+use mdf_form::Form;
 use mdf_num::{Failed, align8};
 use mdf_seal::Sealed;
 use std::marker::Model;
 
-/// A recording that is being written: a head, and data blocks (DTBLOCK) behind it, each behind a gate that is opened
-/// last. Numbers are places in the file, in bytes from its start.
+/// A recording that is being written: a head, and units of its form behind it, each behind a gate that is opened last.
+/// Numbers are places in the file, in bytes from its start, and how many bytes of data have been appended.
 pub struct GatedFile<D: Disk> {
     disk: D,
+    form: Form,
     first: u64,
     place: u64,
+    offset: u64,
     start: u64,
     faults: u64,
     failed: bool,
@@ -31,9 +36,9 @@ impl<D: Disk> Model for GatedFile<D> {
 
     ghost Value = { Gated D };
 
-    ghost view = { λ g. record { disk = g.disk; first = g.first; place = g.place; start = g.start; faults = g.faults; failed = g.failed } };
+    ghost view = { λ g. record { disk = g.disk; form = g.form; first = g.first; place = g.place; offset = g.offset; start = g.start; faults = g.faults; failed = g.failed } };
 
-    ghost invariant = { λ g. (D.attached g.disk ≡ true) × IsGated (D.content g.disk) (D.story g.disk) (D.faults g.disk) g.first g.place g.faults g.failed };
+    ghost invariant = { λ g. (D.attached g.disk ≡ true) × IsGated (D.content g.disk) (D.story g.disk) (D.faults g.disk) g.form g.first g.place g.offset g.faults g.failed };
 }
 
 /// Writes a head and one closed gate behind it under a seal.
@@ -61,8 +66,8 @@ fn write_head<D: Disk>(disk: &mut D, head: &[u8]) -> Result<(), Failed>
 
 impl<D: Disk> GatedFile<D> {
     /// Makes a recording of this head, on a disk that is attached with an empty file: the head, whose length is the
-    /// first place, and one closed byte, under a seal. It takes no memory. The clock of a disk that tells its story rises by
-    /// 7 at most.
+    /// first place and whose custom word names the form, and one closed byte, under a seal. It takes no memory. The clock of a
+    /// disk that tells its story rises by 7 at most.
     ///
     /// # Errors
     /// `Failed` where the disk failed, with the disk. If that tells its story, it keeps no byte, a closed one, or all but the
@@ -73,8 +78,10 @@ impl<D: Disk> GatedFile<D> {
         requires head { IsRecordingHead head.now }
         requires short { length head.now < 2 ^ 61 }
         ensures rests { IfOk result (λ file. RestsOn (D.content file.disk) (D.story file.disk) file.first [] file.place) }
+        ensures form { IfOk result (λ file. file.form ≡ form_of head.now) }
         ensures first { IfOk result (λ file. file.first ≡ length head.now) }
         ensures place { IfOk result (λ file. file.place ≡ length head.now) }
+        ensures offset { IfOk result (λ file. file.offset ≡ 0) }
         ensures start { IfOk result (λ file. file.start ≡ D.moment disk) }
         ensures faults { IfOk result (λ file. file.faults ≡ D.faults disk) }
         ensures going { IfOk result (λ file. file.failed ≡ false) }
@@ -100,40 +107,44 @@ impl<D: Disk> GatedFile<D> {
         let first = head.len() as u64;
         Ok(GatedFile {
             disk,
+            form: form_of(head),
             first,
             place: first,
+            offset: 0,
             start,
             faults,
             failed: false,
         })
     }
 
-    /// Appends a block in four calls of the disk: one write of all but its first byte and of the closed gate of the
-    /// next place, a sync, the first byte, which opens its gate, and a sync. It takes no memory. After `Ok` the block
+    /// Appends the unit of a block in four calls of the disk: one write of all but its first byte and of the closed gate of
+    /// the next place, a sync, the first byte, which opens its gate, and a sync. It takes no memory. After `Ok` the block
     /// is empty.
     ///
     /// # Errors
     /// `Failed` where the disk failed. The block is as it was, and the file has failed. A disk that tells its story keeps the
-    /// file as it was, or with all but the first byte of the block behind its closed gate, and at most one write is behind
+    /// file as it was, or with all but the first byte of the unit behind its closed gate, and at most one write is behind
     /// its last successful sync.
     pub fn append(&mut self, block: &mut Block) -> Result<(), Failed>
         requires going { self.old.failed ≡ false }
         requires some { 1 ≤ length block.old.bytes }
-        requires short { self.old.place + length block.old.bytes + 32 < 2 ^ 62 }
+        requires short { self.old.place + length block.old.bytes + 88 < 2 ^ 62 }
         ensures rests { (blocks : List (List ℕ)) → RestsOn (D.content self.old.disk) (D.story self.old.disk) self.old.first blocks self.old.place
             → OnOk result (RestsOn (D.content self.new.disk) (D.story self.new.disk) self.new.first (blocks ++ block.old.bytes ∷ []) self.new.place) }
         ensures content { OnOk result (D.content self.new.disk
-            ≡ option_map (opened_at self.old.place (payload_of block.old.bytes)) (D.content self.old.disk)) }
+            ≡ option_map (opened_at self.old.place (payload_of self.old.form self.old.place self.old.offset block.old.bytes)) (D.content self.old.disk)) }
         ensures any_moment { (blocks : List (List ℕ)) → RestsOn (D.content self.old.disk) (D.story self.old.disk) self.old.first blocks self.old.place
             → Adds (D.story self.old.disk) (D.story self.new.disk) (OpensEither (head_of (D.story self.old.disk) self.old.first) blocks block.old.bytes
-            (aligned (self.old.place + 24 + length block.old.bytes))) }
+            (self.old.place + room_of self.old.form (length block.old.bytes))) }
         ensures head { head_of (D.story self.new.disk) self.new.first ≡ head_of (D.story self.old.disk) self.old.first }
-        ensures place { OnOk result (self.new.place ≡ aligned (self.old.place + 24 + length block.old.bytes)) }
+        ensures place { OnOk result (self.new.place ≡ self.old.place + room_of self.old.form (length block.old.bytes)) }
+        ensures offset { OnOk result (self.new.offset ≡ self.old.offset + length block.old.bytes) }
         ensures going { OnOk result (self.new.failed ≡ false) }
         ensures failed { OnErr result (self.new.failed ≡ true) }
         ensures emptied { OnOk result (block.new.bytes ≡ []) }
         ensures left { OnErr result (block.new.bytes ≡ block.old.bytes) }
         ensures limit { block.new.limit ≡ block.old.limit }
+        ensures form { self.new.form ≡ self.old.form }
         ensures first { self.new.first ≡ self.old.first }
         ensures start { self.new.start ≡ self.old.start }
         ensures faults { self.new.faults ≡ self.old.faults }
@@ -144,7 +155,7 @@ impl<D: Disk> GatedFile<D> {
         ensures calls { OnOk result (IfSome (D.story self.old.disk) (λ _. D.moment self.new.disk ≡ D.moment self.old.disk + 4)) }
         ensures few { IfSome (D.story self.old.disk) (λ _. D.moment self.new.disk ≤ D.moment self.old.disk + 4) }
         ensures staged { OnErr result (IfSome (D.content self.old.disk) (λ file. IfSome (synced (D.story self.new.disk))
-            (IsStaged file (payload_of block.old.bytes)))) }
+            (IsStaged file (payload_of self.old.form self.old.place self.old.offset block.old.bytes)))) }
         ensures in_flight { OnErr result (NowHas (D.story self.new.disk) (λ moment. length moment.writes ≤ 1)) }
         ensures stays { OnErr result (self.new.place ≡ self.old.place) }
         ensures cause { HasCause (D.faults self.old.disk) (D.faults self.new.disk) result }
@@ -152,8 +163,9 @@ impl<D: Disk> GatedFile<D> {
         ensures attached { D.attached self.new.disk ≡ D.attached self.old.disk }
     {
         self.failed = true;
-        block.write(&mut self.disk, self.place)?;
-        self.place = align8(self.place + 24 + u64::from(block.len()));
+        block.write(&mut self.disk, self.form, self.place, self.offset)?;
+        self.place += align8(self.form.lead() + 24 + u64::from(block.len()));
+        self.offset += u64::from(block.len());
         self.failed = false;
         block.clear();
         Ok(())
@@ -203,8 +215,10 @@ impl<D: Disk> GatedFile<D> {
     {
         let GatedFile {
             disk,
+            form: _,
             first: _,
             place: _,
+            offset: _,
             start: _,
             faults: _,
             failed: _,

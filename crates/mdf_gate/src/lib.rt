@@ -1,7 +1,8 @@
-//! Data blocks behind gates. A recording holds data blocks (DTBLOCK) one behind the other, each at a multiple of 8; the
-//! first byte of each is its gate, which is opened last. The blocks up to the first closed gate are the opened ones.
-//! `opened` counts them. `GatedFile` makes a recording and appends blocks to it, so that a crash leaves all blocks that
-//! were appended, and of the one that is being appended all or nothing.
+//! Data blocks behind gates. A recording holds units one behind the other, each at a multiple of 8. A unit is a data block
+//! (DTBLOCK), and in form 2 a list block (DLBLOCK) before it, which names it and the next place. The first byte of a unit is
+//! its gate, which is opened last. The blocks up to the first closed gate are the opened ones. `opened` counts them.
+//! `GatedFile` makes a recording and appends blocks to it, so that a crash leaves all blocks that were appended, and of the
+//! one that is being appended all or nothing.
 #![tactic(auto)]
 
 mod answer;
@@ -11,9 +12,11 @@ mod law;
 mod recording;
 mod scan;
 mod stage;
+mod unit;
 
 pub use answer::{GateFault, Opened};
 pub use buffer::Block;
 pub use gated::GatedFile;
-pub use law::carries_one_list;
+pub use law::{carries_one_list, lists_lead_to_each_block};
+pub use mdf_form::Form;
 pub use scan::opened;

@@ -1,14 +1,16 @@
-ghost use Rattle.std.specs.Prelude.{◌≡◌, ◌↔◌, length, IsTrue, IfOk, IfErr, OnOk, OnErr};
+ghost use Rattle.std.specs.Prelude.{◌≡◌, ◌≤◌, ◌↔◌, length, IsTrue, IfOk, IfErr, OnOk, OnErr};
 ghost use Rattle.mdf_gate.specs.declared.answer.GateFault.TheVariants.{Bad};
 ghost use Rattle.mdf_format.specs.Block.{IsBlock};
 ghost use Rattle.mdf_block.specs.Block.{the_block, IsInside, IsFilled};
+ghost use Rattle.mdf_form.specs.Form.{NamesForm, form_of};
 ghost use Rattle.mdf_gate.specs.Recording.{IsPlace, IsRecording, first_place};
 ghost use Rattle.mdf_gate.specs.Fault.{HasFault};
 
 use crate::GateFault;
-use mdf_block::{BlockAt, block_at, link_of};
+use mdf_block::{BlockAt, block_at, link_of, u16_field};
+use mdf_form::Form;
 use mdf_format::Kind;
-use mdf_head::ident;
+use mdf_head::{Ident, ident};
 
 /// The address of the header.
 const HEADER: u64 = 64;
@@ -27,6 +29,21 @@ pub fn wanted_block(bytes: &[u8], at: u64, want: Kind) -> Result<BlockAt, GateFa
     }
 }
 
+/// The form of a recording.
+pub fn form_of(bytes: &[u8]) -> Form
+    requires { 64 ≤ length bytes.now }
+    ensures { result ≡ form_of bytes.now }
+{
+    Form::of_word(u16_field(bytes, 62))
+}
+
+/// Whether an identification is that of a recording: not finalized, and with the custom word of a form.
+fn is_in_form(id: &Ident) -> bool
+    ensures { IsTrue result ↔ ((¬ IsTrue id.now.finalized) × NamesForm id.now.custom_flags) }
+{
+    !id.finalized && Form::is_word(id.custom_flags)
+}
+
 /// Whether data can begin at this place.
 fn is_place(place: u64) -> bool
     ensures { IsTrue result ↔ IsPlace place }
@@ -43,7 +60,7 @@ pub fn first_place(bytes: &[u8]) -> Result<u64, GateFault>
     ensures none { OnErr result (¬ IsRecording bytes.now) }
 {
     let id = ident(bytes)?;
-    if id.finalized || id.custom_flags != 1 {
+    if !is_in_form(&id) {
         return Err(GateFault::NotRecording {
             std: id.std_flags,
             custom: id.custom_flags,

@@ -1,25 +1,28 @@
 ghost use Rattle.std.specs.Prelude.{◌≡◌, ◌+◌, ◌≤◌, ◌<◌, ◌^◌, ◌↔◌, length, IsTrue, IfOk, IfErr, OnErr};
 ghost use Rattle.mdf_format.specs.Number.{aligned};
-ghost use Rattle.mdf_format.specs.Recording.{IsOpenPlace};
+ghost use Rattle.mdf_form.specs.Form.{form_of};
+ghost use Rattle.mdf_gate.specs.Unit.{IsOpenPlace};
 ghost use Rattle.mdf_gate.specs.Recording.{HasNoOpened};
 ghost use Rattle.mdf_gate.specs.Opened.{IsCountOf};
 ghost use Rattle.mdf_gate.specs.Fault.{HasFault};
 ghost use Rattle.mdf_gate.specs.Scan.{AreCounted, HasOpenEnd, IsStuckAt};
 
-use crate::recording::{first_place, wanted_block};
+use crate::recording::{first_place, form_of};
+use crate::unit::unit_at;
 use crate::{GateFault, Opened};
 use mdf_block::BlockAt;
-use mdf_format::Kind;
+use mdf_form::Form;
 use mdf_num::align8;
 
 /// Whether the gate at a place is open.
 fn is_open(bytes: &[u8], place: u64) -> bool
-    ensures { IsTrue result ↔ IsOpenPlace bytes.now place }
+    ensures gate { IsTrue result ↔ IsOpenPlace bytes.now place }
+    ensures within { IsTrue result → place < length bytes.now }
 {
     place < bytes.len() as u64 && bytes[place as usize] == b'#'
 }
 
-/// Counts a unit too, and goes to the place behind it.
+/// Counts the unit of this data block too, and goes to the place behind it.
 fn count_unit(count: Opened, unit: BlockAt) -> Opened
     requires there { count.next + 24 ≤ unit.body_at }
     requires short { unit.body_at + unit.body_len ≤ 2 ^ 63 }
@@ -42,12 +45,12 @@ fn count_unit(count: Opened, unit: BlockAt) -> Opened
 }
 
 /// Counts the units from a place on, from gate to gate, up to the first closed one.
-fn scan(bytes: &[u8], first: u64) -> Result<Opened, GateFault>
+fn scan(bytes: &[u8], form: Form, first: u64) -> Result<Opened, GateFault>
     requires { length bytes.now ≤ 2 ^ 63 }
-    ensures counted { IfOk result (AreCounted bytes.now first) }
+    ensures counted { IfOk result (AreCounted form bytes.now first) }
     ensures from { IfOk result (λ count. count.first ≡ first) }
-    ensures stuck { IfErr result (IsStuckAt bytes.now first) }
-    ensures no_unit { OnErr result (HasOpenEnd bytes.now first) }
+    ensures stuck { IfErr result (IsStuckAt form bytes.now first) }
+    ensures no_unit { OnErr result (HasOpenEnd form bytes.now first) }
 {
     let mut count = Opened {
         blocks: 0,
@@ -56,7 +59,7 @@ fn scan(bytes: &[u8], first: u64) -> Result<Opened, GateFault>
         next: first,
     };
     while is_open(bytes, count.next) {
-        let unit = wanted_block(bytes, count.next, Kind::Dt)?;
+        let unit = unit_at(bytes, form, count.next)?;
         count = count_unit(count, unit);
     }
     Ok(count)
@@ -69,7 +72,9 @@ fn scan(bytes: &[u8], first: u64) -> Result<Opened, GateFault>
 /// The first of these that fails, in this order: `NotMdf` exactly where no identification stands at the start,
 /// `Version` where its version is not read, `NotRecording` where it is not that of a recording, and `Bad` where no
 /// whole block of the kind stands at the address: the header at 64, the first data group, a data link that is a
-/// place, and a data block at each open place.
+/// place, and at each open place the unit of its form. In form 1 that is a data block. In form 2 it is a list block of 56
+/// bytes with two links, of which the second names the address behind it; then a data block there; and then the first of
+/// the links names the next place, or the list block is the one that is told.
 pub fn opened(bytes: &[u8]) -> Result<Opened, GateFault>
     requires { length bytes.now ≤ 2 ^ 63 }
     ensures opened { IfOk result (IsCountOf bytes.now) }
@@ -77,5 +82,5 @@ pub fn opened(bytes: &[u8]) -> Result<Opened, GateFault>
     ensures not_opened { OnErr result (HasNoOpened bytes.now) }
 {
     let first = first_place(bytes)?;
-    scan(bytes, first)
+    scan(bytes, form_of(bytes), first)
 }

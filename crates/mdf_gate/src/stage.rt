@@ -5,7 +5,7 @@ ghost use Rattle.mdf_format.specs.Cause.{HasCause};
 ghost use Rattle.mdf_disk.specs.Story.{settled};
 ghost use Rattle.mdf_disk.specs.Crash.{Adds, NowHas};
 ghost use Rattle.mdf_seal.specs.Seal.{IsKept, synced};
-ghost use Rattle.mdf_gate.specs.Gated.{opened_at};
+ghost use Rattle.mdf_gate.specs.Written.{opened_at};
 ghost use Rattle.mdf_gate.specs.Images.{IsTorn, IsStage, IsStaged};
 
 use mdf_disk::Disk;

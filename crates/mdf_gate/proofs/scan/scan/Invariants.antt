@@ -2,13 +2,13 @@ use Rattle.std.proofs.Common.{◌≡◌, ◌-◌, ◌≤◌, length}
 use Rattle.mdf_gate.proofs.Units.{HasCome}
 use Rattle.mdf_gate.proofs.scan.scan.Given as goal
 
-abbrev pub invariant-loop-count : goal.invariant-loop-count
-invariant-loop-count l = record {
-  come : HasCome l.bytes l.first l.count.next l.count.blocks l.count.bytes;
+abbrev pub invariant-loop-form : goal.invariant-loop-form
+invariant-loop-form l = record {
+  come : HasCome l.form l.bytes l.first l.count.next l.count.blocks l.count.bytes;
   from : l.count.first ≡ l.first;
   blocks : l.count.blocks ≤ l.count.next;
   bytes : l.count.bytes ≤ l.count.next;
 }
 
-abbrev pub decreases-loop-count : goal.decreases-loop-count
-decreases-loop-count l = length l.bytes - l.count.next
+abbrev pub decreases-loop-form : goal.decreases-loop-form
+decreases-loop-form l = length l.bytes - l.count.next

@@ -1,62 +1,54 @@
-use Rattle.std.proofs.Common.{◌≡◌, ◌++◌, ◌∷◌, ◌∙◌, List, ℕ, length, take, drop, ap, sym, subst, rules}
+use Rattle.std.proofs.Common.{◌≡◌, ◌++◌, ◌∷◌, ◌∙◌, ◌-◌, ◌+◌, List, ℕ, length, take, drop, refl, ap, sym, subst, rules}
 use Rattle.std.proofs.lemmas.List.{take_at}
 use Rattle.mdf_format.specs.Number.{bytes_at}
 use Rattle.std.specs.Prelude.{IfSome, OnOk, OnErr}
 use Rattle.std.specs.Option.{option_map}
 use Rattle.mdf_disk.specs.Crash.{Adds}
 use Rattle.mdf_seal.specs.Seal.{IsKept, synced}
-use Rattle.mdf_gate.specs.Gated.{Buffered, payload_of, opened_at}
+use Rattle.mdf_gate.specs.Written.{payload_of, opened_at}
+use Rattle.mdf_gate.specs.Gated.{Buffered}
 use Rattle.mdf_gate.specs.Images.{IsStage, IsStaged}
 use Rattle.mdf_gate.proofs.Buffers.{written_payload}
+use Rattle.mdf_gate.proofs.buffer.Block.write.Given as given
 use Rattle.mdf_gate.proofs.buffer.Block.write.Goals as goal
+use Rattle.mdf_gate.proofs.buffer.Block.write.Goals.{After-write_block}
+
+-- what is written is the payload of the unit
+payload : (g : given.Over) (c : After-write_block g)
+    → bytes_at (56 + c.align8.result - (56 - c.lead.result)) c.deref.result.now (56 - c.lead.result)
+    ≡ payload_of c.args.form c.args.place c.args.offset c.args.self.now.bytes
+payload g c =
+    let block = c.self.inside in
+    let len : block.bytes.len ≡ length block.bytes.items = search rules in
+    let long : length c.frame.new.bytes ≡ length block.bytes.items = c.frame.ensures.length ∙ ap length c.deref_mut.ensures.value in
+    written_payload block.bytes.items c.frame.new.bytes c.deref.result.now c.args.self.now.bytes c.deref_mut.result.now c.args.form c.args.place c.args.offset
+    block.used block.bytes.len (56 - c.lead.result) (56 + c.align8.result) c.from.result c.lead.result
+    len long c.deref_mut.ensures.value c.deref.ensures.value c.lead.ensures.lead refl (ap (λ (n : ℕ). 56 + n) c.align8.ensures.aligned) c.from.ensures
+    c.frame.ensures.payload (ap (λ (b : Buffered). b.bytes) c.self.view_is)
 
 pub returns-clause-ok : goal.returns-clause-ok
 returns-clause-ok g c = λ kept is ends.
-    let block = c.self.inside in
     let new = c.write_block.new.disk in
-    let len : block.bytes.len ≡ length block.bytes.items = search rules in
-    let long : length c.frame.new.bytes ≡ length block.bytes.items = c.frame.ensures.length ∙ ap length c.deref_mut.ensures.value in
-    let payload : take c.align8-end.result c.deref.result.now ≡ payload_of c.args.self.now.bytes =
-    written_payload block.bytes.items c.deref_mut.result.now c.frame.new.bytes c.deref.result.now c.args.self.now.bytes block.used block.bytes.len c.align8-end.result c.from.result
-    len long c.deref_mut.ensures.value c.deref.ensures.value c.align8-end.ensures.aligned c.from.ensures c.frame.ensures.payload (ap (λ (b : Buffered). b.bytes) c.self.view_is) in
-    subst (λ (bytes : List ℕ). OnOk c.write_block.result (IsKept (g.D.Disk.content new) (g.D.Disk.story new) (take c.args.place kept ++ 35 ∷ bytes))) payload
-    (c.write_block.ensures.ok kept is ends)
+    subst (λ (bytes : List ℕ). OnOk c.write_block.result (IsKept (g.D.Disk.content new) (g.D.Disk.story new) (take c.args.place kept ++ 35 ∷ bytes)))
+    (payload g (goal.at.returns-clause-ok g c).After-write_block) (c.write_block.ensures.ok kept is ends)
 
 pub returns-clause-any_moment : goal.returns-clause-any_moment
 returns-clause-any_moment g c = λ kept is ends.
-    let block = c.self.inside in
     let new = c.write_block.new.disk in
-    let len : block.bytes.len ≡ length block.bytes.items = search rules in
-    let long : length c.frame.new.bytes ≡ length block.bytes.items = c.frame.ensures.length ∙ ap length c.deref_mut.ensures.value in
-    let payload : take c.align8-end.result c.deref.result.now ≡ payload_of c.args.self.now.bytes =
-    written_payload block.bytes.items c.deref_mut.result.now c.frame.new.bytes c.deref.result.now c.args.self.now.bytes block.used block.bytes.len c.align8-end.result c.from.result
-    len long c.deref_mut.ensures.value c.deref.ensures.value c.align8-end.ensures.aligned c.from.ensures c.frame.ensures.payload (ap (λ (b : Buffered). b.bytes) c.self.view_is) in
-    subst (λ (bytes : List ℕ). Adds (g.D.Disk.story c.args.disk.now) (g.D.Disk.story new) (IsStage c.args.place kept bytes)) payload
-    (c.write_block.ensures.any_moment kept is ends)
+    subst (λ (bytes : List ℕ). Adds (g.D.Disk.story c.args.disk.now) (g.D.Disk.story new) (IsStage c.args.place kept bytes))
+    (payload g (goal.at.returns-clause-any_moment g c).After-write_block) (c.write_block.ensures.any_moment kept is ends)
 
 pub returns-clause-content : goal.returns-clause-content
 returns-clause-content g c =
-    let block = c.self.inside in
     let content = g.D.Disk.content in
-    let len : block.bytes.len ≡ length block.bytes.items = search rules in
-    let long : length c.frame.new.bytes ≡ length block.bytes.items = c.frame.ensures.length ∙ ap length c.deref_mut.ensures.value in
-    let payload : take c.align8-end.result c.deref.result.now ≡ payload_of c.args.self.now.bytes =
-    written_payload block.bytes.items c.deref_mut.result.now c.frame.new.bytes c.deref.result.now c.args.self.now.bytes block.used block.bytes.len c.align8-end.result c.from.result
-    len long c.deref_mut.ensures.value c.deref.ensures.value c.align8-end.ensures.aligned c.from.ensures c.frame.ensures.payload (ap (λ (b : Buffered). b.bytes) c.self.view_is) in
-    subst (λ (bytes : List ℕ). OnOk c.write_block.result (content c.write_block.new.disk ≡ option_map (opened_at c.args.place bytes) (content c.args.disk.now))) payload
-    c.write_block.ensures.content
+    subst (λ (bytes : List ℕ). OnOk c.write_block.result (content c.write_block.new.disk ≡ option_map (opened_at c.args.place bytes) (content c.args.disk.now)))
+    (payload g (goal.at.returns-clause-content g c).After-write_block) c.write_block.ensures.content
 
 pub returns-clause-staged : goal.returns-clause-staged
 returns-clause-staged g c = λ kept is ends.
-    let block = c.self.inside in
     let new = c.write_block.new.disk in
-    let len : block.bytes.len ≡ length block.bytes.items = search rules in
-    let long : length c.frame.new.bytes ≡ length block.bytes.items = c.frame.ensures.length ∙ ap length c.deref_mut.ensures.value in
-    let payload : take c.align8-end.result c.deref.result.now ≡ payload_of c.args.self.now.bytes =
-    written_payload block.bytes.items c.deref_mut.result.now c.frame.new.bytes c.deref.result.now c.args.self.now.bytes block.used block.bytes.len c.align8-end.result c.from.result
-    len long c.deref_mut.ensures.value c.deref.ensures.value c.align8-end.ensures.aligned c.from.ensures c.frame.ensures.payload (ap (λ (b : Buffered). b.bytes) c.self.view_is) in
-    subst (λ (bytes : List ℕ). OnErr c.write_block.result (IfSome (synced (g.D.Disk.story new)) (IsStaged kept bytes))) payload
-    (c.write_block.ensures.staged kept is ends)
+    subst (λ (bytes : List ℕ). OnErr c.write_block.result (IfSome (synced (g.D.Disk.story new)) (IsStaged kept bytes)))
+    (payload g (goal.at.returns-clause-staged g c).After-write_block) (c.write_block.ensures.staged kept is ends)
 
 pub returns-clause-same : goal.returns-clause-same
 returns-clause-same g c =
@@ -65,7 +57,7 @@ returns-clause-same g c =
     let new = c.frame.new.bytes in
     let len : block.bytes.len ≡ length items = search rules in
     let long : length new ≡ length items = c.frame.ensures.length ∙ ap length c.deref_mut.ensures.value in
-    let held : List ℕ → List ℕ = λ bytes. bytes_at block.used bytes 23 in
+    let held : List ℕ → List ℕ = λ bytes. bytes_at block.used bytes 79 in
     let view : List ℕ → Buffered = λ bytes. record { limit = block.limit; bytes = bytes } in
     let same : held (take block.bytes.len (new ++ drop (length new) items)) ≡ held items =
     ap held (take_at new (drop (length new) items) block.bytes.len (long ∙ sym len)) ∙ c.frame.ensures.data_bytes ∙ ap held c.deref_mut.ensures.value in

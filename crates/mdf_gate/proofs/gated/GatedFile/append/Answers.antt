@@ -2,9 +2,11 @@ use Rattle.std.proofs.Common.{◌≡◌, ◌+◌, ◌<◌, ◌^◌, ◌++◌, []
 use Rattle.mdf_format.specs.Number.{aligned}
 use Rattle.mdf_num.specs.declared.failure.Failed.{Failed}
 use Rattle.mdf_disk.specs.Crash.{Adds}
-use Rattle.mdf_gate.specs.Gated.{Gated, Buffered, RestsOn, payload_of}
+use Rattle.mdf_form.specs.Form.{lead}
+use Rattle.mdf_gate.specs.Written.{payload_of, room_of}
+use Rattle.mdf_gate.specs.Gated.{Gated, Buffered, RestsOn}
 use Rattle.mdf_gate.specs.Images.{OpensEither, head_of}
-use Rattle.mdf_gate.proofs.Appends.{rests_on_after, adds_after, head_stays, kept_of, staged_after}
+use Rattle.mdf_gate.proofs.Appends.{rests_on_after, form_on_after, adds_after, head_stays, kept_of, staged_after}
 use Rattle.mdf_gate.proofs.Stages.{on_err}
 use Rattle.mdf_gate.proofs.gated.GatedFile.append.Given as given
 use Rattle.mdf_gate.proofs.gated.GatedFile.append.Goals as goal
@@ -14,13 +16,14 @@ use Rattle.mdf_gate.proofs.gated.GatedFile.append.Goals.{After-write}
 adds : (g : given.Over) (c : After-write g) (blocks : List (List ℕ))
     → RestsOn (g.D.Disk.content c.self.inside.disk) (g.D.Disk.story c.self.inside.disk) c.self.inside.first blocks c.self.inside.place
     → Adds (g.D.Disk.story c.self.inside.disk) (g.D.Disk.story c.write.new.disk)
-    (OpensEither (head_of (g.D.Disk.story c.self.inside.disk) c.self.inside.first) blocks c.args.block.now.bytes (aligned (c.self.inside.place + 24 + length c.args.block.now.bytes)))
+    (OpensEither (head_of (g.D.Disk.story c.self.inside.disk) c.self.inside.first) blocks c.args.block.now.bytes (c.self.inside.place + room_of c.self.inside.form (length c.args.block.now.bytes)))
 adds g c blocks rests =
     let file = c.self.inside in
     let body = c.args.block.now.bytes in
-    let small : 24 + length body < 2 ^ 64 = omega (arith, c.requires.short) in
-    adds_after (g.D.Disk.story file.disk) (g.D.Disk.story c.write.new.disk) (g.D.Disk.content file.disk) _ file.first blocks file.place body
-    (g.met.D.Disk.agrees file.disk) rests c.self.invariant.1.on_eight small c.write.ensures.told c.write.ensures.any_moment
+    let going : file.failed ≡ false = ap (λ (s : Gated _). s.failed) c.self.view_is ∙ c.requires.going in
+    let small : file.place + length body + 88 < 2 ^ 64 = omega (arith, c.requires.short, ap (λ (s : Gated _). s.place) c.self.view_is) in
+    adds_after (g.D.Disk.story file.disk) (g.D.Disk.story c.write.new.disk) (g.D.Disk.content file.disk) _ file.first blocks file.place file.form file.offset body
+    (g.met.D.Disk.agrees file.disk) rests (c.self.invariant.1.form_is going) c.self.invariant.1.on_eight small c.write.ensures.told c.write.ensures.any_moment
 
 -- the head stays
 head_is : (g : given.Over) (c : After-write g)
@@ -42,24 +45,29 @@ pub invariant_of-self-2 : goal.invariant_of-self-2
 invariant_of-self-2 g c =
     let file = c.self.inside in
     let body = c.args.block.now.bytes in
-    let small : 24 + length body < 2 ^ 64 = omega (arith, c.requires.short) in
+    let place = ap (λ (s : Gated _). s.place) c.self.view_is in
+    let small : file.place + length body + 88 < 2 ^ 64 = omega (arith, c.requires.short, place) in
     let going : file.failed ≡ false = ap (λ (s : Gated _). s.failed) c.self.view_is ∙ c.requires.going in
     let rests = c.self.invariant.1.rests going in
-    let place = ap (λ (s : Gated _). s.place) c.self.view_is in
     let count : c.from.result ≡ length body = c.from.ensures ∙ c.len.ensures.len ∙ ap (λ (b : Buffered). length b.bytes) c.in_ok-write.ensures.same in
-    let place_is : c.align8-self-inside.result ≡ aligned (file.place + 24 + length body) = c.align8-self-inside.ensures.aligned ∙ ap (λ (n : ℕ). aligned (file.place + 24 + n)) count in (
+    let room : c.align8.result ≡ room_of file.form (length body) =
+    c.align8.ensures.aligned ∙ ap (λ (n : ℕ). aligned (n + 24 + c.from.result)) c.lead.ensures.lead ∙ ap (λ (n : ℕ). aligned (lead file.form + 24 + n)) count in (
       c.write.ensures.attached ∙ c.self.invariant.0,
       record {
-        behind = omega (arith, c.self.invariant.1.behind, c.align8-self-inside.ensures.not_below);
-        on_eight = c.align8-self-inside.ensures.multiple;
-        small = omega (arith, c.requires.short, place, count, c.align8-self-inside.ensures.least);
+        behind = omega (arith, c.self.invariant.1.behind);
+        filled = omega (arith, c.self.invariant.1.filled, count, c.align8.ensures.not_below);
+        on_eight = omega (arith, c.self.invariant.1.on_eight, c.align8.ensures.multiple);
+        small = omega (arith, c.requires.short, place, count, c.align8.ensures.least, c.lead.ensures.few);
         later = omega (arith, c.self.invariant.1.later, c.write.ensures.cause.later);
         cause = λ failed. absurd (cc failed);
+        form_is = λ still. form_on_after Failed (Ok tt) (g.D.Disk.story file.disk) (g.D.Disk.content file.disk) (g.D.Disk.content c.write.new.disk) file.first rests.0
+            file.place file.form file.offset body rests.1 (c.self.invariant.1.form_is going) c.in_ok-write.ensures.content;
         rests = λ still. (
           rests.0 ++ body ∷ [],
-          subst (RestsOn (g.D.Disk.content c.write.new.disk) (g.D.Disk.story c.write.new.disk) file.first (rests.0 ++ body ∷ [])) (sym place_is)
-              (rests_on_after Failed (Ok tt) (g.D.Disk.story file.disk) (g.D.Disk.story c.write.new.disk) (g.D.Disk.content file.disk) (g.D.Disk.content c.write.new.disk) _ file.first rests.0 file.place body
-              (g.met.D.Disk.agrees file.disk) rests.1 c.self.invariant.1.on_eight small c.write.ensures.told_content c.write.ensures.told c.in_ok-write.ensures.ok),
+          subst (λ (n : ℕ). RestsOn (g.D.Disk.content c.write.new.disk) (g.D.Disk.story c.write.new.disk) file.first (rests.0 ++ body ∷ []) (file.place + n)) (sym room)
+              (rests_on_after Failed (Ok tt) (g.D.Disk.story file.disk) (g.D.Disk.story c.write.new.disk) (g.D.Disk.content file.disk) (g.D.Disk.content c.write.new.disk) _ file.first rests.0
+              file.place file.form file.offset body (g.met.D.Disk.agrees file.disk) rests.1 (c.self.invariant.1.form_is going) c.self.invariant.1.on_eight small
+              c.write.ensures.told_content c.write.ensures.told c.in_ok-write.ensures.ok),
         );
       },
     )
@@ -68,12 +76,15 @@ pub returns-clause-rests : goal.returns-clause-rests
 returns-clause-rests g c = rw (← c.self.view_is) (λ blocks rests.
     let file = c.self.inside in
     let body = c.args.block.now.bytes in
-    let small : 24 + length body < 2 ^ 64 = omega (arith, c.requires.short) in
-    let place_is : c.align8-self-inside.result ≡ aligned (file.place + 24 + length body) =
-    c.align8-self-inside.ensures.aligned ∙ ap (λ (n : ℕ). aligned (file.place + 24 + n)) (c.from.ensures ∙ c.len.ensures.len ∙ ap (λ (b : Buffered). length b.bytes) c.in_ok-write.ensures.same) in
-    subst (RestsOn (g.D.Disk.content c.write.new.disk) (g.D.Disk.story c.write.new.disk) file.first (blocks ++ body ∷ [])) (sym place_is)
-    (rests_on_after Failed (Ok tt) (g.D.Disk.story file.disk) (g.D.Disk.story c.write.new.disk) (g.D.Disk.content file.disk) (g.D.Disk.content c.write.new.disk) _ file.first blocks file.place body
-    (g.met.D.Disk.agrees file.disk) rests c.self.invariant.1.on_eight small c.write.ensures.told_content c.write.ensures.told c.in_ok-write.ensures.ok))
+    let going : file.failed ≡ false = ap (λ (s : Gated _). s.failed) c.self.view_is ∙ c.requires.going in
+    let small : file.place + length body + 88 < 2 ^ 64 = omega (arith, c.requires.short, ap (λ (s : Gated _). s.place) c.self.view_is) in
+    let count : c.from.result ≡ length body = c.from.ensures ∙ c.len.ensures.len ∙ ap (λ (b : Buffered). length b.bytes) c.in_ok-write.ensures.same in
+    let room : c.align8.result ≡ room_of file.form (length body) =
+    c.align8.ensures.aligned ∙ ap (λ (n : ℕ). aligned (n + 24 + c.from.result)) c.lead.ensures.lead ∙ ap (λ (n : ℕ). aligned (lead file.form + 24 + n)) count in
+    subst (λ (n : ℕ). RestsOn (g.D.Disk.content c.write.new.disk) (g.D.Disk.story c.write.new.disk) file.first (blocks ++ body ∷ []) (file.place + n)) (sym room)
+    (rests_on_after Failed (Ok tt) (g.D.Disk.story file.disk) (g.D.Disk.story c.write.new.disk) (g.D.Disk.content file.disk) (g.D.Disk.content c.write.new.disk) _ file.first blocks
+    file.place file.form file.offset body (g.met.D.Disk.agrees file.disk) rests (c.self.invariant.1.form_is going) c.self.invariant.1.on_eight small
+    c.write.ensures.told_content c.write.ensures.told c.in_ok-write.ensures.ok))
 
 pub returns-clause-any_moment : goal.returns-clause-any_moment
 returns-clause-any_moment g c = rw (← c.self.view_is) (adds g (goal.at.returns-clause-any_moment g c).After-write)
@@ -89,7 +100,7 @@ returns-in_err-write-clause-staged g c = rw (← c.self.view_is) (
     let file = c.self.inside in
     let going : file.failed ≡ false = ap (λ (s : Gated _). s.failed) c.self.view_is ∙ c.requires.going in
     let rests = c.self.invariant.1.rests going in
-    on_err _ _ (staged_after (g.D.Disk.story file.disk) (g.D.Disk.story c.write.new.disk) (g.D.Disk.content file.disk) _ file.first rests.0 file.place (payload_of c.args.block.now.bytes)
+    on_err _ _ (staged_after (g.D.Disk.story file.disk) (g.D.Disk.story c.write.new.disk) (g.D.Disk.content file.disk) _ file.first rests.0 file.place (payload_of file.form file.place file.offset c.args.block.now.bytes)
     (g.met.D.Disk.agrees file.disk) rests.1 c.in_err-write.ensures.staged))
 
 pub returns-in_err-write-clause-in_flight : goal.returns-in_err-write-clause-in_flight

@@ -1,7 +1,9 @@
 use Rattle.std.proofs.Common.{◌≡◌, ◌%◌, ◌++◌, [], ◌∷◌, ℕ, length, sym, subst, ◌∙◌, arith}
+use Rattle.std.specs.Prelude.{IfSome}
 use Rattle.mdf_disk.specs.Crash.{HoldsSince}
+use Rattle.mdf_form.specs.Form.{form_of}
 use Rattle.mdf_gate.specs.Images.{IsBegun, head_of}
-use Rattle.mdf_gate.proofs.Begun.{begun_holds, begun_since, kept_head}
+use Rattle.mdf_gate.proofs.Begun.{begun_holds, begun_since, kept_form, kept_head}
 use Rattle.mdf_gate.proofs.Resting.{head_rests}
 use Rattle.mdf_gate.proofs.Appends.{kept_rests}
 use Rattle.mdf_gate.proofs.gated.GatedFile.create.Goals as goal
@@ -20,10 +22,13 @@ invariant_of-result g c =
       c.in-Ok.ensures.attached ∙ c.requires.attached,
       record {
         behind = omega arith;
+        filled = omega arith;
         on_eight = on_eight;
         small = omega (arith, c.requires.short);
         later = omega (arith, c.faults-faults.ensures, c.in-Ok.ensures.cause.later);
         cause = λ failed. absurd (cc failed);
+        form_is = λ going. subst (λ form. IfSome (g.D.Disk.content disk) (λ file. form_of file ≡ form)) (sym c.form_of.ensures)
+            (kept_form head (g.D.Disk.content disk) (g.D.Disk.story disk) c.requires.head c.in-Ok.ensures.ok);
         rests = λ going. (
           [],
           kept_rests (g.D.Disk.content disk) (g.D.Disk.story disk) (length head) [] (length head) (head ++ 0 ∷ []) c.in-Ok.ensures.ok (head_rests head c.requires.head),
