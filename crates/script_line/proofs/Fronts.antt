@@ -175,6 +175,7 @@ unfolding worded_plan worded
 number_worded b word words n low high is =
     otherwise (bytes_eq (b ∷ word) (codes "block")) _ _ (other_word b 98 word (codes "lock") (λ e. omega (arith, e, high)))
     ∙ otherwise (bytes_eq (b ∷ word) (codes "session")) _ _ (other_word b 115 word (codes "ession") (λ e. omega (arith, e, high)))
+    ∙ otherwise (bytes_eq (b ∷ word) (codes "form")) _ _ (other_word b 102 word (codes "orm") (λ e. omega (arith, e, high)))
     ∙ otherwise (bytes_eq (b ∷ word) (codes "live")) _ _ (other_word b 108 word (codes "ive") (λ e. omega (arith, e, high)))
     ∙ otherwise (bytes_eq (b ∷ word) (codes "group")) _ _ (other_word b 103 word (codes "roup") (λ e. omega (arith, e, high)))
     ∙ otherwise (bytes_eq (b ∷ word) (codes "channel")) _ _ (other_word b 99 word (codes "hannel") (λ e. omega (arith, e, high)))

@@ -8,7 +8,7 @@ use Rattle.script_line.specs.Text.{words_of, is_end, is_name}
 use Rattle.script_line.specs.Number.{number_of}
 use Rattle.script_line.specs.Kind.{packed, at_byte, long, behind, up_to, count_behind, or_else, number_type, named_type, type_of, is_number, IsType}
 use Rattle.script_line.specs.Line as said
-use Rattle.script_line.specs.Line.{is_passed, IsSaid, group_of, marks_of, form_with, channel_with, channel_of, unit_of, one_number, block_of, session_of, flush_of, alone, worded, worded_plan, worded_list, line_of}
+use Rattle.script_line.specs.Line.{is_passed, IsSaid, group_of, marks_of, form_with, channel_with, channel_of, unit_of, one_number, block_of, session_of, form_of, flush_of, alone, worded, worded_plan, worded_list, line_of}
 use Rattle.script_line.specs.declared.kind.ValueType.{ValueType}
 use Rattle.script_line.specs.declared.line.Marks.{Marks}
 
@@ -180,14 +180,15 @@ worded_said word words =
     (free_said (λ group. said.Sample group words) (number_of word) (λ _. tt))))
 
 plan_said : (word : List ℕ) (words : List (List ℕ)) → IfSome (worded_plan word words) IsSaid
-unfolding worded_plan block_of session_of
+unfolding worded_plan block_of session_of form_of
 plan_said word words =
     if_both (λ o. IfSome o IsSaid) (bytes_eq word (codes "block")) _ _ (free_said said.Block (one_number words) (λ _. tt))
     (if_both (λ o. IfSome o IsSaid) (bytes_eq word (codes "session")) _ _ (free_said said.Session (one_number words) (λ _. tt))
+    (if_both (λ o. IfSome o IsSaid) (bytes_eq word (codes "form")) _ _ (free_said said.Form (one_number words) (λ _. tt))
     (if_both (λ o. IfSome o IsSaid) (bytes_eq word (codes "live")) _ _ (alone_said said.Live words tt)
     (if_both (λ o. IfSome o IsSaid) (bytes_eq word (codes "group")) _ _ (groups_said words)
     (if_both (λ o. IfSome o IsSaid) (bytes_eq word (codes "channel")) _ _ (channels_said words)
-    (if_both (λ o. IfSome o IsSaid) (bytes_eq word (codes "unit")) _ _ (units_said words) (worded_said word words))))))
+    (if_both (λ o. IfSome o IsSaid) (bytes_eq word (codes "unit")) _ _ (units_said words) (worded_said word words)))))))
 
 list_said : (words : List (List ℕ)) → IfSome (worded_list words) IsSaid
 list_said [] = tt

@@ -16,6 +16,8 @@ pub data Line : Type 0 where
   -- how many data bytes a block has at most, and what the samples cost in all at most
   Block : ℕ → Line
   Session : ℕ → Line
+  -- the number of the form of the recording
+  Form : ℕ → Line
   -- samples are to be shown while the recording is made
   Live : Line
   -- the source of the next group, and its name
@@ -76,12 +78,15 @@ unfoldable pub one_number : List (List ℕ) → Option ℕ
 one_number (word ∷ words) = if is_end words then number_of word else None
 one_number _ = None
 
--- `block LIMIT`, `session LIMIT`, and `! SOURCE`
+-- `block LIMIT`, `session LIMIT`, `form NUMBER`, and `! SOURCE`
 unfoldable pub block_of : List (List ℕ) → Option Line
 block_of words = option_map Block (one_number words)
 
 unfoldable pub session_of : List (List ℕ) → Option Line
 session_of words = option_map Session (one_number words)
+
+unfoldable pub form_of : List (List ℕ) → Option Line
+form_of words = option_map Form (one_number words)
 
 unfoldable pub flush_of : List (List ℕ) → Option Line
 flush_of words = option_map Flush (one_number words)
@@ -103,11 +108,12 @@ unfoldable pub worded_plan : List ℕ → List (List ℕ) → Option Line
 worded_plan word words =
     if bytes_eq word (codes "block") then block_of words
     else (if bytes_eq word (codes "session") then session_of words
+    else (if bytes_eq word (codes "form") then form_of words
     else (if bytes_eq word (codes "live") then alone Live words
     else (if bytes_eq word (codes "group") then group_of words
     else (if bytes_eq word (codes "channel") then channel_of words
     else (if bytes_eq word (codes "unit") then unit_of words
-    else worded word words)))))
+    else worded word words))))))
 
 abbrev pub worded_list : List (List ℕ) → Option Line
 worded_list [] = None

@@ -1,7 +1,7 @@
 ghost use Rattle.std.specs.Prelude.{◌≡◌, Some, IfSome};
 ghost use Rattle.std.specs.Option.{option_map};
 ghost use Rattle.script_line.specs.Text.{words_left};
-ghost use Rattle.script_line.specs.Line.{IsSaid, line_of, worded, worded_plan, one_number, group_of, channel_of, channel_with, inval_of, marks_of, unit_of, block_of, session_of, flush_of, alone};
+ghost use Rattle.script_line.specs.Line.{IsSaid, line_of, worded, worded_plan, one_number, group_of, channel_of, channel_with, inval_of, marks_of, unit_of, block_of, session_of, form_of, flush_of, alone};
 ghost use Rattle.script_line.specs.View.{seen};
 
 use crate::front::leading_number;
@@ -31,6 +31,10 @@ pub enum Line<'a> {
     /// What the samples cost in all at most.
     Session {
         limit: u64,
+    },
+    /// The form of the recording.
+    Form {
+        number: u64,
     },
     /// Samples are to be shown while the recording is made.
     Live,
@@ -190,6 +194,15 @@ fn session_of(words: Option<&[u8]>) -> Option<Line<'_>>
     Some(Line::Session { limit })
 }
 
+/// The line of these words behind `form`.
+#[tactic(auto, unfolding(crate::specs::Line::form_of))]
+fn form_of(words: Option<&[u8]>) -> Option<Line<'_>>
+    ensures { option_map seen result ≡ form_of (words_left words.entry) }
+{
+    let number = one_number(words)?;
+    Some(Line::Form { number })
+}
+
 /// The line of these words behind `!`.
 #[tactic(auto, unfolding(crate::specs::Line::flush_of))]
 fn flush_of(words: Option<&[u8]>) -> Option<Line<'_>>
@@ -241,6 +254,9 @@ fn worded_plan<'a>(word: &[u8], words: Option<&'a [u8]>) -> Option<Line<'a>>
     }
     if word == b"session".as_slice() {
         return session_of(words);
+    }
+    if word == b"form".as_slice() {
+        return form_of(words);
     }
     if word == b"live".as_slice() {
         return alone(Line::Live, words);
