@@ -73,10 +73,10 @@ all_read (text ∷ texts) (line ∷ lines) stage number script said ends =
 
 -- from the beginning these lines make this script
 abbrev pub Makes : List Line → Script → Type 0
-Makes lines script = after_all (Empty None None false) lines ≡ Some (Ended script)
+Makes lines script = after_all (Empty None None None false) lines ≡ Some (Ended script)
 
 -- a text of lines that say these is read as the script that they make
 pub text_read : (text : List ℕ) (texts : List (List ℕ)) (lines : List Line) (script : Script) → parts 10 text ≡ texts ++ [] ∷ [] → AreSaid texts lines
     → Makes lines script → script_of text ≡ Ok script
 text_read text texts lines script cut said makes =
-    ap (read_from (Empty None None false) 1) (parts_are 10 text ∙ cut) ∙ all_read texts lines (Empty None None false) 1 script said makes
+    ap (read_from (Empty None None None false) 1) (parts_are 10 text ∙ cut) ∙ all_read texts lines (Empty None None None false) 1 script said makes

@@ -6,6 +6,8 @@ use Rattle.std.proofs.lemmas.Bool.{leb-true, le-leb, lt-leb, ltb-true, and_parts
 use Rattle.std.proofs.lemmas.Option.{slice_get_within}
 use Rattle.std.proofs.lemmas.List.{length-set, get_or-set_same, get_or-set_other}
 use Rattle.std.proofs.lemmas.List.Elements.{All-append}
+use Rattle.mdf_form.specs.Form.{form_numbered}
+use Rattle.mdf_form.specs.declared.form.Form.{Form}
 use Rattle.mdf_layout.specs.Layout.{Layout}
 use Rattle.mdf_layout.specs.Record.{SampleFits, encoded_size}
 use Rattle.mdf_layout.specs.declared.sample.Entry.{Entry}
@@ -110,20 +112,23 @@ in_range first limit most e =
 some_is : {A : Type 0} (P : A → Type 0) (x y : A) → P x → Some x ≡ Some y → P y
 some_is P x y here e = let same : x ≡ y = cc in subst P same here
 
-empty_sound : (block session : Option ℕ) (live : Bool) (line : said.Line) (stage : Stage) → IsLimit 16777216 block × IsLimit 268435456 session → IsSaid line → empty block session live line ≡ Some stage → Sound stage
-empty_sound block session live said.Passed stage is ok e = some_is Sound (Empty block session live) stage is e
-empty_sound block session live (said.Block limit) stage is ok e =
-    let both = kept (is_none block && nat_le 1 limit && nat_le limit 16777216) (Some (Empty (Some limit) session live)) stage e in
-    some_is Sound (Empty (Some limit) session live) stage (in_range (is_none block) limit 16777216 both.0, is.1) both.1
-empty_sound block session live (said.Session limit) stage is ok e =
-    let both = kept (is_none session && nat_le 1 limit && nat_le limit 268435456) (Some (Empty block (Some limit) live)) stage e in
-    some_is Sound (Empty block (Some limit) live) stage (is.0, in_range (is_none session) limit 268435456 both.0) both.1
-empty_sound block session true said.Live stage is ok e = absurd (cc)
-empty_sound block session false said.Live stage is ok e = some_is Sound (Empty block session true) stage is e
-empty_sound block session live (said.Group source name) stage is ok e =
-    let found = mapped Planned (first_sketch (opening_of block session live) source name) stage e in
-    subst Sound found.2 (first_is (opening_of block session live) source name found.0 (opening_is block session live is.0 is.1) ok found.1)
-empty_sound block session live _ stage is ok e = absurd (cc)
+empty_sound : (block session : Option ℕ) (form : Option Form) (live : Bool) (line : said.Line) (stage : Stage) → IsLimit 16777216 block × IsLimit 268435456 session → IsSaid line → empty block session form live line ≡ Some stage → Sound stage
+empty_sound block session form live said.Passed stage is ok e = some_is Sound (Empty block session form live) stage is e
+empty_sound block session form live (said.Block limit) stage is ok e =
+    let both = kept (is_none block && nat_le 1 limit && nat_le limit 16777216) (Some (Empty (Some limit) session form live)) stage e in
+    some_is Sound (Empty (Some limit) session form live) stage (in_range (is_none block) limit 16777216 both.0, is.1) both.1
+empty_sound block session form live (said.Session limit) stage is ok e =
+    let both = kept (is_none session && nat_le 1 limit && nat_le limit 268435456) (Some (Empty block (Some limit) form live)) stage e in
+    some_is Sound (Empty block (Some limit) form live) stage (is.0, in_range (is_none session) limit 268435456 both.0) both.1
+empty_sound block session None live (said.Form number) stage is ok e =
+    let found = mapped (λ form. Empty block session (Some form) live) (form_numbered number) stage e in subst Sound found.2 is
+empty_sound block session (Some form) live (said.Form number) stage is ok e = absurd (cc)
+empty_sound block session form true said.Live stage is ok e = absurd (cc)
+empty_sound block session form false said.Live stage is ok e = some_is Sound (Empty block session form true) stage is e
+empty_sound block session form live (said.Group source name) stage is ok e =
+    let found = mapped Planned (first_sketch (opening_of block session form live) source name) stage e in
+    subst Sound found.2 (first_is (opening_of block session form live) source name found.0 (opening_is block session form live is.0 is.1) ok found.1)
+empty_sound block session form live _ stage is ok e = absurd (cc)
 
 planned_sound : (sketch : Sketch) (line : said.Line) (stage : Stage) → IsSketch sketch → IsSaid line → planned sketch line ≡ Some stage → Sound stage
 planned_sound sketch said.Passed stage is ok e = some_is Sound (Planned sketch) stage is e
@@ -148,7 +153,7 @@ running_sound script _ stage is e = absurd (cc)
 
 -- what a line makes of a sound stage is sound
 pub step_sound : (stage changed : Stage) (line : said.Line) → Sound stage → IsSaid line → step stage line ≡ Some changed → Sound changed
-step_sound (Empty block session live) changed line is ok e = empty_sound block session live line changed is ok e
+step_sound (Empty block session form live) changed line is ok e = empty_sound block session form live line changed is ok e
 step_sound (Planned sketch) changed line is ok e = planned_sound sketch line changed is ok e
 step_sound (Running script) changed line is ok e = running_sound script line changed is e
 step_sound (Ended script) changed _ is ok e = absurd (cc)

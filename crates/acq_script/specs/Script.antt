@@ -36,7 +36,7 @@ read_from stage line (text ∷ next ∷ more) = do
 -- the script that bytes are, or the number of their first line that no rule admits after the lines before it, counted
 -- from 1
 abbrev pub script_of : List ℕ → Result Script ℕ
-script_of bytes = read_from (Empty None None false) 1 (lines_of bytes)
+script_of bytes = read_from (Empty None None None false) 1 (lines_of bytes)
 
 -- memory may be wanted for a line that is spelled so
 abbrev pub MayWantFor : Stage → List ℕ → Type 0
@@ -52,7 +52,7 @@ WantsFrom stage (text ∷ next ∷ more) =
 
 -- Memory may be wanted for a line of these bytes before which each line is admitted.
 abbrev pub WantsIn : List ℕ → Type 0
-WantsIn bytes = WantsFrom (Empty None None false) (lines_of bytes)
+WantsIn bytes = WantsFrom (Empty None None None false) (lines_of bytes)
 
 -- where the fault is want of memory, this holds
 abbrev pub WantComes : Type 0 → ScriptFault → Type 0

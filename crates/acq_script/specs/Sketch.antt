@@ -2,6 +2,8 @@
 use Rattle.std.specs.Prelude.{ℕ, ◌≡◌, ◌≤◌, ◌<◌, ◌+◌, ◌*◌, Bool, ◌&&◌, not, nat_le, nat_lt, if◌then◌else◌, List, [], ◌∷◌, ◌++◌, length, map, filter, sum_by, replicate, All, Option, Some, None, unwrap_or}
 use Rattle.std.specs.Option.{option_map}
 use Rattle.std.specs.List.{AllByRecursion}
+use Rattle.mdf_form.specs.declared.form.Form.{Form}
+use Rattle.mdf_form.specs.declared.form.Form.TheVariants.{Bare}
 use Rattle.mdf_group.specs.Recordable.{numbers_of, is_of_values, IsShortText, IsRecordableChannel, IsRecordableGroup}
 use Rattle.mdf_group.specs.declared.row.GroupRow.{GroupRow}
 use Rattle.acq_script.specs.Draft.{new_draft, with_channel, with_unit, group_row}
@@ -14,9 +16,10 @@ use Rattle.acq_script.specs.declared.sketch.Sketch.{Sketch}
 use Rattle.acq_script.specs.declared.script.Plan.{Plan}
 use Rattle.acq_script.specs.declared.script.Script.{Script}
 
--- what stands before the first group: the limits where the script says them, and whether it says `live`
-abbrev pub opening_of : Option ℕ → Option ℕ → Bool → Opening
-opening_of block session live = record { block = unwrap_or block 65536; session = unwrap_or session 268435456; live = live }
+-- what stands before the first group: the limits and the form where the script says them, and whether it says `live`
+abbrev pub opening_of : Option ℕ → Option ℕ → Option Form → Bool → Opening
+opening_of block session form live =
+    record { block = unwrap_or block 65536; session = unwrap_or session 268435456; form = unwrap_or form Bare; live = live }
 
 -- the plan of a first group
 abbrev pub first_of : Opening → ℕ → List ℕ → Sketch
@@ -94,6 +97,7 @@ plan_with sketch = record {
   sources = sketch.counts.sources;
   block = sketch.opening.block;
   session = sketch.opening.session;
+  form = sketch.opening.form;
   live = sketch.opening.live;
 }
 

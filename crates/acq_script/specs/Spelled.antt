@@ -1,6 +1,8 @@
 -- How a script is spelled: the lines that say a group with its channels, and what its source does.
 use Rattle.std.specs.Prelude.{ℕ, ◌≡◌, ◌+◌, ◌*◌, ◌≤◌, Bool, true, false, if◌then◌else◌, List, [], ◌∷◌, ◌++◌, length, map, flat_map, count_by, codes, decimal, All, Option, Some, None, IfSome}
 use Rattle.std.specs.List.{join_with_byte}
+use Rattle.mdf_form.specs.Form.{form_number}
+use Rattle.mdf_form.specs.declared.form.Form.{Form}
 use Rattle.mdf_group.specs.declared.row.ChannelRow.{ChannelRow}
 use Rattle.mdf_layout.specs.declared.sample.Value.{Value}
 use Rattle.mdf_layout.specs.declared.sample.Value.TheVariants as value
@@ -51,16 +53,22 @@ abbrev pub limit_lines : List ℕ → Option ℕ → List (List (List ℕ))
 limit_lines word None = []
 limit_lines word (Some limit) = (word ∷ decimal limit ∷ []) ∷ []
 
+-- the line of the form, where it is said
+abbrev pub form_lines : Option Form → List (List (List ℕ))
+form_lines None = []
+form_lines (Some form) = (codes "form" ∷ decimal (form_number form) ∷ []) ∷ []
+
 -- the line `live`, where it is said
 abbrev pub live_lines : Bool → List (List (List ℕ))
 live_lines true = (codes "live" ∷ []) ∷ []
 live_lines false = []
 
--- what a script is spelled for: the limits that it says, whether it says `live`, a group of this name and these channels of
+-- what a script is spelled for: the limits and the form that it says, whether it says `live`, a group of this name and these channels of
 -- 64-bit numbers, and what its source does
 pub record Spelling : Type 0 where
   pub block : Option ℕ
   pub session : Option ℕ
+  pub form : Option Form
   pub live : Bool
   pub name : List ℕ
   pub channels : List Channel
@@ -68,9 +76,9 @@ pub record Spelling : Type 0 where
 
 abbrev pub spelled : Spelling → List ℕ
 spelled s = text_with (limit_lines (codes "block") s.block ++ (limit_lines (codes "session") s.session
-    ++ (live_lines s.live ++ group_words s.name ∷ (map channel_words s.channels
+    ++ (form_lines s.form ++ (live_lines s.live ++ group_words s.name ∷ (map channel_words s.channels
     ++ (codes "begin" ∷ []) ∷ (map task_words s.tasks
-    ++ (codes "end" ∷ []) ∷ [])))))
+    ++ (codes "end" ∷ []) ∷ []))))))
 
 -- a 64-bit number, and such channels from this bit on
 abbrev pub word_form : Bool → ChannelForm
@@ -92,7 +100,7 @@ sketch_of opening name rows n free master unit = record {
 
 -- its plan, and the script
 abbrev pub plan_said : Spelling → Plan
-plan_said s = plan_with (sketch_of (opening_of s.block s.session s.live) s.name (word_rows 0 s.channels) (length s.channels) (64 * length s.channels) false false)
+plan_said s = plan_with (sketch_of (opening_of s.block s.session s.form s.live) s.name (word_rows 0 s.channels) (length s.channels) (64 * length s.channels) false false)
 
 abbrev pub script_said : Spelling → Script
 script_said s = record { plan = plan_said s; lists = s.tasks ∷ [] }

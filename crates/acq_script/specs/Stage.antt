@@ -5,6 +5,8 @@ use Rattle.std.specs.Option.{option_map, option_and_then}
 use Rattle.mdf_layout.specs.Layout.{Layout}
 use Rattle.mdf_layout.specs.Record.{encoded_size}
 use Rattle.mdf_layout.specs.declared.sample.Sample.{Sample}
+use Rattle.mdf_form.specs.Form.{form_numbered}
+use Rattle.mdf_form.specs.declared.form.Form.{Form}
 use Rattle.script_line.specs.Line as said
 use Rattle.script_line.specs.Value.{entries_of}
 use Rattle.acq_script.specs.Plan.{IsPlan, TaskFits, IsTaskOf}
@@ -17,17 +19,22 @@ use Rattle.acq_script.specs.declared.stage.Stage.{Stage}
 use Rattle.acq_script.specs.declared.stage.Stage.TheVariants.{Empty, Planned, Running, Ended}
 
 -- the limits, each at most once: 1 to 16,777,216 data bytes of a block, and 1 to 268,435,456 for what the samples cost
-abbrev pub with_block : Option ℕ → Option ℕ → Bool → ℕ → Option Stage
-with_block block session live limit =
-    if is_none block && nat_le 1 limit && nat_le limit 16777216 then Some (Empty (Some limit) session live) else None
+abbrev pub with_block : Option ℕ → Option ℕ → Option Form → Bool → ℕ → Option Stage
+with_block block session form live limit =
+    if is_none block && nat_le 1 limit && nat_le limit 16777216 then Some (Empty (Some limit) session form live) else None
 
-abbrev pub with_session : Option ℕ → Option ℕ → Bool → ℕ → Option Stage
-with_session block session live limit =
-    if is_none session && nat_le 1 limit && nat_le limit 268435456 then Some (Empty block (Some limit) live) else None
+abbrev pub with_session : Option ℕ → Option ℕ → Option Form → Bool → ℕ → Option Stage
+with_session block session form live limit =
+    if is_none session && nat_le 1 limit && nat_le limit 268435456 then Some (Empty block (Some limit) form live) else None
+
+-- the form, at most once: 1 or 2
+abbrev pub with_form : Option ℕ → Option ℕ → Option Form → Bool → ℕ → Option Stage
+with_form block session form live number =
+    if is_none form then option_map (λ said_form. Empty block session (Some said_form) live) (form_numbered number) else None
 
 -- `live`, at most once
-abbrev pub with_live : Option ℕ → Option ℕ → Bool → Option Stage
-with_live block session live = if live then None else Some (Empty block session true)
+abbrev pub with_live : Option ℕ → Option ℕ → Option Form → Bool → Option Stage
+with_live block session form live = if live then None else Some (Empty block session form true)
 
 -- the sample of a group whose entries words are
 abbrev pub sample_of : List Layout → ℕ → List (List ℕ) → Option Sample
@@ -54,13 +61,14 @@ abbrev pub with_flush : Script → ℕ → Option Script
 with_flush script source = if nat_lt source script.plan.sources then Some (with_task script source task.Flush) else None
 
 -- what a line makes of what stands before the first group, of a plan, and of a script
-abbrev pub empty : Option ℕ → Option ℕ → Bool → said.Line → Option Stage
-empty block session live said.Passed = Some (Empty block session live)
-empty block session live (said.Block limit) = with_block block session live limit
-empty block session live (said.Session limit) = with_session block session live limit
-empty block session live said.Live = with_live block session live
-empty block session live (said.Group source name) = option_map Planned (first_sketch (opening_of block session live) source name)
-empty block session live _ = None
+abbrev pub empty : Option ℕ → Option ℕ → Option Form → Bool → said.Line → Option Stage
+empty block session form live said.Passed = Some (Empty block session form live)
+empty block session form live (said.Block limit) = with_block block session form live limit
+empty block session form live (said.Session limit) = with_session block session form live limit
+empty block session form live (said.Form number) = with_form block session form live number
+empty block session form live said.Live = with_live block session form live
+empty block session form live (said.Group source name) = option_map Planned (first_sketch (opening_of block session form live) source name)
+empty block session form live _ = None
 
 abbrev pub planned : Sketch → said.Line → Option Stage
 planned sketch said.Passed = Some (Planned sketch)
@@ -79,7 +87,7 @@ running script _ = None
 
 -- what a line makes of the lines before it; None where no rule admits it there
 abbrev pub step : Stage → said.Line → Option Stage
-step (Empty block session live) line = empty block session live line
+step (Empty block session form live) line = empty block session form live line
 step (Planned sketch) line = planned sketch line
 step (Running script) line = running script line
 step (Ended script) _ = None
@@ -114,7 +122,7 @@ IsLimit most (Some limit) = (1 ≤ limit) × (limit ≤ most)
 
 -- what holds of every stage
 abbrev pub Sound : Stage → Type 0
-Sound (Empty block session live) = IsLimit 16777216 block × IsLimit 268435456 session
+Sound (Empty block session form live) = IsLimit 16777216 block × IsLimit 268435456 session
 Sound (Planned sketch) = IsSketch sketch
 Sound (Running script) = IsScript script
 Sound (Ended script) = IsScript script

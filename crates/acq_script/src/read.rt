@@ -56,6 +56,7 @@ fn script_of(alloc: Global, bytes: &[u8]) -> Result<Script, ScriptFault>
     let mut stage = Stage::Empty {
         block: None,
         session: None,
+        form: None,
         live: false,
     };
     let mut line = 1;

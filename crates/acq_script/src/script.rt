@@ -1,3 +1,4 @@
+use mdf_form::Form;
 use mdf_group::GroupRow;
 use mdf_layout::{Sample, Shapes};
 use mdf_num::{Bytes, Rows};
@@ -17,6 +18,8 @@ pub struct Plan {
     pub block: u32,
     /// What the samples of the recording cost in all at most.
     pub session: u64,
+    /// The form of the recording.
+    pub form: Form,
     /// Whether samples are shown while the recording is made.
     pub live: bool,
 }

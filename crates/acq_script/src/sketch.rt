@@ -9,6 +9,7 @@ ghost use Rattle.acq_script.specs.Plan.{layout_of, HasPlace};
 
 use crate::draft::{self, Draft, group_row, new_draft};
 use crate::script::{Plan, Script, Task};
+use mdf_form::Form;
 use mdf_group::{ChannelRow, GroupRow};
 use mdf_layout::{
     ChannelNumbers, FieldRow, Shape, ShapeFault, Shapes, field_row, rules_are_tested, shape_of,
@@ -43,6 +44,8 @@ pub(crate) struct Opening {
     pub block: u32,
     /// What the samples cost in all at most.
     pub session: u64,
+    /// The form of the recording.
+    pub form: Form,
     /// Whether samples are shown while the recording is made.
     pub live: bool,
 }
@@ -69,13 +72,19 @@ pub(crate) struct Sketch {
     pub draft: Draft,
 }
 
-/// These limits where the script says them, and whether it says `live`.
-pub(crate) fn opening_of(block: Option<u32>, session: Option<u64>, live: bool) -> Opening
-    ensures { result ≡ opening_of block session live }
+/// These limits and this form where the script says them, and whether it says `live`.
+pub(crate) fn opening_of(
+    block: Option<u32>,
+    session: Option<u64>,
+    form: Option<Form>,
+    live: bool,
+) -> Opening
+    ensures { result ≡ opening_of block session form live }
 {
     Opening {
         block: block.unwrap_or(BLOCK),
         session: session.unwrap_or(SESSION),
+        form: form.unwrap_or(Form::Bare),
         live,
     }
 }
@@ -283,6 +292,7 @@ fn plan_of(alloc: Global, sketch: Sketch) -> Result<Plan, Memory>
         sources: counts.sources,
         block: opening.block,
         session: opening.session,
+        form: opening.form,
         live: opening.live,
     })
 }

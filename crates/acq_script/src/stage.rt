@@ -7,11 +7,12 @@ ghost use Rattle.script_line.specs.Line.{IsSaid, IsForm};
 ghost use Rattle.script_line.specs.View.{seen};
 ghost use Rattle.acq_script.specs.declared.stage.Stage.TheVariants.{Planned, Running};
 ghost use Rattle.acq_script.specs.Done.{done_as};
-ghost use Rattle.acq_script.specs.Stage.{HasGroup, MayWant, Sound, with_block, with_session, with_live, step};
+ghost use Rattle.acq_script.specs.Stage.{HasGroup, MayWant, Sound, with_block, with_session, with_form, with_live, step};
 
 use crate::script::Script;
 use crate::sketch::{Sketch, add_channel, add_group, add_unit, begun, first_sketch, opening_of};
 use crate::task::{add_flush, add_sample};
+use mdf_form::Form;
 use mdf_num::Memory;
 use script_line::{ChannelForm, Line};
 use std::alloc::Global;
@@ -26,10 +27,11 @@ const MOST_SESSION: u64 = 268_435_456;
 /// What the lines so far make.
 #[derive(Drop)]
 pub(crate) enum Stage {
-    /// No group yet; the limits that were said, and whether `live` was.
+    /// No group yet; the limits and the form that were said, and whether `live` was.
     Empty {
         block: Option<u32>,
         session: Option<u64>,
+        form: Option<Form>,
         live: bool,
     },
     /// A plan whose groups are being named.
@@ -47,8 +49,14 @@ pub(crate) enum Stage {
 }
 
 /// What the limit of a block makes of the lines before it, if it is admitted.
-fn with_block(block: Option<u32>, session: Option<u64>, live: bool, limit: u64) -> Option<Stage>
-    ensures { result ≡ with_block block session live limit }
+fn with_block(
+    block: Option<u32>,
+    session: Option<u64>,
+    form: Option<Form>,
+    live: bool,
+    limit: u64,
+) -> Option<Stage>
+    ensures { result ≡ with_block block session form live limit }
 {
     if block.is_some() || limit < 1 || limit > MOST_BLOCK {
         return None;
@@ -56,13 +64,20 @@ fn with_block(block: Option<u32>, session: Option<u64>, live: bool, limit: u64) 
     Some(Stage::Empty {
         block: Some(limit as u32),
         session,
+        form,
         live,
     })
 }
 
 /// What the limit of the samples' cost makes of the lines before it, if it is admitted.
-fn with_session(block: Option<u32>, session: Option<u64>, live: bool, limit: u64) -> Option<Stage>
-    ensures { result ≡ with_session block session live limit }
+fn with_session(
+    block: Option<u32>,
+    session: Option<u64>,
+    form: Option<Form>,
+    live: bool,
+    limit: u64,
+) -> Option<Stage>
+    ensures { result ≡ with_session block session form live limit }
 {
     if session.is_some() || limit < 1 || limit > MOST_SESSION {
         return None;
@@ -70,13 +85,41 @@ fn with_session(block: Option<u32>, session: Option<u64>, live: bool, limit: u64
     Some(Stage::Empty {
         block,
         session: Some(limit),
+        form,
+        live,
+    })
+}
+
+/// What the line of the form makes of the lines before it, if it is admitted.
+fn with_form(
+    block: Option<u32>,
+    session: Option<u64>,
+    form: Option<Form>,
+    live: bool,
+    number: u64,
+) -> Option<Stage>
+    ensures { result ≡ with_form block session form live number }
+{
+    if form.is_some() {
+        return None;
+    }
+    let form = Form::numbered(number)?;
+    Some(Stage::Empty {
+        block,
+        session,
+        form: Some(form),
         live,
     })
 }
 
 /// What the line `live` makes of the lines before it, if it is admitted.
-fn with_live(block: Option<u32>, session: Option<u64>, live: bool) -> Option<Stage>
-    ensures { result ≡ with_live block session live }
+fn with_live(
+    block: Option<u32>,
+    session: Option<u64>,
+    form: Option<Form>,
+    live: bool,
+) -> Option<Stage>
+    ensures { result ≡ with_live block session form live }
 {
     if live {
         return None;
@@ -84,6 +127,7 @@ fn with_live(block: Option<u32>, session: Option<u64>, live: bool) -> Option<Sta
     Some(Stage::Empty {
         block,
         session,
+        form,
         live: true,
     })
 }
@@ -130,6 +174,7 @@ fn taken(stage: &mut Stage) -> Stage
         Stage::Empty {
             block: None,
             session: None,
+            form: None,
             live: false,
         },
     )
@@ -152,12 +197,13 @@ fn limit_block(stage: &mut Stage, limit: u64) -> bool
     let Stage::Empty {
         block,
         session,
+        form,
         live,
     } = stage
     else {
         return false;
     };
-    let found = with_block(*block, *session, *live, limit);
+    let found = with_block(*block, *session, *form, *live, limit);
     put(stage, found)
 }
 
@@ -168,12 +214,30 @@ fn limit_session(stage: &mut Stage, limit: u64) -> bool
     let Stage::Empty {
         block,
         session,
+        form,
         live,
     } = stage
     else {
         return false;
     };
-    let found = with_session(*block, *session, *live, limit);
+    let found = with_session(*block, *session, *form, *live, limit);
+    put(stage, found)
+}
+
+/// Makes of a stage what the line of the form makes of it.
+fn choose_form(stage: &mut Stage, number: u64) -> bool
+    ensures { step stage.old (said.Form number) ≡ done_as result stage.new }
+{
+    let Stage::Empty {
+        block,
+        session,
+        form,
+        live,
+    } = stage
+    else {
+        return false;
+    };
+    let found = with_form(*block, *session, *form, *live, number);
     put(stage, found)
 }
 
@@ -184,12 +248,13 @@ fn show_live(stage: &mut Stage) -> bool
     let Stage::Empty {
         block,
         session,
+        form,
         live,
     } = stage
     else {
         return false;
     };
-    let found = with_live(*block, *session, *live);
+    let found = with_live(*block, *session, *form, *live);
     put(stage, found)
 }
 
@@ -203,9 +268,10 @@ fn begin_group(alloc: Global, stage: &mut Stage, source: u64, name: &[u8]) -> Re
         Stage::Empty {
             block,
             session,
+            form,
             live,
         } => {
-            let opening = opening_of(*block, *session, *live);
+            let opening = opening_of(*block, *session, *form, *live);
             let found = first_sketch(alloc, opening, source, name)?;
             Ok(put(stage, planned_by(found)))
         }
@@ -322,6 +388,7 @@ pub(crate) fn step(alloc: Global, stage: &mut Stage, line: Line<'_>) -> Result<b
         Line::Flush { source } => flush(alloc, stage, source),
         Line::Block { limit } => Ok(limit_block(stage, limit)),
         Line::Session { limit } => Ok(limit_session(stage, limit)),
+        Line::Form { number } => Ok(choose_form(stage, number)),
         Line::Live => Ok(show_live(stage)),
         Line::Group { source, name } => begin_group(alloc, stage, source, name),
         Line::Channel { name, form } => name_channel(alloc, stage, name, form),
