@@ -3,6 +3,7 @@ use Rattle.std.proofs.Common.{◌≡◌, ◌+◌, ◌*◌, ◌≤◌, ℕ, zero,
 use Rattle.std.proofs.lemmas.List.Sums.{sum_by-cons, sum_by-append}
 use Rattle.std.specs.Prelude.{sum_by, IfOk}
 use Rattle.std.specs.List.{AllByRecursion}
+use Rattle.mdf_form.specs.declared.form.Form.{Form}
 use Rattle.mdf_format.specs.Block.{name_of, IsBlock}
 use Rattle.mdf_format.specs.declared.kind.Kind.{Kind}
 use Rattle.mdf_format.specs.declared.kind.Kind.TheVariants.{Hd, Fh, Dg, Cg, Cn, Cc, Si, Tx, Md, Dt, Dl, Sd, At}
@@ -258,6 +259,6 @@ both_if P Q R (Ok x) join p q = join x p q
 both_if P Q R (Err e) join p q = tt
 
 -- a recording's head begins with no block
-pub head_first : (bytes more : List ℕ) (start : ℕ) (rows : List GroupRow) → bytes ≡ head_file start rows → (kind : Kind) → IsBlock (bytes ++ more) 0 kind → ⊥
-head_first bytes more start rows is kind there =
+pub head_first : (bytes more : List ℕ) (form : Form) (start : ℕ) (rows : List GroupRow) → bytes ≡ head_file form start rows → (kind : Kind) → IsBlock (bytes ++ more) 0 kind → ⊥
+head_first bytes more form start rows is kind there =
     let begun = subst (λ (xs : List ℕ). IsBlock (xs ++ more) 0 kind) is there in no_block_first _ kind begun

@@ -2,6 +2,8 @@
 -- recorded, and behind them one group of values for each channel of variable length.
 use Rattle.std.specs.Prelude.{ℕ, zero, suc, ◌≡◌, ◌≤◌, ◌+◌, Ok, pos, List, [], ◌∷◌, ◌++◌, length, filter, sum_by, replicate, codes, None}
 use Rattle.std.specs.Int.{to_le_bytes, w16}
+use Rattle.mdf_form.specs.Form.{custom_word, standard_word}
+use Rattle.mdf_form.specs.declared.form.Form.{Form}
 use Rattle.mdf_format.specs.declared.kind.Kind.TheVariants.{Dg}
 use Rattle.mdf_block.specs.declared.link.Link.{Link}
 use Rattle.mdf_block.specs.declared.link.Link.TheVariants as links
@@ -20,10 +22,11 @@ use Rattle.mdf_group.specs.Standing.{AreDataGroups}
 use Rattle.mdf_tree.specs.Group.{past_groups, groups_blocks, data_group_blocks, placed_data_group}
 use Rattle.mdf_tree.specs.Head.{head_blocks, placed_history, new_entry}
 
--- the identification: unfinalized, version 4.10, the standard flags 33 and the custom flag of a recording
-abbrev pub recording_ident : List ℕ
-recording_ident =
-    codes "UnFinMF 4.10    mdf4rec " ++ replicate 4 0 ++ to_le_bytes w16 410 ++ replicate 30 0 ++ to_le_bytes w16 33 ++ to_le_bytes w16 1
+-- the identification: unfinalized, version 4.10, and the words of the form
+abbrev pub recording_ident : Form → List ℕ
+recording_ident form =
+    codes "UnFinMF 4.10    mdf4rec " ++ replicate 4 0 ++ to_le_bytes w16 410 ++ replicate 30 0
+    ++ to_le_bytes w16 (standard_word form) ++ to_le_bytes w16 (custom_word form)
 
 -- a head with this start time in ns; all else is 0
 abbrev pub start_head : ℕ → Head
@@ -115,9 +118,9 @@ recording_blocks start rows =
     head_blocks (start_head start) (new_entry (codes "record") start ∷ []) (links.Block 3)
     ++ data_group_blocks 3 links.Nothing links.End (value_links rows) (recording_row rows)
 
--- the bytes that a recording begins with
-abbrev pub head_file : ℕ → List GroupRow → List ℕ
-head_file start rows = written recording_ident (recording_blocks start rows)
+-- the bytes that a recording of this form begins with
+abbrev pub head_file : Form → ℕ → List GroupRow → List ℕ
+head_file form start rows = written (recording_ident form) (recording_blocks start rows)
 
 -- the data group as it stands then
 abbrev pub recorded_row : ℕ → List GroupRow → DataRow

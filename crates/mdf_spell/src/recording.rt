@@ -3,30 +3,41 @@ ghost use Rattle.std.specs.List.{AllByRecursion};
 ghost use Rattle.mdf_group.specs.Recordable.{AreRecordable};
 ghost use Rattle.mdf_tree.specs.Group.{next_if, group_body, group_blocks, groups_blocks};
 ghost use Rattle.mdf_tree.specs.Head.{header_block, history_blocks, head_blocks, new_entry};
-ghost use Rattle.mdf_spell.specs.Recording.{start_head, values_row, values_rows, variable_count, value_links, recording_data, recording_groups, ArePlacedBefore, head_file, IsRecordingTree, FindsHead, FindsGroups};
+ghost use Rattle.mdf_spell.specs.Recording.{recording_ident, start_head, values_row, values_rows, variable_count, value_links, recording_data, recording_groups, ArePlacedBefore, head_file, IsRecordingTree, FindsHead, FindsGroups};
 ghost use Rattle.mdf_tree.specs.Sized.{IsWholeSized};
 
 use crate::history::new_entry;
 use crate::variable::{block_links, variable_count};
 use mdf_block::{Draft, Kind, Link, Note};
+use mdf_form::Form;
 use mdf_group::GroupRow;
 use mdf_head::Head;
-use mdf_num::{Bytes, Memory, Rows};
+use mdf_num::{Bytes, Memory, Rows, put_u16};
 use mdf_tree::{
     Counted, group_values_behind, next_if, next_number, past_groups, place_entry, place_group,
     place_header, plus,
 };
 use std::alloc::Global;
 
-/// The identification of a recording: unfinalized, version 4.10, the standard flags 33 and the custom flag 1.
+/// The identification of a recording but for the words of its form: unfinalized, version 4.10.
 const IDENT: [u8; 64] = [
     85, 110, 70, 105, 110, 77, 70, 32, 52, 46, 49, 48, 32, 32, 32, 32, 109, 100, 102, 52, 114, 101,
     99, 32, 0, 0, 0, 0, 154, 1, 0, 0, 0, 0, 0, 0, 0, 0, 0, 0, 0, 0, 0, 0, 0, 0, 0, 0, 0, 0, 0, 0,
-    0, 0, 0, 0, 0, 0, 0, 0, 33, 0, 1, 0,
+    0, 0, 0, 0, 0, 0, 0, 0, 0, 0, 0, 0,
 ];
 
 /// The block of the first channel group: HD is block 0, FH and its comment are 1 and 2, DG is 3.
 const FIRST_GROUP: u32 = 4;
+
+/// The identification of a recording of a form.
+fn ident(form: Form) -> [u8; 64]
+    ensures { result ≡ recording_ident form }
+{
+    let mut ident = IDENT;
+    put_u16(&mut ident, 60, form.standard_word());
+    put_u16(&mut ident, 62, form.custom_word());
+    ident
+}
 
 /// Places the header of a recording.
 fn place_start(alloc: Global, draft: &mut Draft, start_ns: u64) -> Result<(), Memory>
@@ -172,16 +183,21 @@ fn place_groups(alloc: Global, draft: &mut Draft, rows: &[GroupRow]) -> Result<(
     place_values(alloc, draft, rows.len() as u32 + 1, count)
 }
 
-/// The bytes that a recording begins with, up to the place where its data begin: identification, header with this
+/// The bytes that a recording of this form begins with, up to the place where its data begin: identification, header with this
 /// start time in ns since 1970, one entry of the history at that time, and one data group. Its channel groups have
 /// record ids from 1 on and no cycles yet; behind them stands one group of values for each channel of variable
 /// length, in the order of the channels, and its channel names it.
 ///
 /// # Errors
 /// `Memory` where memory runs out, or where there are more than 2^30 blocks.
-pub fn recording_head(alloc: Global, start_ns: u64, rows: &Rows<GroupRow>) -> Result<Bytes, Memory>
+pub fn recording_head(
+    alloc: Global,
+    start_ns: u64,
+    rows: &Rows<GroupRow>,
+    form: Form,
+) -> Result<Bytes, Memory>
     requires { AreRecordable rows.now }
-    ensures written { IfOk result (λ bytes. bytes ≡ head_file start_ns rows.now) }
+    ensures written { IfOk result (λ bytes. bytes ≡ head_file form start_ns rows.now) }
     ensures tree { IfOk result (λ bytes. (more : List ℕ) → IsRecordingTree (bytes ++ more) start_ns rows.now) }
     ensures head_found { IfOk result (λ bytes. (more : List ℕ) → FindsHead (bytes ++ more) start_ns rows.now) }
     ensures groups_found { IfOk result (λ bytes. (more : List ℕ) → FindsGroups (bytes ++ more) start_ns rows.now) }
@@ -189,5 +205,5 @@ pub fn recording_head(alloc: Global, start_ns: u64, rows: &Rows<GroupRow>) -> Re
     let mut draft = Draft::new(alloc);
     place_front(alloc, &mut draft, start_ns)?;
     place_groups(alloc, &mut draft, rows.as_slice())?;
-    draft.bytes(&IDENT)
+    draft.bytes(&ident(form))
 }

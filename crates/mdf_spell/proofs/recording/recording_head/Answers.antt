@@ -25,7 +25,9 @@ placed c =
 
 pub returns-clause-written : goal.returns-clause-written
 returns-clause-written c =
-    IfOk-weaker c.bytes.result _ _ (λ bytes is. is ∙ ap (λ (blocks : List Placed). written recording_ident blocks) (placed c)) c.bytes.ensures.is
+    IfOk-weaker c.bytes.result _ _
+    (λ bytes is. is ∙ ap (λ (ident : List ℕ). written ident c.place_groups.new.draft) c.ident.ensures
+    ∙ ap (λ (blocks : List Placed). written (recording_ident c.args.form) blocks) (placed c)) c.bytes.ensures.is
 
 pub returns-clause-tree : goal.returns-clause-tree
 returns-clause-tree c =
@@ -42,16 +44,16 @@ pub returns-clause-head_found : goal.returns-clause-head_found
 returns-clause-head_found c =
     let rows = c.args.rows.now in
     let start = c.args.start_ns in
-    both_if (λ (bytes : List ℕ). bytes ≡ head_file start rows) (λ (bytes : List ℕ). (more : List ℕ) → IsRecordingTree (bytes ++ more) start rows)
+    both_if (λ (bytes : List ℕ). bytes ≡ head_file c.args.form start rows) (λ (bytes : List ℕ). (more : List ℕ) → IsRecordingTree (bytes ++ more) start rows)
     (λ (bytes : List ℕ). (more : List ℕ) → FindsHead (bytes ++ more) start rows) c.bytes.result
-    (λ bytes is tree more. recording_head_found (bytes ++ more) start rows (head_first bytes more start rows is Fh) (tree more))
+    (λ bytes is tree more. recording_head_found (bytes ++ more) start rows (head_first bytes more c.args.form start rows is Fh) (tree more))
     (returns-clause-written c) (returns-clause-tree c)
 
 pub returns-clause-groups_found : goal.returns-clause-groups_found
 returns-clause-groups_found c =
     let rows = c.args.rows.now in
     let start = c.args.start_ns in
-    both_if (λ (bytes : List ℕ). bytes ≡ head_file start rows) (λ (bytes : List ℕ). (more : List ℕ) → IsRecordingTree (bytes ++ more) start rows)
+    both_if (λ (bytes : List ℕ). bytes ≡ head_file c.args.form start rows) (λ (bytes : List ℕ). (more : List ℕ) → IsRecordingTree (bytes ++ more) start rows)
     (λ (bytes : List ℕ). (more : List ℕ) → FindsGroups (bytes ++ more) start rows) c.bytes.result
-    (λ bytes is tree more. recording_found (bytes ++ more) start rows c.requires (head_first bytes more start rows is) (tree more))
+    (λ bytes is tree more. recording_found (bytes ++ more) start rows c.requires (head_first bytes more c.args.form start rows is) (tree more))
     (returns-clause-written c) (returns-clause-tree c)
