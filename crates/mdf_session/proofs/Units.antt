@@ -1,5 +1,6 @@
 -- The loop from gate to gate: the units so far, with what the rest gives.
 use Rattle.std.proofs.Common.{◌≡◌, ◌+◌, ◌<◌, ◌≤◌, ℕ, zero, suc, true, false, List, [], ◌∷◌, ◌++◌, length, Option, Ok, Err, refl, sym, ◌∙◌, ap, subst, arith, append_assoc, append-nil}
+use Rattle.mdf_form.specs.declared.form.Form.{Form}
 use Rattle.mdf_num.specs.declared.halt.Halt.{Halt}
 use Rattle.mdf_block.specs.declared.place.BlockAt.{BlockAt}
 use Rattle.mdf_block.specs.Refusal.{Refusal, Read, ◌>>=◌, Halts}
@@ -21,10 +22,10 @@ front_moves parts x (Ok rest) = ap (λ (xs : List Part). Ok xs) (sym (append_ass
 front_moves parts x (Err refusal) = refl
 
 -- the units from a place on, behind these, are the whole; as many may come as the file has bytes from there
-pub record Opens (file : List ℕ) (parts : List Part) (place : ℕ) (whole : Read (List Part)) : Type 0 where
+pub record Opens (form : Form) (file : List ℕ) (parts : List Part) (place : ℕ) (whole : Read (List Part)) : Type 0 where
   pub most : ℕ
   pub enough : length file ≤ place + most
-  pub is : with_parts parts (opened_from file most place) ≡ whole
+  pub is : with_parts parts (opened_from form file most place) ≡ whole
 
 -- an open place lies inside the file
 open_inside : (file : List ℕ) (place : ℕ) → is_open file place ≡ true → place < length file
@@ -33,23 +34,23 @@ open_inside [] (suc place) is_opened = cc
 open_inside (byte ∷ file) zero is_opened = omega arith
 open_inside (byte ∷ file) (suc place) is_opened = let below : place < length file = open_inside file place is_opened in omega (arith, below)
 
-module _ (file : List ℕ) where
+module _ (form : Form) (file : List ℕ) where
   -- the loop begins
-  pub begins : (first : ℕ) → Opens file [] first (opened_from file (length file) first)
-  begins first = record { most = length file; enough = omega arith; is = with_none (opened_from file (length file) first) }
+  pub begins : (first : ℕ) → Opens form file [] first (opened_from form file (length file) first)
+  begins first = record { most = length file; enough = omega arith; is = with_none (opened_from form file (length file) first) }
 
-  closed : (most place : ℕ) → is_open file place ≡ false → opened_from file most place ≡ Ok []
+  closed : (most place : ℕ) → is_open file place ≡ false → opened_from form file most place ≡ Ok []
   unfolding opened_from
   closed zero place is_closed = refl
   closed (suc most) place is_closed = rw is_closed refl
 
   -- a closed place ends it
-  pub is_done : (parts : List Part) (place : ℕ) (whole : Read (List Part)) → is_open file place ≡ false → Opens file parts place whole → whole ≡ Ok parts
+  pub is_done : (parts : List Part) (place : ℕ) (whole : Read (List Part)) → is_open file place ≡ false → Opens form file parts place whole → whole ≡ Ok parts
   is_done parts place whole is_closed opens =
       sym opens.is ∙ ap (with_parts parts) (closed opens.most place is_closed) ∙ ap (λ (xs : List Part). Ok xs) (append-nil parts)
 
   opened : (most place : ℕ) → is_open file place ≡ true
-      → opened_from file (suc most) place ≡ (unit file place >>= λ b. opened_from file most (place_behind b) >>= λ rest. Ok (part_of b ∷ rest))
+      → opened_from form file (suc most) place ≡ (unit form file place >>= λ b. opened_from form file most (place_behind b) >>= λ rest. Ok (part_of b ∷ rest))
   unfolding opened_from
   opened most place is_opened = rw is_opened refl
 
@@ -60,7 +61,7 @@ module _ (file : List ℕ) where
 
   -- one more was found
   pub goes_on : (parts : List Part) (place : ℕ) (whole : Read (List Part)) (b : BlockAt) → is_open file place ≡ true
-      → unit file place ≡ Ok b → place < place_behind b → Opens file parts place whole → Opens file (parts ++ part_of b ∷ []) (place_behind b) whole
+      → unit form file place ≡ Ok b → place < place_behind b → Opens form file parts place whole → Opens form file (parts ++ part_of b ∷ []) (place_behind b) whole
   goes_on parts place whole b is_opened found later opens =
       let more = one_more opens.most place is_opened opens.enough in
       record {
@@ -69,21 +70,21 @@ module _ (file : List ℕ) where
             let is : opens.most ≡ suc more.0 = more.1 in
             let enough : length file ≤ place + opens.most = opens.enough in omega (arith, is, enough, later);
         is =
-            sym (front_moves parts (part_of b) (opened_from file more.0 (place_behind b)))
-            ∙ ap (λ (read : Read BlockAt). with_parts parts (read >>= λ b. opened_from file more.0 (place_behind b) >>= λ rest. Ok (part_of b ∷ rest))) (sym found)
+            sym (front_moves parts (part_of b) (opened_from form file more.0 (place_behind b)))
+            ∙ ap (λ (read : Read BlockAt). with_parts parts (read >>= λ b. opened_from form file more.0 (place_behind b) >>= λ rest. Ok (part_of b ∷ rest))) (sym found)
             ∙ ap (with_parts parts) (sym (opened more.0 place is_opened))
-            ∙ ap (λ (most : ℕ). with_parts parts (opened_from file most place)) (sym more.1)
+            ∙ ap (λ (most : ℕ). with_parts parts (opened_from form file most place)) (sym more.1)
             ∙ opens.is;
       }
 
   -- there is none at an open place
   pub ends : {E : Type 0} (refusal : E → Option Refusal) (halt : Halt E) (parts : List Part) (place : ℕ) (whole : Read (List Part))
-      → is_open file place ≡ true → Halts refusal halt (unit file place) → Opens file parts place whole → Halts refusal halt whole
+      → is_open file place ≡ true → Halts refusal halt (unit form file place) → Opens form file parts place whole → Halts refusal halt whole
   ends refusal halt parts place whole is_opened halted opens =
       let more = one_more opens.most place is_opened opens.enough in
-      let first : Halts refusal halt (opened_from file (suc more.0) place) =
+      let first : Halts refusal halt (opened_from form file (suc more.0) place) =
       subst (Halts refusal halt) (sym (opened more.0 place is_opened))
-      (halts_then refusal halt (unit file place) (λ b. opened_from file more.0 (place_behind b) >>= λ rest. Ok (part_of b ∷ rest)) halted) in
-      let second : Halts refusal halt (opened_from file opens.most place) =
-      subst (λ (most : ℕ). Halts refusal halt (opened_from file most place)) (sym more.1) first in
-      subst (Halts refusal halt) opens.is (halts_then refusal halt (opened_from file opens.most place) (λ rest. Ok (parts ++ rest)) second)
+      (halts_then refusal halt (unit form file place) (λ b. opened_from form file more.0 (place_behind b) >>= λ rest. Ok (part_of b ∷ rest)) halted) in
+      let second : Halts refusal halt (opened_from form file opens.most place) =
+      subst (λ (most : ℕ). Halts refusal halt (opened_from form file most place)) (sym more.1) first in
+      subst (Halts refusal halt) opens.is (halts_then refusal halt (opened_from form file opens.most place) (λ rest. Ok (parts ++ rest)) second)

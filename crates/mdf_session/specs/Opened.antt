@@ -1,7 +1,10 @@
 -- The opened blocks of a recording, as the parts of one stream.
-use Rattle.std.specs.Prelude.{ℕ, zero, suc, ◌+◌, ◌%◌, Bool, ◌||◌, not, nat_eq, if◌then◌else◌, List, [], ◌∷◌, length, get_or, Ok, Err}
+use Rattle.std.specs.Prelude.{ℕ, zero, suc, ◌+◌, ◌-◌, ◌%◌, Bool, ◌&&◌, ◌||◌, not, nat_eq, if◌then◌else◌, List, [], ◌∷◌, length, get_or, Ok, Err}
+use Rattle.mdf_form.specs.declared.form.Form.{Form}
+use Rattle.mdf_form.specs.declared.form.Form.TheVariants.{Bare, Listed}
 use Rattle.mdf_format.specs.Number.{aligned}
-use Rattle.mdf_format.specs.declared.kind.Kind.TheVariants.{Dt}
+use Rattle.mdf_format.specs.Block.{link_at}
+use Rattle.mdf_format.specs.declared.kind.Kind.TheVariants.{Dl, Dt}
 use Rattle.mdf_block.specs.declared.place.BlockAt.{BlockAt}
 use Rattle.mdf_block.specs.Refusal.{Bad, Read, ◌>>=◌}
 use Rattle.mdf_block.specs.Block.{block}
@@ -12,23 +15,51 @@ use Rattle.mdf_stream.specs.Link.{part_of}
 abbrev pub is_open : List ℕ → ℕ → Bool
 is_open file place = nat_eq (get_or file place 0) 35
 
--- a unit is a whole DTBLOCK; whatever else stands there is refused as none
-abbrev pub unit_of : ℕ → Read BlockAt → Read BlockAt
-unit_of place (Ok b) = Ok b
-unit_of place (Err refusal) = Err (Bad place Dt)
+-- a whole DTBLOCK; whatever else stands there is refused as none
+abbrev pub data_of : ℕ → Read BlockAt → Read BlockAt
+data_of place (Ok b) = Ok b
+data_of place (Err refusal) = Err (Bad place Dt)
 
-unfoldable pub unit : List ℕ → ℕ → Read BlockAt
-unit file place = unit_of place (block file place Dt)
+unfoldable pub data_block : List ℕ → ℕ → Read BlockAt
+data_block file place = data_of place (block file place Dt)
 
--- the place behind a unit
+-- where a block ends
+abbrev pub end_of : BlockAt → ℕ
+end_of b = b.body_at + b.body_len
+
+-- a DLBLOCK of 56 bytes with two links, of which the second names the address behind it; whatever else stands there is
+-- refused as none
+abbrev pub is_list : List ℕ → BlockAt → Bool
+is_list file b = nat_eq b.links 2 && nat_eq (end_of b - b.at) 56 && nat_eq (link_at file b.at 1) (end_of b)
+
+abbrev pub list_of : List ℕ → ℕ → Read BlockAt → Read BlockAt
+list_of file place (Ok b) = if is_list file b then Ok b else Err (Bad place Dl)
+list_of file place (Err refusal) = Err (Bad place Dl)
+
+unfoldable pub list_block : List ℕ → ℕ → Read BlockAt
+list_block file place = list_of file place (block file place Dl)
+
+-- the place behind a unit with this data block
 abbrev pub place_behind : BlockAt → ℕ
-place_behind b = aligned (b.body_at + b.body_len)
+place_behind b = aligned (end_of b)
+
+-- the data block behind a DLBLOCK whose first link names the place behind the unit
+abbrev pub linked_by : List ℕ → BlockAt → BlockAt → Read BlockAt
+linked_by file list b = if nat_eq (link_at file list.at 0) (place_behind b) then Ok b else Err (Bad list.at Dl)
+
+abbrev pub data_behind : List ℕ → BlockAt → Read BlockAt
+data_behind file list = data_block file (end_of list) >>= linked_by file list
+
+-- the data block of the unit at a place
+unfoldable pub unit : Form → List ℕ → ℕ → Read BlockAt
+unit Bare file place = data_block file place
+unit Listed file place = list_block file place >>= data_behind file
 
 -- the bodies of the units from a place on, up to the first closed place; so many at most
-unfoldable pub opened_from : List ℕ → ℕ → ℕ → Read (List Part)
-opened_from file zero place = Ok []
-opened_from file (suc most) place =
-    if is_open file place then (unit file place >>= λ b. opened_from file most (place_behind b) >>= λ rest. Ok (part_of b ∷ rest))
+unfoldable pub opened_from : Form → List ℕ → ℕ → ℕ → Read (List Part)
+opened_from form file zero place = Ok []
+opened_from form file (suc most) place =
+    if is_open file place then (unit form file place >>= λ b. opened_from form file most (place_behind b) >>= λ rest. Ok (part_of b ∷ rest))
     else Ok []
 
 -- data can begin at this place: a multiple of 8, and not 0
@@ -36,5 +67,5 @@ abbrev pub is_place : ℕ → Bool
 is_place place = not (nat_eq place 0 || not (nat_eq (place % 8) 0))
 
 -- the opened blocks from the first place on; there are no more than the file has bytes
-unfoldable pub opened_parts : List ℕ → ℕ → Read (List Part)
-opened_parts file first = if is_place first then opened_from file (length file) first else Err (Bad first Dt)
+unfoldable pub opened_parts : Form → List ℕ → ℕ → Read (List Part)
+opened_parts form file first = if is_place first then opened_from form file (length file) first else Err (Bad first Dt)

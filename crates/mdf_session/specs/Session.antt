@@ -1,5 +1,7 @@
 -- A recording that is read: its header, its history, its data groups, and what the first of these holds.
-use Rattle.std.specs.Prelude.{ℕ, ◌≡◌, ◌<◌, ◌||◌, slice_index_or, false, not, nat_eq, if◌then◌else◌, List, [], ◌∷◌, length, Ok, Err}
+use Rattle.std.specs.Prelude.{ℕ, ◌≡◌, ◌<◌, ◌||◌, slice_index_or, false, not, if◌then◌else◌, List, [], ◌∷◌, length, Ok, Err}
+use Rattle.mdf_form.specs.Form.{form_named, names_form}
+use Rattle.mdf_form.specs.declared.form.Form.{Form}
 use Rattle.mdf_format.specs.declared.kind.Kind.TheVariants.{Dg}
 use Rattle.mdf_block.specs.Refusal.{Bad, NotRecording, Read, ◌>>=◌}
 use Rattle.mdf_stream.specs.Parts.{stream_of, stream_size}
@@ -15,10 +17,10 @@ use Rattle.mdf_stream.specs.declared.part.Part.{Part}
 use Rattle.mdf_session.specs.declared.session.Kept.{Kept}
 use Rattle.mdf_session.specs.Counted.{all_streams, counts_from, records_content, totals_from}
 
--- an identification that says that the file is a recording: it is not finalized, and its custom word is 1
+-- an identification that says that the file is a recording: it is not finalized, and its custom word names a form
 abbrev pub recording_by : Ident → Read Ident
 recording_by id =
-    if id.finalized || not (nat_eq id.custom_flags 1) then Err (NotRecording id.std_flags id.custom_flags) else Ok id
+    if id.finalized || not (names_form id.custom_flags) then Err (NotRecording id.std_flags id.custom_flags) else Ok id
 
 unfoldable pub recording : List ℕ → Read Ident
 recording file = identify file >>= recording_by
@@ -38,18 +40,18 @@ unfoldable pub kept_of : List ℕ → DataRow → List Part → List (List ℕ) 
 kept_of file row parts lists =
     all_streams file (record { parts = parts; groups = row.groups; lists = lists }) >>= λ found. Ok (kept_by file row parts lists found)
 
--- a data group of a recording: its id size and layouts, its opened blocks, its records, and the values of its channels
-unfoldable pub kept : List ℕ → DataRow → Read Kept
-kept file row = do
+-- a data group of a recording of this form: its id size and layouts, its opened blocks, its records, and the values of its channels
+unfoldable pub kept : Form → List ℕ → DataRow → Read Kept
+kept form file row = do
   _ ← layouts row
-  parts ← opened_parts file row.content
+  parts ← opened_parts form file row.content
   lists ← places_of (stream_of file parts) (stream_size parts) false row
   kept_of file row parts lists
 
 -- the first data group; a recording has one
-abbrev pub first_kept : List ℕ → List DataRow → Read Kept
-first_kept file [] = Err (Bad 0 Dg)
-first_kept file (row ∷ rows) = kept file row
+abbrev pub first_kept : Form → List ℕ → List DataRow → Read Kept
+first_kept form file [] = Err (Bad 0 Dg)
+first_kept form file (row ∷ rows) = kept form file row
 
 -- so many groups are counted as the data group has
 pub record IsCountedOf (row : DataRow) (found : Kept) : Type 0 where
@@ -69,7 +71,7 @@ pub record SessionParts : Type 0 where
 -- the session of a file, or the first reason to refuse it: the identification, the tree, and then its first data group
 unfoldable pub session : List ℕ → Read SessionParts
 session file = do
-  _ ← recording file
+  id ← recording file
   all ← tree file
-  found ← first_kept file all.rows
+  found ← first_kept (form_named id.custom_flags) file all.rows
   Ok (record { tree = all; kept = found })

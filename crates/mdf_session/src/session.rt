@@ -11,6 +11,7 @@ ghost use Rattle.mdf_session.specs.Standing.{StandIn, session_from, session_with
 
 use crate::standing::{Standing, first_standing_in};
 use mdf_content::ReadFault;
+use mdf_form::Form;
 use mdf_group::DataRow;
 use mdf_head::{Head, History, Ident};
 use mdf_model::{Tree, identity_in, tree_in};
@@ -39,14 +40,14 @@ struct Found {
 /// The identification of a recording.
 ///
 /// # Errors
-/// `NotMdf`, then `Version`, as `ident`; then `NotRecording` exactly where the file is finalized or its custom word is not 1;
-/// and the span's own.
+/// `NotMdf`, then `Version`, as `ident`; then `NotRecording` exactly where the file is finalized or its custom word names no
+/// form; and the span's own.
 #[tactic(auto, unfolding(crate::specs::Session::recording))]
 fn recording_in<P: Span>(span: &mut P) -> Result<Ident, Halt<ReadFault>>
     ensures reads { Reads P.Span span.old span.new P.may_want read_refusal result (λ file. recording file) }
 {
     let id = identity_in(span)?;
-    if id.finalized || id.custom_flags != 1 {
+    if id.finalized || !Form::is_word(id.custom_flags) {
         return Err(Halt::Fault(ReadFault::NotRecording {
             std: id.std_flags,
             custom: id.custom_flags,
@@ -176,9 +177,10 @@ fn found_in<P: Span>(alloc: Global, span: &mut P) -> Result<Found, Halt<ReadFaul
     ensures stands { IfOk result (λ found. StandIn (P.size span.old) found.standing) }
     ensures counted { IfOk result (λ found. (content : List ℕ) → HasFirst found.tree.rows (with_content content found.standing)) }
 {
-    recording_in(span)?;
+    let id = recording_in(span)?;
+    let form = Form::of_word(id.custom_flags);
     let tree = tree_in(alloc, span)?;
-    let standing = first_standing_in(alloc, span, tree.rows.as_slice())?;
+    let standing = first_standing_in(alloc, span, form, tree.rows.as_slice())?;
     Ok(Found { tree, standing })
 }
 

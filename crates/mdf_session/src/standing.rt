@@ -14,6 +14,7 @@ use crate::counted::{all_streams_in, counts_of, totals_in};
 use crate::opened::opened_in;
 use mdf_content::{Kind, ReadFault, count_at, layouts_in, record_size, records_in};
 use mdf_data::Places;
+use mdf_form::Form;
 use mdf_group::DataRow;
 use mdf_num::{Halt, Rows, Span};
 use mdf_stream::DataView;
@@ -81,7 +82,7 @@ fn counted_in<P: Span>(
     })
 }
 
-/// What a data group of a recording holds, with its records still in the file.
+/// What a data group of a recording of this form holds, with its records still in the file.
 ///
 /// # Errors
 /// The first fault in this order: `Layout` of its id size; `Layout` of the first channel that breaks a rule; that of its
@@ -92,31 +93,33 @@ fn counted_in<P: Span>(
 fn standing_in<P: Span>(
     alloc: Global,
     span: &mut P,
+    form: Form,
     row: &DataRow,
 ) -> Result<Standing, Halt<ReadFault>>
-    ensures reads { Says P.Span span.old span.new true read_refusal result (λ file. IfOk result (λ found. kept file row.now ≡ Ok (kept_from file found))) }
-    ensures refused { (f : List ℕ) → P.bytes span.old ≡ Some f → IfErr result (λ halt. Halts read_refusal halt (kept f row.now)) }
+    ensures reads { Says P.Span span.old span.new true read_refusal result (λ file. IfOk result (λ found. kept form file row.now ≡ Ok (kept_from file found))) }
+    ensures refused { (f : List ℕ) → P.bytes span.old ≡ Some f → IfErr result (λ halt. Halts read_refusal halt (kept form f row.now)) }
     ensures stands { IfOk result (StandIn (P.size span.old)) }
     ensures counted { IfOk result (λ found. (content : List ℕ) → IsCountedOf row.now (with_content content found)) }
 {
     layouts_in(alloc, span, row)?;
-    let view = opened_in(alloc, span, row.content)?;
+    let view = opened_in(alloc, span, form, row.content)?;
     let lists = records_in(alloc, span, &view, false, row)?;
     let standing = counted_in(alloc, span, view, row, lists)?;
     Ok(standing)
 }
 
-/// What the first data group of a recording holds, with its records still in the file.
+/// What the first data group of a recording of this form holds, with its records still in the file.
 ///
 /// # Errors
 /// `Block` with 0 and `Dg` exactly where there is none; else as `standing_in`.
 pub(crate) fn first_standing_in<P: Span>(
     alloc: Global,
     span: &mut P,
+    form: Form,
     rows: &[DataRow],
 ) -> Result<Standing, Halt<ReadFault>>
-    ensures reads { Says P.Span span.old span.new true read_refusal result (λ file. IfOk result (λ found. first_kept file rows.now ≡ Ok (kept_from file found))) }
-    ensures refused { (f : List ℕ) → P.bytes span.old ≡ Some f → IfErr result (λ halt. Halts read_refusal halt (first_kept f rows.now)) }
+    ensures reads { Says P.Span span.old span.new true read_refusal result (λ file. IfOk result (λ found. first_kept form file rows.now ≡ Ok (kept_from file found))) }
+    ensures refused { (f : List ℕ) → P.bytes span.old ≡ Some f → IfErr result (λ halt. Halts read_refusal halt (first_kept form f rows.now)) }
     ensures stands { IfOk result (StandIn (P.size span.old)) }
     ensures counted { IfOk result (λ found. (content : List ℕ) → HasFirst rows.now (with_content content found)) }
 {
@@ -126,6 +129,6 @@ pub(crate) fn first_standing_in<P: Span>(
             want: Kind::Dg,
         }));
     }
-    let standing = standing_in(alloc, span, &rows[0])?;
+    let standing = standing_in(alloc, span, form, &rows[0])?;
     Ok(standing)
 }

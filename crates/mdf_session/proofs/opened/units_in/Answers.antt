@@ -10,7 +10,7 @@ use Rattle.mdf_session.proofs.opened.units_in.Goals as goal
 
 pub loop-view-init : goal.loop-view-init
 loop-view-init g c = record {
-  found = λ f told. rw c.empty-view.ensures (begins f c.args.first);
+  found = λ f told. rw c.empty-view.ensures (begins c.args.form f c.args.first);
   inside = rw c.empty-view.ensures tt;
   behind = none_behind _ c.empty-view.ensures;
   below = rw c.empty-view.ensures (omega arith);
@@ -26,7 +26,7 @@ returns-in_err-unit-clause-reads g c = says_of (search rules) (λ f told.
     let gate = c.in_ok-is_open_in.ensures in
     let now = loop.invariant.same ∙ told in
     rw (p.1, p.2) (
-    ends f read_refusal _ loop.view loop.place _ (sym (gate.reads.seen f now) ∙ c.if-branch.true) (c.in_err-unit.ensures.reads.found f (gate.reads.same ∙ now))
+    ends c.args.form f read_refusal _ loop.view loop.place _ (sym (gate.reads.seen f now) ∙ c.if-branch.true) (c.in_err-unit.ensures.reads.found f (gate.reads.same ∙ now))
     (loop.invariant.found f told)
     ))
 
@@ -39,7 +39,7 @@ loop-view-preserved g c =
       found = λ f told.
           let now = loop.invariant.same ∙ told in
           rw (next.added, next.behind) (
-          goes_on f loop.view loop.place _ unit.unit (sym (gate.reads.seen f now) ∙ c.if-branch.true) (unit.ensures.reads.found f (gate.reads.same ∙ now))
+          goes_on c.args.form f loop.view loop.place _ unit.unit (sym (gate.reads.seen f now) ∙ c.if-branch.true) (unit.ensures.reads.found f (gate.reads.same ∙ now))
           (subst (λ (n : ℕ). loop.place < n) next.behind next.later) (loop.invariant.found f told)
           );
       inside =
@@ -58,5 +58,5 @@ loop-view-preserved g c =
 pub returns-clause-reads : goal.returns-clause-reads
 returns-clause-reads g c = says_of (search rules) (λ f told.
     let loop = c.loop-view in
-    is_done f loop.view loop.place _ (sym (c.in_ok-is_open_in.ensures.reads.seen f (loop.invariant.same ∙ told)) ∙ c.if-branch.false)
+    is_done c.args.form f loop.view loop.place _ (sym (c.in_ok-is_open_in.ensures.reads.seen f (loop.invariant.same ∙ told)) ∙ c.if-branch.false)
     (loop.invariant.found f told))

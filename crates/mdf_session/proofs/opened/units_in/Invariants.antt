@@ -6,7 +6,7 @@ use Rattle.mdf_session.proofs.opened.units_in.Given as goal
 
 abbrev pub invariant-loop-view : goal.invariant-loop-view
 invariant-loop-view g l = record {
-  found : (f : List ℕ) → g.P.Span.bytes l.initial.span ≡ Some f → Opens f l.view l.place (opened_from f (length f) l.first);
+  found : (f : List ℕ) → g.P.Span.bytes l.initial.span ≡ Some f → Opens l.form f l.view l.place (opened_from l.form f (length f) l.first);
   inside : ArePartsInside (g.P.Span.size l.initial.span) l.view;
   behind : AreBehind 0 l.view;
   below : stream_size l.view ≤ l.place;

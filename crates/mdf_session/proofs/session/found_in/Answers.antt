@@ -11,7 +11,7 @@ returns-clause-counted g c = λ content.
     (c.in_ok-standing.ensures.counted content)
 
 pub returns-in_err-tree-clause-first : goal.returns-in_err-tree-clause-first
-returns-in_err-tree-clause-first g c = λ f told. hides_none _ _ _ _ (c.in_ok-recording_in.ensures.reads.found f told)
+returns-in_err-tree-clause-first g c = λ f told. hides_none _ _ _ _ (c.in_ok-id.ensures.reads.found f told)
 
 pub returns-in_err-standing-clause-first : goal.returns-in_err-standing-clause-first
-returns-in_err-standing-clause-first g c = λ f told. hides_none _ _ _ _ (c.in_ok-recording_in.ensures.reads.found f told)
+returns-in_err-standing-clause-first g c = λ f told. hides_none _ _ _ _ (c.in_ok-id.ensures.reads.found f told)
