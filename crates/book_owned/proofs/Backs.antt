@@ -5,7 +5,6 @@ use Rattle.std.proofs.lemmas.List.Elements.{All-push, All-weaker}
 use Rattle.std.specs.Prelude.{is_some, IfSome}
 use Rattle.std.specs.Bool.{OnTrue}
 use Rattle.std.specs.List.{All, concat}
-use Rattle.mdf_format.specs.Number.{aligned}
 use Rattle.mdf_disk.specs.Crash.{Adds, HoldsSince}
 use Rattle.mdf_disk.proofs.Crash.{adds_more}
 use Rattle.mdf_layout.specs.Layout.{Layout}
@@ -13,9 +12,11 @@ use Rattle.mdf_layout.specs.Record.{history_cost}
 use Rattle.mdf_layout.specs.Behind.{AreEncodingsBehind}
 use Rattle.mdf_layout.specs.declared.sample.Sample.{Sample}
 use Rattle.mdf_layout.proofs.Behind.{all_written}
+use Rattle.mdf_gate.specs.Written.{room_of}
 use Rattle.mdf_gate.specs.Gated.{Gated, Buffered, RestsOn}
 use Rattle.mdf_gate.specs.Images.{head_of, Opens, OpensEither}
 use Rattle.mdf_gate.specs.Carried.{Carries}
+use Rattle.mdf_gate.proofs.Units.{lead_few}
 use Rattle.mdf_gate.proofs.Carrying.{carries_either, carries_opened, concat_one_more, prefix_self}
 use Rattle.book_owned.specs.Members.{DiskOf}
 use Rattle.book_owned.specs.Kept.{MarkHolds}
@@ -36,7 +37,7 @@ module _ {D : Type 0} (disk : DiskOf D) (layouts : List Layout) (most : ℕ) (ol
   head = head_of (disk.story old.disk) old.first
 
   abbrev next : ℕ
-  next = aligned (old.place + 24 + length block.bytes)
+  next = old.place + room_of old.form (length block.bytes)
 
   same : take from parts ≡ take from samples
   same = take-take from through samples handed.more
@@ -64,7 +65,7 @@ module _ {D : Type 0} (disk : DiskOf D) (layouts : List Layout) (most : ℕ) (ol
   adds_carry told adds = adds_told (disk.story old.disk) (disk.story new.disk) (Carries layouts head parts from) _ told holds.near
       (λ near. adds_more (disk.story old.disk) (disk.story new.disk) (OpensEither head blocks block.bytes next) (Carries layouts head parts from)
       (carries_either layouts head parts from blocks block.bytes next (omega (arith, handed.more, length-take-le through samples handed.within)) before records
-      (omega (arith, near, small)))
+      (omega (arith, near, small, lead_few old.form)))
       (adds blocks holds.written.rests))
 
   module _ (marks : List Mark) (few : All (λ mark. mark.through ≤ from) marks) (keeps : BackKeeps disk layouts old parts marks)
@@ -95,7 +96,7 @@ module _ {D : Type 0} (disk : DiskOf D) (layouts : List Layout) (most : ℕ) (ol
           (all_written layouts parts from (concat blocks) block.bytes before records)
 
       near : IfSome (disk.story new.disk) (λ _. new.place ≤ length head' + history_cost layouts parts)
-      near = told_on (disk.story old.disk) (disk.story new.disk) _ _ told (λ near. omega (arith, place, near, small, ap length head_is)) holds.near
+      near = told_on (disk.story old.disk) (disk.story new.disk) _ _ told (λ near. omega (arith, place, near, small, ap length head_is, lead_few old.form)) holds.near
 
       pub back_holds : FileHolds disk layouts most new parts
       back_holds = record {
@@ -106,7 +107,7 @@ module _ {D : Type 0} (disk : DiskOf D) (layouts : List Layout) (most : ℕ) (ol
           within = All-push (λ body. length body ≤ most) blocks block.bytes holds.written.within handed.short;
           records = whole;
         };
-        reach = omega (arith, place, holds.reach, small);
+        reach = omega (arith, place, holds.reach, small, lead_few old.form);
         near = near;
       }
 

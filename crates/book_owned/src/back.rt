@@ -25,7 +25,7 @@ pub(crate) fn write_block<D: Disk>(
 ) -> Result<Mark, Fault>
     requires going { file.old.failed ≡ false }
     requires some { 1 ≤ length block.old.bytes }
-    requires short { file.old.place + length block.old.bytes + 32 < 2 ^ 62 }
+    requires short { file.old.place + length block.old.bytes + 88 < 2 ^ 62 }
     ensures ok { IfOk result (λ mark. (file.new.failed ≡ false) × (mark.through ≡ through) × (mark.moment ≡ D.moment file.new.disk) × (block.new.bytes ≡ [])) }
     ensures fault { IfErr result (IsWriteFault D.Disk file.old file.new) }
     ensures left { OnErr result (block.new.bytes ≡ block.old.bytes) }

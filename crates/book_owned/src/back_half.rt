@@ -30,7 +30,7 @@ impl<D: Disk> Back<D> {
     pub fn write(&mut self, through: u64, mut block: Block) -> Written
         requires going { self.old.failed ≡ false }
         requires some { 1 ≤ length block.bytes }
-        requires short { self.old.place + length block.bytes + 32 < 2 ^ 62 }
+        requires short { self.old.place + length block.bytes + 88 < 2 ^ 62 }
         ensures answer { WriteAnswers D.Disk self.old self.new through block result }
         ensures terms { back_terms D.Disk self.new ≡ back_terms D.Disk self.old }
         ensures later { D.faults self.old.disk ≤ D.faults self.new.disk }

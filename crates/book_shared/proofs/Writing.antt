@@ -84,7 +84,7 @@ module _ {D V : Type 0} (m : Here D V) (through : ℕ) (block : Buffered) (out :
     is_out = came.1
 
     pub may_write : (back : Gated D) × (o.1 ≡ (1, TheBack back) ∷ rest o.1) × (back.failed ≡ false) × (1 ≤ length block.bytes)
-        × (back.place + length block.bytes + 32 < 4611686018427387904)
+        × (back.place + length block.bytes + 88 < 4611686018427387904)
     may_write = (
       the_back,
       carries o.1 (1, slot_back the_back) [] (ap (λ (x : Here D V). x.1) is_out),

@@ -458,7 +458,7 @@ impl<D: Disk, V: Shown> SharedBook<D, V> {
     pub(crate) fn write_out(&self, seat: &mut Chair<D, V>, through: u64, block: Block) -> Written
         requires table { seat.old.table_id ≡ self.now.table }
         requires back { (back : Gated D) × (seat.old.me.1 ≡ (1, TheBack back) ∷ rest seat.old.me.1) × (back.failed ≡ false)
-            × (1 ≤ length block.bytes) × (back.place + length block.bytes + 32 < 4611686018427387904) }
+            × (1 ≤ length block.bytes) × (back.place + length block.bytes + 88 < 4611686018427387904) }
         ensures table { seat.new.table_id ≡ seat.old.table_id }
         ensures view { seat.new.me.0 ≡ seat.old.me.0 }
         ensures writes { Writes seat.old.me seat.new.me (λ old new. WritesOut D.Disk old new through block result) }

@@ -7,6 +7,9 @@ use Rattle.book_shared.specs.declared.half.Half.TheVariants.{TheFront, TheBack}
 use Rattle.book_shared.proofs.Covering.{both_taken}
 use Rattle.book_shared.proofs.closing.book_of.Goals as goal
 
+pub take-requires : goal.take-requires
+take-requires g c = (omega (arith, c.requires.count), c.requires.full 0 (omega arith) (omega (arith, c.requires.count)))
+
 pub front_of-front-requires : goal.front_of-front-requires
 front_of-front-requires g c =
     let halves = c.requires.halves in
