@@ -5,6 +5,8 @@ use Rattle.std.specs.List.{flat_map, enumerate_from, AllByRecursion}
 use Rattle.std.proofs.lemmas.Bool.{eqb-false, cond-true, cond-false}
 use Rattle.std.proofs.lemmas.List.{take_all}
 use Rattle.std.proofs.lemmas.Option.{same_Some, slice_get_within, slice_get-get_or, get_or_from_slice_get}
+use Rattle.mdf_form.specs.Form.{form_of}
+use Rattle.mdf_form.specs.declared.form.Form.{Form}
 use Rattle.mdf_format.specs.Block.{link_at, IsChain}
 use Rattle.mdf_format.specs.Identification.{IsUnfinalized}
 use Rattle.mdf_block.specs.declared.what.What.TheVariants as whats
@@ -18,6 +20,7 @@ use Rattle.mdf_data.specs.Places.{places, places_alone}
 use Rattle.mdf_data.specs.Split.{Record, IsRecordSplit}
 use Rattle.mdf_data.proofs.Splits.{record_splits_agree}
 use Rattle.mdf_head.specs.declared.entry.Head.{Head}
+use Rattle.mdf_head.specs.Ident.{the_ident}
 use Rattle.mdf_group.specs.declared.row.ChannelRow.{ChannelRow}
 use Rattle.mdf_group.specs.declared.row.GroupRow.{GroupRow}
 use Rattle.mdf_group.specs.declared.row.DataRow.{DataRow}
@@ -116,9 +119,9 @@ first_begins file at (first ∷ rows) row stand there =
     ∙ ap (λ (n : ℕ). link_at file n 2) stand.chain.0
 
 -- what it holds is what is read
-first_is : (file : List ℕ) (rows : List DataRow) (row : DataRow) → slice_get rows 0 ≡ Some row → first_kept file rows ≡ kept file row
-first_is file [] row there = let wrong : ◌≡◌ {A = Option DataRow} None (Some row) = there in cc
-first_is file (first ∷ rows) row there = ap (kept file) (same_Some first row there)
+first_is : (form : Form) (file : List ℕ) (rows : List DataRow) (row : DataRow) → slice_get rows 0 ≡ Some row → first_kept form file rows ≡ kept form file row
+first_is form file [] row there = let wrong : ◌≡◌ {A = Option DataRow} None (Some row) = there in cc
+first_is form file (first ∷ rows) row there = ap (kept form file) (same_Some first row there)
 
 module _ (file : List ℕ) (found : Recovery) (is : IsRecovery file found) where
   abbrev row : DataRow
@@ -176,12 +179,12 @@ module _ (file : List ℕ) (found : Recovery) (is : IsRecovery file found) where
       first_begins file found.head.first_dg found.rows row is.tree is.first
       ∙ ap (λ (n : ℕ). link_at file n 2) (ap (λ (h : Head). h.first_dg) is.stands.fields)
 
-  kept_there : AllByRecursion (HasFewValues file) row.groups → (read : Kept) × (kept file row ≡ Ok read)
+  kept_there : AllByRecursion (HasFewValues file) row.groups → (read : Kept) × (kept (form_of file) file row ≡ Ok read)
   kept_there few =
       let known = map known_of row.groups in
       let rest = is.records.rest in
-      let opened : AreFound file (opened_parts file row.content) is.records.blocks =
-      subst (λ (n : ℕ). AreFound file (opened_parts file n) is.records.blocks) (sym begins) (blocks_found file is.records.blocks is.records.opened) in
+      let opened : AreFound file (opened_parts (form_of file) file row.content) is.records.blocks =
+      subst (λ (n : ℕ). AreFound file (opened_parts (form_of file) file n) is.records.blocks) (sym begins) (blocks_found file is.records.blocks is.records.opened) in
       let parts = opened.parts in
       let stream = stream_of file parts in
       let long : length stream ≡ stream_size parts = length-stream file parts opened.inside in
@@ -196,7 +199,7 @@ module _ (file : List ℕ) (found : Recovery) (is : IsRecovery file found) where
       let hold : HoldBodies stream row lists records = subst (HoldBodies stream row lists) same (hold_by row stream 0 lists at_places) in
       let streams = streams_read file row parts lists records opened.inside hold laid_at (such few parts lists opened.inside hold) in (
         kept_by file row parts lists streams.0,
-        kept_by_parts file row parts lists streams.0 layouts_there opened.found
+        kept_by_parts (form_of file) file row parts lists streams.0 layouts_there opened.found
             (subst (λ (n : ℕ). places_of stream n false row ≡ Ok lists) long placed.1) streams.1,
       )
 
@@ -208,8 +211,8 @@ module _ (file : List ℕ) (found : Recovery) (is : IsRecovery file found) where
       let all = tree_there file found.head found.history found.rows (none_at_first file unfinalized) is.stands within.tree in
       let held = kept_there within.values in (
         _,
-        session_by_parts file ident.0 (record { head = found.head; history = found.history; rows = found.rows; dropped = all.0 }) held.0 ident.1 all.1
-            (first_is file found.rows row is.first ∙ held.1),
+        session_by_parts file (the_ident file) (record { head = found.head; history = found.history; rows = found.rows; dropped = all.0 }) held.0 ident all.1
+            (first_is (form_of file) file found.rows row is.first ∙ held.1),
       )
 
 -- and the session is that of what the file holds

@@ -2,13 +2,15 @@
 use Rattle.std.proofs.Common.{◌≡◌, ◌≢◌, ◌+◌, ℕ, List, [], ◌∷◌, length, get_or, take, map, Ok, Err, refl, sym, ◌∙◌, ap, subst, inl, inr, arith}
 use Rattle.std.specs.Prelude.{Bool, true, false, not, min, filter, nat_eq, ◌||◌, slice_get, Option, Some, None, codes}
 use Rattle.std.specs.List.{concat, flat_map, AllZip, enumerate_from}
-use Rattle.std.proofs.lemmas.Bool.{cond-true, cond-false, eqb-true, both_ways}
+use Rattle.std.proofs.lemmas.Bool.{cond-true, cond-false, eqb-true, or_cases, both_ways}
 use Rattle.std.proofs.lemmas.List.Folds.{flat_map-map}
 use Rattle.std.proofs.lemmas.Slice.Eq.{bytes_eq-Decides}
 use Rattle.mdf_format.specs.Number.{bytes_at}
 use Rattle.mdf_format.specs.Block.{link_at, IsBlock, IsChain}
-use Rattle.mdf_format.specs.Recording.{AreUnits}
-use Rattle.mdf_format.specs.Identification.{IsMdf, HasReadVersion, IsInRecordingForm}
+use Rattle.mdf_form.specs.Form.{IsInRecordingForm, NamesForm, form_named, names_form}
+use Rattle.mdf_form.specs.declared.form.Form.{Form}
+use Rattle.mdf_format.specs.Identification.{IsMdf, HasReadVersion, custom_flags}
+use Rattle.mdf_gate.specs.Unit.{AreUnits}
 use Rattle.mdf_format.specs.declared.kind.Kind.TheVariants.{Dg}
 use Rattle.mdf_block.specs.Refusal.{Bad, NotRecording, Read, ◌>>=◌}
 use Rattle.mdf_block.proofs.Refusals.{bind_ok}
@@ -47,7 +49,7 @@ use Rattle.mdf_session.specs.declared.session.Kept.{Kept}
 use Rattle.mdf_session.specs.Opened.{opened_parts}
 use Rattle.mdf_session.specs.Counted.{group_streams, all_streams, joined}
 use Rattle.mdf_session.specs.Session.{recording_by, recording, kept_by, kept_of, kept, first_kept, SessionParts, session}
-use Rattle.mdf_gate.specs.Recording.{IsPlace, IsOpened, IsRecording}
+use Rattle.mdf_gate.specs.Recording.{IsPlace, IsOpened, IsRecording, first_place}
 use Rattle.mdf_carried.specs.Recovered.{told, IsGroupContents, Recovery, IsRecovery, IsSessionOf}
 use Rattle.mdf_carried.proofs.Counts.{places_count, counts_are, content_is}
 use Rattle.mdf_carried.proofs.Opens.{AreOpened, opened_found}
@@ -169,11 +171,11 @@ empties_none (group ∷ groups) = elim (two_ways (has_empty_records group)) [
 ]
 
 -- what the data group holds
-pub record IsKeptFound (f : List ℕ) (row : DataRow) (found : Kept) : Type 0 where
+pub record IsKeptFound (form : Form) (f : List ℕ) (row : DataRow) (found : Kept) : Type 0 where
   pub id_size : HasIdSize row
   pub parts : List Part
   pub place : IsPlace row.content
-  pub opened : AreOpened f row.content parts
+  pub opened : AreOpened form f row.content parts
   pub records : List Record
   pub rest : List ℕ
   pub split : IsRecordSplit (concat opened.blocks) row.id_size (map known_of row.groups) 0 records rest
@@ -185,16 +187,16 @@ pub record IsKeptFound (f : List ℕ) (row : DataRow) (found : Kept) : Type 0 wh
   pub totals : found.totals ≡ map (sized row records) (enumerate_from 0 row.groups)
   pub streams : found.streams ≡ flat_map (λ (contents : Contents). contents.streams) groups
 
-kept_found : (f : List ℕ) (row : DataRow) (found : Kept) → kept f row ≡ Ok found → IsKeptFound f row found
+kept_found : (form : Form) (f : List ℕ) (row : DataRow) (found : Kept) → kept form f row ≡ Ok found → IsKeptFound form f row found
 unfolding kept kept_of
-kept_found f row found is =
+kept_found form f row found is =
     let made : List Part → List (List ℕ) → List (List ℕ) → Kept = λ parts lists found. kept_by f row parts lists found in
     let after_lists : List Part → List (List ℕ) → Read Kept = λ parts lists. all_streams f (held_by parts row lists) >>= λ found. Ok (made parts lists found) in
     let after_parts : List Part → Read Kept = λ parts. places_of (stream_of f parts) (stream_size parts) false row >>= λ lists. after_lists parts lists in
-    let laid = bind_ok (layouts row) (λ _. opened_parts f row.content >>= λ parts. after_parts parts) found is in
-    let viewed = bind_ok (opened_parts f row.content) after_parts found laid.2 in
+    let laid = bind_ok (layouts row) (λ _. opened_parts form f row.content >>= λ parts. after_parts parts) found is in
+    let viewed = bind_ok (opened_parts form f row.content) after_parts found laid.2 in
     let parts = viewed.0 in
-    let opened = opened_found f row.content parts viewed.1 in
+    let opened = opened_found form f row.content parts viewed.1 in
     let stream = stream_of f parts in
     let long : stream_size parts ≡ length stream = sym (length-stream f parts opened.1.inside) in
     let placed = bind_ok (places_of stream (stream_size parts) false row) (after_lists parts) found viewed.2 in
@@ -207,7 +209,7 @@ kept_found f row found is =
     let rooms = rooms_by row stream 0 lists split in
     let last = bind_ok (all_streams f (held_by parts row lists)) (λ found. Ok (made parts lists found)) found placed.2 in
     let all = all_hold f row parts lists split.records opened.1.inside hold rooms last.0 last.1 in
-    let whole : IsKeptFound f row (made parts lists last.0) = record {
+    let whole : IsKeptFound form f row (made parts lists last.0) = record {
       id_size = has;
       parts = parts;
       place = opened.0;
@@ -223,29 +225,34 @@ kept_found f row found is =
       totals = totals_are row stream lists split.records split.rest has hold split.split;
       streams = all.streams_are;
     } in
-    subst (IsKeptFound f row) (ok_injective (made parts lists last.0) found last.2) whole
+    subst (IsKeptFound form f row) (ok_injective (made parts lists last.0) found last.2) whole
 
 -- the identification
-pub record IsRecordingIdent (f : List ℕ) : Type 0 where
+pub record IsRecordingIdent (f : List ℕ) (id : Ident) : Type 0 where
   pub mdf : IsMdf f
   pub version : HasReadVersion f
   pub form : IsInRecordingForm f
+  pub named : id.custom_flags ≡ custom_flags f
+
+-- a word that names a form
+names_of : (word : ℕ) → names_form word ≡ true → NamesForm word
+names_of word is = elim (or_cases (nat_eq word 1) (nat_eq word 3) is) [ inl one ↦ inl (eqb-true word 1 one) | inr two ↦ inr (eqb-true word 3 two) ]
 
 not_either : (a b : Bool) → (a || not b) ≡ false → (a ≡ false) × (b ≡ true)
 not_either true b is = let wrong : true ≡ false = is in cc
 not_either false true is = (refl, refl)
 not_either false false is = let wrong : true ≡ false = is in cc
 
-ident_found : (f : List ℕ) (id : Ident) → recording f ≡ Ok id → IsRecordingIdent f
+ident_found : (f : List ℕ) (id : Ident) → recording f ≡ Ok id → IsRecordingIdent f id
 unfolding recording
 ident_found f id is =
     let first = bind_ok (identify f) recording_by id is in
     let known = identified f first.0 first.1 in
-    let test = first.0.finalized || not (nat_eq first.0.custom_flags 1) in
+    let test = first.0.finalized || not (names_form first.0.custom_flags) in
     elim (chosen test (Err (NotRecording first.0.std_flags first.0.custom_flags)) (Ok first.0) (Ok id) first.2) [
       | inl refused ↦ let wrong : ◌≡◌ {A = Read Ident} (Err (NotRecording first.0.std_flags first.0.custom_flags)) (Ok id) = refused.1 in cc
       | inr passes ↦
-          let both = not_either first.0.finalized (nat_eq first.0.custom_flags 1) passes.0 in record {
+          let both = not_either first.0.finalized (names_form first.0.custom_flags) passes.0 in subst (IsRecordingIdent f) (ok_injective first.0 id passes.1) (record {
             mdf = known.mdf;
             version = known.version;
             form = record {
@@ -254,23 +261,24 @@ ident_found f id is =
                     ((bytes_eq-Decides (bytes_at 8 f 0) (codes "MDF     ")).1 closed))
                 | inr left_open ↦ left_open
               ];
-              custom = ap (λ (i : Ident). i.custom_flags) known.says ∙ eqb-true first.0.custom_flags 1 both.1;
+              custom = subst NamesForm (sym (ap (λ (i : Ident). i.custom_flags) known.says)) (names_of first.0.custom_flags both.1);
             };
-          }
+            named = sym (ap (λ (i : Ident). i.custom_flags) known.says);
+          })
     ]
 
 -- the first data group
-record IsFirst (f : List ℕ) (at : ℕ) (rows : List DataRow) (found : Kept) : Type 0 where
+record IsFirst (form : Form) (f : List ℕ) (at : ℕ) (rows : List DataRow) (found : Kept) : Type 0 where
   row : DataRow
   there : slice_get rows 0 ≡ Some row
   block : IsBlock f at Dg
   content : link_at f at 2 ≡ row.content
-  kept_is : kept f row ≡ Ok found
+  kept_is : kept form f row ≡ Ok found
 
-first_found : (f : List ℕ) (at : ℕ) (rows : List DataRow) (found : Kept) → AreDataGroups f at rows → first_kept f rows ≡ Ok found → IsFirst f at rows found
+first_found : (form : Form) (f : List ℕ) (at : ℕ) (rows : List DataRow) (found : Kept) → AreDataGroups f at rows → first_kept form f rows ≡ Ok found → IsFirst form f at rows found
 unfolding IsChain
-first_found f at [] found are is = let wrong : ◌≡◌ {A = Read Kept} (Err (Bad 0 Dg)) (Ok found) = is in cc
-first_found f at (row ∷ rows) found are is = record {
+first_found form f at [] found are is = let wrong : ◌≡◌ {A = Read Kept} (Err (Bad 0 Dg)) (Ok found) = is in cc
+first_found form f at (row ∷ rows) found are is = record {
   row = row;
   there = refl;
   block = subst (λ (n : ℕ). IsBlock f n Dg) are.chain.0 (subst (λ (n : ℕ). IsBlock f n Dg) (sym are.chain.0) are.chain.1);
@@ -283,9 +291,10 @@ pub session_rows : (f : List ℕ) (s : SessionParts) → session f ≡ Ok s → 
 unfolding session
 session_rows f s is =
     let made : Tree → Kept → SessionParts = λ all found. record { tree = all; kept = found } in
-    let one = bind_ok (recording f) (λ _. tree f >>= λ all. first_kept f all.rows >>= λ found. Ok (made all found)) s is in
-    let two = bind_ok (tree f) (λ all. first_kept f all.rows >>= λ found. Ok (made all found)) s one.2 in
-    let three = bind_ok (first_kept f two.0.rows) (λ found. Ok (made two.0 found)) s two.2 in
+    let one = bind_ok (recording f) (λ id. tree f >>= λ all. first_kept (form_named id.custom_flags) f all.rows >>= λ found. Ok (made all found)) s is in
+    let form = form_named one.0.custom_flags in
+    let two = bind_ok (tree f) (λ all. first_kept form f all.rows >>= λ found. Ok (made all found)) s one.2 in
+    let three = bind_ok (first_kept form f two.0.rows) (λ found. Ok (made two.0 found)) s two.2 in
     subst (λ (read : SessionParts). AreDataGroups f read.tree.head.first_dg read.tree.rows) (ok_injective (made two.0 three.0) s three.2)
     (tree_found f two.0 two.1).rows
 
@@ -294,14 +303,15 @@ pub session_found : (f : List ℕ) (s : SessionParts) → session f ≡ Ok s →
 unfolding session
 session_found f s is =
     let made : Tree → Kept → SessionParts = λ all found. record { tree = all; kept = found } in
-    let one = bind_ok (recording f) (λ _. tree f >>= λ all. first_kept f all.rows >>= λ found. Ok (made all found)) s is in
-    let two = bind_ok (tree f) (λ all. first_kept f all.rows >>= λ found. Ok (made all found)) s one.2 in
-    let three = bind_ok (first_kept f two.0.rows) (λ found. Ok (made two.0 found)) s two.2 in
+    let one = bind_ok (recording f) (λ id. tree f >>= λ all. first_kept (form_named id.custom_flags) f all.rows >>= λ found. Ok (made all found)) s is in
+    let form = form_named one.0.custom_flags in
+    let two = bind_ok (tree f) (λ all. first_kept form f all.rows >>= λ found. Ok (made all found)) s one.2 in
+    let three = bind_ok (first_kept form f two.0.rows) (λ found. Ok (made two.0 found)) s two.2 in
     let all = two.0 in
     let ident = ident_found f one.0 one.1 in
     let stands = tree_found f all two.1 in
-    let first = first_found f all.head.first_dg all.rows three.0 stands.rows three.1 in
-    let held = kept_found f first.row three.0 first.kept_is in
+    let first = first_found form f all.head.first_dg all.rows three.0 stands.rows three.1 in
+    let held = kept_found form f first.row three.0 first.kept_is in
     let dg : all.head.first_dg ≡ link_at f 64 0 = ap (λ (h : Head). h.first_dg) stands.head.fields in
     let at : link_at f (link_at f 64 0) 2 ≡ first.row.content = ap (λ (n : ℕ). link_at f n 2) (sym dg) ∙ first.content in
     let is_recording : IsRecording f = record {
@@ -316,7 +326,9 @@ session_found f s is =
       held.opened.last,
       record {
         recording = is_recording;
-        units = subst (λ (n : ℕ). AreUnits f n held.opened.blocks held.opened.last) (sym at) held.opened.units;
+        units =
+            subst (λ (form : Form). AreUnits form f (first_place f) held.opened.blocks held.opened.last) (ap form_named ident.named)
+            (subst (λ (n : ℕ). AreUnits form f n held.opened.blocks held.opened.last) (sym at) held.opened.units);
         closed = held.opened.closed;
       },
     ) in

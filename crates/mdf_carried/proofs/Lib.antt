@@ -12,6 +12,7 @@ pub mod Lists
 pub mod Numbers
 pub mod Onces
 pub mod Opened
+mod Units
 mod Opens
 pub mod Placed
 pub mod Records

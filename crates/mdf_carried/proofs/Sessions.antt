@@ -11,9 +11,12 @@ use Rattle.mdf_stream.proofs.Joins.{length-stream}
 use Rattle.mdf_data.specs.Places.{places}
 use Rattle.mdf_data.specs.Split.{Record, IsRecordSplit}
 use Rattle.mdf_data.proofs.Splits.{record_splits_agree}
+use Rattle.mdf_form.specs.Form.{form_named, form_of}
+use Rattle.mdf_form.specs.declared.form.Form.{Form}
 use Rattle.mdf_format.specs.Block.{link_at}
 use Rattle.mdf_head.specs.declared.identity.Ident.{Ident}
 use Rattle.mdf_head.specs.declared.entry.Head.{Head}
+use Rattle.mdf_head.specs.Ident.{the_ident}
 use Rattle.mdf_group.specs.declared.row.ChannelRow.{ChannelRow}
 use Rattle.mdf_group.specs.declared.row.GroupRow.{GroupRow}
 use Rattle.mdf_group.specs.declared.row.DataRow.{DataRow}
@@ -52,15 +55,15 @@ use Rattle.mdf_carried.proofs.Kept.{IsSuch, fitting, streams_read}
 use Rattle.mdf_carried.proofs.Trees.{ident_found, tree_found}
 
 -- what the data group holds is read, where its parts are
-pub kept_by_parts : (file : List ℕ) (row : DataRow) (parts : List Part) (lists found : List (List ℕ)) → layouts row ≡ Ok tt
-    → opened_parts file row.content ≡ Ok parts → places_of (stream_of file parts) (stream_size parts) false row ≡ Ok lists
-    → all_streams file (held_by parts row lists) ≡ Ok found → kept file row ≡ Ok (kept_by file row parts lists found)
+pub kept_by_parts : (form : Form) (file : List ℕ) (row : DataRow) (parts : List Part) (lists found : List (List ℕ)) → layouts row ≡ Ok tt
+    → opened_parts form file row.content ≡ Ok parts → places_of (stream_of file parts) (stream_size parts) false row ≡ Ok lists
+    → all_streams file (held_by parts row lists) ≡ Ok found → kept form file row ≡ Ok (kept_by file row parts lists found)
 unfolding kept kept_of
-kept_by_parts file row parts lists found laid opened placed streams = rw (laid, opened, placed, streams) refl
+kept_by_parts form file row parts lists found laid opened placed streams = rw (laid, opened, placed, streams) refl
 
 -- and the session
 pub session_by_parts : (file : List ℕ) (id : Ident) (all : Tree) (found : Kept) → recording file ≡ Ok id → tree file ≡ Ok all
-    → first_kept file all.rows ≡ Ok found → session file ≡ Ok (record { tree = all; kept = found })
+    → first_kept (form_named id.custom_flags) file all.rows ≡ Ok found → session file ≡ Ok (record { tree = all; kept = found })
 unfolding session
 session_by_parts file id all found identified stands held = rw (identified, stands, held) refl
 
@@ -120,10 +123,10 @@ module _ (tells : TestTells) (file : List ℕ) (ls : List Layout) (row : DataRow
       (one_of (λ (g : GroupRow). layout g ≡ Ok (layout_of g)) row.groups k group (groups_laid tells ls row is) below)
 
   -- what the data group holds is read
-  pub kept_found : (blocks : List (List ℕ)) → AreFound file (opened_parts file row.content) blocks
-      → concat blocks ≡ flat_map (piece_bytes (length ls)) pieces → (found : Kept) × (kept file row ≡ Ok found)
+  pub kept_found : (form : Form) (blocks : List (List ℕ)) → AreFound file (opened_parts form file row.content) blocks
+      → concat blocks ≡ flat_map (piece_bytes (length ls)) pieces → (found : Kept) × (kept form file row ≡ Ok found)
   unfolding places_of
-  kept_found blocks opened bytes_are =
+  kept_found form blocks opened bytes_are =
       let parts = opened.parts in
       let stream = stream_of file parts in
       let known = map known_of row.groups in
@@ -150,7 +153,7 @@ module _ (tells : TestTells) (file : List ℕ) (ls : List Layout) (row : DataRow
       subst (HoldBodies stream row lists) same (hold_by row stream 0 lists at_places) in
       let streams = streams_read file row parts lists records opened.inside hold laid_at (such parts lists opened.inside hold) in (
         kept_by file row parts lists streams.0,
-        kept_by_parts file row parts lists streams.0 (layouts_found tells ls row is) opened.found read_places streams.1,
+        kept_by_parts form file row parts lists streams.0 (layouts_found tells ls row is) opened.found read_places streams.1,
       )
 
 -- the whole session
@@ -168,13 +171,13 @@ session_read agree tells start rows file samples are tree_is finds_head finds_gr
     let begins : row.content ≡ first_place file =
     ap (λ (r : DataRow). r.content) tree_is.groups.each.0.fields
     ∙ ap (λ (n : ℕ). link_at file n 2) (ap (λ (h : Head). h.first_dg) tree_is.head.fields) in
-    let opened : AreFound file (opened_parts file row.content) carried.blocks =
-    subst (λ (n : ℕ). AreFound file (opened_parts file n) carried.blocks) (sym begins) (blocks_found file carried.blocks carried.opened) in
-    let found = kept_found tells file ls row is pieces each samples carried.records.samples_are carried.blocks opened carried.records.bytes_are in
+    let opened : AreFound file (opened_parts (form_of file) file row.content) carried.blocks =
+    subst (λ (n : ℕ). AreFound file (opened_parts (form_of file) file n) carried.blocks) (sym begins) (blocks_found file carried.blocks carried.opened) in
+    let found = kept_found tells file ls row is pieces each samples carried.records.samples_are (form_of file) carried.blocks opened carried.records.bytes_are in
     let whole : Tree = record {
       head = recorded_head start rows;
       history = recorded_history start rows;
       rows = row ∷ [];
       dropped = all.0;
     } in
-    (record { tree = whole; kept = found.0 }, session_by_parts file ident.0 whole found.0 ident.1 all.1 found.1)
+    (record { tree = whole; kept = found.0 }, session_by_parts file (the_ident file) whole found.0 ident all.1 found.1)

@@ -1,8 +1,9 @@
 -- A recording is read.
-use Rattle.std.proofs.Common.{◌≡◌, ℕ, true, false, List, [], ◌∷◌, length, get_or, Ok, Err, refl, sym, ◌∙◌, ap, arith}
-use Rattle.std.proofs.lemmas.Bool.{le-leb, eq-eqb, and_from, or_right, cond-true, cond-false, false_from_ne_true}
+use Rattle.std.proofs.Common.{◌≡◌, ℕ, true, false, List, [], ◌∷◌, length, get_or, Ok, Err, refl, sym, ◌∙◌, ap, inl, inr, arith}
+use Rattle.std.proofs.lemmas.Bool.{le-leb, eq-eqb, and_from, or_left, or_right, cond-true, cond-false, false_from_ne_true}
 use Rattle.std.proofs.lemmas.Slice.Eq.{bytes_eq-Decides}
 use Rattle.std.specs.Prelude.{◌||◌, not, nat_eq, nat_le, codes, if◌then◌else◌}
+use Rattle.mdf_form.specs.Form.{NamesForm, names_form}
 use Rattle.mdf_format.specs.Number.{bytes_at}
 use Rattle.mdf_format.specs.Identification.{version_of, custom_flags}
 use Rattle.mdf_format.specs.declared.kind.Kind.TheVariants.{Hd}
@@ -28,8 +29,13 @@ use Rattle.mdf_spell.specs.Recording.{recorded_row, recorded_head, recorded_hist
 use Rattle.mdf_session.specs.Session.{recording_by, recording}
 use Rattle.mdf_gate.specs.Recording.{IsRecording}
 
+-- a word that names a form, as a test
+form_named_true : (word : ℕ) → NamesForm word → names_form word ≡ true
+form_named_true word (inl one) = or_left (nat_eq word 1) (nat_eq word 3) (eq-eqb word 1 one)
+form_named_true word (inr two) = or_right (nat_eq word 1) (nat_eq word 3) (eq-eqb word 3 two)
+
 -- the identification of a recording
-pub ident_found : (file : List ℕ) → IsRecording file → (id : Ident) × (recording file ≡ Ok id)
+pub ident_found : (file : List ℕ) → IsRecording file → recording file ≡ Ok (the_ident file)
 unfolding recording identify
 ident_found file is =
     let id = the_ident file in
@@ -43,15 +49,13 @@ ident_found file is =
     let left_open : id.finalized ≡ false = false_from_ne_true (is_finalized file) (λ says.
     let closed = (bytes_eq-Decides (bytes_at 8 file 0) (codes "MDF     ")).0 says in
     let wrong : 77 ≡ 85 = ap (λ (xs : List ℕ). get_or xs 0 0) (sym closed ∙ begins) in omega (arith, wrong)) in
-    let custom : not (nat_eq id.custom_flags 1) ≡ false = ap not (eq-eqb (custom_flags file) 1 is.form.custom) in
+    let custom : not (names_form id.custom_flags) ≡ false = ap not (form_named_true id.custom_flags is.form.custom) in
     let read : identify file ≡ Ok id =
     cond-true (is_mdf file) (if has_read_version file then Ok id else Err (Version (version_of file))) (Err NotMdf) mdf
-    ∙ cond-true (has_read_version file) (Ok id) (Err (Version (version_of file))) version in (
-      id,
-      ap (λ (found : Read Ident). found >>= recording_by) read
-          ∙ cond-false (id.finalized || not (nat_eq id.custom_flags 1)) (Err (NotRecording id.std_flags id.custom_flags)) (Ok id)
-          (ap (λ b. b || not (nat_eq id.custom_flags 1)) left_open ∙ custom),
-    )
+    ∙ cond-true (has_read_version file) (Ok id) (Err (Version (version_of file))) version in
+    ap (λ (found : Read Ident). found >>= recording_by) read
+    ∙ cond-false (id.finalized || not (names_form id.custom_flags)) (Err (NotRecording id.std_flags id.custom_flags)) (Ok id)
+    (ap (λ b. b || not (names_form id.custom_flags)) left_open ∙ custom)
 
 -- the tree of a recording
 entry_bytes : (start : ℕ) (rows : List GroupRow) → text_size (recorded_head start rows) (recorded_history start rows) ≡ 125

@@ -1,6 +1,7 @@
 -- A file that a reader reads as a recording, and of which a beginning of a history is recovered.
 use Rattle.std.specs.Prelude.{ℕ, ◌≡◌, ◌≤◌, ◌⊎◌, List, ◌++◌, length, Ok}
 use mathlib.Core.List.{IsPrefix}
+use Rattle.mdf_form.specs.declared.form.Form.{Form}
 use Rattle.mdf_group.specs.declared.row.GroupRow.{GroupRow}
 use Rattle.mdf_layout.specs.declared.sample.Sample.{Sample}
 use Rattle.mdf_session.specs.Session.{SessionParts, session}
@@ -28,7 +29,7 @@ abbrev pub IsNoneOrRecovers : List Sample → List ℕ → Type 0
 IsNoneOrRecovers history file = IsNotMdf file ⊎ Recovers history 0 file
 
 -- in each file that begins with the head of these rows the head's tree stands, and a reader finds it there
-pub record IsReadHead (start : ℕ) (rows : List GroupRow) : Type 0 where
-  pub tree : (more : List ℕ) → IsRecordingTree (head_file start rows ++ more) start rows
-  pub head_found : (more : List ℕ) → FindsHead (head_file start rows ++ more) start rows
-  pub groups_found : (more : List ℕ) → FindsGroups (head_file start rows ++ more) start rows
+pub record IsReadHead (form : Form) (start : ℕ) (rows : List GroupRow) : Type 0 where
+  pub tree : (more : List ℕ) → IsRecordingTree (head_file form start rows ++ more) start rows
+  pub head_found : (more : List ℕ) → FindsHead (head_file form start rows ++ more) start rows
+  pub groups_found : (more : List ℕ) → FindsGroups (head_file form start rows ++ more) start rows

@@ -1,4 +1,5 @@
 ghost use Rattle.std.specs.Prelude.{◌≡◌, ℕ, List, map, Ok};
+ghost use Rattle.mdf_form.specs.declared.form.Form.{Form};
 ghost use Rattle.mdf_group.specs.declared.row.GroupRow.{GroupRow};
 ghost use Rattle.mdf_group.specs.Recordable.{AreRecordable};
 ghost use Rattle.mdf_layout.specs.Layout.{Layout};
@@ -44,9 +45,9 @@ pub fn what_is_carried_is_read()
 /// A law: a file that begins with the head of these rows, and carries a beginning of a history by their layouts, is read as a
 /// recording, that beginning is recovered of it, and no record id stands twice in it.
 pub fn what_is_carried_is_recovered()
-    ensures { (start : ℕ) (rows : List GroupRow) (layouts : List Layout) (history : List Sample) (through : ℕ) (file : List ℕ)
-        → AreRecordable rows → IsReadHead start rows → layouts ≡ map layout_of rows
-        → Carries layouts (head_file start rows) history through file → Recovers history through file }
+    ensures { (form : Form) (start : ℕ) (rows : List GroupRow) (layouts : List Layout) (history : List Sample) (through : ℕ) (file : List ℕ)
+        → AreRecordable rows → IsReadHead form start rows → layouts ≡ map layout_of rows
+        → Carries layouts (head_file form start rows) history through file → Recovers history through file }
 {
     recovered_is_carried();
     what_is_carried_is_read();

@@ -5,7 +5,7 @@ use Rattle.mdf_spell.specs.Recording.{IsRecordingTree, FindsHead, FindsGroups}
 use Rattle.mdf_carried.proofs.law.what_is_carried_is_recovered.Goals as goal
 
 pub returns : goal.returns
-returns c = λ start rows layouts history through file are read layouts_are carries.
+returns c = λ form start rows layouts history through file are read layouts_are carries.
     let more = carries.begins.0 in
     let tree = subst (λ (f : List ℕ). IsRecordingTree f start rows) carries.begins.1 (read.tree more) in
     let head_found = subst (λ (f : List ℕ). FindsHead f start rows) carries.begins.1 (read.head_found more) in
