@@ -5,6 +5,7 @@ use Rattle.std.proofs.lemmas.List.Sums.{sum_by-cons, sum_by-append}
 use Rattle.std.specs.Prelude.{sum_by, codes}
 use Rattle.std.specs.List.{AllByRecursion}
 use Rattle.mdf_format.specs.Number.{aligned}
+use Rattle.mdf_form.specs.declared.form.Form.{Form}
 use Rattle.mdf_format.specs.declared.kind.Kind.TheVariants.{Dg}
 use Rattle.mdf_block.specs.declared.link.Link.{Link}
 use Rattle.mdf_block.specs.declared.link.Link.TheVariants as links
@@ -210,18 +211,18 @@ groups_six file blocks n values id (row ∷ rows) more stand =
     )
 
 -- the head of a recording has at most half a million bytes
-pub head_short : (start : ℕ) (rows : List GroupRow) → AreRecordable rows → IsReadHead start rows
-    → length (head_file start rows) ≤ 524288
+pub head_short : (form : Form) (start : ℕ) (rows : List GroupRow) → AreRecordable rows → IsReadHead form start rows
+    → length (head_file form start rows) ≤ 524288
 unfolding recording_blocks note_blocks
-head_short start rows are read =
-    let tree : IsRecordingTree (head_file start rows) start rows = subst (λ (file : List ℕ). IsRecordingTree file start rows) (append-nil (head_file start rows)) (read.tree []) in
+head_short form start rows are read =
+    let tree : IsRecordingTree (head_file form start rows) start rows = subst (λ (file : List ℕ). IsRecordingTree file start rows) (append-nil (head_file form start rows)) (read.tree []) in
     let blocks = recording_blocks start rows in
-    let six = groups_six (head_file start rows) blocks 4 (value_links rows) 1 rows (values_rows (length rows + 1) (variable_count rows)) tree.groups.each.0.groups.each in
+    let six = groups_six (head_file form start rows) blocks 4 (value_links rows) 1 rows (values_rows (length rows + 1) (variable_count rows)) tree.groups.each.0.groups.each in
     let front = head_blocks (start_head start) (new_entry (codes "record") start ∷ []) (links.Block 3) in
     let groups = groups_blocks 4 (value_links rows) (recording_groups rows) in
     omega (
       arith,
-      length-written recording_ident blocks refl,
+      length-written (recording_ident form) blocks refl,
       room-append front (data_group_blocks 3 links.Nothing links.End (value_links rows) (recording_row rows)),
       front_room start,
       data_room 3 links.End (value_links rows) (recording_row rows) refl,

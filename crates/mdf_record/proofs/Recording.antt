@@ -377,7 +377,7 @@ close_earlier script earlier faults left seen (Some problem) later comes = comes
 
 -- what was recorded into a file that was made on a disk
 pub record_comes : {C : Type 0} (tells : DiskOf C) (Says : Script → Type 0) (Refuses : Fault → Type 0) (name : List ℕ) (now : ℕ) (out : C) (script : Script) (file : Gated C) (left : Outcome) (end : RecordEnd)
-    → Says script → IsScript script → IsReadHead now script.plan.rows → tells.asked file.disk ≡ Some (name, Create) → HoldsSince (tells.story file.disk) (tells.moment out) (IsBegun (script_head now script))
+    → Says script → IsScript script → IsReadHead script.plan.form now script.plan.rows → tells.asked file.disk ≡ Some (name, Create) → HoldsSince (tells.story file.disk) (tells.moment out) (IsBegun (script_head now script))
     → IfSome (tells.story file.disk) (λ _. head_of (tells.story file.disk) file.first ≡ script_head now script) → is_some (tells.story file.disk) ≡ is_some (tells.story out)
     → IfSome (tells.story out) (λ _. file.start ≡ tells.moment out) → tells.faults out ≤ file.faults → IsMade (script_head now script) (state_of tells file.disk) → HasRun tells script file left end
     → RecordComes Says Refuses name now (state_of tells out) left end

@@ -8,6 +8,7 @@ use Rattle.mdf_disk.specs.Story.{Story, Agrees, IsFresh, LeftSince}
 use Rattle.mdf_disk.specs.Crash.{HoldsSince}
 use Rattle.mdf_disk.specs.State.{DiskState, state_of}
 use Rattle.book_owned.specs.Members.{DiskOf}
+use Rattle.mdf_form.specs.declared.form.Form.{Form}
 use Rattle.mdf_group.specs.declared.row.ChannelRow.{ChannelRow}
 use Rattle.mdf_group.specs.declared.row.GroupRow.{GroupRow}
 use Rattle.mdf_group.specs.Group.{is_variable}
@@ -46,15 +47,15 @@ one_moment (Some s) other content content' clock clock' agrees agrees' same =
 
 -- what a file carries behind the head of rows is recovered of it
 abbrev pub CarriedIsRecovered : Type 0
-CarriedIsRecovered = (start : ℕ) (rows : List GroupRow) (layouts : List Layout) (history : List Sample) (through : ℕ) (file : List ℕ)
-    → AreRecordable rows → IsReadHead start rows → layouts ≡ map contents.layout_of rows
-    → Carries layouts (head_file start rows) history through file → Recovers history through file
+CarriedIsRecovered = (form : Form) (start : ℕ) (rows : List GroupRow) (layouts : List Layout) (history : List Sample) (through : ℕ) (file : List ℕ)
+    → AreRecordable rows → IsReadHead form start rows → layouts ≡ map contents.layout_of rows
+    → Carries layouts (head_file form start rows) history through file → Recovers history through file
 
 -- a head that is made is read in each file that begins with it
-pub head_read : (bytes : List ℕ) (start : ℕ) (rows : List GroupRow) → bytes ≡ head_file start rows
+pub head_read : (bytes : List ℕ) (form : Form) (start : ℕ) (rows : List GroupRow) → bytes ≡ head_file form start rows
     → ((more : List ℕ) → IsRecordingTree (bytes ++ more) start rows) → ((more : List ℕ) → FindsHead (bytes ++ more) start rows)
-    → ((more : List ℕ) → FindsGroups (bytes ++ more) start rows) → IsReadHead start rows
-head_read bytes start rows is tree head groups = record {
+    → ((more : List ℕ) → FindsGroups (bytes ++ more) start rows) → IsReadHead form start rows
+head_read bytes form start rows is tree head groups = record {
   tree = λ more. subst (λ (b : List ℕ). IsRecordingTree (b ++ more) start rows) is (tree more);
   head_found = λ more. subst (λ (b : List ℕ). FindsHead (b ++ more) start rows) is (head more);
   groups_found = λ more. subst (λ (b : List ℕ). FindsGroups (b ++ more) start rows) is (groups more);
@@ -94,24 +95,24 @@ not_created tells name head out asked agrees fresh = record {
 }
 
 -- what carries samples of no more than the greatest session limit is finalized
-carries_finalizable : CarriedIsRecovered → (start : ℕ) (rows : List GroupRow) (layouts : List Layout) (history : List Sample) (through : ℕ) (file : List ℕ)
-    → AreRecordable rows → IsReadHead start rows → layouts ≡ map contents.layout_of rows → history_cost layouts history ≤ 268435456
-    → Carries layouts (head_file start rows) history through file → IsFinalizable file
-carries_finalizable law start rows layouts history through file are read layouts_are cost carries = record {
-  readable = (law start rows layouts history through file are read layouts_are carries).readable;
-  short = omega (arith, carries.ends, cost, head_short start rows are read);
+carries_finalizable : CarriedIsRecovered → (form : Form) (start : ℕ) (rows : List GroupRow) (layouts : List Layout) (history : List Sample) (through : ℕ) (file : List ℕ)
+    → AreRecordable rows → IsReadHead form start rows → layouts ≡ map contents.layout_of rows → history_cost layouts history ≤ 268435456
+    → Carries layouts (head_file form start rows) history through file → IsFinalizable file
+carries_finalizable law form start rows layouts history through file are read layouts_are cost carries = record {
+  readable = (law form start rows layouts history through file are read layouts_are carries).readable;
+  short = omega (arith, carries.ends, cost, head_short form start rows are read);
 }
 
 -- a file that was just begun
-pub begun_recovered : CarriedIsRecovered → (story : Option Story) (since start : ℕ) (rows : List GroupRow) → AreRecordable rows → IsReadHead start rows
-    → HoldsSince story since (IsBegun (head_file start rows)) → StartRecovers story since []
-begun_recovered law story since start rows are read begun = record {
-  recovers = λ file may. ⊎_elim inl (λ carries. inr (law start rows (map contents.layout_of rows) [] 0 file are read refl carries)) (carried file may);
+pub begun_recovered : CarriedIsRecovered → (story : Option Story) (since : ℕ) (form : Form) (start : ℕ) (rows : List GroupRow) → AreRecordable rows → IsReadHead form start rows
+    → HoldsSince story since (IsBegun (head_file form start rows)) → StartRecovers story since []
+begun_recovered law story since form start rows are read begun = record {
+  recovers = λ file may. ⊎_elim inl (λ carries. inr (law form start rows (map contents.layout_of rows) [] 0 file are read refl carries)) (carried file may);
   finalizable = λ file may. ⊎_elim inl
-      (λ carries. inr (carries_finalizable law start rows (map contents.layout_of rows) [] 0 file are read refl (omega arith) carries)) (carried file may);
+      (λ carries. inr (carries_finalizable law form start rows (map contents.layout_of rows) [] 0 file are read refl (omega arith) carries)) (carried file may);
 } where
-  carried : (file : List ℕ) → LeftSince story since file → IsNotMdf file ⊎ Carries (map contents.layout_of rows) (head_file start rows) [] 0 file
-  carried file may = carries_begun (map contents.layout_of rows) (head_file start rows) [] file (begun file may)
+  carried : (file : List ℕ) → LeftSince story since file → IsNotMdf file ⊎ Carries (map contents.layout_of rows) (head_file form start rows) [] 0 file
+  carried file may = carries_begun (map contents.layout_of rows) (head_file form start rows) [] file (begun file may)
 
 -- the layouts of a plan are those of its rows
 layouts_same : (rows : List GroupRow) → AllByRecursion IsRecordableGroup rows → map plans.layout_of rows ≡ map contents.layout_of rows
@@ -124,18 +125,18 @@ layouts_same (row ∷ rows) each =
     ap (λ (layout : Layout). layout ∷ map plans.layout_of rows) same ∙ ap (λ (ls : List Layout). contents.layout_of row ∷ ls) (layouts_same rows each.1)
 
 -- a recording that was begun
-module _ (law : CarriedIsRecovered) (now : ℕ) (script : Script) (plan : IsPlan script.plan) (read : IsReadHead now script.plan.rows) where
+module _ (law : CarriedIsRecovered) (now : ℕ) (script : Script) (plan : IsPlan script.plan) (read : IsReadHead script.plan.form now script.plan.rows) where
   layouts_are : script.plan.shapes ≡ map contents.layout_of script.plan.rows
   layouts_are = plan.shapes ∙ layouts_same script.plan.rows plan.planned.each
 
   carries_recovers : (history : List Sample) (through : ℕ) (file : List ℕ) → Carries script.plan.shapes (script_head now script) history through file
       → Recovers history through file
-  carries_recovers history through file carries = law now script.plan.rows script.plan.shapes history through file plan.planned read layouts_are carries
+  carries_recovers history through file carries = law script.plan.form now script.plan.rows script.plan.shapes history through file plan.planned read layouts_are carries
 
   finalizable : (history : List Sample) (through : ℕ) (file : List ℕ) → history_cost script.plan.shapes history ≤ script.plan.session
       → Carries script.plan.shapes (script_head now script) history through file → IsFinalizable file
   finalizable history through file cost carries =
-      carries_finalizable law now script.plan.rows script.plan.shapes history through file plan.planned read layouts_are
+      carries_finalizable law script.plan.form now script.plan.rows script.plan.shapes history through file plan.planned read layouts_are
       (omega (arith, cost, plan.limits.session_high)) carries
 
   recorded_recovers : (start : ℕ) (left : Outcome) → IsRecorded script (script_head now script) start left → AreRecovered start left
@@ -165,7 +166,7 @@ module _ (law : CarriedIsRecovered) (now : ℕ) (script : Script) (plan : IsPlan
       marks_recover = subst (MarksRecover left.disk.story left.disk.moment left.history) (sym comes.3) (λ k mark within. absurd (omega (arith, within)));
       start_recovers = subst (StartRecovers left.disk.story (tells.moment out)) (sym comes.2)
           (subst (λ (d : DiskState). StartRecovers d.story (tells.moment out) []) (sym comes.1)
-          (begun_recovered law (tells.story file.disk) (tells.moment out) now script.plan.rows plan.planned read begun));
+          (begun_recovered law (tells.story file.disk) (tells.moment out) script.plan.form now script.plan.rows plan.planned read begun));
     }
     of_end (Closed accepted samples last live problem seen) comes =
         recorded_recovers (tells.moment out) left

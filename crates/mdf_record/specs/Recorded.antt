@@ -56,7 +56,7 @@ pub record IsClosed (Says : Script → Type 0) (name : List ℕ) (now : ℕ) (di
   pub script : Script
   pub says : Says script
   pub is_script : IsScript script
-  pub readable : IsReadHead now script.plan.rows
+  pub readable : IsReadHead script.plan.form now script.plan.rows
   pub recorded : IsRecorded script (script_head now script) disk.moment left
   pub accepted_is : AreAccepted script left accepted
   pub samples_is : samples ≡ length left.history

@@ -29,6 +29,7 @@ use mdf_carried::what_is_carried_is_recovered;
 use mdf_command::Piece::{Number, Text};
 use mdf_command::{Fault, give_line, status_after};
 use mdf_disk::{Disk, Role};
+use mdf_form::Form;
 use mdf_gate::GatedFile;
 use mdf_group::GroupRow;
 use mdf_layout::{Samples, Shapes};
@@ -102,21 +103,22 @@ fn read<S: Source>(alloc: Global, source: &mut S) -> Result<Script, Fault>
     script_from(alloc, text.as_slice())
 }
 
-/// Makes the file, with the head of a recording of these groups and no sample.
+/// Makes the file, with the head of a recording of these groups in this form and no sample.
 fn create<C: Disk>(
     alloc: Global,
     name: &Bytes,
     now_ns: u64,
     rows: &Rows<GroupRow>,
+    form: Form,
     mut out: C,
 ) -> Result<GatedFile<C>, (Fault, C)>
     requires asked { C.asked out ≡ None }
     requires rows { AreRecordable rows.now }
-    ensures created { IfOk result (IsCreated C.Disk name.now now_ns rows.now out) }
-    ensures refused { IfErr result (λ refused. IsNotCreated C.Disk name.now (head_file now_ns rows.now) out refused.1 refused.0) }
+    ensures created { IfOk result (IsCreated C.Disk name.now form now_ns rows.now out) }
+    ensures refused { IfErr result (λ refused. IsNotCreated C.Disk name.now (head_file form now_ns rows.now) out refused.1 refused.0) }
 {
     what_is_carried_is_recovered();
-    let Ok(head) = head_for(alloc, now_ns, rows) else {
+    let Ok(head) = head_for(alloc, now_ns, rows, form) else {
         return Err((Fault::Memory, out));
     };
     let Ok(copy) = name.copy() else {
@@ -370,7 +372,14 @@ fn record<R: Threads + Wait + Sync, C: Disk + Send, G: Gate + Sync>(
 {
     what_is_carried_is_recovered();
     match script {
-        Ok(script) => match create(alloc, output, now_ns, &script.plan.rows, out) {
+        Ok(script) => match create(
+            alloc,
+            output,
+            now_ns,
+            &script.plan.rows,
+            script.plan.form,
+            out,
+        ) {
             Ok(file) => record_into(rt, alloc, script, file, gate),
             Err((fault, out)) => refused(alloc, fault, out),
         },

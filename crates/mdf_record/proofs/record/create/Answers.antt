@@ -15,10 +15,10 @@ use Rattle.mdf_record.proofs.record.create.Goals.{After-head_for}
 
 -- where memory is wanting, the disk is as it was
 unmade : (g : given.Over) (c : After-head_for g)
-    → IsNotCreated g.C.Disk c.args.name.now (head_file c.args.now_ns c.args.rows.now) c.args.out c.args.out fault.Memory
+    → IsNotCreated g.C.Disk c.args.name.now (head_file c.args.form c.args.now_ns c.args.rows.now) c.args.out c.args.out fault.Memory
 unmade g c =
     let laws = g.met.C.Disk in
-    not_created g.C.Disk c.args.name.now (head_file c.args.now_ns c.args.rows.now) c.args.out c.requires.asked (laws.agrees c.args.out) (laws.unattached c.args.out (laws.unasked c.args.out c.requires.asked))
+    not_created g.C.Disk c.args.name.now (head_file c.args.form c.args.now_ns c.args.rows.now) c.args.out c.requires.asked (laws.agrees c.args.out) (laws.unattached c.args.out (laws.unasked c.args.out c.requires.asked))
 
 pub returns-in_default-clause-refused : goal.returns-in_default-clause-refused
 returns-in_default-clause-refused g c = unmade g (goal.at.returns-in_default-clause-refused g c).After-head_for
@@ -33,7 +33,7 @@ returns-in_default-attach-clause-refused g c =
     let laws = g.met.C.Disk in
     let out = c.args.out in
     let made = c.attach.new.self in
-    let head = head_file c.args.now_ns c.args.rows.now in
+    let head = head_file c.args.form c.args.now_ns c.args.rows.now in
     let asked = c.attach.ensures.asked ∙ ap (λ n. Some (n, Create)) c.in-Ok-copy.ensures in
     record {
       unmade = record {
@@ -70,7 +70,7 @@ returns-in-Ok-made-clause-created g c =
         attached = gated.attached;
         content = subst (λ h. IfSome (disk.content file.disk) (λ file. file ≡ h ++ 0 ∷ [])) head_is gated.content;
       };
-      begun = begun_since (head_file c.args.now_ns c.args.rows.now) (disk.story out) (disk.story made) (disk.story file.disk) (disk.content out) (disk.moment out)
+      begun = begun_since (head_file c.args.form c.args.now_ns c.args.rows.now) (disk.story out) (disk.story made) (disk.story file.disk) (disk.content out) (disk.moment out)
           (laws.agrees out) (laws.unattached out (laws.unasked out c.requires.asked)) c.attach.ensures.story
           (subst (λ h. Adds (disk.story made) (disk.story file.disk) (IsBegun h)) head_is gated.any_moment);
       told = gated.told ∙ ap is_some c.attach.ensures.story;
@@ -89,11 +89,11 @@ returns-in-Err-clause-refused g c =
     let made = c.attach.new.self in
     let after = c.in-Err.out in
     let asked = c.in-Err.ensures.asked ∙ c.attach.ensures.asked ∙ ap (λ n. Some (n, Create)) c.in-Ok-copy.ensures in
-    let begun = begun_since (head_file c.args.now_ns c.args.rows.now) (disk.story out) (disk.story made) (disk.story after) (disk.content out) (disk.moment out)
+    let begun = begun_since (head_file c.args.form c.args.now_ns c.args.rows.now) (disk.story out) (disk.story made) (disk.story after) (disk.content out) (disk.moment out)
     (laws.agrees out) (laws.unattached out (laws.unasked out c.requires.asked)) c.attach.ensures.story
     (subst (λ h. Adds (disk.story made) (disk.story after) (IsBegun h)) (c.as_slice.ensures ∙ c.in-Ok.ensures.head) c.in-Err.ensures.any_moment) in
     record {
       unmade = record { asked_is = inr asked; begun = begun; comes = omega (arith, c.attach.ensures.cause.later, c.in-Err.ensures.cause.failed) };
       untouched = λ none. absurd (was_asked _ _ asked none);
-      recovers = begun_recovered c.what_is_carried_is_recovered.ensures (disk.story after) (disk.moment out) c.args.now_ns c.args.rows.now c.requires.rows c.in-Ok.ensures.readable begun;
+      recovers = begun_recovered c.what_is_carried_is_recovered.ensures (disk.story after) (disk.moment out) c.args.form c.args.now_ns c.args.rows.now c.requires.rows c.in-Ok.ensures.readable begun;
     }
