@@ -11,8 +11,8 @@ module _ (script : Script) (start : ℕ) (left : Outcome) (file : List ℕ) (is 
   pub is_script : IsScript script
   is_script = subst IsScript is.closed.says is.closed.is_script
 
-  pub head_is_read : IsReadHead start script.plan.rows
-  head_is_read = subst (λ (s : Script). IsReadHead start s.plan.rows) is.closed.says is.closed.readable
+  pub head_is_read : IsReadHead script.plan.form start script.plan.rows
+  head_is_read = subst (λ (s : Script). IsReadHead s.plan.form start s.plan.rows) is.closed.says is.closed.readable
 
   recorded : IsRecorded script (script_head start script) is.disk.moment left
   recorded = subst (λ (s : Script). IsRecorded s (script_head start s) is.disk.moment left) is.closed.says is.closed.recorded

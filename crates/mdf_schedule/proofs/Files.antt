@@ -56,7 +56,7 @@ module _ (script : Script) (start : ℕ) (left : Outcome) (file : List ℕ) (is 
     | inr carries ↦ carries.begins
   ]
 
-  pub recording_of : IsRecordingOf start script.plan.rows left.history file
+  pub recording_of : IsRecordingOf script.plan.form start script.plan.rows left.history file
   recording_of = record {
     bytes = whole.bytes;
     begins = begins;

@@ -5,6 +5,7 @@ use Rattle.std.proofs.lemmas.Option.{slice_get-get_or, slice_get_within}
 use Rattle.std.specs.Prelude.{slice_get, Some}
 use Rattle.std.specs.List.{concat}
 use Rattle.mdf_data.specs.Split.{IsRecordSplit}
+use Rattle.mdf_form.specs.declared.form.Form.{Form}
 use Rattle.mdf_group.specs.declared.row.GroupRow.{GroupRow}
 use Rattle.mdf_group.specs.declared.row.DataRow.{DataRow}
 use Rattle.mdf_group.specs.Recordable.{AreRecordable}
@@ -48,34 +49,34 @@ layouts_stored rows row are is k layout there =
     let keeps = layouts_keep rows row is k layout there in
     subst AreStored found.2 (layout_stored found.0 found.1 (subst KeepsRules (sym found.2) keeps))
 
-module _ (agree : RulesAgree) (start : ℕ) (rows : List GroupRow) (are : AreRecordable rows) (read : IsReadHead start rows) where
+module _ (agree : RulesAgree) (start : ℕ) (rows : List GroupRow) (are : AreRecordable rows) where
   abbrev layouts : List Layout
   layouts = map layout_of rows
 
   abbrev row : DataRow
   row = recorded_row start rows
 
-  module _ (history : List Sample) (file : List ℕ) (of_rows : IsRecordingOf start rows history file) where
+  module _ (form : Form) (read : IsReadHead form start rows) (history : List Sample) (file : List ℕ) (of_rows : IsRecordingOf form start rows history file) where
     tree : IsRecordingTree file start rows
     tree = subst (λ (f : List ℕ). IsRecordingTree f start rows) of_rows.begins.1 (read.tree of_rows.begins.0)
 
     pub is : IsRecorded layouts row
     is = is_recorded agree file start rows are tree
 
-    abbrev bytes : List ℕ
+    abbrev pub bytes : List ℕ
     bytes = concat of_rows.encoded.blocks
 
     pub held : AreRead layouts bytes history
     held = encodings_read layouts bytes history of_rows.encoded.records
 
-    abbrev pieces : List Piece
+    abbrev pub pieces : List Piece
     pieces = held.pieces
 
-    records_are : AreRecords layouts bytes pieces
+    pub records_are : AreRecords layouts bytes pieces
     records_are = record { each = held.each; bytes_are = held.bytes_are }
 
     small : AreBytes bytes
-    small = units_small file _ _ of_rows.encoded.blocks of_rows.bytes of_rows.encoded.opened.1.units
+    small = units_small _ file _ _ of_rows.encoded.blocks of_rows.bytes of_rows.encoded.opened.1.units
 
     -- what it holds
     abbrev pub found : Recovery
@@ -101,14 +102,15 @@ module _ (agree : RulesAgree) (start : ℕ) (rows : List GroupRow) (are : AreRec
         }
 
   -- two of them hold the same of each group
-  pub groups_same : (history other : List Sample) (file second : List ℕ) (one : IsRecordingOf start rows history file) (two : IsRecordingOf start rows other second)
-      → AgreeByGroup (length rows) history other → (found history file one).groups ≡ (found other second two).groups
-  groups_same history other file second one two same =
-      contents_same layouts (pieces history file one) (pieces other second two) 0 layouts (λ k layout there.
+  pub groups_same : (form also : Form) (read : IsReadHead form start rows) (read' : IsReadHead also start rows) (history other : List Sample) (file second : List ℕ)
+      (one : IsRecordingOf form start rows history file) (two : IsRecordingOf also start rows other second)
+      → AgreeByGroup (length rows) history other → (found form read history file one).groups ≡ (found also read' other second two).groups
+  groups_same form also read read' history other file second one two same =
+      contents_same layouts (pieces form read history file one) (pieces also read' other second two) 0 layouts (λ k layout there.
       let here : slice_get layouts k ≡ Some layout = there in
       let below : k < length rows = omega (arith, slice_get_within layouts k layout here, length-map rows layout_of) in
       let zero_on : k ≡ 0 + k = omega arith in
-      subst (λ (n : ℕ). (id : ℕ) → IsIdOf layouts n layout id → records_with id (pieces history file one) ≡ records_with id (pieces other second two)) zero_on
-      (content_once layouts (bytes history file one) (bytes other second two) history other (pieces history file one) (pieces other second two) k layout here
-      (layouts_stored rows row are (is history file one) k layout here) (small history file one) (small other second two)
-      one.encoded.records two.encoded.records (records_are history file one) (records_are other second two) (same k below)))
+      subst (λ (n : ℕ). (id : ℕ) → IsIdOf layouts n layout id → records_with id (pieces form read history file one) ≡ records_with id (pieces also read' other second two)) zero_on
+      (content_once layouts (bytes form read history file one) (bytes also read' other second two) history other (pieces form read history file one) (pieces also read' other second two) k layout here
+      (layouts_stored rows row are (is form read history file one) k layout here) (small form read history file one) (small also read' other second two)
+      one.encoded.records two.encoded.records (records_are form read history file one) (records_are also read' other second two) (same k below)))

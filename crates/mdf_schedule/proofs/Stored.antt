@@ -4,8 +4,9 @@ use Rattle.std.proofs.lemmas.Bool.{cond-false}
 use Rattle.std.proofs.lemmas.Option.{same_Some}
 use Rattle.std.specs.Prelude.{nat_eq, slice_get, Option, Some, None}
 use Rattle.std.specs.List.{concat, AllByRecursion, enumerate_from}
-use Rattle.mdf_format.specs.Block.{body_at, body_size, header_size, links_at}
-use Rattle.mdf_format.specs.Recording.{AreUnits, next_place}
+use Rattle.mdf_form.specs.declared.form.Form.{Form}
+use Rattle.mdf_format.specs.Block.{body_size, header_size, links_at}
+use Rattle.mdf_gate.specs.Unit.{block_place, next_place, unit_data, AreUnits}
 use Rattle.mdf_group.specs.declared.row.ChannelRow.{ChannelRow}
 use Rattle.mdf_group.specs.declared.row.GroupRow.{GroupRow}
 use Rattle.mdf_group.specs.Group.{is_variable}
@@ -36,13 +37,14 @@ both [] ys one two = two
 both (x ∷ xs) ys one two = (one.0, both xs ys one.1 two)
 
 -- the data of units
-pub units_small : (file : List ℕ) (place last : ℕ) (blocks : List (List ℕ)) → AreBytes file → AreUnits file place blocks last → AreBytes (concat blocks)
+pub units_small : (form : Form) (file : List ℕ) (place last : ℕ) (blocks : List (List ℕ)) → AreBytes file → AreUnits form file place blocks last → AreBytes (concat blocks)
 unfolding AreUnits
-units_small file place last [] small are = tt
-units_small file place last (body ∷ blocks) small are =
-    let whole : AreBytes (body_at file place) =
-    taken (body_size file place) (drop (place + header_size (links_at file place)) file) (left (place + header_size (links_at file place)) file small) in
-    both body (concat blocks) (subst AreBytes (sym are.1) whole) (units_small file (next_place file place) last blocks small are.2)
+units_small form file place last [] small are = tt
+units_small form file place last (body ∷ blocks) small are =
+    let at = block_place form place in
+    let whole : AreBytes (unit_data form file place) =
+    taken (body_size file at) (drop (at + header_size (links_at file at)) file) (left (at + header_size (links_at file at)) file small) in
+    both body (concat blocks) (subst AreBytes (sym are.1) whole) (units_small form file (next_place form file place) last blocks small are.2)
 
 -- some values of a channel can be valid
 flags_valid : (flags : ℕ) → (flags ≡ 0) ⊎ (flags ≡ 2) → nat_eq (flags % 2) 1 ≡ false

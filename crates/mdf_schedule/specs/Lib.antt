@@ -1,3 +1,4 @@
 pub mod Outcomes
 pub mod Records
 pub mod Schedules
+pub mod Forms

@@ -1,6 +1,7 @@
 -- Recordings of the same groups whose samples came in different orders.
 use Rattle.std.specs.Prelude.{ℕ, ◌≡◌, ◌<◌, List, map}
 use mathlib.Core.List.{IsPrefix}
+use Rattle.mdf_form.specs.declared.form.Form.{Form}
 use Rattle.mdf_group.specs.declared.row.GroupRow.{GroupRow}
 use Rattle.mdf_layout.specs.History.{group_samples}
 use Rattle.mdf_layout.specs.declared.sample.Sample.{Sample}
@@ -9,11 +10,11 @@ use Rattle.mdf_spell.specs.Recording.{head_file}
 use Rattle.mdf_spell.specs.Standing.{AreBytes}
 use Rattle.mdf_gate.specs.Carried.{IsEncoded}
 
--- The file is a recording of these rows, with this start time in ns and this history: it begins with the head of the rows, and
+-- The file is a recording of these rows in this form, with this start time in ns and this history: it begins with the head of the rows, and
 -- the data of its opened blocks are the records of the history as they are written, with the bits of no channel 0.
-pub record IsRecordingOf (start : ℕ) (rows : List GroupRow) (history : List Sample) (file : List ℕ) : Type 0 where
+pub record IsRecordingOf (form : Form) (start : ℕ) (rows : List GroupRow) (history : List Sample) (file : List ℕ) : Type 0 where
   pub bytes : AreBytes file
-  pub begins : IsPrefix (head_file start rows) file
+  pub begins : IsPrefix (head_file form start rows) file
   pub encoded : IsEncoded (map layout_of rows) file history
 
 -- the samples of each of so many groups are the same, in the same order, whatever samples of other groups stand between them

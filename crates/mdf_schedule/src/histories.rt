@@ -1,4 +1,5 @@
 ghost use Rattle.std.specs.Prelude.{◌≡◌, ℕ, List, length};
+ghost use Rattle.mdf_form.specs.declared.form.Form.{Form};
 ghost use Rattle.mdf_group.specs.declared.row.GroupRow.{GroupRow};
 ghost use Rattle.mdf_group.specs.Recordable.{AreRecordable};
 ghost use Rattle.mdf_layout.specs.declared.sample.Sample.{Sample};
@@ -17,11 +18,12 @@ use mdf_layout::rules_are_tested;
 use mdf_model::{measurements_agree, what_is_read_is_the_measurement};
 use tool_sort::one_sorted_file;
 
-/// A law: two recordings of the same rows and start time, whose histories have the same samples of each group, say the same
-/// once they are finalized at one time.
+/// A law: two recordings of the same rows and start time, each of either form, whose histories have the same samples of each
+/// group, say the same once they are finalized at one time.
 pub fn one_measurement_of_each_schedule()
-    ensures { (start : ℕ) (rows : List GroupRow) (history other : List Sample) (file second : List ℕ) (now : ℕ) (final last : List ℕ) (m n : Measured)
-        → AreRecordable rows → IsReadHead start rows → IsRecordingOf start rows history file → IsRecordingOf start rows other second
+    ensures { (form also : Form) (start : ℕ) (rows : List GroupRow) (history other : List Sample) (file second : List ℕ) (now : ℕ) (final last : List ℕ) (m n : Measured)
+        → AreRecordable rows → IsReadHead form start rows → IsReadHead also start rows
+        → IsRecordingOf form start rows history file → IsRecordingOf also start rows other second
         → AgreeByGroup (length rows) history other
         → IsFinalizedRecording file now final → IsFinalizedRecording second now last
         → IsMeasurement final m.head m.history m.groups → IsMeasurement last n.head n.history n.groups → SameMeasured m n }
@@ -31,12 +33,13 @@ pub fn one_measurement_of_each_schedule()
     measurements_agree();
 }
 
-/// A law: two recordings of the same rows and start time, whose histories have the same samples of each group, give the same
-/// bytes where both are finalized at one time and then sorted at one time, in whatever order the samples of the groups came.
+/// A law: two recordings of the same rows and start time, each of either form, whose histories have the same samples of each
+/// group, give the same bytes where both are finalized at one time and then sorted at one time, in whatever order the samples of the groups came.
 pub fn one_sorted_file_of_each_schedule()
-    ensures { (start : ℕ) (rows : List GroupRow) (history other : List Sample) (file second : List ℕ) (now later : ℕ)
+    ensures { (form also : Form) (start : ℕ) (rows : List GroupRow) (history other : List Sample) (file second : List ℕ) (now later : ℕ)
         (final last sorted resorted : List ℕ) (of_final of_last of_sorted of_resorted : Report)
-        → AreRecordable rows → IsReadHead start rows → IsRecordingOf start rows history file → IsRecordingOf start rows other second
+        → AreRecordable rows → IsReadHead form start rows → IsReadHead also start rows
+        → IsRecordingOf form start rows history file → IsRecordingOf also start rows other second
         → AgreeByGroup (length rows) history other
         → IsFinalizedOf file now final of_final → IsFinalizedOf second now last of_last
         → IsSorting final later sorted of_sorted → IsSorting last later resorted of_resorted → sorted ≡ resorted }

@@ -16,7 +16,7 @@ use crate::histories::one_sorted_file_of_each_schedule;
 pub fn scripts_that_agree_give_one_sorted_file()
     ensures { (script other : Script) (start : ℕ) (left right : Outcome) (file second : List ℕ) (now later : ℕ)
         (final last sorted resorted : List ℕ) (of_final of_last of_sorted of_resorted : Report)
-        → IsScript script → IsScript other → AgreeScripts script other → IsReadHead start script.plan.rows
+        → IsScript script → IsScript other → AgreeScripts script other → IsReadHead script.plan.form start script.plan.rows
         → LeavesWhole script start left file → LeavesWhole other start right second
         → IsFinalizedOf file now final of_final → IsFinalizedOf second now last of_last
         → IsSorting final later sorted of_sorted → IsSorting last later resorted of_resorted → sorted ≡ resorted }
