@@ -2,8 +2,8 @@
 
 use mdf_num::Bytes;
 use mdf_run_rig::{
-    COUNTING, EMPTY, FINALIZE, File, Given, Left, Part, SORT, THREE_TEXTS, all_stand, bytes_of,
-    made_of, sorted,
+    COUNTING, EMPTY, FINALIZE, File, Given, LISTED, Left, Part, SORT, THREE_TEXTS, all_stand,
+    bytes_of, made_of, sorted,
 };
 use std::process::Abort;
 use std::sync::Wait;
@@ -63,6 +63,22 @@ const MADE: &[Makes] = &[
         1032,
         &[
             (0, b"MDF     4.10    mdf4rec "),
+            (728, b"\x03\0\0\0\0\0\0\0"),
+            (976, b"##DT\0\0\0\0\x33\0\0\0\0\0\0\0"),
+            (1000, b"\x01\x01\0\0\0\0\0\0\0"),
+            (1009, b"\x01\x02\0\0\0\0\0\0\0"),
+            (1018, b"\x01\x03\0\0\0\0\0\0\0\0\0\0\0\0"),
+        ],
+    ),
+    // so is a recording of form 2
+    (
+        FINALIZE,
+        File::Recorded(LISTED),
+        "0 groups 1 samples 3 dropped 0\n",
+        1032,
+        &[
+            (0, b"MDF     4.10    mdf4rec "),
+            (60, b"\0\0\0\0"),
             (728, b"\x03\0\0\0\0\0\0\0"),
             (976, b"##DT\0\0\0\0\x33\0\0\0\0\0\0\0"),
             (1000, b"\x01\x01\0\0\0\0\0\0\0"),

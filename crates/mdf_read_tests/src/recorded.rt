@@ -4,6 +4,7 @@ ghost use Rattle.mdf_read_tests.specs.Recorded.{master, group};
 
 use crate::files::{Piece, marked_file};
 use mdf_block::Note;
+use mdf_form::Form;
 use mdf_group::{ChannelRow, GroupRow};
 use mdf_num::{Bytes, Memory, Rows};
 use mdf_spell::recording_head;
@@ -130,7 +131,7 @@ fn recordable(alloc: Global) -> Result<Rows<GroupRow>, Memory>
 // The head of their recording.
 fn head(alloc: Global) -> Result<Bytes, Memory> {
     let rows = recordable(alloc)?;
-    recording_head(alloc, 0x0807_0605_0403_0201, &rows)
+    recording_head(alloc, 0x0807_0605_0403_0201, &rows, Form::Bare)
 }
 
 // Whether the head is the one of the tables of the blocks.

@@ -12,6 +12,10 @@ use std::thread::Threads;
 // Three samples of one channel, with a flush after the second.
 pub const COUNTING: &str = "group 0 g\nchannel t u64 master\nbegin\n0 1\n0 2\n! 0\n0 3\nend\n";
 
+// The same in form 2.
+pub const LISTED: &str =
+    "form 2\ngroup 0 g\nchannel t u64 master\nbegin\n0 1\n0 2\n! 0\n0 3\nend\n";
+
 // A channel of variable length, whose group of values adds 104 bytes to the head. Each sample has 9 bytes, and 5 and the
 // length of its value.
 pub const THREE_TEXTS: &str = "group 0 g\nchannel v var\nbegin\n0 x\n0 x6162\n0 x63\nend\n";

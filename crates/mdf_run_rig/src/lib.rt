@@ -14,12 +14,12 @@ mod table;
 
 pub use asked::{Asked, all_are_told};
 pub use files::{
-    COUNTING, EMPTY, FINALIZE, FINALIZE_WORDS, FLAGS, File, MARK, SORT, THREE_TEXTS, bytes_of,
-    finalized, finished, recorded, sorted, sorted_from,
+    COUNTING, EMPTY, FINALIZE, FINALIZE_WORDS, FLAGS, File, LISTED, MARK, SORT, THREE_TEXTS,
+    bytes_of, finalized, finished, recorded, sorted, sorted_from,
 };
 pub use left::{
     Kept, Left, file_made, left_by, left_under, made_of, over_taken, record_told, said, told,
 };
-pub use parts::{Part, all_stand, changed, put, recording, stands};
+pub use parts::{Part, all_stand, changed, listed_recording, put, recording, stands};
 pub use runs::{Ended, Given, asking, disk_with, failing_disk, ran, record};
 pub use table::{is_status, is_told};

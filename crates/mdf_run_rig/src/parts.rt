@@ -29,6 +29,41 @@ const TWO_BLOCKS: &[Part] = &[
     (280, b"\x28"),
 ];
 
+// The same in form 2. List blocks stand at 232 and 328, and the data blocks behind them at 288 and 384; the place at 424 is
+// closed.
+const TWO_LISTED: &[Part] = &[
+    (0, b"UnFinMF 4.10    mdf4rec "),
+    (28, b"\x9A\x01"),
+    (60, b"\x31\x00\x03\x00"),
+    (64, b"##HD"),
+    (72, b"\x68"),
+    (80, b"\x06"),
+    (88, b"\xA8"),
+    (168, b"##DG"),
+    (176, b"\x40"),
+    (184, b"\x04"),
+    (208, b"\xE8"),
+    (224, b"\x01"),
+    (232, b"##DL"),
+    (240, b"\x38"),
+    (248, b"\x02"),
+    (256, b"\x48\x01"),
+    (264, b"\x20\x01"),
+    (276, b"\x01"),
+    (288, b"##DT"),
+    (296, b"\x22"),
+    (312, b"0123456789"),
+    (328, b"##DL"),
+    (336, b"\x38"),
+    (344, b"\x02"),
+    (352, b"\xA8\x01"),
+    (360, b"\x80\x01"),
+    (372, b"\x01"),
+    (376, b"\x0A"),
+    (384, b"##DT"),
+    (392, b"\x28"),
+];
+
 /// Puts a part into a file, where it has room for it.
 pub fn put(file: &mut Vec<u8>, (at, part): Part) {
     if at <= file.len() && part.len() <= file.len() - at {
@@ -36,15 +71,31 @@ pub fn put(file: &mut Vec<u8>, (at, part): Part) {
     }
 }
 
-/// The recording of two blocks, so many bytes of it, with another part put in.
-pub fn recording(alloc: Global, length: usize, change: Part) -> Result<Bytes, Fail> {
-    let mut file = vec![in alloc; 0u8; 313]?;
-    for part in TWO_BLOCKS {
+/// A file of zero bytes with these parts and another one put in, so many bytes of it.
+fn file_of(
+    alloc: Global,
+    size: usize,
+    parts: &[Part],
+    length: usize,
+    change: Part,
+) -> Result<Bytes, Fail> {
+    let mut file = vec![in alloc; 0u8; size]?;
+    for part in parts {
         put(&mut file, *part);
     }
     put(&mut file, change);
     file.truncate(length);
     Ok(Bytes::from_vec(file))
+}
+
+/// The recording of two blocks, so many bytes of it, with another part put in.
+pub fn recording(alloc: Global, length: usize, change: Part) -> Result<Bytes, Fail> {
+    file_of(alloc, 313, TWO_BLOCKS, length, change)
+}
+
+/// The same in form 2.
+pub fn listed_recording(alloc: Global, length: usize, change: Part) -> Result<Bytes, Fail> {
+    file_of(alloc, 425, TWO_LISTED, length, change)
 }
 
 /// A file with these parts put in.

@@ -1,6 +1,6 @@
 //! The commands that read a finalized file.
 
-use mdf_run_rig::{Asked, COUNTING, FLAGS, File, MARK, Part, all_are_told};
+use mdf_run_rig::{Asked, COUNTING, FLAGS, File, LISTED, MARK, Part, all_are_told};
 use std::test::Fail;
 
 // The data link of the recording of three samples names its first block, of two records: the cycle count of the group.
@@ -23,6 +23,10 @@ const READ: &[(Asked, &str)] = &[
         "0 readable\n",
     ),
     (Asked(CHECK, COUNTED, &[], &[], &[]), "3 unfinalized 33 1\n"),
+    (
+        Asked(CHECK, File::Recorded(LISTED), &[], &[], &[]),
+        "3 unfinalized 49 3\n",
+    ),
     (
         Asked(CHECK, COUNTED, &[MARK, FLAGS, (520, b"\x03")], &[], &[]),
         "3 cycles group 0 said 3 found 2\n",

@@ -1,13 +1,13 @@
 //! What is opened of recordings, and what is no recording.
 
 use mdf_gate::opened;
-use mdf_run_rig::{Part, is_told, recording};
+use mdf_run_rig::{Part, is_told, listed_recording, recording};
 use std::alloc::Global;
 use std::test::Fail;
 
 /// What is opened of a file that is short.
 fn opened_told(alloc: Global, file: &[u8]) -> Result<String, Fail> {
-    if file.len() > 313 {
+    if file.len() > 425 {
         return Err("too long".into());
     }
     let answer = opened(file);
@@ -125,6 +125,94 @@ const REFUSED: &[(Changed, &str)] = &[
 fn what_is_no_recording_is_refused(rt: HostRuntime) -> Result<(), Fail> {
     for (row, want) in REFUSED {
         is_told(changed_told(rt.alloc(), row), *want)?;
+    }
+    Ok(())
+}
+
+// Its opened blocks, their bytes and their first and last place; or why it is none, in form 2.
+fn listed_told(alloc: Global, row: &Changed) -> Result<String, Fail> {
+    let file = listed_recording(alloc, row.0, row.1)?;
+    opened_told(alloc, file.as_slice())
+}
+
+// The length of a file of form 2 and the part that is put into it; what is told.
+const LISTED: &[(Changed, &str)] = &[
+    (
+        Changed(425, (0, b"")),
+        "Ok(Opened { blocks: 2, bytes: 26, first: 232, next: 424 })",
+    ),
+    // the standard word, and the flags, the count and the offset of a list block are not looked at
+    (
+        Changed(425, (60, b"\0")),
+        "Ok(Opened { blocks: 2, bytes: 26, first: 232, next: 424 })",
+    ),
+    (
+        Changed(
+            425,
+            (
+                272,
+                b"\xFF\xFF\xFF\xFF\xFF\xFF\xFF\xFF\xFF\xFF\xFF\xFF\xFF\xFF\xFF\xFF",
+            ),
+        ),
+        "Ok(Opened { blocks: 2, bytes: 26, first: 232, next: 424 })",
+    ),
+    // the first byte of a list block is the gate
+    (
+        Changed(425, (328, b"\0")),
+        "Ok(Opened { blocks: 1, bytes: 10, first: 232, next: 328 })",
+    ),
+    // other words
+    (
+        Changed(425, (62, b"\x01")),
+        "Err(Bad { at: 232, want: Dt })",
+    ),
+    (
+        Changed(425, (62, b"\x02")),
+        "Err(NotRecording { std: 49, custom: 2 })",
+    ),
+    // list blocks of 57 bytes, and with 1 link and 3
+    (
+        Changed(425, (240, b"\x39")),
+        "Err(Bad { at: 232, want: Dl })",
+    ),
+    (
+        Changed(425, (248, b"\x01")),
+        "Err(Bad { at: 232, want: Dl })",
+    ),
+    (
+        Changed(425, (248, b"\x03")),
+        "Err(Bad { at: 232, want: Dl })",
+    ),
+    // another second link, another data block, another first link
+    (
+        Changed(425, (264, b"\x28")),
+        "Err(Bad { at: 232, want: Dl })",
+    ),
+    (Changed(425, (288, b"\0")), "Err(Bad { at: 288, want: Dt })"),
+    (
+        Changed(425, (256, b"\x50")),
+        "Err(Bad { at: 232, want: Dl })",
+    ),
+    // another first link and no data block
+    (
+        Changed(
+            425,
+            (
+                256,
+                b"\0\0\0\0\0\0\0\0\x20\x01\0\0\0\0\0\0\0\0\0\0\x01\0\0\0\0\0\0\0\0\0\0\0\0",
+            ),
+        ),
+        "Err(Bad { at: 288, want: Dt })",
+    ),
+    // no list block at the last place, and one that is cut
+    (Changed(425, (424, b"#")), "Err(Bad { at: 424, want: Dl })"),
+    (Changed(233, (0, b"")), "Err(Bad { at: 232, want: Dl })"),
+];
+
+#[test]
+fn list_blocks_stand_before_data_blocks(rt: HostRuntime) -> Result<(), Fail> {
+    for (row, want) in LISTED {
+        is_told(listed_told(rt.alloc(), row), *want)?;
     }
     Ok(())
 }

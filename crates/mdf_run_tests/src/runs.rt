@@ -2,7 +2,7 @@
 
 use mdf_num::{Bytes, Memory};
 use mdf_run_rig::{
-    Asked, COUNTING, EMPTY, File, Part, THREE_TEXTS, all_are_told, all_stand, failing_disk,
+    Asked, COUNTING, EMPTY, File, LISTED, Part, THREE_TEXTS, all_are_told, all_stand, failing_disk,
     is_told, record, record_told, recorded, said,
 };
 use std::alloc::Global;
@@ -164,12 +164,17 @@ const FULL_BLOCK: &str =
     "block 20\ngroup 0 g\nchannel v var\nbegin\n0 x010203040506\n0 x01020304050607\nend\n";
 
 // A script; which calls of the source, of the disk and of the sink fail; the status and what is printed, with what is
-// left. The head and its closed gate are 769 bytes. A block adds 24 bytes and its data, up to the next multiple of 8.
+// left. The head and its closed gate are 769 bytes. A block adds 24 bytes and its data, up to the next multiple of 8, and in
+// form 2 56 bytes more.
 // Making the file takes the calls 0 to 7 of the disk, and each block four.
 const RECORDED: &[(Recording, &str)] = &[
     (
         Recording(COUNTING, &[], &[], &[]),
         "0 source 0 accepted 3\nsamples 3 durable 3\nfile 857 history 3 marks [0, 2, 3]",
+    ),
+    (
+        Recording(LISTED, &[], &[], &[]),
+        "0 source 0 accepted 3\nsamples 3 durable 3\nfile 969 history 3 marks [0, 2, 3]",
     ),
     (
         Recording(EMPTY, &[], &[], &[]),
@@ -313,6 +318,36 @@ const COUNTED: [Part; 18] = [
 fn a_recording_has_its_blocks(rt: HostRuntime) -> Result<(), Fail> {
     let file = recorded(&rt, COUNTING)?;
     all_stand(file.as_slice(), &COUNTED)?;
+    is_told(
+        said(&rt, &["opened", "in.mf4"], file),
+        "0 blocks 2 bytes 27\n",
+    )
+}
+
+// What is other in form 2: the words, the list blocks, and where the data blocks stand.
+const LISTED_PARTS: [Part; 10] = [
+    (60, b"\x31\0\x03\0"),
+    (
+        768,
+        b"##DL\0\0\0\0\x38\0\0\0\0\0\0\0\x02\0\0\0\0\0\0\0\x68\x03\0\0\0\0\0\0\x38\x03\0\0\0\0\0\0",
+    ),
+    (808, b"\0\0\0\0\x01\0\0\0\0\0\0\0\0\0\0\0"),
+    (824, b"##DT\0\0\0\0\x2A\0\0\0\0\0\0\0\0\0\0\0\0\0\0\0"),
+    (
+        848,
+        b"\x01\x01\0\0\0\0\0\0\0\x01\x02\0\0\0\0\0\0\0\0\0\0\0\0\0",
+    ),
+    (872, b"##DL\0\0\0\0\x38\0\0\0\0\0\0\0\x02\0\0\0\0\0\0\0"),
+    (896, b"\xC8\x03\0\0\0\0\0\0\xA0\x03\0\0\0\0\0\0"),
+    (912, b"\0\0\0\0\x01\0\0\0\x12\0\0\0\0\0\0\0"),
+    (928, b"##DT\0\0\0\0\x21\0\0\0\0\0\0\0\0\0\0\0\0\0\0\0"),
+    (952, b"\x01\x03\0\0\0\0\0\0\0\0\0\0\0\0\0\0\0"),
+];
+
+#[test]
+fn a_recording_of_form_2_has_its_list_blocks(rt: HostRuntime) -> Result<(), Fail> {
+    let file = recorded(&rt, LISTED)?;
+    all_stand(file.as_slice(), &LISTED_PARTS)?;
     is_told(
         said(&rt, &["opened", "in.mf4"], file),
         "0 blocks 2 bytes 27\n",

@@ -13,6 +13,7 @@ use crate::told::is_told;
 use crate::views::WantsOnce;
 use book_owned::{Append, Book, Marks, NoView, Shown};
 use mdf_disk::{Disk, MemoryDisk, Role};
+use mdf_form::Form;
 use mdf_gate::{GateFault, GatedFile, Opened, opened};
 use mdf_layout::{FieldRow, Sample, Shape, ShapeFault, Shapes, shape_of};
 use mdf_num::{Bytes, Failed, Memory, Rows};
@@ -26,7 +27,6 @@ use std::thread::Threads;
 const HEAD: &[(usize, &[u8])] = &[
     (0, b"UnFinMF 4.10    mdf4rec "),
     (28, b"\x9A\x01"),
-    (60, b"\x21\x00\x01\x00"),
     (64, b"##HD"),
     (72, b"\x68"),
     (80, b"\x06"),
@@ -39,13 +39,15 @@ const HEAD: &[(usize, &[u8])] = &[
     (224, b"\x01"),
 ];
 
-fn head() -> [u8; 232] {
+fn head(form: Form) -> [u8; 232] {
     let mut head = [0; 232];
     for (at, part) in HEAD {
         if *at <= 232 && part.len() <= 232 - *at {
             head[*at..*at + part.len()].copy_from_slice(*part);
         }
     }
+    head[60..62].copy_from_slice(&form.standard_word().to_le_bytes());
+    head[62..64].copy_from_slice(&form.custom_word().to_le_bytes());
     head
 }
 
@@ -77,18 +79,29 @@ fn created(
     }
 }
 
-/// A recording of that head, on a disk that fails at these calls.
+/// A recording of that head in this form, on a disk that fails at these calls.
+fn file_of_form<R: AllocGlobal + Abort>(
+    rt: &R,
+    form: Form,
+    failing: &[u64],
+) -> Result<GatedFile<MemoryDisk>, Fail>
+    ensures { IfOk result (λ file. IsNewFile ⟦<MemoryDisk as Disk>⟧ file) }
+{
+    let head = head(form);
+    assert!(rt; is_head(&head));
+    let name = name(rt.alloc())?;
+    let disk = failing_at(rt.alloc(), failing)?;
+    Ok(created(name, disk, &head)?)
+}
+
+/// The same in form 1.
 pub fn file_failing_at<R: AllocGlobal + Abort>(
     rt: &R,
     failing: &[u64],
 ) -> Result<GatedFile<MemoryDisk>, Fail>
     ensures { IfOk result (λ file. IsNewFile ⟦<MemoryDisk as Disk>⟧ file) }
 {
-    let head = head();
-    assert!(rt; is_head(&head));
-    let name = name(rt.alloc())?;
-    let disk = failing_at(rt.alloc(), failing)?;
-    Ok(created(name, disk, &head)?)
+    file_of_form(rt, Form::Bare, failing)
 }
 
 /// A channel of 64-bit unsigned numbers.
@@ -135,6 +148,7 @@ pub fn shapes<R: AllocGlobal + Abort>(rt: &R) -> Result<(Shape, Shapes), Fail>
 /// A recording: which calls of the disk fail, the limits of a block and of the session in bytes, and its tasks, a sample
 /// of this number or a flush.
 struct Recording {
+    form: Form,
     failing: &'static [u64],
     block: u32,
     session: u64,
@@ -283,7 +297,7 @@ where
     requires nothing_handed { (handed : List Sample) → V.hands view handed → handed ≡ [] }
 {
     let (shape, shapes) = shapes(rt)?;
-    let file = file_failing_at(rt, recording.failing)?;
+    let file = file_of_form(rt, recording.form, recording.failing)?;
     let mut book = begun(rt, file, shapes, recording.block, recording.session, view)?;
     let answers = feed(rt, &shape, &mut book, recording.tasks);
     closed(answers, book)
@@ -295,6 +309,16 @@ pub const SESSION: u64 = 268_435_456;
 // The numbers 1 and 2, a flush, the number 3, and a flush. A record has 9 bytes, so the first block has 24 and 18 bytes
 // at 232, the second 24 and 9 at 280, and the last place is 320.
 const TWO_BLOCKS: Recording = Recording {
+    form: Form::Bare,
+    failing: &[],
+    block: 65_536,
+    session: SESSION,
+    tasks: &[Some(1), Some(2), None, Some(3), None],
+};
+
+// The same in form 2.
+const TWO_LISTED: Recording = Recording {
+    form: Form::Listed,
     failing: &[],
     block: 65_536,
     session: SESSION,
@@ -319,7 +343,7 @@ fn blocks_in(file: &[u8]) -> char
                 blocks: 1,
                 bytes: 18,
                 first: 232,
-                next: 280,
+                next: 280 | 336,
             },
         ) => '1',
         Ok(
@@ -327,7 +351,7 @@ fn blocks_in(file: &[u8]) -> char
                 blocks: 2,
                 bytes: 27,
                 first: 232,
-                next: 320,
+                next: 320 | 432,
             },
         ) => '2',
         Ok(
@@ -335,7 +359,7 @@ fn blocks_in(file: &[u8]) -> char
                 blocks: 3,
                 bytes: 36,
                 first: 232,
-                next: 360,
+                next: 360 | 528,
             },
         ) => '3',
         Err(GateFault::NotMdf) => 'x',
@@ -402,6 +426,7 @@ const TOLD: &[(Recording, &str)] = &[
     ),
     (
         Recording {
+            form: Form::Bare,
             failing: &[],
             block: 65_536,
             session: SESSION,
@@ -411,6 +436,7 @@ const TOLD: &[(Recording, &str)] = &[
     ),
     (
         Recording {
+            form: Form::Bare,
             failing: &[],
             block: 65_536,
             session: 290,
@@ -421,6 +447,7 @@ const TOLD: &[(Recording, &str)] = &[
     ),
     (
         Recording {
+            form: Form::Bare,
             failing: &[15],
             block: 65_536,
             session: SESSION,
@@ -433,6 +460,7 @@ const TOLD: &[(Recording, &str)] = &[
     ),
     (
         Recording {
+            form: Form::Bare,
             failing: &[],
             block: 18,
             session: SESSION,
@@ -443,6 +471,7 @@ const TOLD: &[(Recording, &str)] = &[
     ),
     (
         Recording {
+            form: Form::Bare,
             failing: &[],
             block: 18,
             session: SESSION,
@@ -453,6 +482,7 @@ const TOLD: &[(Recording, &str)] = &[
     ),
     (
         Recording {
+            form: Form::Bare,
             failing: &[11],
             block: 18,
             session: SESSION,
@@ -496,8 +526,11 @@ fn left_of(alloc: Global, disk: &MemoryDisk) -> Result<String, Fail> {
 
 #[test]
 fn crash_in_each_call(rt: HostRuntime) -> Result<(), Fail> {
-    let ended = record(&rt, &TWO_BLOCKS, NoView::new())?;
-    is_told(&rt, left_of(rt.alloc(), &ended.left.disk), LEFT)
+    for recording in &[TWO_BLOCKS, TWO_LISTED] {
+        let ended = record(&rt, recording, NoView::new())?;
+        is_told(&rt, left_of(rt.alloc(), &ended.left.disk), LEFT)?;
+    }
+    Ok(())
 }
 
 /// Puts a sample of this number where its record has room in the block, and tells the answer, or that it has none.
@@ -550,6 +583,7 @@ fn a_sample_is_put_where_it_has_room(rt: HostRuntime) -> Result<(), Fail> {
 const SHOWN_LATER: &[(Recording, &str)] = &[
     (
         Recording {
+            form: Form::Bare,
             failing: &[],
             block: 65_536,
             session: SESSION,
@@ -561,6 +595,7 @@ const SHOWN_LATER: &[(Recording, &str)] = &[
     ),
     (
         Recording {
+            form: Form::Bare,
             failing: &[],
             block: 65_536,
             session: SESSION,

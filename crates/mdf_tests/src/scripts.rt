@@ -64,6 +64,18 @@ live/group 0 g/channel t u64/begin/0 1/end/ => [0] 1 65536 268435456 true 8: 1
 block 9/live/session 7/group 0 g/channel t u64/group 1 h/channel u u8/begin/end/ => [0, 1] 2 9 7 true 8:
 ";
 
+// The line of the form, each with what is told of the script.
+const FORMS: &str = "form 0/ => line 1
+form 3/ => line 1
+form/ => line 1
+form 2 2/ => line 1
+form 1/form 1/ => line 2
+form 2/form 1/ => line 2
+group 0 g/form 2/ => line 2
+form 1/group 0 g/channel t u64/begin/0 1/end/ => [0] 1 65536 268435456 false 8: 1
+live/form 2/block 9/group 0 g/channel t u64/begin/end/ => [0] 1 9 268435456 true 8:
+";
+
 // First lines that no rule admits.
 const GROUPS: &str = "group  0 g/ => line 1
 group 0  g/ => line 1
@@ -305,6 +317,7 @@ fn scripts_are_told(rt: HostRuntime) -> Result<(), Fail> {
 #[test]
 fn lines_before_a_group_are_told(rt: HostRuntime) -> Result<(), Fail> {
     scripts_are_told_behind(&rt, "", LIMITS)?;
+    scripts_are_told_behind(&rt, "", FORMS)?;
     scripts_are_told_behind(&rt, "", LIVE)
 }
 
