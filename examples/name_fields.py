@@ -11,13 +11,15 @@ import sys
 
 IDENTIFICATION = [
     (8, "id_file, the mark"), (8, "id_vers"), (8, "id_prog"), (4, "reserved"), ("H", "id_ver, the version"), (30, "reserved"),
-    ("H", "id_unfin_flags, 1 for cycle counts and 32 for the sizes of VLSD groups"), ("H", "id_custom_unfin_flags, 1 for blocks behind gates (own)"),
+    ("H", "id_unfin_flags, 1 for cycle counts, 16 for the last DL and 32 for the sizes of VLSD groups"),
+    ("H", "id_custom_unfin_flags, 1 for blocks behind gates, 3 for blocks behind gates with a DL each (own)"),
 ]
 LINKS = {
     b"HD": ["first DG", "first FH", "first CH", "first AT", "first EV", "comment"],
     b"FH": ["next FH", "comment"],
     b"DG": ["next DG", "first CG", "data", "comment"],
     b"CG": ["next CG", "first CN", "name", "source", "first SR", "comment"],
+    b"DL": ["the next place", "the data block"],
     b"CN": ["next CN", "composition", "name", "source", "conversion", "data", "unit", "comment"],
 }
 BODIES = {
@@ -27,6 +29,7 @@ BODIES = {
     b"DG": [("B", "bytes of a record id"), (7, "reserved")],
     b"CG": [("Q", "record id"), ("Q", "cycle count"), ("H", "flags"), ("H", "path separator"), (4, "reserved"),
             ("I", "data bytes"), ("I", "invalidation bytes")],
+    b"DL": [("B", "flags"), (3, "reserved"), ("I", "count"), ("Q", "offset, data bytes in the units before")],
     b"CN": [("B", "kind"), ("B", "sync"), ("B", "data type"), ("B", "bit offset"), ("I", "byte offset"), ("I", "bits"), ("I", "flags"),
             ("I", "invalidation position"), ("B", "precision"), (1, "reserved"), ("H", "attachments"), ("d", "least value"),
             ("d", "greatest value"), ("d", "lower limit"), ("d", "upper limit"), ("d", "lower extended limit"), ("d", "upper extended limit")],
@@ -62,10 +65,11 @@ def main(path):
         data = opened.read()
     print("identification")
     at = fields(data, 0, IDENTIFICATION)
+    gated = b"DL" if struct.unpack_from("<H", data, 62)[0] == 3 else b"DT"
     while data[at : at + 2] == b"##":
         kind, size, count = data[at + 2 : at + 4], *struct.unpack_from("<QQ", data, at + 8)
         print(f"\n{kind.decode()} at {at}")
-        if kind == b"DT":
+        if kind == gated:
             line(at, data[at : at + 1], "the gate, written last: opened")
             line(at + 1, data[at + 1 : at + 4], "name", "#" + kind.decode())
         else:

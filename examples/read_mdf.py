@@ -4,8 +4,10 @@ of the standard, and shares nothing with the program: what it finds in a recordi
 
 usage: examples/read_mdf.py FILE
 
-It reads one data group whose records have an id of one byte, and data blocks (DTBLOCK) that stand one behind the other
-from the place that the data group names, as a recording has them, up to the first place whose byte is 0.
+It reads one data group whose records have an id of one byte. Its data are the blocks that a chain of list blocks (DLBLOCK)
+names, where the data link names one; of a file that was never finalized the last of them may name a list block that was not
+written. Else they are data blocks (DTBLOCK) that stand one behind the other from the place that the data group names, as a
+recording of form 1 has them, up to the first place whose byte is 0.
 """
 import struct
 import sys
@@ -21,9 +23,12 @@ class File:
     def number(self, form, at):
         return struct.unpack_from("<" + form, self.data, at)[0]
 
+    def is_block(self, at, name):
+        return at != 0 and self.data[at : at + 4] == b"##" + name
+
     def block(self, at, name):
         """The links and the place of the body of the block that stands at `at`."""
-        assert self.data[at : at + 4] == b"##" + name, f"no {name} at {at}"
+        assert self.is_block(at, name), f"no {name} at {at}"
         count = self.number("Q", at + 16)
         return [self.number("Q", at + 24 + 8 * k) for k in range(count)], at + 24 + 8 * count
 
@@ -56,7 +61,20 @@ def groups(file, at):
         at = links[0]
 
 
+def listed(file, at):
+    data = b""
+    while file.is_block(at, b"DL"):
+        links, _ = file.block(at, b"DL")
+        for block in links[1:]:
+            _, body = file.block(block, b"DT")
+            data += file.data[body : block + file.number("Q", block + 8)]
+        at = links[0]
+    return data
+
+
 def stream(file, place):
+    if file.is_block(place, b"DL"):
+        return listed(file, place)
     data = b""
     while place < len(file.data) and file.data[place] == ord("#"):
         _, body = file.block(place, b"DT")

@@ -57,6 +57,11 @@ show './mdf4rec opened examples/two_blocks.mf4'
 show './mdf4rec info examples/two_groups.mf4'
 show 'python3 examples/read_mdf.py drive.mf4'
 
+# The same reader finds the samples of a recording of form 2 along its list blocks, without knowing of gates.
+show './mdf4rec record chain.mf4 < examples/chain.txt'
+show './mdf4rec opened chain.mf4'
+show 'python3 examples/read_mdf.py chain.mf4'
+
 # A refusal is a line and a status; of two inputs standard error names the one that has the fault.
 show './mdf4rec check drive.mf4 2> /dev/null; echo $?'
 show './mdf4rec concat done.mf4 drive.mf4 joined.mf4; echo $?'

@@ -1,5 +1,5 @@
 #!/usr/bin/env python3
-"""Kills recordings of four sources at random moments, and says what is left of them.
+"""Kills recordings of four sources at random moments, in form 1 and form 2 by turns, and says what is left of them.
 
 usage: bench/kill/run.py [RUNS]     (200 without a number; the program must be built: MDF4REC_PROVE=1 ./mdf4rec once)
 
@@ -20,8 +20,8 @@ PROGRAM = os.environ.get("PROGRAM", f"{TOP}/crates/mdf_cli/out/mdf_cli")
 SOURCES, SAMPLES, BEHIND_EACH = 4, 2000, 20
 
 
-def script():
-    lines = ["block 512"]
+def script(form):
+    lines = [f"form {form}", "block 512"]
     for source in range(SOURCES):
         lines += [f"group {source} source{source}", "channel count u64 master"]
     lines.append("begin")
@@ -43,12 +43,13 @@ def first_place(data):
 
 
 def opened_data(data):
-    """The data of the blocks whose first byte is `#`, one behind the other."""
+    """The data of the blocks whose first byte is `#`, one behind the other; in form 2 of those that list blocks name."""
     at, found = first_place(data), b""
     while at < len(data) and data[at] == ord("#"):
-        size = number(data, at + 8)
-        found += data[at + 24 : at + size]
-        at = (at + size + 7) // 8 * 8
+        block = number(data, at + 32) if data[at + 2 : at + 4] == b"DL" else at
+        size = number(data, block + 8)
+        found += data[block + 24 : block + size]
+        at = number(data, at + 24) if block > at else (at + size + 7) // 8 * 8
     return found
 
 
@@ -80,15 +81,17 @@ def main():
     counts = {"no file or no MDF": 0, "finished": 0, "at their end": 0}
     samples, most = 0, 0
     with tempfile.TemporaryDirectory() as folder:
-        text = f"{folder}/script.txt"
-        with open(text, "wb") as made:
-            made.write(script())
+        texts = {}
+        for form in (1, 2):
+            texts[form] = f"{folder}/script{form}.txt"
+            with open(texts[form], "wb") as made:
+                made.write(script(form))
         began = time.time()
-        with open(text, "rb") as given:
+        with open(texts[2], "rb") as given:
             subprocess.run([PROGRAM, "record", f"{folder}/whole.mf4"], stdin=given, stdout=subprocess.DEVNULL, check=True)
         whole = time.time() - began
-        for _ in range(runs):
-            path, was_killed = killed(folder, text, random.uniform(0, whole))
+        for run in range(runs):
+            path, was_killed = killed(folder, texts[run % 2 + 1], random.uniform(0, whole))
             data = open(path, "rb").read() if os.path.exists(path) else b""
             if not data.startswith(b"UnFinMF "):
                 assert len(data) < 2 or data[0] == 0, "a file whose first bytes are no mark"
