@@ -1,0 +1,11 @@
+pub mod Listed
+pub mod Lasts
+pub mod Sets
+pub mod Tallies
+pub mod Mends
+pub mod Cuts
+pub mod Splits
+pub mod Trees
+pub mod Naming
+pub mod Fields
+pub mod Marks

@@ -1,0 +1,23 @@
+ghost use Rattle.std.specs.Prelude.{◌≡◌, ◌≢◌, ◌≤◌, ℕ, List, length, Ok, true};
+ghost use Rattle.mdf_format.specs.Identification.{standard_flags};
+ghost use Rattle.mdf_model.specs.declared.tree.Tree.{Tree};
+ghost use Rattle.mdf_model.specs.Tree.{tree};
+ghost use Rattle.mdf_mended.specs.Completed.{completed_file};
+ghost use Rattle.mdf_mended.specs.Ended.{last_block, marked};
+ghost use Rattle.mdf_mended.specs.Flags.{has_bit};
+ghost use Rattle.mdf_mended.specs.InWords.{AreChangesIn, AreSetIn, IsLastBlock, IsNamedIn, changes};
+
+/// Where the length of the last DTBLOCK is to be set and the data groups are found, it is the last that a data link of theirs names, or a
+/// DLBLOCK of the chain from one lists; and where there is none, no data link leads to any.
+pub fn what_is_the_last_block()
+    ensures last { (file : List ℕ) (found : Tree) → 64 ≤ length file → has_bit (standard_flags file) 2 ≡ true → tree (marked file) ≡ Ok found
+        → last_block file ≢ 0 → IsLastBlock (marked file) found.rows (last_block file) }
+    ensures none { (file : List ℕ) (found : Tree) (at : ℕ) → 64 ≤ length file → has_bit (standard_flags file) 2 ≡ true → tree (marked file) ≡ Ok found
+        → last_block file ≡ 0 → ¬ IsNamedIn (marked file) found.rows at }
+{}
+
+/// The completed file is the one that is marked as finalized with its changes: each byte outside of these is as before, and where no two
+/// of them share a byte each number is read.
+pub fn what_is_completed()
+    ensures { (file : List ℕ) → 64 ≤ length file → AreChangesIn file → AreSetIn (marked file) (changes file) (completed_file file) }
+{}
