@@ -1,5 +1,5 @@
 -- The file with attachments is valid, and has the measurement of which it is made and these attachments.
-use Rattle.std.proofs.Common.{◌≡◌, ◌^◌, ◌<◌, ℕ, List, [], ◌∷◌, ◌++◌, length, map, refl, sym, ◌∙◌, ap, subst, inr, arith, append-nil}
+use Rattle.std.proofs.Common.{◌≡◌, ◌^◌, ◌<◌, ℕ, List, [], ◌∷◌, ◌++◌, length, map, refl, sym, ◌∙◌, ap, subst, inl, inr, arith, append-nil}
 use Rattle.std.proofs.lemmas.List.{take_at}
 use Rattle.std.specs.Prelude.{codes}
 use Rattle.std.specs.List.{flat_map, AllByRecursion}
@@ -82,7 +82,7 @@ module _ (source rest : List ℕ) (m : Measured) (rows : List Attachment) (now :
 
   head : IsHead file (record m.head { first_dg = link_number blocks groups }) (placed_history blocks 1 entries)
   head = linked_head_stands file blocks all m.head entries groups first (head_clean source is.bytes m.head m.history is.head)
-      (entries_clean source m title now (inr (inr (inr refl))) in_time is) has_head
+      (entries_clean source m title now (inr (inr (inr (inl refl)))) in_time is) has_head
 
   sorted : IsSortedOf m title now file
   sorted =

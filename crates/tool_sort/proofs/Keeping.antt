@@ -47,8 +47,10 @@ title_clean title (inr (inl is)) =
     let clean : IsText (entry_text (codes "cut")) = grind arith in subst (λ (t : List ℕ). IsText (entry_text t)) (sym is) clean
 title_clean title (inr (inr (inl is))) =
     let clean : IsText (entry_text (codes "concat")) = grind arith in subst (λ (t : List ℕ). IsText (entry_text t)) (sym is) clean
-title_clean title (inr (inr (inr is))) =
+title_clean title (inr (inr (inr (inl is)))) =
     let clean : IsText (entry_text (codes "attach")) = grind arith in subst (λ (t : List ℕ). IsText (entry_text t)) (sym is) clean
+title_clean title (inr (inr (inr (inr is)))) =
+    let clean : IsText (entry_text (codes "finalize")) = grind arith in subst (λ (t : List ℕ). IsText (entry_text t)) (sym is) clean
 
 -- all entries of the history can be written
 pub entries_clean : (source : List ℕ) (m : Measured) (title : List ℕ) (now : ℕ) → IsTitle title → now < 2 ^ 64 → StandsIn source m

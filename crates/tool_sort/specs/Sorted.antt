@@ -20,7 +20,7 @@ use Rattle.mdf_model.specs.Measurement.{Measured}
 
 -- what is done when a sorted file is made
 abbrev pub IsTitle : List ℕ → Type 0
-IsTitle title = (title ≡ codes "sort") ⊎ ((title ≡ codes "cut") ⊎ ((title ≡ codes "concat") ⊎ (title ≡ codes "attach")))
+IsTitle title = (title ≡ codes "sort") ⊎ ((title ≡ codes "cut") ⊎ ((title ≡ codes "concat") ⊎ ((title ≡ codes "attach") ⊎ (title ≡ codes "finalize"))))
 
 -- a channel group without a record id, with as many records as it has
 abbrev pub sorted_group : GroupPart → ℕ → GroupRow
