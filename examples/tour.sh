@@ -52,6 +52,10 @@ show './mdf4rec check scripted.mf4'
 show './mdf4rec gen 1000 many.mf4'
 show './mdf4rec opened many.mf4'
 
+# A file that another tool left unfinished.
+show './mdf4rec finalize examples/unfinished.mf4 completed.mf4'
+show './mdf4rec check completed.mf4'
+
 # A recording and a finished file of other hands, and a recording by a reader that shares nothing with the program.
 show './mdf4rec opened examples/two_blocks.mf4'
 show './mdf4rec info examples/two_groups.mf4'

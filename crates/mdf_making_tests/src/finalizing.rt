@@ -38,6 +38,22 @@ const TEXTS_SORTED: [Part; 7] = [
     (1256, b"\0\0\0\0\x02\0\0\0ab\x01\0\0\0c\0"),
 ];
 
+// What another tool may leave of it: the cycle count and the length of the block of data are not written.
+const OPEN_COUNT: Part = (936, b"\0");
+
+const OPEN_LENGTH: Part = (1192, b"\x18");
+
+// The block of data of the sorted file of the completed one, at 1392.
+const TWO_RECORDS: [Part; 2] = [
+    (1392, b"##DT\0\0\0\0\x28\0\0\0\0\0\0\0"),
+    (1416, b"\x01\0\0\0\0\0\0\0\x02\0\0\0\0\0\0\0"),
+];
+
+const THREE_RECORDS: [Part; 2] = [
+    (1392, b"##DT\0\0\0\0\x30\0\0\0\0\0\0\0"),
+    (1432, b"\x03\0\0\0\0\0\0\0"),
+];
+
 // A command and its input; what is printed, how many bytes the file has that is made, and parts of it. The finished file of a
 // recording has before its data group, at 584, the identification, HD at 64, FH at 168 with its MD at 224, and FH at 376 with its
 // MD at 432. The group's cycle count stands at 728, and its records in the DT at 976.
@@ -91,6 +107,44 @@ const MADE: &[Makes] = &[
         FINALIZE,
         File::Finished(COUNTING),
         "3 not a recording 0 0\n",
+        0,
+        &[],
+    ),
+    // what another tool left unfinished is completed: its count and its length, and the length alone
+    (
+        FINALIZE,
+        File::Unfinished(COUNTING, &[(60, b"\x05"), OPEN_COUNT, OPEN_LENGTH], 1225),
+        "0 groups 1 samples 2 dropped 0\nrest 1\n",
+        1432,
+        &TWO_RECORDS,
+    ),
+    (
+        FINALIZE,
+        File::Unfinished(COUNTING, &[(60, b"\x05"), OPEN_COUNT, OPEN_LENGTH], 1232),
+        "0 groups 1 samples 3 dropped 0\nrest 0\n",
+        1440,
+        &THREE_RECORDS,
+    ),
+    (
+        FINALIZE,
+        File::Unfinished(COUNTING, &[(60, b"\x04"), OPEN_LENGTH], 1225),
+        "3 cycles group 0 said 3 found 2\n",
+        0,
+        &[],
+    ),
+    // and its count alone
+    (
+        FINALIZE,
+        File::Unfinished(COUNTING, &[(60, b"\x01"), OPEN_COUNT], 1232),
+        "0 groups 1 samples 3 dropped 0\nrest 0\n",
+        1440,
+        &THREE_RECORDS,
+    ),
+    // other flags
+    (
+        FINALIZE,
+        File::Unfinished(COUNTING, &[(60, b"\x25"), OPEN_COUNT, OPEN_LENGTH], 1225),
+        "3 not a recording 37 0\n",
         0,
         &[],
     ),

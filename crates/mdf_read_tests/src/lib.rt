@@ -9,6 +9,8 @@ mod blocks;
 #[cfg(test)]
 mod carried;
 #[cfg(test)]
+mod completed;
+#[cfg(test)]
 mod concats;
 #[cfg(test)]
 mod convs;

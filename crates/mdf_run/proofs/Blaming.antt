@@ -2,7 +2,7 @@
 use Rattle.std.proofs.Common.{ℕ, List, Option, Some, None, Result, Ok, Err, refl}
 use Rattle.std.specs.Prelude.{IfErr}
 use Rattle.mdf_disk.specs.State.{DiskState}
-use Rattle.mdf_tool.specs.declared.made.Report.{Report}
+use Rattle.mdf_run.specs.declared.said.Said.{Said}
 use Rattle.tool_concat.specs.Concat.{ConcatEnds, Joining}
 use Rattle.tool_concat.specs.declared.fault.ConcatFault.{ConcatFault}
 use Rattle.tool_concat.specs.declared.fault.ConcatFault.TheVariants as concat
@@ -36,7 +36,7 @@ carry_is_of asked old new (carry.File refused) ends = (ends.1, ends.2)
 carry_is_of asked old new carry.Failed ends = tt
 carry_is_of asked old new carry.Memory ends = tt
 
-module _ (Makes : List ℕ → Report → Type 0) (Refuses : Fault → Type 0) (Blames : Joining → Option Input → Fault → Type 0) (out out' : DiskState)
+module _ (Makes : List ℕ → Said → Type 0) (Refuses : Fault → Type 0) (Blames : Joining → Option Input → Fault → Type 0) (out out' : DiskState)
     (now : ℕ) (disk other : DiskState) (asked : Joining) (loaded : AreBothLoaded now disk other asked) where
   loaded_is_of : (blamed : Option Input) (problem : Fault) → MakeComes Makes Refuses out out' (Err problem) → IsOfLoaded Blames asked blamed problem
       → IsOf Blames now disk other blamed problem
@@ -47,7 +47,7 @@ module _ (Makes : List ℕ → Report → Type 0) (Refuses : Fault → Type 0) (
   loaded_is_of blamed problem comes is = (asked, loaded, is)
 
   -- of two that are loaded that one is blamed that the fault is of
-  pub joined_is_of : (joined : Result Report Unjoined) → MakeComes Makes Refuses out out' (joining_end joined)
+  pub joined_is_of : (joined : Result Said Unjoined) → MakeComes Makes Refuses out out' (joining_end joined)
       → IfErr joined (λ unjoined. IsOfLoaded Blames asked unjoined.blamed unjoined.fault)
       → IsOfEnd Blames now disk other (joining_blamed joined) (joining_end joined)
   joined_is_of (Ok report) comes is = refl

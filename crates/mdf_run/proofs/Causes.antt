@@ -9,7 +9,7 @@ use Rattle.mdf_block.specs.Refusal.{Refusal}
 use Rattle.mdf_content.specs.Fault.{read_refusal}
 use Rattle.mdf_gate.specs.declared.answer.Opened.{Opened}
 use Rattle.mdf_attach.specs.declared.entry.Entry.{Entry}
-use Rattle.mdf_tool.specs.declared.made.Report.{Report}
+use Rattle.mdf_run.specs.declared.said.Said.{Said}
 use Rattle.mdf_command.specs.Texts.{Prints, unwritten_status}
 use Rattle.mdf_command.specs.Faults.{fault_line, fault_status, refused_status}
 use Rattle.mdf_command.specs.declared.fault.Fault.{Fault}
@@ -150,9 +150,9 @@ module _ (disk disk' : DiskState) (sink sink' : SinkState) (status : ℕ) where
     export_caused ends = table_caused ends.0 ends.1 ends.2 ends.3
 
 -- a command that makes a file with a tool that refuses none for the source
-module _ {Input : Type 0} (inputs : Inputs Input) (Makes : Input → List ℕ → Report → Type 0) (Refuses : Input → Fault → Type 0)
+module _ {Input : Type 0} (inputs : Inputs Input) (Makes : Input → List ℕ → Said → Type 0) (Refuses : Input → Fault → Type 0)
     (takes : (input : Input) → ¬ Refuses input fault.Source) (out out' : DiskState) where
-  making_coded : (end : Result Report Fault) → MakingComes inputs Makes Refuses out out' end → Coded ⊥ (inputs.Failed ⊎ Rose out.faults out'.faults) (making_status end)
+  making_coded : (end : Result Said Fault) → MakingComes inputs Makes Refuses out out' end → Coded ⊥ (inputs.Failed ⊎ Rose out.faults out'.faults) (making_status end)
   making_coded (Ok report) comes = done ⊥ (inputs.Failed ⊎ Rose out.faults out'.faults)
   making_coded (Err problem) comes = fault_coded ⊥ (inputs.Failed ⊎ Rose out.faults out'.faults) problem refused
       (λ is. ⊎_elim (λ failed. inl failed.0) inr (subst (λ p. MakingComes inputs Makes Refuses out out' (Err p)) is comes)) where

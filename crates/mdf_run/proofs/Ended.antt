@@ -12,7 +12,7 @@ use Rattle.mdf_inspect.specs.Info.{contents_text}
 use Rattle.mdf_run.specs.Cut.{Cuts}
 use Rattle.mdf_run.specs.Concat.{AreNotJoined, Joins, OneFailed, two_inputs}
 use Rattle.mdf_run.specs.Attach.{AreNotCarried, Carries}
-use Rattle.mdf_run.specs.Finalize.{Finalizes, IsNoRecording}
+use Rattle.mdf_run.specs.Finalize.{Finalizes, IsNotFinalized}
 use Rattle.mdf_run.specs.Blamed.{only_blamed}
 use Rattle.mdf_run.specs.Making.{one_input}
 use Rattle.mdf_run.specs.Sort.{IsNotMeasured, Sorts}
@@ -31,16 +31,17 @@ use Rattle.mdf_command.specs.declared.command.Product.TheVariants.{Finalized, So
 use Rattle.mdf_command.specs.declared.command.Union.{Union}
 use Rattle.mdf_command.specs.declared.command.Union.TheVariants.{Concat, Attach}
 use Rattle.mdf_command.specs.declared.command.Origin.TheVariants.{Source, Generated}
-use Rattle.mdf_run.specs.Kept.{AreJoinable, AsksToJoin, HasGroup, IfRecorded, IsDoneOrLacked, IsDurable, IsListable, IsMeasured, Keeps, OfRecording, RecordsNothing}
+use Rattle.mdf_run.specs.Kept.{AreJoinable, AsksToJoin, HasGroup, IfRecorded, IsCompletable, IsDoneOrLacked, IsDurable, IsListable, IsMeasured, Keeps, OfRecording, RecordsNothing}
 use Rattle.mdf_run.specs.Asked.{AsksOnly, IsOnlyMade, IsOnlyRead, IsUnrecorded, TakesNothing, asked_by, file_asked}
 use Rattle.mdf_run.specs.Ends.{Blames, Does, EndsJoin, EndsMake, EndsShow, HasEnded, IsCaused}
 use Rattle.mdf_run.specs.Told.{Told}
 use Rattle.mdf_run.proofs.Scripts.{if_none, of_generated, of_none, of_record}
 use Rattle.mdf_run.proofs.Causes.{export_caused, listing_caused, making_caused, opened_caused, reading_caused, widened}
 use Rattle.mdf_run.proofs.Joinable.{joinable_is_taken, listable_is_taken, two_are_made}
+use Rattle.mdf_run.proofs.Finalizing.{source_is_none}
 use Rattle.mdf_run.proofs.Keeps.{was_status}
 use Rattle.mdf_run.proofs.Requests.{as_named, one_request}
-use Rattle.mdf_run.proofs.Sound.{finalizable_is_taken, group_is_exported, listable_is_listed, measured_is_taken, one_is_made, read_is_taken}
+use Rattle.mdf_run.proofs.Sound.{completable_is_taken, finalizable_is_taken, group_is_exported, listable_is_listed, measured_is_taken, one_is_made, read_is_taken}
 
 -- the words ask for this, or for nothing
 abbrev pub Says : List (List ℕ) → Option Request → Type 0
@@ -147,7 +148,7 @@ module _ (said : List (List ℕ)) (t : Told) where
   make_caused : (product : Product) → EndsMake product t.now t.first t.first' t.out t.left.disk t.sink t.sink' t.status
       → IsCaused ⊥ (Rose t.first.faults t.first'.faults ⊎ Rose t.out.faults t.left.disk.faults) (Rose t.sink.faults t.sink'.faults) t.status
   make_caused Finalized ends =
-      making_caused (one_input t.first t.first') (Finalizes t.now) IsNoRecording (λ file refused. refused) t.out t.left.disk t.sink t.sink' t.status ends
+      making_caused (one_input t.first t.first') (Finalizes t.now) IsNotFinalized source_is_none t.out t.left.disk t.sink t.sink' t.status ends
   make_caused Sorted ends =
       making_caused (one_input t.first t.first') (Sorts t.now) IsNotMeasured (λ file refused. refused) t.out t.left.disk t.sink t.sink' t.status ends
   make_caused (Cut from to) ends =
@@ -240,8 +241,14 @@ out_alone tells said asked old new only says none =
 module _ (said : List (List ℕ)) (asked : Option Request) (t : Told) (ended : HasEnded asked t) (says : Says said asked) where
   pub finalizes : (input output : List ℕ) → Asks said (made input output Finalized) → IfSome t.first.content (λ file. IsFinalizable file → IsDoneOrLacked t.status)
   finalizes input output asks =
-      finalizable_is_taken t.first.content (IsDoneOrLacked t.status) (one_is_made (Finalizes t.now) IsNoRecording IsReadable read_is_taken t.first t.first' t.out t.left.disk
+      finalizable_is_taken t.first.content (IsDoneOrLacked t.status) (one_is_made (Finalizes t.now) IsNotFinalized IsReadable read_is_taken t.first t.first' t.out t.left.disk
       t.sink t.sink' t.status t.first.content refl (does said asked t ended says (made input output Finalized) asks).0)
+
+  pub completes : (input output : List ℕ) → Asks said (made input output Finalized)
+      → IfSome t.first.content (λ file. IsCompletable file → length file ≤ INPUT_LIMIT → IsDoneOrLacked t.status)
+  completes input output asks =
+      one_is_made (Finalizes t.now) IsNotFinalized IsCompletable completable_is_taken t.first t.first' t.out t.left.disk t.sink t.sink' t.status t.first.content refl
+      (does said asked t ended says (made input output Finalized) asks).0
 
   pub sorts : (input output : List ℕ) → Asks said (made input output Sorted) → IfSome t.first.content (λ file. IsMeasured file → length file ≤ INPUT_LIMIT → IsDoneOrLacked t.status)
   sorts input output asks =

@@ -5,7 +5,7 @@ use Rattle.mdf_port.specs.State.{SinkState}
 use Rattle.mdf_disk.specs.State.{DiskState}
 use Rattle.mdf_content.specs.Fault.{read_refusal}
 use Rattle.mdf_model.specs.declared.part.Measure.{Measure}
-use Rattle.mdf_tool.specs.declared.made.Report.{Report}
+use Rattle.mdf_run.specs.declared.said.Said.{Said}
 use Rattle.mdf_model.specs.Measurement.{Measured, measurement}
 use Rattle.tool_concat.specs.Concat.{AreRead, Joining}
 use Rattle.tool_concat.specs.Difference.{AreAlike, IsFirstDifference}
@@ -60,7 +60,7 @@ module _ (asked : Joining) (sound : IsListable asked.first × IsMeasured asked.s
   listable_is_taken problem refuses = absurd refuses
 
 -- a command that makes a file of two inputs, which it refuses for want of memory alone
-module _ (Makes : Joining → List ℕ → Report → Type 0) (Refuses : Joining → Fault → Type 0) (AreSound : List ℕ → List ℕ → Type 0)
+module _ (Makes : Joining → List ℕ → Said → Type 0) (Refuses : Joining → Fault → Type 0) (AreSound : List ℕ → List ℕ → Type 0)
     (takes : (asked : Joining) → AreSound asked.first asked.second → (problem : Fault) → Refuses asked problem → fault_status problem ≡ 7) where
   module _ (first second second' : DiskState) (one two : List ℕ) (told_one : first.content ≡ Some one) (told_two : second.content ≡ Some two)
       (short_one : length one ≤ INPUT_LIMIT) (short_two : length two ≤ INPUT_LIMIT) where

@@ -6,14 +6,12 @@ use Rattle.mdf_disk.specs.State.{DiskState}
 use Rattle.mdf_disk.specs.Story.{MayLeave, Story, Agrees, IsFresh, LeftSince}
 use Rattle.mdf_disk.proofs.Crash.{adds_none, settled_leaves}
 use Rattle.mdf_gate.proofs.Appends.{none_later}
-use Rattle.mdf_tool.specs.declared.made.Report.{Report}
+use Rattle.mdf_run.specs.declared.said.Said.{Said}
 use Rattle.mdf_tool.specs.declared.fault.ToolFault.{ToolFault}
 use Rattle.mdf_tool.specs.declared.fault.ToolFault.TheVariants as tool
-use Rattle.tool_final.specs.Finalize.{FinalizeEnds}
 use Rattle.tool_sort.specs.Sort.{SortEnds}
 use Rattle.tool_cut.specs.Cut.{CutEnds, Cutting}
 use Rattle.mdf_command.specs.Faults.{fault_of_tool}
-use Rattle.mdf_run.specs.Finalize.{Finalizes, IsNoRecording}
 use Rattle.mdf_run.specs.Sort.{IsNotMeasured, Sorts}
 use Rattle.mdf_run.specs.Cut.{Cuts}
 use Rattle.mdf_run.specs.Tool.{IsImage, ToolEnds}
@@ -60,14 +58,14 @@ pub still_nothing : (old new : Option Story) (content : Option (List ℕ)) (cloc
     → HoldsSince new clock (λ image. image ≡ [])
 still_nothing = still (λ image. image ≡ []) refl
 
-nothing_left : (Makes : List ℕ → Report → Type 0) → IsImage Makes []
+nothing_left : (Makes : List ℕ → Said → Type 0) → IsImage Makes []
 nothing_left Makes = inl (record { no_mdf = λ mdf. absurd (omega (arith, mdf.long)); shut = inl (omega arith) })
 
-pub still_no_mdf : (Makes : List ℕ → Report → Type 0) (old new : Option Story) (content : Option (List ℕ)) (clock : ℕ) → Agrees old content clock → IsFresh old
+pub still_no_mdf : (Makes : List ℕ → Said → Type 0) (old new : Option Story) (content : Option (List ℕ)) (clock : ℕ) → Agrees old content clock → IsFresh old
     → new ≡ old → HoldsSince new clock (IsImage Makes)
 still_no_mdf Makes = still (IsImage Makes) (nothing_left Makes)
 
-module _ (Makes : List ℕ → Report → Type 0) (Refuses : Fault → Type 0) (out mid out' : DiskState) (agrees : Agrees out.story out.content out.moment)
+module _ (Makes : List ℕ → Said → Type 0) (Refuses : Fault → Type 0) (out mid out' : DiskState) (agrees : Agrees out.story out.content out.moment)
     (fresh : IsFresh out.story) (same : mid.story ≡ out.story) (later : out.faults ≤ mid.faults) where
   nothing : out' ≡ mid → MakesNothing out out'
   nothing is = still_nothing out.story out'.story out.content out.moment agrees fresh (ap (λ (d : DiskState). d.story) is ∙ same)
@@ -85,7 +83,7 @@ module _ (Makes : List ℕ → Report → Type 0) (Refuses : Fault → Type 0) (
   make_fault attached calm (fault.InputOver size limit) ends = absurd ends
   make_fault attached calm problem ends = (ends.0, nothing ends.1, still_attached attached ends.1)
 
-  pub make_ends : mid.attached ≡ true → IsCalm out mid → (end : Result Report Fault) → ToolEnds Makes Refuses mid out' end → MakeComes Makes Refuses out out' end
+  pub make_ends : mid.attached ≡ true → IsCalm out mid → (end : Result Said Fault) → ToolEnds Makes Refuses mid out' end → MakeComes Makes Refuses out out' end
   make_ends attached calm (Ok report) ends = record { bytes = ends.0; is_of = ends.1; kept = ends.2 }
   make_ends attached calm (Err problem) ends = make_fault attached calm problem ends
 
@@ -95,7 +93,7 @@ module _ (Makes : List ℕ → Report → Type 0) (Refuses : Fault → Type 0) (
       (subst (λ s. Adds s out'.story (IsImage Makes)) same adds)
 
 -- of inputs of which one was not loaded nothing was made
-module _ {Input : Type 0} (inputs : Inputs Input) (Makes : Input → List ℕ → Report → Type 0) (Refuses : Input → Fault → Type 0) where
+module _ {Input : Type 0} (inputs : Inputs Input) (Makes : Input → List ℕ → Said → Type 0) (Refuses : Input → Fault → Type 0) where
   pub load_fault : (old new out : DiskState) → (Rose old.faults new.faults → inputs.Failed) → ((size limit : ℕ) → IsOver old size limit → inputs.IsOver size limit)
       → (LoadWants old new → inputs.Wanted) → Agrees out.story out.content out.moment → IsFresh out.story → (problem : Fault) → LoadFaultComes old new problem
       → MakingComes inputs Makes Refuses out out (Err problem)
@@ -114,17 +112,11 @@ module _ {Input : Type 0} (inputs : Inputs Input) (Makes : Input → List ℕ �
     made_of (fault.InputOver size limit) comes = absurd comes
     made_of problem comes = ((input, loaded, comes.0), comes.1, comes.2)
 
-    pub making_ends : (end : Result Report Fault) → MakeComes (Makes input) (Refuses input) out out' end → MakingComes inputs Makes Refuses out out' end
+    pub making_ends : (end : Result Said Fault) → MakeComes (Makes input) (Refuses input) out out' end → MakingComes inputs Makes Refuses out out' end
     making_ends (Ok report) made = (input, loaded, made)
     making_ends (Err problem) comes = made_of problem comes
 
 -- the fault of a tool, as the program tells it
-pub finalize_fault : (file : List ℕ) (now : ℕ) (old new : DiskState) (problem : ToolFault) → FinalizeEnds file now old new (Err problem)
-    → ToolEnds (Finalizes now file) (IsNoRecording file) old new (Err (fault_of_tool problem))
-finalize_fault file now old new (tool.Read refused) ends = ((ends.0, ends.1), ends.2)
-finalize_fault file now old new tool.Failed ends = ends
-finalize_fault file now old new tool.Memory ends = ends
-
 pub sort_fault : (file : List ℕ) (now : ℕ) (old new : DiskState) (problem : ToolFault) → SortEnds file now old new (Err problem)
     → ToolEnds (Sorts now file) (IsNotMeasured file) old new (Err (fault_of_tool problem))
 sort_fault file now old new (tool.Read refused) ends = ((ends.0, ends.1), ends.2)

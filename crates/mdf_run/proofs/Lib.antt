@@ -1,6 +1,7 @@
 mod Blaming
 mod Causes
 mod Ended
+mod Finalizing
 mod Joinable
 mod Keeps
 pub mod Leaving
@@ -9,4 +10,5 @@ mod Requests
 mod Runs
 mod Scripts
 mod Sound
+mod WithoutRest
 mod Words

@@ -11,7 +11,7 @@ use Rattle.mdf_run.specs.Ends.{HasEnded}
 use Rattle.mdf_run.specs.Run.{RunBlames, RunKeeps, RunLeaves, RunPrints, RunRecovers, RunSucceeds, TouchesInput, TouchesOutput, TouchesSecond}
 use Rattle.mdf_run.specs.Told.{Told}
 use Rattle.mdf_run.proofs.Recovered.{all_is_recovered}
-use Rattle.mdf_run.proofs.Ended.{Says, as_input, as_output, as_second, blames, carries, concats, cuts, disk_failed, does, exports, finalizes, if_recovered, lists, of_kept, only_blames, out_alone, second_alone, sink_failed, sorts, source_failed, unrecorded, usage_is, usage_printed}
+use Rattle.mdf_run.proofs.Ended.{Says, as_input, as_output, as_second, blames, carries, completes, concats, cuts, disk_failed, does, exports, finalizes, if_recovered, lists, of_kept, only_blames, out_alone, second_alone, sink_failed, sorts, source_failed, unrecorded, usage_is, usage_printed}
 
 module _ (said : List (List ℕ)) (asked : Option Request) (t : Told) (ended : HasEnded asked t) (says : Says said asked) where
   pub run_prints : RunPrints said t
@@ -57,6 +57,7 @@ module _ (said : List (List ℕ)) (asked : Option Request) (t : Told) (ended : H
   pub run_succeeds : RunSucceeds said t
   run_succeeds = record {
     finalizes = finalizes said asked t ended says;
+    completes = completes said asked t ended says;
     sorts = sorts said asked t ended says;
     cuts = cuts said asked t ended says;
     exports = exports said asked t ended says;

@@ -1,9 +1,10 @@
 -- A command on a sound input does what it was asked for, unless a disk fails or memory is wanted.
-use Rattle.std.proofs.Common.{◌≡◌, ◌⊎◌, ◌≤◌, inl, inr, ⊎_elim, ℕ, List, length, Option, Some, None, Result, Ok, Err, refl, sym, ◌∙◌, ap, subst, arith}
-use Rattle.std.specs.Prelude.{IfSome}
+use Rattle.std.proofs.Common.{◌≡◌, ◌⊎◌, ◌≤◌, inl, inr, ⊎_elim, ℕ, Bool, true, false, List, length, Option, Some, None, Result, Ok, Err, refl, sym, ◌∙◌, ap, subst, arith}
+use Rattle.std.proofs.lemmas.Bool.{eqb-true}
+use Rattle.std.specs.Prelude.{◌||◌, IfSome, nat_eq, not, if◌then◌else◌}
 use Rattle.mdf_port.specs.State.{SinkState}
 use Rattle.mdf_disk.specs.State.{DiskState}
-use Rattle.mdf_block.specs.Refusal.{Refusal, Read, Fails}
+use Rattle.mdf_block.specs.Refusal.{NotRecording, Refusal, Read, Fails, ◌>>=◌}
 use Rattle.mdf_content.specs.Fault.{read_refusal}
 use Rattle.mdf_attach.specs.declared.attachment.Attachment.{Attachment}
 use Rattle.mdf_attach.specs.declared.entry.Entry.{Entry}
@@ -13,16 +14,21 @@ use Rattle.mdf_attach.specs.Listed.{attachments}
 use Rattle.mdf_attach.specs.Lacks.{AreRefused}
 use Rattle.mdf_attach.proofs.Reached.{attachments_there}
 use Rattle.mdf_model.specs.Measurement.{Measured, measurement}
-use Rattle.mdf_session.specs.Session.{session}
+use Rattle.mdf_session.specs.Session.{recording, recording_by, session}
+use Rattle.mdf_session.proofs.Identified.{session_is_identified}
 use Rattle.mdf_carried.specs.Recovers.{IsReadable}
 use Rattle.mdf_record.specs.Recovers.{IsFinalizable}
-use Rattle.mdf_tool.specs.declared.made.Report.{Report}
+use Rattle.mdf_run.specs.declared.said.Said.{Said}
 use Rattle.mdf_command.specs.Faults.{INPUT_LIMIT, READING_LIMIT, fault_line, fault_status, refused_status}
 use Rattle.mdf_command.specs.Load.{IsLoaded, IsOverOf}
 use Rattle.mdf_command.specs.Texts.{unwritten_status}
 use Rattle.mdf_command.specs.declared.fault.Fault.{Fault}
 use Rattle.mdf_command.specs.declared.fault.Fault.TheVariants as fault
-use Rattle.mdf_run.specs.Finalize.{IsNoRecording}
+use Rattle.mdf_head.specs.declared.identity.Ident.{Ident}
+use Rattle.mdf_head.specs.Ident.{identify}
+use Rattle.mdf_mended.specs.Completed.{completed_file, completion, dropped_rest}
+use Rattle.mdf_mended.specs.Flags.{is_mendable, unfinished, unfinished_by}
+use Rattle.mdf_run.specs.Finalize.{IsNotFinalized, RefusesBy}
 use Rattle.mdf_run.specs.Sort.{IsNotMeasured}
 use Rattle.mdf_run.specs.Making.{EndsMaking, Inputs, MakingComes, making_text, making_status, one_input}
 use Rattle.tool_export.specs.Export.{HasNoGroup}
@@ -31,7 +37,7 @@ use Rattle.mdf_inspect.specs.declared.table.TableEnd.{TableEnd}
 use Rattle.mdf_inspect.specs.declared.table.TableEnd.TheVariants.{Given, Unwritten, Refused}
 use Rattle.mdf_inspect.specs.Attachments.{AreRefusedWith, EndsListing, ListingComes, ListingFaultComes, listing_status, listing_text}
 use Rattle.mdf_inspect.specs.Paged.{IfReadOf}
-use Rattle.mdf_run.specs.Kept.{HasGroup, IsDoneOrLacked, IsListable, IsMeasured}
+use Rattle.mdf_run.specs.Kept.{HasGroup, IsCompletable, IsDoneOrLacked, IsListable, IsMeasured}
 use Rattle.mdf_run.proofs.Keeps.{was_status}
 
 -- one measurement is read of a file
@@ -53,7 +59,7 @@ ends_well status result was (inr (inr memory)) =
     ⊎_elim (λ same. inr (inr (inr (same ∙ memory)))) (λ other. inr (inr (inr (other ∙ ap unwritten_status memory)))) was
 
 -- a command that makes a file, of inputs of which none is too long, with a tool that refuses them for want of memory alone
-module _ {Input : Type 0} (inputs : Inputs Input) (Makes : Input → List ℕ → Report → Type 0) (Refuses : Input → Fault → Type 0) (out out' : DiskState)
+module _ {Input : Type 0} (inputs : Inputs Input) (Makes : Input → List ℕ → Said → Type 0) (Refuses : Input → Fault → Type 0) (out out' : DiskState)
     (short : (size limit : ℕ) → ¬ inputs.IsOver size limit)
     (takes : (input : Input) → inputs.AreLoaded input → (problem : Fault) → Refuses input problem → fault_status problem ≡ 7) where
   making_fault : (problem : Fault) → MakingComes inputs Makes Refuses out out' (Err problem)
@@ -63,7 +69,7 @@ module _ {Input : Type 0} (inputs : Inputs Input) (Makes : Input → List ℕ �
   making_fault fault.Memory comes = inr (inr refl)
   making_fault problem comes = inr (inr (takes comes.0.0 comes.0.1 problem comes.0.2))
 
-  making_end : (end : Result Report Fault) → MakingComes inputs Makes Refuses out out' end
+  making_end : (end : Result Said Fault) → MakingComes inputs Makes Refuses out out' end
       → (making_status end ≡ 0) ⊎ ((making_status end ≡ 4) ⊎ (making_status end ≡ 7))
   making_end (Ok report) comes = inl refl
   making_end (Err problem) comes = making_fault problem comes
@@ -159,7 +165,7 @@ listable_is_listed disk disk' sink sink' status (Some file) told ends = λ lista
     (listing_end disk disk' file told short listable ends.0 ends.1)
 
 -- a command that makes a file of one input, which it refuses for want of memory alone
-pub one_is_made : (Makes : List ℕ → List ℕ → Report → Type 0) (Refuses : List ℕ → Fault → Type 0) (IsSound : List ℕ → Type 0)
+pub one_is_made : (Makes : List ℕ → List ℕ → Said → Type 0) (Refuses : List ℕ → Fault → Type 0) (IsSound : List ℕ → Type 0)
     → ((file : List ℕ) → IsSound file → (problem : Fault) → Refuses file problem → fault_status problem ≡ 7)
     → (disk disk' out out' : DiskState) (sink sink' : SinkState) (status : ℕ) (content : Option (List ℕ)) → disk.content ≡ content
     → EndsMaking (one_input disk disk') Makes Refuses out out' sink sink' status
@@ -169,11 +175,57 @@ one_is_made Makes Refuses IsSound takes disk disk' out out' sink sink' status (S
     making_well (one_input disk disk') Makes Refuses out out' (not_over disk file told INPUT_LIMIT short)
     (λ input loaded problem refuses. takes file sound problem (subst (λ f. Refuses f problem) (loaded_is disk file told input loaded) refuses)) sink sink' status ends
 
+-- a recording has the custom word 1 or 3, and a file that can be mended has 0
+no_both_words : (finalized is_bare is_listed is_zero other : Bool) (word : ℕ) (id one two : Ident) (first second : Refusal)
+    → nat_eq word 1 ≡ is_bare → nat_eq word 3 ≡ is_listed → nat_eq word 0 ≡ is_zero
+    → ◌≡◌ {A = Read Ident} (if finalized || not (is_bare || is_listed) then Err first else Ok id) (Ok one)
+    → ◌≡◌ {A = Read Ident} (if finalized || (not is_zero || other) then Err second else Ok id) (Ok two) → ⊥
+no_both_words true is_bare is_listed is_zero other word id one two first second bare listed none recorded mended = cc
+no_both_words false false false is_zero other word id one two first second bare listed none recorded mended = cc
+no_both_words false true is_listed false other word id one two first second bare listed none recorded mended = cc
+no_both_words false false true false other word id one two first second bare listed none recorded mended = cc
+no_both_words false true is_listed true other word id one two first second bare listed none recorded mended =
+    let wrong : ◌≡◌ {A = ℕ} 1 0 = sym (eqb-true word 1 bare) ∙ eqb-true word 0 none in omega (arith, wrong)
+no_both_words false false true true other word id one two first second bare listed none recorded mended =
+    let wrong : ◌≡◌ {A = ℕ} 3 0 = sym (eqb-true word 3 listed) ∙ eqb-true word 0 none in omega (arith, wrong)
+
+no_both : (read : Read Ident) (one two : Ident) → (read >>= recording_by) ≡ Ok one → (read >>= unfinished_by) ≡ Ok two → ⊥
+no_both (Ok id) one two recorded mended =
+    no_both_words id.finalized (nat_eq id.custom_flags 1) (nat_eq id.custom_flags 3) (nat_eq id.custom_flags 0) (not (is_mendable id.std_flags)) id.custom_flags
+    id one two (NotRecording id.std_flags id.custom_flags) (NotRecording id.std_flags id.custom_flags) refl refl refl recorded mended
+no_both (Err refusal) one two recorded mended = cc
+
+recording_is_none : (file : List ℕ) (id : Ident) → IsReadable file → unfinished file ≡ Ok id → ⊥
+unfolding recording unfinished
+recording_is_none file id readable is =
+    let recorded = session_is_identified file readable.found readable.is_read in no_both (identify file) recorded.0 id recorded.1 is
+
+-- a file that can't be mended has no completed one
+not_unfinished : (file : List ℕ) (refusal : Refusal) (found : Measured × ℕ) → unfinished file ≡ Err refusal → completion file ≡ Ok found → ⊥
+unfolding completion
+not_unfinished file refusal found is read =
+    let refused : completion file ≡ Err refusal = ap (λ (one : Read Ident). one >>= λ _. measurement (completed_file file) >>= λ m. Ok (m, dropped_rest file)) is in
+    let wrong : ◌≡◌ {A = Read (Measured × ℕ)} (Ok found) (Err refusal) = sym read ∙ refused in cc
+
 -- each file that is read as a recording is finalized
-pub read_is_taken : (file : List ℕ) → IsReadable file → (problem : Fault) → IsNoRecording file problem → fault_status problem ≡ 7
-read_is_taken file readable (fault.Read refused) fails = not_refused (read_refusal refused) (session file) readable.found readable.is_read fails.1
-read_is_taken file readable fault.Memory known = refl
-read_is_taken file readable problem fails = absurd fails
+pub read_is_taken : (file : List ℕ) → IsReadable file → (problem : Fault) → IsNotFinalized file problem → fault_status problem ≡ 7
+read_is_taken file readable problem fails = by_read (unfinished file) refl problem fails
+  where
+    by_read : (read : Read Ident) → unfinished file ≡ read → (problem : Fault) → RefusesBy file read problem → fault_status problem ≡ 7
+    by_read (Ok id) is problem fails = absurd (recording_is_none file id readable is)
+    by_read (Err refusal) is (fault.Read refused) fails = not_refused (read_refusal refused) (session file) readable.found readable.is_read fails.1
+    by_read (Err refusal) is fault.Memory known = refl
+    by_read (Err refusal) is problem fails = absurd fails
+
+-- and so is each that another tool left unfinished, where its completed file is read
+pub completable_is_taken : (file : List ℕ) → IsCompletable file → (problem : Fault) → IsNotFinalized file problem → fault_status problem ≡ 7
+completable_is_taken file completable problem fails = by_read (unfinished file) refl problem fails
+  where
+    by_read : (read : Read Ident) → unfinished file ≡ read → (problem : Fault) → RefusesBy file read problem → fault_status problem ≡ 7
+    by_read (Ok id) is (fault.Read refused) fails = not_refused (read_refusal refused) (completion file) completable.found completable.is_read fails.1
+    by_read (Ok id) is fault.Memory known = refl
+    by_read (Ok id) is problem fails = absurd fails
+    by_read (Err refusal) is problem fails = absurd (not_unfinished file refusal completable.found is completable.is_read)
 
 pub finalizable_is_taken : (content : Option (List ℕ)) (P : Type 0) → IfSome content (λ file. IsReadable file → length file ≤ INPUT_LIMIT → P)
     → IfSome content (λ file. IsFinalizable file → P)

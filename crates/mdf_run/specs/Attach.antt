@@ -3,7 +3,7 @@ use Rattle.std.specs.Prelude.{ℕ, ◌⊎◌, List, Option, Some, None}
 use Rattle.mdf_content.specs.declared.fault.ReadFault.{ReadFault}
 use Rattle.mdf_disk.specs.State.{DiskState}
 use Rattle.mdf_port.specs.State.{SinkState}
-use Rattle.mdf_tool.specs.declared.made.Report.{Report}
+use Rattle.mdf_run.specs.declared.said.Said.{Said}
 use Rattle.mdf_attach.specs.declared.attachment.Attachment.{Attachment}
 use Rattle.mdf_attach.specs.declared.fault.AttachFault.TheVariants as attach
 use Rattle.mdf_attach.specs.Stands.{AreAttachments, AreFew}
@@ -17,6 +17,7 @@ use Rattle.mdf_command.specs.declared.fault.Fault.{Fault}
 use Rattle.mdf_command.specs.declared.fault.Fault.TheVariants as fault
 use Rattle.mdf_inspect.specs.Attachments.{AreRefusedWith}
 use Rattle.mdf_run.specs.Making.{EndsMaking}
+use Rattle.mdf_run.specs.Tool.{WithoutRest}
 use Rattle.mdf_run.specs.Concat.{IsRefusedWith, two_inputs}
 use Rattle.mdf_run.specs.declared.blamed.Input.{Input}
 use Rattle.mdf_run.specs.declared.blamed.Input.TheVariants.{First, Second}
@@ -26,8 +27,8 @@ abbrev pub carrying_of : Joining → Carrying
 carrying_of asked = record { from = asked.first; file = asked.second; now = asked.now }
 
 -- it makes the sorted file of the second with the attachments of the first, at a time in ns
-abbrev pub Carries : Joining → List ℕ → Report → Type 0
-Carries asked bytes report = IsCarrying (carrying_of asked) bytes report
+abbrev pub Carries : Joining → List ℕ → Said → Type 0
+Carries asked = WithoutRest (IsCarrying (carrying_of asked))
 
 -- what a crash may leave of it
 abbrev pub IsAttachImage : Joining → List ℕ → Type 0

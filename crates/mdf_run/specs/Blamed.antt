@@ -2,7 +2,7 @@
 use Rattle.std.specs.Prelude.{ℕ, ◌≡◌, ◌||◌, nat_eq, if◌then◌else◌, Option, Some, None, Result, Ok, Err}
 use Rattle.mdf_disk.specs.State.{DiskState}
 use Rattle.mdf_port.specs.State.{SinkState}
-use Rattle.mdf_tool.specs.declared.made.Report.{Report}
+use Rattle.mdf_run.specs.declared.said.Said.{Said}
 use Rattle.tool_concat.specs.Concat.{Differs, Joining, TooWide}
 use Rattle.tool_concat.specs.declared.fault.ConcatFault.{ConcatFault}
 use Rattle.tool_concat.specs.declared.fault.ConcatFault.TheVariants as concat
@@ -43,14 +43,14 @@ IsOf Blames now disk other None fault.Device = Unit {0}
 IsOf Blames now disk other None fault.Memory = Unit {0}
 IsOf Blames now disk other blamed problem = (asked : Joining) × AreBothLoaded now disk other asked × Blames asked blamed problem
 
-abbrev pub IsOfEnd : (Joining → Option Input → Fault → Type 0) → ℕ → DiskState → DiskState → Option Input → Result Report Fault → Type 0
+abbrev pub IsOfEnd : (Joining → Option Input → Fault → Type 0) → ℕ → DiskState → DiskState → Option Input → Result Said Fault → Type 0
 IsOfEnd Blames now disk other blamed (Ok report) = blamed ≡ None
 IsOfEnd Blames now disk other blamed (Err problem) = IsOf Blames now disk other blamed problem
 
 -- A command on two inputs prints how it ended, and that input is blamed that the fault is of.
 abbrev pub BlamesOne : (Joining → Option Input → Fault → Type 0) → ℕ → DiskState → DiskState → SinkState → SinkState → ℕ → Option Input → Type 0
 BlamesOne Blames now disk other sink sink' status blamed =
-    (end : Result Report Fault) × Prints (making_text end) (making_status end) sink sink' status × IsOfEnd Blames now disk other blamed end
+    (end : Result Said Fault) × Prints (making_text end) (making_status end) sink sink' status × IsOfEnd Blames now disk other blamed end
 
 -- so `concat`, and so `attach`
 abbrev pub BlamesJoined : ℕ → DiskState → DiskState → SinkState → SinkState → ℕ → Option Input → Type 0
@@ -72,10 +72,10 @@ concat_blamed (concat.Wide group channel) = Some Both
 concat_blamed problem = None
 
 -- how the making of a file of two ended, and the input that is blamed
-abbrev pub joining_end : Result Report Unjoined → Result Report Fault
+abbrev pub joining_end : Result Said Unjoined → Result Said Fault
 joining_end (Ok report) = Ok report
 joining_end (Err unjoined) = Err unjoined.fault
 
-abbrev pub joining_blamed : Result Report Unjoined → Option Input
+abbrev pub joining_blamed : Result Said Unjoined → Option Input
 joining_blamed (Ok report) = None
 joining_blamed (Err unjoined) = unjoined.blamed

@@ -8,7 +8,7 @@ use Rattle.mdf_disk.specs.State.{DiskState}
 use Rattle.mdf_model.specs.Identified.{IsIdentified}
 use Rattle.mdf_model.specs.Measurement.{Measured, measurement}
 use Rattle.mdf_port.specs.State.{SinkState}
-use Rattle.mdf_tool.specs.declared.made.Report.{Report}
+use Rattle.mdf_run.specs.declared.said.Said.{Said}
 use Rattle.tool_concat.specs.Concat.{Differs, IsConcatOf, Joining, TooWide}
 use Rattle.tool_concat.specs.declared.fault.ConcatFault.{ConcatFault}
 use Rattle.tool_concat.specs.declared.fault.ConcatFault.TheVariants as concat
@@ -16,10 +16,11 @@ use Rattle.mdf_command.specs.Load.{IsCalm, IsLoaded, IsOver, LoadWants}
 use Rattle.mdf_command.specs.declared.fault.Fault.{Fault}
 use Rattle.mdf_command.specs.declared.fault.Fault.TheVariants as fault
 use Rattle.mdf_run.specs.Making.{EndsMaking, Inputs}
+use Rattle.mdf_run.specs.Tool.{WithoutRest}
 
 -- it makes the sorted file of the joined measurement of two files, at a time in ns
-abbrev pub Joins : Joining → List ℕ → Report → Type 0
-Joins asked bytes report = IsConcatOf asked bytes report
+abbrev pub Joins : Joining → List ℕ → Said → Type 0
+Joins asked = WithoutRest (IsConcatOf asked)
 
 -- the fault of the command; one of the second file is told as one of the first
 abbrev pub fault_of_concat : ConcatFault → Fault

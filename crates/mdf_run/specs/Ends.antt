@@ -6,7 +6,6 @@ use Rattle.mdf_disk.specs.State.{DiskState}
 use Rattle.acq_script.specs.Script.{script_of}
 use Rattle.acq_script.specs.declared.script.Script.{Script}
 use Rattle.acq_script.specs.Generated.{generated_script}
-use Rattle.tool_final.specs.Finalize.{IsFinalizeImage}
 use Rattle.tool_sort.specs.Sort.{IsSortImage}
 use Rattle.tool_cut.specs.Cut.{IsCutImage}
 use Rattle.tool_concat.specs.Concat.{IsConcatImage}
@@ -27,7 +26,7 @@ use Rattle.mdf_inspect.specs.Info.{EndsInfo}
 use Rattle.mdf_inspect.specs.Export.{EndsExport}
 use Rattle.mdf_inspect.specs.Attachments.{EndsListing}
 use Rattle.mdf_run.specs.Making.{LeavesOf}
-use Rattle.mdf_run.specs.Finalize.{EndsFinalize}
+use Rattle.mdf_run.specs.Finalize.{EndsFinalize, IsFinalImage}
 use Rattle.mdf_run.specs.Sort.{EndsSort}
 use Rattle.mdf_run.specs.Cut.{EndsCut}
 use Rattle.mdf_run.specs.Concat.{AreBothLoaded, EndsConcat}
@@ -59,7 +58,7 @@ EndsMake (Cut from to) now first first' out out' sink sink' status =
 
 -- what may be left of the output at any moment
 abbrev pub Leaves : Product → ℕ → DiskState → DiskState → DiskState → Type 0
-Leaves Finalized now first out out' = LeavesOf (IsLoaded first) (λ file. IsFinalizeImage file now) out out'
+Leaves Finalized now first out out' = LeavesOf (IsLoaded first) (λ file. IsFinalImage file now) out out'
 Leaves Sorted now first out out' = LeavesOf (IsLoaded first) (λ file. IsSortImage file now) out out'
 Leaves (Cut from to) now first out out' =
     LeavesOf (IsLoaded first) (λ file. IsCutImage file (record { from = from; to = to; now = now })) out out'

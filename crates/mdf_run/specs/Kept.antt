@@ -19,6 +19,7 @@ use Rattle.mdf_command.specs.declared.command.Union.{Union}
 use Rattle.mdf_command.specs.declared.command.Origin.TheVariants.{Source, Generated}
 use Rattle.mdf_attach.specs.declared.attachment.Attachment.{Attachment}
 use Rattle.mdf_attach.specs.Stands.{AreAttachments, AreFew}
+use Rattle.mdf_mended.specs.Completed.{completion}
 use Rattle.mdf_model.specs.Measurement.{Measured, measurement}
 use Rattle.tool_concat.specs.Difference.{AreAlike}
 use Rattle.tool_concat.specs.Wide.{NoneWideTo}
@@ -71,7 +72,12 @@ pub record IsMeasured (file : List ℕ) : Type 0 where
   pub found : Measured
   pub is_read : measurement file ≡ Ok found
 
--- and it has a group of this number
+-- the file is one that another tool left unfinished, and its completed file is read
+pub record IsCompletable (file : List ℕ) : Type 0 where
+  pub found : Measured × ℕ
+  pub is_read : completion file ≡ Ok found
+
+-- a finalized file that is read has a group of this number
 pub record HasGroup (file : List ℕ) (group : ℕ) : Type 0 where
   pub found : Measured
   pub is_read : measurement file ≡ Ok found

@@ -1,5 +1,5 @@
 -- A command that makes a file of another one.
-use Rattle.std.specs.Prelude.{ℕ, ◌≡◌, ◌⊎◌, List, [], ◌∷◌, codes, true, Result, Ok, Err}
+use Rattle.std.specs.Prelude.{ℕ, ◌≡◌, ◌⊎◌, List, [], ◌∷◌, ◌++◌, codes, true, Option, Some, None, Result, Ok, Err}
 use Rattle.std.specs.Fmt.{decimal}
 use Rattle.mdf_format.specs.Cause.{Rose}
 use Rattle.mdf_disk.specs.Crash.{HoldsSince}
@@ -7,6 +7,7 @@ use Rattle.mdf_disk.specs.State.{DiskState}
 use Rattle.mdf_port.specs.State.{SinkState}
 use Rattle.mdf_seal.specs.Seal.{IsKept}
 use Rattle.mdf_tool.specs.declared.made.Report.{Report}
+use Rattle.mdf_run.specs.declared.said.Said.{Said}
 use Rattle.mdf_command.specs.Texts.{line, Prints}
 use Rattle.mdf_command.specs.Faults.{fault_line, fault_status}
 use Rattle.mdf_command.specs.Load.{IsCalm, IsLoaded, IsOver, LoadWants}
@@ -16,6 +17,15 @@ use Rattle.mdf_command.specs.declared.fault.Fault.TheVariants as fault
 -- the line on the file that was made
 abbrev pub report_line : Report → List ℕ
 report_line report = line (codes "groups " ∷ decimal report.groups ∷ codes " samples " ∷ decimal report.samples ∷ codes " dropped " ∷ decimal report.dropped ∷ [])
+
+-- the line on the rest of a file that was completed, and nothing of any other
+abbrev pub rest_line : Option ℕ → List ℕ
+rest_line None = []
+rest_line (Some rest) = line (codes "rest " ∷ decimal rest ∷ [])
+
+-- both
+abbrev pub said_lines : Said → List ℕ
+said_lines said = report_line said.report ++ rest_line said.rest
 
 -- since then a crash leaves nothing of the output
 abbrev pub MakesNothing : DiskState → DiskState → Type 0
@@ -27,7 +37,7 @@ LeavesOf {Input = Input} AreLoaded IsImage out out' =
     MakesNothing out out' ⊎ ((input : Input) × AreLoaded input × HoldsSince out'.story out.moment (IsImage input))
 
 -- what a tool makes is kept whole on the disk of the output
-pub record IsMade (Makes : List ℕ → Report → Type 0) (out' : DiskState) (report : Report) : Type 0 where
+pub record IsMade (Makes : List ℕ → Said → Type 0) (out' : DiskState) (report : Said) : Type 0 where
   pub bytes : List ℕ
   pub is_of : Makes bytes report
   pub kept : IsKept out'.content out'.story bytes
@@ -39,7 +49,7 @@ MakesAtMostEmpty Known out out' = (out' ≡ out) ⊎ ((out'.attached ≡ true) �
 
 -- It was made, or not, only where this holds of the disk of the output before and after. The output is made before the tool
 -- looks at its input; so a refusal of the input stands for no name that is taken.
-abbrev pub MakeComes : (List ℕ → Report → Type 0) → (Fault → Type 0) → DiskState → DiskState → Result Report Fault → Type 0
+abbrev pub MakeComes : (List ℕ → Said → Type 0) → (Fault → Type 0) → DiskState → DiskState → Result Said Fault → Type 0
 MakeComes Makes Refuses out out' (Ok report) = IsMade Makes out' report
 MakeComes Makes Refuses out out' (Err fault.Device) = Rose out.faults out'.faults
 MakeComes Makes Refuses out out' (Err fault.Memory) = MakesNothing out out' × MakesAtMostEmpty (Refuses fault.Memory) out out'
@@ -69,7 +79,7 @@ one_input old new = record {
 -- makes of the input is kept whole; or a disk failed; or a crash leaves nothing of the output, since an input is too long
 -- or refused, or memory was wanted. Where an input could not be read whole, the disk of the output was asked for nothing,
 -- and want of memory does not stand for a fault of any disk. Where one is refused, the empty output was made before.
-abbrev pub MakingComes : {Input : Type 0} → Inputs Input → (Input → List ℕ → Report → Type 0) → (Input → Fault → Type 0) → DiskState → DiskState → Result Report Fault → Type 0
+abbrev pub MakingComes : {Input : Type 0} → Inputs Input → (Input → List ℕ → Said → Type 0) → (Input → Fault → Type 0) → DiskState → DiskState → Result Said Fault → Type 0
 MakingComes {Input = Input} inputs Makes Refuses out out' (Ok report) = (input : Input) × inputs.AreLoaded input × IsMade (Makes input) out' report
 MakingComes inputs Makes Refuses out out' (Err fault.Device) = (inputs.Failed × (out' ≡ out)) ⊎ Rose out.faults out'.faults
 MakingComes inputs Makes Refuses out out' (Err (fault.InputOver size limit)) = inputs.IsOver size limit × MakesNothing out out' × (out' ≡ out)
@@ -79,15 +89,15 @@ MakingComes {Input = Input} inputs Makes Refuses out out' (Err fault.Memory) =
 MakingComes {Input = Input} inputs Makes Refuses out out' (Err problem) =
     ((input : Input) × inputs.AreLoaded input × Refuses input problem) × MakesNothing out out' × (out'.attached ≡ true)
 
-abbrev pub making_text : Result Report Fault → List ℕ
-making_text (Ok report) = report_line report
+abbrev pub making_text : Result Said Fault → List ℕ
+making_text (Ok said) = said_lines said
 making_text (Err fault) = fault_line fault
 
-abbrev pub making_status : Result Report Fault → ℕ
+abbrev pub making_status : Result Said Fault → ℕ
 making_status (Ok report) = 0
 making_status (Err fault) = fault_status fault
 
 -- How the command ends, by what the disks of the inputs and of the output and the sink tell before and after.
-abbrev pub EndsMaking : {Input : Type 0} → Inputs Input → (Input → List ℕ → Report → Type 0) → (Input → Fault → Type 0) → DiskState → DiskState → SinkState → SinkState → ℕ → Type 0
+abbrev pub EndsMaking : {Input : Type 0} → Inputs Input → (Input → List ℕ → Said → Type 0) → (Input → Fault → Type 0) → DiskState → DiskState → SinkState → SinkState → ℕ → Type 0
 EndsMaking inputs Makes Refuses out out' sink sink' status =
-    (end : Result Report Fault) × MakingComes inputs Makes Refuses out out' end × Prints (making_text end) (making_status end) sink sink' status
+    (end : Result Said Fault) × MakingComes inputs Makes Refuses out out' end × Prints (making_text end) (making_status end) sink sink' status

@@ -9,7 +9,6 @@ use Rattle.mdf_layout.specs.Record.{history_size}
 use Rattle.book_owned.specs.Kept.{MarksHold, StartHolds}
 use Rattle.book_owned.specs.Marks.{AreRising, durable, last_mark}
 use Rattle.acq_script.specs.Tasks.{samples_of}
-use Rattle.tool_final.specs.Finalize.{IsFinalizeImage}
 use Rattle.tool_sort.specs.Sort.{IsSortImage}
 use Rattle.tool_cut.specs.Cut.{IsCutImage}
 use Rattle.tool_concat.specs.Concat.{IsConcatImage}
@@ -34,13 +33,13 @@ use Rattle.mdf_record.specs.Recorded.{EndsGenerated, EndsRecord}
 use Rattle.mdf_record.specs.Recovers.{IsFinalizable, MarksRecover, StartRecovers}
 use Rattle.mdf_record.specs.Sources.{AreOwnMarked}
 use Rattle.mdf_run.specs.Making.{LeavesOf}
-use Rattle.mdf_run.specs.Finalize.{EndsFinalize}
+use Rattle.mdf_run.specs.Finalize.{EndsFinalize, IsFinalImage}
 use Rattle.mdf_run.specs.Sort.{EndsSort}
 use Rattle.mdf_run.specs.Cut.{EndsCut}
 use Rattle.mdf_run.specs.Concat.{AreBothLoaded, EndsConcat}
 use Rattle.mdf_run.specs.Attach.{EndsAttach, IsAttachImage}
 use Rattle.mdf_run.specs.Blamed.{BlamesCarried, BlamesJoined, only_blamed}
-use Rattle.mdf_run.specs.Kept.{AreJoinable, AsksToJoin, HasGroup, HasSaved, IfRecorded, IsDone, IsDoneOrLacked, IsListable, IsMeasured, IsReported, OfRecording, RecordsNothing}
+use Rattle.mdf_run.specs.Kept.{AreJoinable, AsksToJoin, HasGroup, HasSaved, IfRecorded, IsCompletable, IsDone, IsDoneOrLacked, IsListable, IsMeasured, IsReported, OfRecording, RecordsNothing}
 use Rattle.mdf_run.specs.Told.{Told}
 
 -- What each command prints, and how it ends.
@@ -100,12 +99,14 @@ pub record RunRecovers (words : List (List ℕ)) (t : Told) : Type 0 where
       → HoldsSince t.left.disk.story (last_mark t.left.marks).moment (λ file. IsRecovered file t.left.history))
 
 -- Each sound input is made of and shown, unless a disk fails or memory is wanted: each file that a recording leaves but those that
--- are no MDF, and each other that is read as a recording and is not too long, is finalized; each finished file is sorted and cut, each
--- group of one exported, and each pair of them that can be joined is joined. The attachments of each finished file that are read are
--- listed, and carried into each finished file.
+-- are no MDF, and each other that is read as a recording and is not too long, is finalized; so is each that another tool left
+-- unfinished and whose completed file is read; each finished file is sorted and cut, each group of one exported, and each pair of them
+-- that can be joined is joined. The attachments of each finished file that are read are listed, and carried into each finished file.
 pub record RunSucceeds (words : List (List ℕ)) (t : Told) : Type 0 where
   pub finalizes : (input output : List ℕ) → Asks words (made input output Finalized)
       → IfSome t.first.content (λ file. IsFinalizable file → IsDoneOrLacked t.status)
+  pub completes : (input output : List ℕ) → Asks words (made input output Finalized)
+      → IfSome t.first.content (λ file. IsCompletable file → length file ≤ INPUT_LIMIT → IsDoneOrLacked t.status)
   pub sorts : (input output : List ℕ) → Asks words (made input output Sorted)
       → IfSome t.first.content (λ file. IsMeasured file → length file ≤ INPUT_LIMIT → IsDoneOrLacked t.status)
   pub cuts : (input output : List ℕ) (from to : ℤ) → Asks words (made input output (Cut from to))
@@ -125,7 +126,7 @@ pub record RunSucceeds (words : List (List ℕ)) (t : Told) : Type 0 where
 -- byte other than `M` that is no MDF, or what the command makes of them.
 pub record RunLeaves (words : List (List ℕ)) (t : Told) : Type 0 where
   pub finalize_leaves : (input output : List ℕ) → Asks words (made input output Finalized)
-      → LeavesOf (IsLoaded t.first) (λ file. IsFinalizeImage file t.now) t.out t.left.disk
+      → LeavesOf (IsLoaded t.first) (λ file. IsFinalImage file t.now) t.out t.left.disk
   pub sort_leaves : (input output : List ℕ) → Asks words (made input output Sorted)
       → LeavesOf (IsLoaded t.first) (λ file. IsSortImage file t.now) t.out t.left.disk
   pub cut_leaves : (input output : List ℕ) (from to : ℤ) → Asks words (made input output (Cut from to))

@@ -6,15 +6,16 @@ use Rattle.mdf_disk.specs.State.{DiskState}
 use Rattle.mdf_model.specs.Identified.{IsIdentified}
 use Rattle.mdf_model.specs.Measurement.{measurement}
 use Rattle.mdf_port.specs.State.{SinkState}
-use Rattle.mdf_tool.specs.declared.made.Report.{Report}
+use Rattle.mdf_run.specs.declared.said.Said.{Said}
 use Rattle.tool_sort.specs.Sort.{IsSorting}
 use Rattle.mdf_run.specs.Making.{EndsMaking, one_input}
+use Rattle.mdf_run.specs.Tool.{WithoutRest}
 use Rattle.mdf_command.specs.declared.fault.Fault.{Fault}
 use Rattle.mdf_command.specs.declared.fault.Fault.TheVariants as fault
 
 -- it makes the sorted file of a file's measurement, at a time in ns
-abbrev pub Sorts : ℕ → List ℕ → List ℕ → Report → Type 0
-Sorts now file bytes report = IsSorting file now bytes report
+abbrev pub Sorts : ℕ → List ℕ → List ℕ → Said → Type 0
+Sorts now file = WithoutRest (IsSorting file now)
 
 -- it refuses a file for the first fault of its measurement, and wants memory only for one that is identified as a finalized file
 abbrev pub IsNotMeasured : List ℕ → Fault → Type 0

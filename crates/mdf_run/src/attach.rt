@@ -10,11 +10,11 @@ ghost use Rattle.mdf_run.specs.Making.{LeavesOf};
 use crate::blamed::{Input, Verdict};
 use crate::joining::{Unjoined, run_pair};
 use crate::pair_tool::PairTool;
+use crate::said::Said;
 use mdf_command::{Fault, attach_fault};
 use mdf_disk::Disk;
 use mdf_num::Bytes;
 use mdf_port::Sink;
-use mdf_tool::Report;
 use std::alloc::Global;
 use tool_attach::{CarryFault, attach};
 
@@ -60,9 +60,9 @@ impl PairTool for Attaching {
         two: Bytes,
         now_ns: u64,
         out: &mut C,
-    ) -> Result<Report, Unjoined> {
+    ) -> Result<Said, Unjoined> {
         match attach(alloc, one.as_slice(), two, now_ns, out) {
-            Ok(report) => Ok(report),
+            Ok(report) => Ok(Said::from(report)),
             Err(fault) => Err(Unjoined {
                 fault: fault_of(one.as_slice(), fault),
                 blamed: blamed_for(fault),

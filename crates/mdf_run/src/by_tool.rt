@@ -6,9 +6,10 @@ ghost use Rattle.mdf_port.specs.State.{sink_state};
 ghost use Rattle.mdf_command.specs.Load.{IsLoaded};
 ghost use Rattle.mdf_command.specs.Texts.{Gives, Prints};
 ghost use Rattle.mdf_run.specs.Asked.{IsOnlyMade, IsOnlyRead};
-ghost use Rattle.mdf_run.specs.Making.{EndsMaking, LeavesOf, MakeComes, MakingComes, one_input, making_status, making_text, report_line};
+ghost use Rattle.mdf_run.specs.Making.{EndsMaking, LeavesOf, MakeComes, MakingComes, one_input, making_status, making_text, report_line, rest_line, said_lines};
 ghost use Rattle.mdf_run.specs.Tool.{IsImage};
 
+use crate::said::Said;
 use crate::tool::Tool;
 use mdf_command::Piece::{Number, Text};
 use mdf_command::{Fault, give_line, load, status_after};
@@ -25,7 +26,7 @@ pub(crate) fn make<T: Tool + Drop, C: Disk>(
     file: Bytes,
     output: &Bytes,
     out: &mut C,
-) -> Result<Report, Fault>
+) -> Result<Said, Fault>
     requires { C.asked out.old ≡ None }
     ensures comes { MakeComes (T.makes tool file) (T.refuses tool file) (state_of C.Disk out.old) (state_of C.Disk out.new) result }
     ensures any_moment { HoldsSince (C.story out.new) (C.moment out.old) (IsImage (T.makes tool file)) }
@@ -43,7 +44,7 @@ fn make_of<T: Tool + Drop, A: Disk, C: Disk>(
     output: &Bytes,
     first: &mut A,
     out: &mut C,
-) -> Result<Report, Fault>
+) -> Result<Said, Fault>
     requires first { A.asked first.old ≡ None }
     requires out { C.asked out.old ≡ None }
     ensures comes { MakingComes (one_input (state_of A.Disk first.old) (state_of A.Disk first.new)) (T.makes tool) (T.refuses tool) (state_of C.Disk out.old) (state_of C.Disk out.new) result }
@@ -72,18 +73,36 @@ fn give_report<K: Sink>(sink: &mut K, report: &Report) -> Result<(), Failed>
     )
 }
 
-/// Gives the line with which a command ends.
-fn give_end<K: Sink>(sink: &mut K, end: &Result<Report, Fault>) -> Result<(), Failed>
+/// Gives the line on the rest of a file that was completed, and nothing of any other.
+fn give_rest<K: Sink>(sink: &mut K, rest: Option<u64>) -> Result<(), Failed>
+    ensures { Gives (rest_line rest) (sink_state K.Sink sink.old) (sink_state K.Sink sink.new) result }
+{
+    match rest {
+        None => Ok(()),
+        Some(rest) => give_line(sink, &[Text(b"rest "), Number(rest)]),
+    }
+}
+
+/// Gives both.
+fn give_said<K: Sink>(sink: &mut K, said: &Said) -> Result<(), Failed>
+    ensures { Gives (said_lines said.now) (sink_state K.Sink sink.old) (sink_state K.Sink sink.new) result }
+{
+    give_report(sink, &said.report)?;
+    give_rest(sink, said.rest)
+}
+
+/// Gives the lines with which a command ends.
+fn give_end<K: Sink>(sink: &mut K, end: &Result<Said, Fault>) -> Result<(), Failed>
     ensures { Gives (making_text end.now) (sink_state K.Sink sink.old) (sink_state K.Sink sink.new) result }
 {
     match end {
-        Ok(report) => give_report(sink, report),
+        Ok(said) => give_said(sink, said),
         Err(fault) => fault.give(sink),
     }
 }
 
 /// The status with which a command ends.
-fn status(end: &Result<Report, Fault>) -> u8
+fn status(end: &Result<Said, Fault>) -> u8
     ensures { result ≡ making_status end.now }
 {
     match end {
@@ -93,7 +112,7 @@ fn status(end: &Result<Report, Fault>) -> u8
 }
 
 /// Prints how a command ended, and answers the program's status.
-pub(crate) fn report<K: Sink>(sink: &mut K, end: &Result<Report, Fault>) -> u8
+pub(crate) fn report<K: Sink>(sink: &mut K, end: &Result<Said, Fault>) -> u8
     ensures { Prints (making_text end.now) (making_status end.now) (sink_state K.Sink sink.old) (sink_state K.Sink sink.new) result }
 {
     let given = give_end(sink, end);

@@ -10,11 +10,11 @@ ghost use Rattle.mdf_run.specs.Making.{LeavesOf};
 use crate::blamed::{Input, Verdict};
 use crate::joining::{Unjoined, run_pair};
 use crate::pair_tool::PairTool;
+use crate::said::Said;
 use mdf_command::Fault;
 use mdf_disk::Disk;
 use mdf_num::Bytes;
 use mdf_port::Sink;
-use mdf_tool::Report;
 use std::alloc::Global;
 use tool_concat::{ConcatFault, concat};
 
@@ -72,8 +72,8 @@ impl PairTool for Concatenating {
         two: Bytes,
         now_ns: u64,
         out: &mut C,
-    ) -> Result<Report, Unjoined> {
-        Ok(concat(alloc, one, two, now_ns, out)?)
+    ) -> Result<Said, Unjoined> {
+        Ok(Said::from(concat(alloc, one, two, now_ns, out)?))
     }
 }
 

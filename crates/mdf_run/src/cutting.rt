@@ -9,12 +9,12 @@ ghost use Rattle.mdf_run.specs.Sort.{IsNotMeasured};
 ghost use Rattle.mdf_run.specs.Cut.{Cuts, EndsCut};
 
 use crate::by_tool::run_tool;
+use crate::said::Said;
 use crate::tool::Tool;
 use mdf_command::Fault;
 use mdf_disk::Disk;
 use mdf_num::Bytes;
 use mdf_port::Sink;
-use mdf_tool::Report;
 use std::alloc::Global;
 use tool_cut::cut;
 
@@ -34,8 +34,8 @@ impl Tool for Cutting {
 
     ghost refuses = { λ _. IsNotMeasured };
 
-    fn make<C: Disk>(self, alloc: Global, file: Bytes, out: &mut C) -> Result<Report, Fault> {
-        Ok(cut(alloc, file, self.from, self.to, self.now_ns, out)?)
+    fn make<C: Disk>(self, alloc: Global, file: Bytes, out: &mut C) -> Result<Said, Fault> {
+        Ok(Said::from(cut(alloc, file, self.from, self.to, self.now_ns, out)?))
     }
 }
 

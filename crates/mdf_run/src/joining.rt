@@ -13,11 +13,11 @@ ghost use Rattle.mdf_run.specs.Tool.{IsImage};
 use crate::blamed::{Input, Verdict};
 use crate::by_tool::report;
 use crate::pair_tool::PairTool;
+use crate::said::Said;
 use mdf_command::{Fault, load};
 use mdf_disk::{Disk, Role};
 use mdf_num::{Bytes, Failed, Memory};
 use mdf_port::Sink;
-use mdf_tool::Report;
 use std::alloc::Global;
 
 /// Why no file was made of two.
@@ -72,7 +72,7 @@ fn make_joined<T: PairTool + Drop, C: Disk>(
     output: &Bytes,
     now_ns: u64,
     out: &mut C,
-) -> Result<Report, Unjoined>
+) -> Result<Said, Unjoined>
     requires { C.asked out.old ≡ None }
     ensures comes { MakeComes (T.makes tool (record { first = one; second = two; now = now_ns })) (T.refuses tool (record { first = one; second = two; now = now_ns }))
         (state_of C.Disk out.old) (state_of C.Disk out.new) (joining_end result) }
@@ -95,7 +95,7 @@ fn join<T: PairTool + Drop, A: Disk, B: Disk, C: Disk>(
     first: &mut A,
     second: &mut B,
     out: &mut C,
-) -> Result<Report, Unjoined>
+) -> Result<Said, Unjoined>
     requires first { A.asked first.old ≡ None }
     requires second { B.asked second.old ≡ None }
     requires out { C.asked out.old ≡ None }
@@ -119,7 +119,7 @@ fn join<T: PairTool + Drop, A: Disk, B: Disk, C: Disk>(
 }
 
 /// How the command ends.
-fn end_of(joined: Result<Report, Unjoined>) -> Result<Report, Fault>
+fn end_of(joined: Result<Said, Unjoined>) -> Result<Said, Fault>
     ensures { result ≡ joining_end joined }
 {
     match joined {
@@ -129,7 +129,7 @@ fn end_of(joined: Result<Report, Unjoined>) -> Result<Report, Fault>
 }
 
 /// The input that it ends for.
-fn blamed_of(joined: Result<Report, Unjoined>) -> Option<Input>
+fn blamed_of(joined: Result<Said, Unjoined>) -> Option<Input>
     ensures { result ≡ joining_blamed joined }
 {
     match joined {

@@ -19,6 +19,7 @@ mod making;
 mod pair_tool;
 mod program;
 mod recording;
+mod said;
 mod showing;
 mod sort;
 mod tool;

@@ -2,7 +2,7 @@ ghost use Rattle.std.specs.Prelude.{◌≡◌, ℕ, List, Option, true, IfErr};
 ghost use Rattle.mdf_disk.specs.Crash.{Adds};
 ghost use Rattle.mdf_disk.specs.State.{state_of};
 ghost use Rattle.mdf_seal.specs.Seal.{IsBlank};
-ghost use Rattle.mdf_tool.specs.declared.made.Report.{Report as Told};
+ghost use Rattle.mdf_run.specs.declared.said.Said.{Said as Told};
 ghost use Rattle.tool_concat.specs.Concat.{Joining};
 ghost use Rattle.mdf_command.specs.declared.fault.Fault.{Fault as Why};
 ghost use Rattle.mdf_run.specs.declared.blamed.Input.{Input as Which};
@@ -10,9 +10,9 @@ ghost use Rattle.mdf_run.specs.Blamed.{IsOfLoaded, joining_end};
 ghost use Rattle.mdf_run.specs.Tool.{IsImage, ToolEnds};
 
 use crate::joining::Unjoined;
+use crate::said::Said;
 use mdf_disk::Disk;
 use mdf_num::Bytes;
-use mdf_tool::Report;
 use std::alloc::Global;
 
 /// A tool that makes a file of two others.
@@ -35,7 +35,7 @@ pub(crate) trait PairTool {
         two: Bytes,
         now_ns: u64,
         out: &mut C,
-    ) -> Result<Report, Unjoined>
+    ) -> Result<Said, Unjoined>
         requires attached { C.attached out.old ≡ true }
         requires blank { IsBlank (C.content out.old) (C.story out.old) }
         ensures ends { ToolEnds (makes self (record { first = one; second = two; now = now_ns })) (refuses self (record { first = one; second = two; now = now_ns }))

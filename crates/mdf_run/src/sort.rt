@@ -8,12 +8,12 @@ ghost use Rattle.tool_sort.specs.Sort.{IsSortImage};
 ghost use Rattle.mdf_run.specs.Sort.{EndsSort, IsNotMeasured, Sorts};
 
 use crate::by_tool::run_tool;
+use crate::said::Said;
 use crate::tool::Tool;
 use mdf_command::Fault;
 use mdf_disk::Disk;
 use mdf_num::Bytes;
 use mdf_port::Sink;
-use mdf_tool::Report;
 use std::alloc::Global;
 use tool_sort::sort;
 
@@ -29,8 +29,8 @@ impl Tool for Sorting {
 
     ghost refuses = { λ _. IsNotMeasured };
 
-    fn make<C: Disk>(self, alloc: Global, file: Bytes, out: &mut C) -> Result<Report, Fault> {
-        Ok(sort(alloc, file, self.now_ns, out)?)
+    fn make<C: Disk>(self, alloc: Global, file: Bytes, out: &mut C) -> Result<Said, Fault> {
+        Ok(Said::from(sort(alloc, file, self.now_ns, out)?))
     }
 }
 

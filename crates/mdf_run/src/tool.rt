@@ -2,14 +2,14 @@ ghost use Rattle.std.specs.Prelude.{◌≡◌, ℕ, List, true};
 ghost use Rattle.mdf_disk.specs.Crash.{Adds};
 ghost use Rattle.mdf_disk.specs.State.{state_of};
 ghost use Rattle.mdf_seal.specs.Seal.{IsBlank};
-ghost use Rattle.mdf_tool.specs.declared.made.Report.{Report as Told};
+ghost use Rattle.mdf_run.specs.declared.said.Said.{Said as Told};
 ghost use Rattle.mdf_command.specs.declared.fault.Fault.{Fault as Why};
 ghost use Rattle.mdf_run.specs.Tool.{IsImage, ToolEnds};
 
+use crate::said::Said;
 use mdf_command::Fault;
 use mdf_disk::Disk;
 use mdf_num::Bytes;
-use mdf_tool::Report;
 use std::alloc::Global;
 
 /// A tool that makes a file of another one.
@@ -21,7 +21,7 @@ pub(crate) trait Tool {
     ghost refuses: { Self → List ℕ → Why → Type 0 };
 
     /// Writes what it makes of a file, on a disk that is attached with an empty file, and answers what is told of it.
-    fn make<C: Disk>(self, alloc: Global, file: Bytes, out: &mut C) -> Result<Report, Fault>
+    fn make<C: Disk>(self, alloc: Global, file: Bytes, out: &mut C) -> Result<Said, Fault>
         requires attached { C.attached out.old ≡ true }
         requires blank { IsBlank (C.content out.old) (C.story out.old) }
         ensures ends { ToolEnds (makes self file) (refuses self file) (state_of C.Disk out.old) (state_of C.Disk out.new) result }

@@ -44,14 +44,19 @@ pub const MARK: Part = (0, b"MDF     ");
 
 pub const FLAGS: Part = (60, b"\0\0\0\0");
 
+// What says that a file is not finalized.
+const UNFINISHED: Part = (0, b"UnFinMF ");
+
 /// A file: so many bytes of the recording of two blocks; the file of the data groups engine and gearbox; the recording of a
-/// script; the finished file of one, and its sorted file; and the file of an attachment.
+/// script; the finished file of one, and its sorted file; so many bytes of that as another tool leaves it unfinished, with these
+/// parts put in; and the file of an attachment.
 pub enum File {
     TwoBlocks(usize),
     TwoGroups,
     Recorded(&'static str),
     Finished(&'static str),
     Sorted(&'static str),
+    Unfinished(&'static str, &'static [Part], usize),
     Attached,
 }
 
@@ -87,6 +92,20 @@ where
     sorted_from(rt, finished(rt, script)?)
 }
 
+/// So many bytes of it where it isn't finalized, with these parts put in.
+fn unfinished<R>(rt: &R, script: &str, parts: &[Part], length: usize) -> Result<Bytes, Fail>
+where
+    R: AllocGlobal + Threads + Wait + Sync,
+{
+    let mut bytes = sorted(rt, script)?.into_vec();
+    bytes.truncate(length);
+    put(&mut bytes, UNFINISHED);
+    for part in parts {
+        put(&mut bytes, *part);
+    }
+    Ok(Bytes::from_vec(bytes))
+}
+
 /// The bytes of a file.
 pub fn bytes_of<R>(rt: &R, file: &File) -> Result<Bytes, Fail>
 where
@@ -98,6 +117,7 @@ where
         File::Recorded(script) => recorded(rt, *script),
         File::Finished(script) => finished(rt, *script),
         File::Sorted(script) => sorted(rt, *script),
+        File::Unfinished(script, parts, length) => unfinished(rt, *script, *parts, *length),
         File::Attached => attached(rt.alloc()),
     }
 }

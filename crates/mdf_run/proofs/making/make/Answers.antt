@@ -23,3 +23,6 @@ returns-in-Cut-clause-any_moment g c =
     rw m.is (passed (λ from to. LeavesOf (IsLoaded (state_of g.A.Disk c.args.first.now))
     (λ file. IsCutImage file (record { from = from; to = to; now = c.args.now_ns })) (state_of g.C.Disk c.args.out.now) (state_of g.C.Disk c.run_cut.new.out))
     m.from m.to bounds c.run_cut.ensures.any_moment)
+
+pub returns-in-Finalized-clause-any_moment : goal.returns-in-Finalized-clause-any_moment
+returns-in-Finalized-clause-any_moment g c = rw c.in-Finalized.is c.run_finalize.ensures.any_moment
