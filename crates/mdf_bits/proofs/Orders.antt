@@ -6,7 +6,7 @@ use Rattle.std.proofs.lemmas.Bool.{cases_eq, cases_lt}
 use Rattle.std.proofs.lemmas.List.{get_or-drop, get_or_past, get_or-reverse, length-drop, length-reverse, length-set}
 use Rattle.std.proofs.lemmas.Nat.{and_mask, or_shifted, pow-add, shl_whole, shr-shr}
 use Rattle.std.proofs.lemmas.Nat.Bits.{bit_at-lt, bit_at-zero, bit_at_above, bit_at_and, bit_at_cat_low, bit_at_cat_high, bit_at_ones}
-use Rattle.std.specs.Int.{bit_at, byte_at, bytes_low_first, to_le_bytes, w64}
+use Rattle.std.specs.Int.{bit_at, byte_at, bytes_low_first}
 use Rattle.mdf_format.specs.Field.{bit_of, lowest_first}
 use Rattle.mdf_format.specs.Number.{le_number}
 

@@ -3,6 +3,7 @@ ghost use Rattle.std.specs.Prelude.{◌≡◌, ℕ, ◌+◌, ◌-◌, ◌*◌, �
 ghost use Rattle.std.specs.Int.{bit_at};
 ghost use Rattle.mdf_format.specs.Field.{bit_of, lowest_first};
 
+use byteorder::{ByteOrder, LittleEndian};
 use mdf_num::number_of;
 
 /// Where byte `i` of `len` bytes stands, counted from the lowest one.
@@ -67,10 +68,10 @@ pub(crate) fn put_word(bytes: &mut [u8], big: bool, word: u128)
         return;
     }
     match bytes.len() {
-        1 => bytes.copy_from_slice(&(word as u8).to_le_bytes()),
-        2 => bytes.copy_from_slice(&(word as u16).to_le_bytes()),
-        4 => bytes.copy_from_slice(&(word as u32).to_le_bytes()),
-        8 => bytes.copy_from_slice(&(word as u64).to_le_bytes()),
+        1 => bytes[0] = word as u8,
+        2 => LittleEndian::write_u16(bytes, word as u16),
+        4 => LittleEndian::write_u32(bytes, word as u32),
+        8 => LittleEndian::write_u64(bytes, word as u64),
         _ => put_each_byte(bytes, big, word),
     }
 }
