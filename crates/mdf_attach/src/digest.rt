@@ -1,4 +1,4 @@
-ghost use Rattle.std.specs.Prelude.{◌≡◌, ◌+◌, ◌^◌, ◌≤◌, ◌<◌, ◌++◌, ℕ, List, Some, OnOk};
+ghost use Rattle.std.specs.Prelude.{◌≡◌, ◌+◌, ◌^◌, ◌≤◌, ◌<◌, ◌++◌, ℕ, List, length, Some, OnOk};
 ghost use Rattle.md5.specs.Md5.{Holds, md5};
 ghost use Rattle.mdf_format.specs.Number.{bytes_at};
 ghost use Rattle.mdf_num.specs.Halt.{StopCause};
@@ -16,19 +16,16 @@ use mdf_num::{Span, Stop};
 /// How many bytes are taken in one go.
 const PIECE: u64 = 4096;
 
-/// Takes the `count` bytes from `at` on into a digest.
-fn take_in<P: Span>(span: &mut P, hasher: &mut Md5, at: u64, count: u64) -> Result<(), Stop>
-    requires piece { count ≤ PIECE }
-    requires there { at + count ≤ P.size span.old }
-    ensures taken { OnOk result ((file : List ℕ) → P.bytes span.old ≡ Some file → (m : List ℕ) → Holds hasher.old m → Holds hasher.new (m ++ bytes_at count file at)) }
+/// Fills a piece with the bytes from `at` on, and takes it into a digest.
+fn take_in<P: Span>(span: &mut P, hasher: &mut Md5, piece: &mut [u8], at: u64) -> Result<(), Stop>
+    requires { at + length piece.old ≤ P.size span.old }
+    ensures taken { OnOk result ((file : List ℕ) → P.bytes span.old ≡ Some file → (m : List ℕ) → Holds hasher.old m → Holds hasher.new (m ++ bytes_at (length piece.old) file at)) }
     ensures same { P.bytes span.new ≡ P.bytes span.old }
     ensures size { P.size span.new ≡ P.size span.old }
     ensures cause { StopCause P.may_want (P.faults span.old) (P.faults span.new) result }
 {
-    let mut piece = [0u8; PIECE as usize];
-    let part = &mut piece[..count as usize];
-    span.fill(at, part)?;
-    hasher.update(part);
+    span.fill(at, piece)?;
+    hasher.update(piece);
     Ok(())
 }
 
@@ -39,10 +36,11 @@ fn digest_in<P: Span>(span: &mut P, at: u64, len: u64) -> Result<[u8; 16], Stop>
     ensures reads { Looks P.Span span.old span.new P.may_want result (λ file digest. digest ≡ md5 (bytes_at len file at)) }
 {
     let mut hasher = Md5::new();
+    let mut piece = [0u8; PIECE as usize];
     let mut done = 0;
     while done < len {
         let count = PIECE.min(len - done);
-        take_in(span, &mut hasher, at + done, count)?;
+        take_in(span, &mut hasher, &mut piece[..count as usize], at + done)?;
         done += count;
     }
     Ok(hasher.finalize())

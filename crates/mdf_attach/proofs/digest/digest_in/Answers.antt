@@ -1,4 +1,5 @@
-use Rattle.std.proofs.Common.{◌≡◌, ℕ, arith, sym, ◌∙◌, ap, subst, rules}
+use Rattle.std.proofs.Common.{◌≡◌, ◌+◌, ◌++◌, ℕ, length, take, arith, sym, ◌∙◌, ap, subst, rules}
+use Rattle.std.proofs.lemmas.List.{length-take-le}
 use Rattle.md5.specs.Md5.{Holds, md5}
 use Rattle.mdf_format.specs.Number.{bytes_at}
 use Rattle.mdf_block.proofs.Readers.{looks_of}
@@ -10,8 +11,12 @@ loop-done-preserved g c =
     let loop = c.loop-done in record {
       within = omega arith;
       taken = λ f told.
+          let count = c.min-count.result in
+          let hasher = c.take_in.new.hasher in
+          let long : length (take count loop.piece) ≡ count = length-take-le count loop.piece (omega arith) in
           let more = c.in_ok-take_in.ensures.taken f (loop.invariant.same ∙ told) (bytes_at loop.done f c.args.at) (loop.invariant.taken f told) in
-          subst (Holds c.take_in.new.hasher) (sym (bytes_more loop.done _ f c.args.at)) more;
+          subst (Holds hasher) (sym (bytes_more loop.done count f c.args.at))
+          (subst (λ (n : ℕ). Holds hasher (bytes_at loop.done f c.args.at ++ bytes_at n f (c.args.at + loop.done))) long more);
       same = c.take_in.ensures.same ∙ loop.invariant.same;
       size = c.take_in.ensures.size ∙ loop.invariant.size;
       later = omega (arith, loop.invariant.later, c.take_in.ensures.cause.later);
