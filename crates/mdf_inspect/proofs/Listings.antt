@@ -1,5 +1,5 @@
 -- How the listing of the attachments of a file ends that was read through pages.
-use Rattle.std.proofs.Common.{◌≡◌, ℕ, Bool, true, false, List, map, Option, Some, None, Result, Ok, Err, refl, sym, ◌∙◌, ap, ⊎_elim}
+use Rattle.std.proofs.Common.{◌≡◌, ℕ, Bool, true, false, List, map, Option, Some, None, Ok, Err, refl, sym, ◌∙◌, ap, ⊎_elim}
 use Rattle.std.specs.Prelude.{IsSome, if◌then◌else◌}
 use Rattle.mdf_format.specs.declared.kind.Kind.TheVariants.{At}
 use Rattle.mdf_block.specs.declared.what.What.TheVariants as whats
@@ -21,8 +21,7 @@ use Rattle.mdf_attach.specs.declared.fault.AttachFault.TheVariants as attach
 use Rattle.mdf_attach.specs.Listed.{attachments, attachments_by, header_attachments}
 use Rattle.mdf_attach.specs.Lacks.{AreRefused}
 use Rattle.mdf_attach.specs.Shown.{each_of, entry_of}
-use Rattle.mdf_attach.proofs.Lacking.{what_of}
-use Rattle.mdf_attach.proofs.Refused.{AreRefusedAs, told_as, attachments_stand, attachments_lack}
+use Rattle.mdf_attach.proofs.Refused.{told_as, attachments_stand, attachments_lack}
 use Rattle.mdf_command.specs.Attached.{attach_fault, many_fault}
 use Rattle.mdf_command.specs.Faults.{INPUT_LIMIT}
 use Rattle.mdf_command.specs.declared.fault.Fault.{Fault}

@@ -5,7 +5,6 @@ use Rattle.mdf_disk.specs.State.{DiskState}
 use Rattle.mdf_port.specs.State.{SinkState}
 use Rattle.mdf_block.specs.declared.what.What.TheVariants as whats
 use Rattle.mdf_block.specs.Refusal.{Read, ◌>>=◌}
-use Rattle.mdf_content.specs.declared.fault.ReadFault.{ReadFault}
 use Rattle.mdf_content.specs.declared.fault.ReadFault.TheVariants as reads
 use Rattle.mdf_content.specs.Fault.{read_refusal}
 use Rattle.mdf_model.specs.Tree.{finalized}

@@ -16,7 +16,7 @@ use Rattle.mdf_block.specs.declared.note.Note.{Note}
 use Rattle.mdf_block.specs.declared.note.Note.TheVariants as notes
 use Rattle.mdf_block.specs.Draft.{Placed, size_of, room_of, filler_of, end_of, address_of, link_number, link_bytes, block_bytes, written, linked, with_link}
 use Rattle.mdf_block.proofs.Laid.{room_of-set}
-use Rattle.mdf_block.proofs.Laying.{length-blocks, length-block_bytes, length-written}
+use Rattle.mdf_block.proofs.Laying.{length-blocks, length-written}
 use Rattle.mdf_block.proofs.Names.{length-name_of}
 use Rattle.mdf_attach.specs.declared.attachment.Attachment.{Attachment}
 use Rattle.mdf_tree.specs.Text.{note_blocks, note_link}
@@ -26,7 +26,7 @@ use Rattle.mdf_tree.proofs.Has.{Has, has_left, has_right, has_more, address_is}
 use Rattle.mdf_spell.specs.Session.{finalized_ident}
 use Rattle.mdf_model.specs.Measurement.{Measured}
 use Rattle.tool_sort.specs.Sorted.{measures_blocks, sorted_history, first_measure, sorted_blocks, sorted_file}
-use Rattle.tool_attach.specs.Attached.{attachment_body, mime_number, comment_number, past_attachment, attachment_own, attachment_blocks, attachments_blocks, attached_to, attached_file, first_place}
+use Rattle.tool_attach.specs.Attached.{mime_number, comment_number, past_attachment, attachment_own, attachment_blocks, attachments_blocks, attached_to, attached_file, first_place}
 use Rattle.tool_attach.specs.Bytes.{text_bytes, text_place, name_place, mime_place, comment_place, place_behind, attachment_bytes, attachments_bytes, with_attachments}
 use Rattle.tool_attach.proofs.Placing.{attachment_long, length-with_link}
 use Rattle.tool_attach.proofs.Among.{IsAmong, AreLinksAmong, AreAmong, sorted_among}

@@ -1,4 +1,4 @@
-use Rattle.std.proofs.Common.{◌≡◌, List, ℕ, Ok, ◌∙◌}
+use Rattle.std.proofs.Common.{◌≡◌, Ok, ◌∙◌}
 use Rattle.mdf_disk.specs.State.{state_of}
 use Rattle.mdf_inspect.proofs.Paging.{halted, if_read}
 use Rattle.mdf_inspect.proofs.reading.read_branded.Goals as goal
