@@ -3,7 +3,7 @@ ghost use Rattle.mdf_format.specs.Field.{HasBit, bit_of, covered_end, covered_si
 ghost use Rattle.mdf_bits.specs.Field.{spot_of, IsSignedOf};
 
 use crate::Field;
-use crate::word::{bits_from, put_word, replaced, word_of};
+use crate::word::{bits_from, put_bits, word_of};
 
 /// How many bytes the field touches, at most 9.
 fn size(field: Field) -> usize
@@ -34,6 +34,7 @@ pub fn get(bytes: &[u8], field: Field) -> u64
 
 /// Writes the number of the field, which has no more bits than the field, into a record. No other bit of the record
 /// changes.
+#[inline]
 pub fn put(bytes: &mut [u8], field: Field, value: u64)
     requires within { covered_end (spot_of field) ≤ length bytes.old }
     requires fits { value < 2 ^ field.bits }
@@ -43,8 +44,7 @@ pub fn put(bytes: &mut [u8], field: Field, value: u64)
 {
     let start = field.byte as usize;
     let covered = &mut bytes[start..start + size(field)];
-    let word = replaced(covered, field.big, field.bit, field.bits, value);
-    put_word(covered, field.big, word);
+    put_bits(covered, field.big, field.bit, field.bits, value);
 }
 
 /// The number of a field of `bits` bits, 1 to 64, as two's complement, which the signed data types of MDF are

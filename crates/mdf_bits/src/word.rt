@@ -58,7 +58,7 @@ fn put_each_byte(bytes: &mut [u8], big: bool, word: u128)
 
 /// Writes the number into all of the bytes. One, two, four and eight bytes with the lowest first are written at once.
 #[inline]
-pub(crate) fn put_word(bytes: &mut [u8], big: bool, word: u128)
+fn put_word(bytes: &mut [u8], big: bool, word: u128)
     requires { word < 2 ^ (8 * length bytes.old) }
     ensures bits { (k : ℕ) → bit_of (lowest_first big bytes.new) k ≡ bit_at word k }
     ensures len { length bytes.new ≡ length bytes.old }
@@ -88,7 +88,7 @@ pub(crate) fn bits_from(word: u128, bit: u8, bits: u8) -> u64
 }
 
 /// The word with the `bits` bits from `bit` on replaced by those of `value`.
-pub(crate) fn with_bits(word: u128, bit: u8, bits: u8, value: u64) -> u128
+fn with_bits(word: u128, bit: u8, bits: u8, value: u64) -> u128
     requires in_byte { bit ≤ 7 }
     requires in_word { bits ≤ 64 }
     requires fits { value < 2 ^ bits }
@@ -101,21 +101,39 @@ pub(crate) fn with_bits(word: u128, bit: u8, bits: u8, value: u64) -> u128
     (word & !mask) | ((value as u128) << bit)
 }
 
-/// The number that the bytes are, with the `bits` bits from `bit` on replaced by those of `value`. Where these are all the
-/// bits, no byte is read.
-pub(crate) fn replaced(bytes: &[u8], big: bool, bit: u8, bits: u8, value: u64) -> u128
+/// Replaces the `bits` bits of the bytes from `bit` on by those of `value`. The other bits stay.
+#[inline(never)]
+fn put_among(bytes: &mut [u8], big: bool, bit: u8, bits: u8, value: u64)
     requires in_byte { bit ≤ 7 }
     requires in_word { bits ≤ 64 }
-    requires few { length bytes.now ≤ 16 }
-    requires within { bit + bits ≤ 8 * length bytes.now }
+    requires few { length bytes.old ≤ 16 }
+    requires within { bit + bits ≤ 8 * length bytes.old }
     requires fits { value < 2 ^ bits }
-    ensures inside { (k : ℕ) → k < bits → bit_at result (bit + k) ≡ bit_at value k }
-    ensures below { (k : ℕ) → k < bit → bit_at result k ≡ bit_of (lowest_first big bytes.now) k }
-    ensures above { (k : ℕ) → bit + bits ≤ k → bit_at result k ≡ bit_of (lowest_first big bytes.now) k }
-    ensures fits { result < 2 ^ (8 * length bytes.now) }
+    ensures inside { (k : ℕ) → k < bits → bit_of (lowest_first big bytes.new) (bit + k) ≡ bit_at value k }
+    ensures below { (k : ℕ) → k < bit → bit_of (lowest_first big bytes.new) k ≡ bit_of (lowest_first big bytes.old) k }
+    ensures above { (k : ℕ) → bit + bits ≤ k → bit_of (lowest_first big bytes.new) k ≡ bit_of (lowest_first big bytes.old) k }
+    ensures len { length bytes.new ≡ length bytes.old }
+{
+    let word = with_bits(word_of(bytes, big), bit, bits, value);
+    put_word(bytes, big, word);
+}
+
+/// The same. Where these are all the bits, no byte is read.
+#[inline]
+pub(crate) fn put_bits(bytes: &mut [u8], big: bool, bit: u8, bits: u8, value: u64)
+    requires in_byte { bit ≤ 7 }
+    requires in_word { bits ≤ 64 }
+    requires few { length bytes.old ≤ 16 }
+    requires within { bit + bits ≤ 8 * length bytes.old }
+    requires fits { value < 2 ^ bits }
+    ensures inside { (k : ℕ) → k < bits → bit_of (lowest_first big bytes.new) (bit + k) ≡ bit_at value k }
+    ensures below { (k : ℕ) → k < bit → bit_of (lowest_first big bytes.new) k ≡ bit_of (lowest_first big bytes.old) k }
+    ensures above { (k : ℕ) → bit + bits ≤ k → bit_of (lowest_first big bytes.new) k ≡ bit_of (lowest_first big bytes.old) k }
+    ensures len { length bytes.new ≡ length bytes.old }
 {
     if bits as usize == 8 * bytes.len() {
-        return value as u128;
+        put_word(bytes, big, value as u128);
+        return;
     }
-    with_bits(word_of(bytes, big), bit, bits, value)
+    put_among(bytes, big, bit, bits, value);
 }
