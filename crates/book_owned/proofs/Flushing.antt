@@ -58,7 +58,7 @@ module _ {D V N : Type 0} (disk : DiskOf D) (view : ViewOf V N) (front : InMemor
   pub flush_shown : (front' after : InMemory V) (file' : Gated D) (answer : Flush N) → file.failed ≡ false
       → Hands disk view front file front' file' → HasWritten disk front file front' file'
       → IsPending (durable front'.marks.items) file'.failed front' → front'.view ≡ front.view → after ≡ record front' { history = after.history; view = after.view }
-      → ShowTells view front' after answer
+      → ShowTells view front' after (durable front'.marks.items) answer
       → FlushAnswers disk view (account_of disk view front file) (account_of disk view after file') answer
   flush_shown front' after file' (flush.Done through shown note) going hands written pending same_view rest (through_is, shown_is, few, shows, tells) =
       let all = all_durable (durable front'.marks.items) file'.failed front' pending written.going written.emptied in

@@ -14,6 +14,7 @@ use Rattle.book_owned.specs.Members.{ViewOf}
 use Rattle.book_owned.specs.Marks.{durable}
 use Rattle.book_owned.specs.Kept.{IsShowing}
 use Rattle.book_owned.specs.Shared.{IsShared}
+use Rattle.book_owned.specs.declared.in_memory.InMemory.{InMemory}
 use Rattle.book_owned.specs.declared.mark.Mark.{Mark}
 
 -- the first chunks begin all
@@ -98,18 +99,26 @@ module _ {V N : Type 0} (view : ViewOf V N) (now : V) (chunks : List (List Sampl
         handed = handed_then;
       }
 
-  -- the samples that are shown are the first of all, and what was handed on begins those that are durable
+  -- the samples that are shown are the first of all
+  shown_part : (history : List Sample) → IsPrefix (joined chunks) history → IsPrefix (joined (take is.place chunks)) history
+  shown_part history = prefix_trans (joined (take is.place chunks)) (joined chunks) history (first_begin chunks is.place)
+
+  pub shown_first : (history : List Sample) → IsPrefix (joined chunks) history → view.shows now (take (view.count now) history)
+  shown_first history begins =
+      let part = shown_part history begins in
+      subst (view.shows now) (sym (ap (take (view.count now)) (sym part.1) ∙ take_at (joined (take is.place chunks)) part.0 (view.count now) (sym is.count_is))) is.shown
+
+  -- and what was handed on begins those that are durable
   pub showing : (history : List Sample) (marks : List Mark) → IsPrefix (joined chunks) history → length (joined chunks) ≤ durable marks
       → IsShowing view now history marks
   showing history marks begins less =
-      let part = prefix_trans (joined (take is.place chunks)) (joined chunks) history (first_begin chunks is.place) begins in
       let all : take (length (joined chunks)) history ≡ joined chunks = ap (take (length (joined chunks))) (sym begins.1) ∙ take_at (joined chunks) begins.0 (length (joined chunks)) refl in
       let some : IsPrefix (joined chunks) (take (durable marks) history) =
       subst (λ xs. IsPrefix xs (take (durable marks) history)) (take-take (length (joined chunks)) (durable marks) history less ∙ all)
       (prefix_take (length (joined chunks)) (take (durable marks) history)) in
       record {
         most = omega (arith, shared_within, less);
-        shown = subst (view.shows now) (sym (ap (take (view.count now)) (sym part.1) ∙ take_at (joined (take is.place chunks)) part.0 (view.count now) (sym is.count_is))) is.shown;
+        shown = shown_first history begins;
         handed = λ h before. prefix_trans h (joined chunks) (take (durable marks) history)
             (prefix_trans h (joined (take (is.place + 1) chunks)) (joined chunks) (is.handed h before) (first_begin chunks (is.place + 1))) some;
       }
@@ -149,6 +158,17 @@ module _ {V N : Type 0} (view : ViewOf V N) (now : V) (chunks : List (List Sampl
     shown = shows (joined (take is.place chunks)) is.shown;
     handed = λ h before. is.handed h (hands h before);
   }
+
+-- the samples of a front were shown up to the durable ones
+module _ {V N : Type 0} (view : ViewOf V N) (front after : InMemory V) (through : ℕ) (rest : after ≡ record front { history = after.history; view = after.view })
+    (is : through ≡ durable front.marks.items) (few : length (joined after.history.chunks) ≤ through) where
+  pub sealed_then : length (joined after.history.chunks) ≤ durable after.marks.items
+  sealed_then = omega (arith, few, is, ap (λ f. durable f.marks.items) rest)
+
+  pub shown_then : IsShared view after.view after.history.chunks → IsPrefix (joined after.history.chunks) after.history.items
+      → IsShowing view after.view after.history.items after.marks.items
+  shown_then shared begins =
+      showing view after.view after.history.chunks shared after.history.items after.marks.items begins sealed_then
 
 -- a view that shows nothing yet
 pub shares_nothing : {V N : Type 0} (view : ViewOf V N) (now : V) (chunks : List (List Sample)) → chunks ≡ [] → view.shows now [] → view.count now ≡ 0

@@ -77,10 +77,10 @@ Refuses front failed sample (Stopped mark) = (failed ≡ true) × (mark ≡ last
 Refuses front failed sample (DiskFault before after) = ⊥
 Refuses front failed sample Memory = ⊥
 
--- durable samples were published, and the note tells of those that are shown
-abbrev pub ShowTells : {V N : Type 0} → ViewOf V N → InMemory V → InMemory V → Flush N → Type 0
-ShowTells view front front' (flush.Done through shown note) =
-    (through ≡ durable front.marks.items) × (shown ≡ view.count front'.view) × (shown ≤ through)
+-- the samples before there were published, and the note tells of those that are shown
+abbrev pub ShowTells : {V N : Type 0} → ViewOf V N → InMemory V → InMemory V → ℕ → Flush N → Type 0
+ShowTells view front front' upto (flush.Done through shown note) =
+    (through ≡ upto) × (shown ≡ view.count front'.view) × (shown ≤ through)
     × ShowsUpto view front.view front'.view through × view.tells note (view.which front.view) (take shown front.history.items)
-ShowTells view front front' (flush.DiskFault before after) = ⊥
-ShowTells view front front' (flush.Stopped mark) = ⊥
+ShowTells view front front' upto (flush.DiskFault before after) = ⊥
+ShowTells view front front' upto (flush.Stopped mark) = ⊥

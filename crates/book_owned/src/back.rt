@@ -128,7 +128,8 @@ pub(crate) fn make_room<D: Disk, V: Shown, R: Threads + Wait + Sync>(
         return Ok(());
     }
     write_pending(front, file)?;
-    publish(front, rt);
+    let through = last_mark(&front.marks).through;
+    publish(front, rt, through);
     Ok(())
 }
 

@@ -204,7 +204,8 @@ impl<D: Disk, V: Shown> Book<D, V> {
                 after: fault.after,
             };
         }
-        show(&mut self.front, rt)
+        let through = last_mark(&self.front.marks).through;
+        show(&mut self.front, rt, through)
     }
 
     /// Hands everything back, without a call of the disk: the disk, the history, the marks and the view.

@@ -3,8 +3,7 @@ ghost use mathlib.Core.List.{IsPrefix};
 ghost use Rattle.mdf_layout.specs.Chunked.{joined, AreSealed};
 ghost use Rattle.mdf_layout.specs.declared.sample.Sample.{Sample};
 ghost use Rattle.mdf_layout.specs.Record.{SampleFits, encoded_size, cost_of, history_size};
-ghost use Rattle.book_owned.specs.Marks.{last_mark, durable};
-ghost use Rattle.book_owned.specs.Kept.{IsShowing};
+ghost use Rattle.book_owned.specs.Marks.{last_mark};
 ghost use Rattle.book_owned.specs.Shared.{IsShared};
 ghost use Rattle.book_owned.specs.Answers.{ShowsUpto};
 ghost use Rattle.book_owned.specs.Halves.{IsCounted, IsPut};
@@ -46,20 +45,19 @@ pub(crate) fn accept<V>(front: &mut InMemory<V>, sample: Sample)
     front.history.put(sample);
 }
 
-/// Seals the durable samples. Where no memory is found the chunks stay.
-fn seal<V>(front: &mut InMemory<V>)
-    requires sealed { length (joined front.old.history.chunks) ≤ durable front.old.marks.items }
-    requires within { durable front.old.marks.items ≤ length front.old.history.items }
+/// Seals the samples before there. Where no memory is found the chunks stay.
+fn seal<V>(front: &mut InMemory<V>, upto: u64)
+    requires sealed { length (joined front.old.history.chunks) ≤ upto }
+    requires within { upto ≤ length front.old.history.items }
     ensures rest { front.new ≡ record front.old { history = front.new.history } }
     ensures history { front.new.history.items ≡ front.old.history.items }
     ensures room { front.old.history.spare ≤ front.new.history.spare }
     ensures stay { IsPrefix front.old.history.chunks front.new.history.chunks }
-    ensures durable { length (joined front.new.history.chunks) ≤ durable front.old.marks.items }
+    ensures upto { length (joined front.new.history.chunks) ≤ upto }
     ensures sealed { AreSealed front.new.history.chunks front.new.history.items }
     ensures few { length (joined front.new.history.chunks) < 2 ^ 64 }
 {
-    let through = last_mark(&front.marks).through;
-    match front.history.seal(through) {
+    match front.history.seal(upto) {
         Ok(()) => {}
         Err(_) => {}
     }
@@ -94,45 +92,50 @@ fn show_all<V: Shown, R: Threads + Wait + Sync>(history: &Samples, view: &mut V,
     while show_next(history, view, rt) {}
 }
 
-/// Seals the durable samples, and publishes the chunks that are not shown yet. Where sealing or the view finds no memory the
-/// view shows what it showed then.
-pub(crate) fn publish<V: Shown, R: Threads + Wait + Sync>(front: &mut InMemory<V>, rt: &R)
+/// Seals the samples before there, and publishes the chunks that are not shown yet. Where sealing or the view finds no memory
+/// the view shows what it showed then.
+pub(crate) fn publish<V: Shown, R: Threads + Wait + Sync>(
+    front: &mut InMemory<V>,
+    rt: &R,
+    upto: u64,
+)
     requires shared { IsShared V.Shown front.old.view front.old.history.chunks }
-    requires sealed { length (joined front.old.history.chunks) ≤ durable front.old.marks.items }
-    requires within { durable front.old.marks.items ≤ length front.old.history.items }
-    ensures shown { IsShowing V.Shown front.new.view front.new.history.items front.new.marks.items }
+    requires sealed { length (joined front.old.history.chunks) ≤ upto }
+    requires within { upto ≤ length front.old.history.items }
     ensures shared { IsShared V.Shown front.new.view front.new.history.chunks }
-    ensures sealed { length (joined front.new.history.chunks) ≤ durable front.new.marks.items }
+    ensures begins { IsPrefix (joined front.new.history.chunks) front.new.history.items }
+    ensures upto { length (joined front.new.history.chunks) ≤ upto }
     ensures rest { front.new ≡ record front.old { history = front.new.history; view = front.new.view } }
     ensures history { front.new.history.items ≡ front.old.history.items }
     ensures room { front.old.history.spare ≤ front.new.history.spare }
     ensures which { V.which front.new.view ≡ V.which front.old.view }
-    ensures count { ShowsUpto V.Shown front.old.view front.new.view (durable front.old.marks.items) }
+    ensures count { ShowsUpto V.Shown front.old.view front.new.view upto }
 {
-    seal(front);
+    seal(front, upto);
     show_all(&front.history, &mut front.view, rt);
 }
 
-/// Publishes the durable samples, and answers how many are durable and how many are shown.
+/// Publishes the samples before `through`, which are those that are durable, and answers how many are shown.
 pub(crate) fn show<V: Shown, R: Threads + Wait + Sync>(
     front: &mut InMemory<V>,
     rt: &R,
+    through: u64,
 ) -> Flush<V::Note>
     requires shared { IsShared V.Shown front.old.view front.old.history.chunks }
-    requires sealed { length (joined front.old.history.chunks) ≤ durable front.old.marks.items }
-    requires within { durable front.old.marks.items ≤ length front.old.history.items }
-    ensures shown { IsShowing V.Shown front.new.view front.new.history.items front.new.marks.items }
+    requires sealed { length (joined front.old.history.chunks) ≤ through }
+    requires within { through ≤ length front.old.history.items }
     ensures shared { IsShared V.Shown front.new.view front.new.history.chunks }
-    ensures sealed { length (joined front.new.history.chunks) ≤ durable front.new.marks.items }
+    ensures begins { IsPrefix (joined front.new.history.chunks) front.new.history.items }
+    ensures upto { length (joined front.new.history.chunks) ≤ through }
     ensures rest { front.new ≡ record front.old { history = front.new.history; view = front.new.view } }
     ensures history { front.new.history.items ≡ front.old.history.items }
     ensures room { front.old.history.spare ≤ front.new.history.spare }
     ensures which { V.which front.new.view ≡ V.which front.old.view }
-    ensures tells { ShowTells V.Shown front.old front.new result }
+    ensures tells { ShowTells V.Shown front.old front.new through result }
 {
-    publish(front, rt);
+    publish(front, rt, through);
     Flush::Done {
-        through: last_mark(&front.marks).through,
+        through,
         shown: front.view.shown(),
         note: front.view.told(),
     }

@@ -95,7 +95,7 @@ impl<V: Shown> Front<V> {
         match written {
             Written::Done { mark, mut block } => {
                 self.memory.marks.put(mark);
-                let answer = show(&mut self.memory, rt);
+                let answer = show(&mut self.memory, rt, mark.through);
                 block.clear();
                 self.spare = Some(block);
                 answer
@@ -110,7 +110,10 @@ impl<V: Shown> Front<V> {
                 self.spare = Some(block);
                 Flush::DiskFault { before, after }
             }
-            Written::Nothing => show(&mut self.memory, rt),
+            Written::Nothing => {
+                let through = last_mark(&self.memory.marks).through;
+                show(&mut self.memory, rt, through)
+            }
         }
     }
 

@@ -1,10 +1,12 @@
-use Rattle.std.proofs.Common.{◌≤◌, ◌∙◌, [], ap, length, sym, subst, append-nil}
+use Rattle.std.proofs.Common.{◌≤◌, ◌∙◌, [], ap, length, sym, subst, append-nil, rules}
 use Rattle.book_owned.specs.Marks.{durable}
 use Rattle.book_owned.specs.Account.{Steps}
 use Rattle.book_owned.specs.Answers.{FlushAnswers}
 use Rattle.book_owned.specs.Halves.{account_of}
+use Rattle.book_owned.specs.Hand.{ShowTells}
 use Rattle.book_owned.proofs.Flushing.{flush_shown}
 use Rattle.book_owned.proofs.Happening.{flush_happens}
+use Rattle.book_owned.proofs.Sharing.{sealed_then, shown_then}
 use Rattle.book_owned.proofs.book.Book.flush.Goals as goal
 
 pub returns-in-Err-clause-steps : goal.returns-in-Err-clause-steps
@@ -25,7 +27,8 @@ returns-clause-answer g c =
     subst (λ a. FlushAnswers g.D.Disk g.V.Shown a new c.show.result) c.self.view_is
     (flush_shown g.D.Disk g.V.Shown c.self.inside.front c.self.inside.file c.write_pending.new.front c.show.new.front c.write_pending.new.file c.show.result
     (sym c.failed.ensures.failed ∙ c.if-failed.false) c.write_pending.ensures.hands c.in_default.ensures.written c.write_pending.ensures.book.pending
-    c.write_pending.ensures.view c.show.ensures.rest c.show.ensures.tells)
+    c.write_pending.ensures.view c.show.ensures.rest
+    (subst (λ n. ShowTells g.V.Shown c.write_pending.new.front c.show.new.front n c.show.result) (ap (λ m. m.through) c.last_mark-through.ensures) c.show.ensures.tells))
 
 pub returns-clause-events : goal.returns-clause-events
 returns-clause-events g c =
@@ -44,3 +47,15 @@ returns-in-Err-clause-kept g c = c.write_pending.ensures.book.back.kept
 
 pub returns-in-Err-clause-shown : goal.returns-in-Err-clause-shown
 returns-in-Err-clause-shown g c = c.write_pending.ensures.book.shown
+
+pub returns-clause-shown : goal.returns-clause-shown
+returns-clause-shown g c = shown_then g.V.Shown c.write_pending.new.front c.show.new.front c.last_mark-through.result.through c.show.ensures.rest
+    (ap (λ m. m.through) c.last_mark-through.ensures) c.show.ensures.upto c.show.ensures.shared c.show.ensures.begins
+
+pub invariant_of-self-2 : goal.invariant_of-self-2
+invariant_of-self-2 g c =
+    let sealed = sealed_then g.V.Shown c.write_pending.new.front c.show.new.front c.last_mark-through.result.through c.show.ensures.rest
+    (ap (λ m. m.through) c.last_mark-through.ensures) c.show.ensures.upto in
+    let shown = shown_then g.V.Shown c.write_pending.new.front c.show.new.front c.last_mark-through.result.through c.show.ensures.rest
+    (ap (λ m. m.through) c.last_mark-through.ensures) c.show.ensures.upto c.show.ensures.shared c.show.ensures.begins in
+    search (rules, shown, sealed)
