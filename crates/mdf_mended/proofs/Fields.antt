@@ -50,7 +50,7 @@ fields_still : (setting : Setting) (settings : List Setting) (file : List ℕ) �
     → AreFieldsIn (length (set_one setting file)) settings
 fields_still setting settings file inside all = subst (λ (size : ℕ). AreFieldsIn size settings) (sym (long_one setting file inside)) all
 
-long_all : (settings : List Setting) (file : List ℕ) → AreFieldsIn (length file) settings → length (set_all settings file) ≡ length file
+pub long_all : (settings : List Setting) (file : List ℕ) → AreFieldsIn (length file) settings → length (set_all settings file) ≡ length file
 long_all [] file all = refl
 long_all (setting ∷ settings) file all =
     long_all settings (set_one setting file) (fields_still setting settings file all.0 all.1) ∙ long_one setting file all.0

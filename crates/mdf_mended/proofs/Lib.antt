@@ -8,4 +8,6 @@ pub mod Splits
 pub mod Trees
 pub mod Naming
 pub mod Fields
+pub mod Inside
+pub mod Counts
 pub mod Marks

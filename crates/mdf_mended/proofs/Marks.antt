@@ -10,9 +10,10 @@ use Rattle.mdf_mended.specs.declared.setting.Setting.{Setting}
 use Rattle.mdf_mended.specs.Completed.{completed_file, mended_file, settings_of}
 use Rattle.mdf_mended.specs.Ended.{end_settings, ended_file, last_block, last_by, last_of, marked}
 use Rattle.mdf_mended.specs.Flags.{has_bit}
-use Rattle.mdf_mended.specs.InWords.{AreChangesIn, AreSetIn, IsHeaded, IsLastBlock, IsNamedIn, changes}
-use Rattle.mdf_mended.specs.Settings.{set_all, set_one}
+use Rattle.mdf_mended.specs.InWords.{AreNumbers, AreSetIn, IsHeaded, IsLastBlock, IsNamedIn, changes}
+use Rattle.mdf_mended.specs.Settings.{AreFieldsIn, set_all, set_one}
 use Rattle.mdf_mended.proofs.Fields.{are_set}
+use Rattle.mdf_mended.proofs.Inside.{changes_in}
 use Rattle.mdf_mended.proofs.Naming.{last_is_last, none_is_last}
 
 set_behind : (first other : List Setting) (file : List ℕ) → set_all (first ++ other) file ≡ set_all other (set_all first file)
@@ -32,10 +33,13 @@ module _ (file : List ℕ) (long : 64 ≤ length file) where
       ap (λ (size : ℕ). set_all (settings_of (mended_file file)) (set_all (end_settings size (last_block file)) (marked file))) long_marked
       ∙ sym (set_behind (end_settings (length file) (last_block file)) (settings_of (mended_file file)) (marked file))
 
-  pub completed_reads : AreChangesIn file → AreSetIn (marked file) (changes file) (completed_file file)
-  completed_reads inside =
+  pub completed_inside : AreFieldsIn (length file) (changes file)
+  completed_inside = changes_in file long_marked
+
+  pub completed_reads : AreNumbers (changes file) → AreSetIn (marked file) (changes file) (completed_file file)
+  completed_reads numbers =
       subst (AreSetIn (marked file) (changes file)) (sym completed_is_set)
-      (are_set (marked file) (changes file) (rw long_marked inside.0) inside.1)
+      (are_set (marked file) (changes file) (rw long_marked completed_inside) numbers)
 
   -- no DTBLOCK stands where the identification does
   first_byte : get_or (marked file) 0 0 ≡ 77

@@ -1,16 +1,19 @@
 -- The completed file in the standard's words: which bytes of a file that another tool left unfinished it changes, and by what rule.
-use Rattle.std.specs.Prelude.{ℕ, ◌≡◌, ◌+◌, ◌%◌, ◌≤◌, ◌<◌, ◌^◌, ◌⊎◌, List, [], ◌∷◌, ◌++◌, length, slice_get, get_or, Some}
+use Rattle.std.specs.Prelude.{ℕ, ◌≡◌, ◌+◌, ◌%◌, ◌≤◌, ◌<◌, ◌^◌, ◌⊎◌, List, [], ◌∷◌, ◌++◌, length, slice_get, get_or, map, Some}
 use Rattle.std.specs.List.{AllByRecursion}
 use Rattle.mdf_format.specs.Number.{le_number, bytes_at}
 use Rattle.mdf_format.specs.Block.{name_of, links_at, header_size}
 use Rattle.mdf_format.specs.declared.kind.Kind.TheVariants.{Dt}
 use Rattle.mdf_block.specs.Limit.{IsListedBehind}
 use Rattle.mdf_stream.specs.Link.{most_blocks}
+use Rattle.mdf_data.specs.Bodies.{bodies}
+use Rattle.mdf_data.specs.Split.{record_of}
 use Rattle.mdf_group.specs.declared.row.DataRow.{DataRow}
+use Rattle.mdf_model.specs.Contents.{IsDataSplit}
 use Rattle.mdf_mended.specs.declared.setting.Setting.{Setting}
-use Rattle.mdf_mended.specs.Completed.{mended_file, settings_of}
+use Rattle.mdf_mended.specs.Completed.{Split, mended_file, settings_of}
 use Rattle.mdf_mended.specs.Ended.{end_settings, last_block}
-use Rattle.mdf_mended.specs.Settings.{AreFieldsIn}
+use Rattle.mdf_mended.specs.Records.{count_of}
 
 -- the header of a DTBLOCK with its links stands at an address, whatever length it says
 pub record IsHeaded (file : List ℕ) (at : ℕ) : Type 0 where
@@ -63,6 +66,11 @@ pub record AreSetIn (file : List ℕ) (settings : List Setting) (now : List ℕ)
 abbrev pub changes : List ℕ → List Setting
 changes file = end_settings (length file) (last_block file) ++ settings_of (mended_file file)
 
--- no number is set beyond the file, and each has 8 bytes
-abbrev pub AreChangesIn : List ℕ → Type 0
-AreChangesIn file = AreFieldsIn (length file) (changes file) × AreNumbers (changes file)
+-- What is counted of a data group is of the split of its stream: its whole records are those of the split, and of each channel group as
+-- many as it has there.
+pub record IsCountOfSplit (file : List ℕ) (row : DataRow) (split : Split) : Type 0 where
+  pub stream : List ℕ
+  pub rest : List ℕ
+  pub long : split.total ≡ length stream
+  pub is_split : IsDataSplit file row (map (record_of stream) split.records) rest
+  pub each : (k : ℕ) → count_of k split.records ≡ length (bodies row.id_size (map (record_of stream) split.records) k)

@@ -1,5 +1,8 @@
-use Rattle.mdf_mended.proofs.Marks.{completed_reads}
+use Rattle.mdf_mended.proofs.Marks.{completed_inside, completed_reads}
 use Rattle.mdf_mended.proofs.law.what_is_completed.Goals as goal
 
-pub returns : goal.returns
-returns c = completed_reads
+pub returns-clause-inside : goal.returns-clause-inside
+returns-clause-inside c = completed_inside
+
+pub returns-clause-set : goal.returns-clause-set
+returns-clause-set c = completed_reads
