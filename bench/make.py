@@ -18,6 +18,9 @@ texts      as `channels`, but each channel has a unit and a comment of 200 bytes
 blocks     as `sorted`, but the records lie in data blocks of 96 bytes
 gates      as `recording`, but the records lie in data blocks of 98 bytes
 
+and `sorted` and `unsorted` may have `open-` before them: the same records as another tool leaves them that loses power, unfinalized with
+the standard flags 5, the cycle counts 0, and the length of the last data block that of an empty one.
+
 Else the records of a finalized file lie in data blocks (DTBLOCK) of 4,000,000 bytes, the last a shorter one, which a chain of lists
 (DLBLOCK) of at most 50 names, so some records lie across two blocks. Those of a recording lie in blocks of whole records of at
 most 65,536 bytes, one behind the other, with a byte 0 behind the last.
@@ -33,9 +36,11 @@ ALL = 98  # the records of `both`
 WIDE = 801  # a record of `wide`, with its id
 
 shape, size, out = sys.argv[1], int(sys.argv[2]), open(sys.argv[3], "wb")
+is_open, shape = shape.startswith("open-"), shape.removeprefix("open-")
 is_recording = shape in ("recording", "wide", "gates")
 whole = WIDE if shape == "wide" else ALL
 mark, flags, PART = (b"UnFinMF ", (33, 1), 65_536 // whole * whole) if is_recording else (b"MDF     ", (0, 0), 4_000_000)
+mark, flags = (b"UnFinMF ", (5, 0)) if is_open else (mark, flags)
 PART = {"blocks": 96, "gates": ALL}.get(shape, PART)
 head = bytearray(mark + b"4.10    example " + bytes(4) + struct.pack("<H30x2H", 410, *flags))
 
@@ -125,11 +130,11 @@ entry = place(b"FH", [0, comment], bytes(16))
 # The groups, and the bytes of their records.
 if shape in ("sorted", "hole", "blocks"):
     id_size, count = 0, size // 16
-    first = group(0, timed(numbers()), "numbers", 0, count, 0, 16)
+    first = group(0, timed(numbers()), "numbers", 0, 0 if is_open else count, 0, 16)
     total, records = 16 * count, map(plain, range(count))
 elif shape in ("unsorted", "recording", "gates"):
     id_size, count = 1, size // ALL
-    said = 0 if is_recording else 2 * count
+    said = 0 if is_recording or is_open else 2 * count
     first = group(0, timed(numbers()), "numbers", 3, said, 0, 16)
     first = values = group(first, 0, "values", 2, said, 1, 0)
     first = group(first, timed(channel(0, "v", 1, 10, 8, 64, values)), "timed", 1, said, 0, 16)
@@ -187,12 +192,17 @@ if is_recording:
         out.write(data(length))
     out.write(b"\0")
     sys.exit()
+last = 0
 for k in range(0, len(lengths), LISTED):
     listed = lengths[k : k + LISTED]
     behind = at + 24 + 8 * (1 + len(listed)) + 8 + 8 * len(listed)
     places = list(itertools.accumulate((24 + length + -length % 8 for length in listed), initial=behind))
     body = struct.pack(f"<II{len(listed)}Q", 0, len(listed), *(PART * (k + n) for n in range(len(listed))))
-    at = places.pop()
+    last, at = places[-2], places.pop()
     out.write(block(b"DL", [at if k + LISTED < len(lengths) else 0, *places], body))
     for length in listed:
         out.write(data(length))
+if is_open and last:
+    out.truncate(last + 24 + lengths[-1])
+    out.seek(last + 8)
+    out.write(struct.pack("<Q", 24))
