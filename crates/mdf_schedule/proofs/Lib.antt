@@ -10,4 +10,4 @@ mod Measures
 pub mod Owns
 pub mod Pieces
 mod Stored
-mod Forms
+mod Alike

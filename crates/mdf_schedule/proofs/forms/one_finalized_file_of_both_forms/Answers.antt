@@ -3,7 +3,7 @@ use Rattle.mdf_layout.specs.Row.{field_row}
 use Rattle.mdf_carried.specs.Recovered.{Recovery, IsSessionOf}
 use Rattle.mdf_carried.proofs.Placed.{RulesAgree}
 use Rattle.mdf_schedule.proofs.Found.{found, is_found}
-use Rattle.mdf_schedule.proofs.Forms.{found_same, sessions_same}
+use Rattle.mdf_schedule.proofs.Alike.{found_same, sessions_same}
 use Rattle.mdf_schedule.proofs.forms.one_finalized_file_of_both_forms.Goals as goal
 
 pub returns : goal.returns
