@@ -2,7 +2,7 @@
 
 use crate::foreign::{attached, engine_and_gearbox};
 use crate::left::file_made;
-use crate::parts::{Part, recording};
+use crate::parts::{Part, put, recording};
 use crate::runs::{Given, record};
 use mdf_num::Bytes;
 use std::sync::Wait;
