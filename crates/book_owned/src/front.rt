@@ -31,6 +31,7 @@ pub(crate) fn reserve<V>(front: &mut InMemory<V>) -> Result<(), Memory>
 }
 
 /// Puts a sample behind the history, and its records behind the pending ones. It takes no memory.
+#[inline(always)]
 pub(crate) fn accept<V>(front: &mut InMemory<V>, sample: Sample)
     requires counted { IsCounted front.old }
     requires fits { SampleFits front.old.shapes sample }
