@@ -1,6 +1,6 @@
 mod BitLists
 mod Bits
 mod Masks
-mod Orders
+pub mod Orders
 pub mod Powers
 pub mod Spots

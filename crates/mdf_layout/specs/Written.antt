@@ -55,6 +55,10 @@ AreApart rows = AllPairs IsApart rows
 abbrev pub IsFree : List FieldRow → ℕ → Type 0
 IsFree rows p = All (λ row. ¬ HasBit (spot_in row) p) rows
 
+-- each of the first bits of the data bytes is one of a channel's
+abbrev pub AreFilled : List FieldRow → ℕ → Type 0
+AreFilled rows count = (p : ℕ) → p < count → ¬ IsFree rows p
+
 abbrev pub IsFreePosition : List FieldRow → ℕ → Type 0
 IsFreePosition rows p = All (λ row. row.inval ≡ Some p → ⊥) rows
 

@@ -1,18 +1,20 @@
 ghost use Rattle.std.specs.Prelude.{◌≡◌, ℕ, ◌^◌, ◌<◌, ◌≤◌, ◌↔◌, List, length, map, true, take, drop, false, All, IsTrue, IfOk, IfErr, Some};
-ghost use Rattle.mdf_format.specs.Field.{bit_of};
+ghost use Rattle.mdf_format.specs.Field.{HasBit, bit_of};
 ghost use Rattle.mdf_vlsd.specs.Value.{value_at};
+ghost use Rattle.mdf_layout.specs.Rule.{spot_in};
 ghost use Rattle.mdf_layout.specs.Values.{Finder, sample_by, sample_of};
-ghost use Rattle.mdf_layout.specs.Written.{AreApart, AreEntriesOf, OffsetsFit, AreFound, HoldValues, HoldMarks, IsFree, IsFreePosition};
+ghost use Rattle.mdf_layout.specs.Written.{AreApart, AreEntriesOf, OffsetsFit, AreFound, HoldValues, HoldMarks, IsFree, IsFreePosition, AreFilled};
 ghost use Rattle.mdf_layout.specs.Behind.{variables};
 ghost use Rattle.mdf_layout.specs.Layout.{IsRuled, record_size};
 ghost use Rattle.mdf_layout.specs.Fault.{ShapeCause, DecodeCause, MissingCause};
 ghost use Rattle.mdf_num.specs.Halt.{HaltCause};
 
 use crate::reading::streams_with;
-use crate::rule::{least_bad, row_at};
+use crate::rule::{bits_of, least_bad, row_at};
 use crate::runs::first_meeting;
+use crate::writing::{clear, encode_into};
 use crate::{
-    DecodeFault, Entries, FieldRow, Missing, Sample, Values, are_apart, decode, decode_in, encode,
+    DecodeFault, Entries, FieldRow, Missing, Sample, Values, are_apart, decode, decode_in,
     entries_fit,
 };
 use mdf_num::{Halt, Memory, Rows, Span};
@@ -29,19 +31,22 @@ pub struct Shape {
     data_bytes: u32,
     inval_bytes: u32,
     variable_count: u32,
+    filled: bool,
 }
 
 impl Model for Shape {
-    ghost use Rattle.std.specs.Prelude.{◌≡◌, length};
+    ghost use Rattle.std.specs.Prelude.{◌≡◌, ◌*◌, true, length};
     ghost use Rattle.mdf_layout.specs.Layout.{Layout, IsRuled};
     ghost use Rattle.mdf_layout.specs.Behind.{variables};
+    ghost use Rattle.mdf_layout.specs.Written.{AreFilled};
 
     ghost Value = { Layout };
 
     ghost view = { λ shape. record { rows = shape.rows; data_bytes = shape.data_bytes; inval_bytes = shape.inval_bytes } };
 
     ghost invariant = { λ shape. IsRuled (record { rows = shape.rows; data_bytes = shape.data_bytes; inval_bytes = shape.inval_bytes })
-        × (shape.variable_count ≡ length (variables shape.rows)) };
+        × (shape.variable_count ≡ length (variables shape.rows))
+        × (shape.filled ≡ true → AreFilled shape.rows (8 * shape.data_bytes)) };
 }
 
 /// Why rows are no layout.
@@ -81,6 +86,29 @@ fn count_variables(rows: &[FieldRow]) -> usize
     count
 }
 
+/// Where the filled bits of a record end with a field: it goes on from them, or stands elsewhere.
+fn filled_with(row: FieldRow, end: u64) -> u64
+    ensures more { end ≤ result }
+    ensures filled { (p : ℕ) → end ≤ p → p < result → HasBit (spot_in row) p }
+{
+    if !row.big && 8 * row.byte as u64 + row.bit as u64 == end {
+        return end + bits_of(row);
+    }
+    end
+}
+
+/// How many bits of a record, from the first on, are those of fields that stand one behind the other, in the order of the
+/// channels.
+fn filled_bits(rows: &[FieldRow]) -> u64
+    ensures { AreFilled rows.now result }
+{
+    let mut end = 0;
+    for channel in 0..rows.len() {
+        end = filled_with(row_at(rows, channel), end);
+    }
+    end
+}
+
 /// The layout of these channels in records of so many data bytes and invalidation bytes.
 ///
 /// # Errors
@@ -109,11 +137,13 @@ pub fn shape_of(
         return Err(ShapeFault::Bad { channel });
     }
     let rows = Rows::from_vec(copy_rows(alloc, rows.as_slice())?);
+    let filled = filled_bits(rows.as_slice()) >= 8 * data_bytes as u64;
     Ok(Shape {
         rows,
         data_bytes,
         inval_bytes,
         variable_count,
+        filled,
     })
 }
 
@@ -178,6 +208,18 @@ impl Shape {
         entries_fit(self.rows.as_slice(), sample.values.as_slice())
     }
 
+    /// Makes the bits of no channel 0. Where the fields fill the data bytes there are none.
+    fn clear(&self, content: &mut [u8])
+        requires size { length content.old ≡ self.now.data_bytes }
+        ensures zero { (p : ℕ) → IsFree self.now.rows p → bit_of content.new p ≡ 0 }
+        ensures size { length content.new ≡ length content.old }
+    {
+        if self.filled {
+            return;
+        }
+        clear(content);
+    }
+
     /// Writes a record of these values, without its id, with the offset of each value of variable length in the field of
     /// its channel. Bits of no channel are 0. `decode` gives the values back where each offset meets its value and each
     /// index is that of the record. It takes no memory.
@@ -196,7 +238,8 @@ impl Shape {
         ensures size { length out.new ≡ record_size self.now }
     {
         let (content, inval) = out.split_at_mut(self.data_bytes as usize);
-        encode(
+        self.clear(content);
+        encode_into(
             self.rows.as_slice(),
             values.as_slice(),
             offsets,

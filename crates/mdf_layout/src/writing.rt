@@ -25,7 +25,7 @@ use crate::{Entry, FieldKind, FieldRow, Value};
 use mdf_bits::{mark_invalid, pattern_of, put};
 
 /// Makes all bytes 0.
-fn clear(out: &mut [u8])
+pub(crate) fn clear(out: &mut [u8])
     ensures zero { (p : ℕ) → bit_of out.new p ≡ 0 }
     ensures size { length out.new ≡ length out.old }
 {
@@ -174,6 +174,33 @@ pub fn encode(
     ensures inval_size { length inval.new ≡ length inval.old }
 {
     clear(content);
+    encode_into(rows, values, offsets, content, inval);
+}
+
+/// The same over data bytes in which the bits of no channel are 0.
+pub(crate) fn encode_into(
+    rows: &[FieldRow],
+    values: &[Entry],
+    offsets: &[u64],
+    content: &mut [u8],
+    inval: &mut [u8],
+)
+    requires placed { All (IsRowPlaced (length content.old) (length inval.old)) rows.now }
+    requires valid { All (λ row. row.all_invalid ≡ false) rows.now }
+    requires apart { AreApart rows.now }
+    requires fits { AreEntriesOf rows.now values.now }
+    requires offsets { OffsetsFit rows.now offsets.now }
+    requires few { length rows.now < 2 ^ 32 }
+    requires free { (p : ℕ) → IsFree rows.now p → bit_of content.old p ≡ 0 }
+    ensures sample { (finders : List Finder) (index : ℕ) → AreFound rows.now values.now offsets.now finders index
+        → sample_by rows.now content.new inval.new finders index ≡ Some values.now }
+    ensures values { HoldValues rows.now values.now offsets.now (length rows.now) content.new }
+    ensures marks { HoldMarks rows.now values.now (length rows.now) inval.new }
+    ensures unused { (p : ℕ) → IsFree rows.now p → bit_of content.new p ≡ 0 }
+    ensures unused_positions { (p : ℕ) → IsFreePosition rows.now p → bit_of inval.new p ≡ 0 }
+    ensures size { length content.new ≡ length content.old }
+    ensures inval_size { length inval.new ≡ length inval.old }
+{
     put_values(rows, values, offsets, content);
     put_marks(rows, values, inval);
 }
