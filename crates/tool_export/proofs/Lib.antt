@@ -1,3 +1,4 @@
 mod Texts
 mod Ends
 mod Spans
+mod Plain

@@ -1,9 +1,9 @@
 -- The table of a channel group: a line with the names of its channels, and then a line for each sample.
-use Rattle.std.specs.Prelude.{ℕ, zero, suc, if◌then◌else◌, List, [], ◌∷◌, ◌++◌, map, codes, slice_get, Option, Some, None, Ok, Err}
+use Rattle.std.specs.Prelude.{ℕ, zero, suc, ◌<◌, if◌then◌else◌, All, List, [], ◌∷◌, ◌++◌, map, codes, slice_get, Option, Some, None, Ok, Err}
 use Rattle.std.specs.Option.{option_and_then, option_map_or}
 use Rattle.std.specs.Fmt.{decimal, signed_decimal}
 use Rattle.hex.specs.Hex.{encode_lower}
-use Rattle.csv.specs.Writing.{default_writer, row_text}
+use Rattle.csv.specs.Writing.{comma, default_writer, row_text}
 use Rattle.mdf_block.specs.declared.note.Note.{Note}
 use Rattle.mdf_block.specs.declared.note.Note.TheVariants as note
 use Rattle.mdf_block.specs.Refusal.{Read}
@@ -37,6 +37,10 @@ value_text (value.Index n) = decimal n
 -- and `?` behind an invalid one
 abbrev pub entry_text : Entry → List ℕ
 entry_text entry = if entry.valid then value_text entry.value else value_text entry.value ++ codes "?"
+
+-- no byte of the field is one up to the comma, which all that the CSV writer sets apart are
+abbrev pub IsPlain : List ℕ → Type 0
+IsPlain field = All (λ b. comma < b) field
 
 -- the first line
 abbrev pub channel_text : ChannelRow → List ℕ

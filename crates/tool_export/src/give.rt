@@ -1,16 +1,14 @@
-ghost use Rattle.std.specs.Prelude.{◌≡◌, ◌≤◌, ◌++◌, ℕ, List, Some, true, false, IfOk, IfErr, OnOk};
-ghost use Rattle.csv.specs.Writing.{default_writer, fields_written, has_written, writer_pending, writer_setup, writer_under};
+ghost use Rattle.std.specs.Prelude.{◌≡◌, ◌≤◌, ◌++◌, ℕ, List, Some, true, IfOk, IfErr};
 ghost use Rattle.mdf_num.specs.Halt.{HaltCause, StopCause};
 ghost use Rattle.mdf_port.specs.State.{sink_state};
 ghost use Rattle.tool_export.specs.Export.{GivesText, IsOfSink, SinkCause};
-ghost use Rattle.tool_export.specs.Table.{line_of, names_line, sample_line, sample_lines, table_text};
+ghost use Rattle.tool_export.specs.Table.{line_of, names_line, sample_lines, table_text};
 
-use crate::line::{Line, text_of};
+use crate::line::Line;
 use crate::samples::SampleList;
-use csv::Writer;
+use crate::text::push_sample;
 use mdf_group::ChannelRow;
-use mdf_layout::Entry;
-use mdf_num::{Failed, Halt, Memory, Span, Stop};
+use mdf_num::{Failed, Halt, Span, Stop};
 use mdf_port::{Sink, give_all};
 use std::alloc::Global;
 
@@ -58,33 +56,10 @@ fn give_names<K: Sink>(
     give_line(alloc, sink, line)
 }
 
-/// Writes the line of a sample behind what a CSV writer with its defaults made in memory. The scratch takes texts of values.
-fn write_sample(
-    alloc: Global,
-    line: &mut Line,
-    field: &mut Vec<u8>,
-    writer: &mut Writer<Vec<u8>>,
-    index: u64,
-    entries: &[Entry],
-) -> Result<(), Memory>
-    requires fields { fields_written writer.old ≡ 0 }
-    requires clean { has_written writer.old ≡ false }
-    requires setup { writer_setup writer.old ≡ default_writer }
-    ensures text { OnOk result ((writer_under writer.new).items ++ writer_pending writer.new
-        ≡ (writer_under writer.old).items ++ writer_pending writer.old ++ sample_line index entries.now) }
-    ensures fields { OnOk result (fields_written writer.new ≡ 0) }
-    ensures clean { OnOk result (has_written writer.new ≡ false) }
-    ensures setup { OnOk result (writer_setup writer.new ≡ default_writer) }
-{
-    line.set_sample(alloc, field, index, entries)?;
-    line.write(writer)
-}
-
 /// The lines of the samples from one on, up to another.
 fn lines_between<L: SampleList, P: Span>(
     alloc: Global,
     span: &mut P,
-    line: &mut Line,
     list: &L,
     from: u64,
     to: u64,
@@ -98,27 +73,14 @@ fn lines_between<L: SampleList, P: Span>(
     ensures size { P.size span.new ≡ P.size span.old }
     ensures cause { StopCause true (P.faults span.old) (P.faults span.new) result }
 {
-    let mut writer = Writer::from_writer(Vec::new(alloc));
-    let mut field = Vec::new(alloc);
+    let mut lines = Vec::new(alloc);
     let mut scratch = Vec::new(alloc);
     let mut index = from;
     while index < to {
         let entries = list.sample(alloc, span, index, &mut scratch)?;
-        let Ok(()) = write_sample(
-            alloc,
-            line,
-            &mut field,
-            &mut writer,
-            index,
-            entries.as_slice(),
-        ) else {
-            return Err(Stop::Memory);
-        };
+        push_sample(alloc, &mut lines, index, entries.as_slice())?;
         index += 1;
     }
-    let Ok(lines) = text_of(writer) else {
-        return Err(Stop::Memory);
-    };
     Ok(lines)
 }
 
@@ -127,7 +89,6 @@ fn give_samples<L: SampleList, P: Span, K: Sink>(
     alloc: Global,
     span: &mut P,
     sink: &mut K,
-    line: &mut Line,
     list: &L,
 ) -> Result<(), Halt<Failed>>
     requires { L.needs list.now (P.size span.old) }
@@ -142,7 +103,7 @@ fn give_samples<L: SampleList, P: Span, K: Sink>(
     let mut index = 0;
     while index < count {
         let to = index + PAGE.min(count - index);
-        let lines = lines_between(alloc, span, line, list, index, to)?;
+        let lines = lines_between(alloc, span, list, index, to)?;
         give_text(sink, lines.as_slice())?;
         index = to;
     }
@@ -170,5 +131,5 @@ pub(crate) fn give_table<L: SampleList, P: Span, K: Sink>(
 {
     let mut line = Line::new(alloc);
     give_names(alloc, sink, &mut line, channels)?;
-    give_samples(alloc, span, sink, &mut line, list)
+    give_samples(alloc, span, sink, list)
 }

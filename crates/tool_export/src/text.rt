@@ -1,6 +1,7 @@
-ghost use Rattle.std.specs.Prelude.{◌≡◌, ◌++◌, [], codes, OnOk};
+ghost use Rattle.std.specs.Prelude.{◌≡◌, ◌++◌, [], map, codes, OnOk};
+ghost use Rattle.csv.specs.Writing.{default_writer, fields_text};
 ghost use Rattle.hex.specs.Hex.{encode_lower};
-ghost use Rattle.tool_export.specs.Table.{entry_text, name_text, value_text};
+ghost use Rattle.tool_export.specs.Table.{IsPlain, entry_text, name_text, sample_line, value_text};
 
 use mdf_block::Note;
 use mdf_layout::{Entry, Value};
@@ -28,7 +29,8 @@ fn push_text(out: &mut Vec<u8>, text: &[u8]) -> Result<(), Memory>
 
 /// Adds `x` and two digits for each byte.
 fn push_bytes(alloc: Global, out: &mut Vec<u8>, bytes: &[u8]) -> Result<(), Memory>
-    ensures { OnOk result (out.new.items ≡ out.old.items ++ (codes "x" ++ encode_lower bytes.now)) }
+    ensures text { OnOk result (out.new.items ≡ out.old.items ++ (codes "x" ++ encode_lower bytes.now)) }
+    ensures plain { OnOk result (IsPlain (codes "x" ++ encode_lower bytes.now)) }
 {
     let digits = hex::encode(alloc, bytes)?;
     push_text(out, b"x")?;
@@ -37,7 +39,8 @@ fn push_bytes(alloc: Global, out: &mut Vec<u8>, bytes: &[u8]) -> Result<(), Memo
 
 /// Adds a value.
 fn push_value(alloc: Global, out: &mut Vec<u8>, value: &Value) -> Result<(), Memory>
-    ensures { OnOk result (out.new.items ≡ out.old.items ++ value_text value.now) }
+    ensures text { OnOk result (out.new.items ≡ out.old.items ++ value_text value.now) }
+    ensures plain { OnOk result (IsPlain (value_text value.now)) }
 {
     let mut buffer = itoa::Buffer::new();
     match value {
@@ -48,14 +51,39 @@ fn push_value(alloc: Global, out: &mut Vec<u8>, value: &Value) -> Result<(), Mem
     }
 }
 
-/// Writes the text of an entry in the place of what was there.
-pub(crate) fn write_entry(alloc: Global, out: &mut Vec<u8>, entry: &Entry) -> Result<(), Memory>
-    ensures { OnOk result (out.new.items ≡ entry_text entry.now) }
+/// Adds the text of an entry.
+fn push_entry(alloc: Global, out: &mut Vec<u8>, entry: &Entry) -> Result<(), Memory>
+    ensures text { OnOk result (out.new.items ≡ out.old.items ++ entry_text entry.now) }
+    ensures plain { OnOk result (IsPlain (entry_text entry.now)) }
 {
-    out.clear();
     push_value(alloc, out, &entry.value)?;
     if !entry.valid {
         push_text(out, b"?")?;
     }
     Ok(())
+}
+
+/// Adds the texts of the entries, each behind a comma, as a CSV writer with its defaults writes them behind a first field.
+fn push_entries(alloc: Global, out: &mut Vec<u8>, entries: &[Entry]) -> Result<(), Memory>
+    ensures { OnOk result (out.new.items ≡ out.old.items ++ fields_text default_writer (map entry_text entries.now)) }
+{
+    for entry in entries {
+        push_text(out, b",")?;
+        push_entry(alloc, out, entry)?;
+    }
+    Ok(())
+}
+
+/// Adds the line of the sample with this index, as a CSV writer with its defaults writes it: no byte of a field calls for quotes.
+pub(crate) fn push_sample(
+    alloc: Global,
+    out: &mut Vec<u8>,
+    index: u64,
+    entries: &[Entry],
+) -> Result<(), Memory>
+    ensures { OnOk result (out.new.items ≡ out.old.items ++ sample_line index entries.now) }
+{
+    push_text(out, itoa::Buffer::new().format(index).as_bytes())?;
+    push_entries(alloc, out, entries)?;
+    push_text(out, b"\n")
 }
