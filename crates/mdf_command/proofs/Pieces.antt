@@ -1,5 +1,5 @@
 -- The parts of a line, given one behind the other.
-use Rattle.std.proofs.Common.{◌≡◌, ◌≤◌, ◌<◌, ◌+◌, Result, Ok, Err, map, arith, ℕ, zero, suc, List, [], ◌∷◌, ◌++◌, length, take, drop, get_or, refl, sym, ◌∙◌, ap, subst, add-one, append_assoc, append-nil, take-append-drop}
+use Rattle.std.proofs.Common.{◌≡◌, ◌≤◌, ◌<◌, ◌+◌, Option, Some, Result, Ok, Err, map, arith, ℕ, zero, suc, List, [], ◌∷◌, ◌++◌, length, take, drop, get_or, refl, sym, ◌∙◌, ap, subst, add-one, append_assoc, append-nil, take-append-drop}
 use Rattle.std.proofs.Math.Seq.{take-suc}
 use Rattle.std.proofs.lemmas.Grind.{flat_map-append}
 use Rattle.std.specs.Io.KnownBytes.{Appends}
@@ -39,6 +39,11 @@ gives_failed xs rest old new e f gives = record {
 pub gives_same : {E : Type 0} (xs ys : List ℕ) (old new : SinkState) (result : Result Unit E)
     → xs ≡ ys → Gives xs old new result → Gives ys old new result
 gives_same xs ys old new result same gives = subst (λ text. Gives text old new result) same gives
+
+-- what a sink holds that held nothing
+pub held_alone : (old new : Option (List ℕ)) (bytes text : List ℕ) → old ≡ Some [] → new ≡ Some bytes → Appends old new text → bytes ≡ text
+held_alone old new bytes text none holds appends =
+    subst (λ (before : Option (List ℕ)). Appends before (Some bytes) text) none (subst (λ (after : Option (List ℕ)). Appends old after text) holds appends)
 
 -- a line is its parts and LF
 pub line-pieces : (pieces : List Piece) → line (map piece_text pieces) ≡ pieces_text pieces ++ 10 ∷ []

@@ -9,6 +9,7 @@ mod fault;
 mod input;
 mod parts;
 mod report;
+mod room;
 
 pub use attached::attach_fault;
 pub use command::{Aspect, Command, Origin, Product, Union, command_of};

@@ -3,6 +3,7 @@ ghost use Rattle.std.specs.List.{flat_map};
 ghost use Rattle.mdf_port.specs.State.{sink_state};
 ghost use Rattle.mdf_command.specs.Texts.{Gives, line, piece_text, pieces_text, shown, shown_text, status_after};
 
+use crate::room::Room;
 use itoa::Buffer;
 use mdf_num::Failed;
 use mdf_port::{Sink, give_all};
@@ -79,15 +80,26 @@ fn give_pieces<K: Sink>(sink: &mut K, pieces: &[Piece<'_>]) -> Result<(), Failed
     Ok(())
 }
 
-/// Gives a line of these parts, which ends with LF. It takes no memory.
+/// Gives these parts and LF, one behind the other.
+fn give_in_parts<K: Sink>(sink: &mut K, pieces: &[Piece<'_>]) -> Result<(), Failed>
+    ensures { Gives (line (map piece_text pieces.now)) (sink_state K.Sink sink.old) (sink_state K.Sink sink.new) result }
+{
+    give_pieces(sink, pieces)?;
+    give_all(sink, b"\n")
+}
+
+/// Gives a line of these parts, which ends with LF: at once, or part by part where it is a long one. It takes no memory.
 ///
 /// # Errors
 /// `Failed` where the sink failed; then it has a front of the line.
 pub fn give_line<K: Sink>(sink: &mut K, pieces: &[Piece<'_>]) -> Result<(), Failed>
     ensures { Gives (line (map piece_text pieces.now)) (sink_state K.Sink sink.old) (sink_state K.Sink sink.new) result }
 {
-    give_pieces(sink, pieces)?;
-    give_all(sink, b"\n")
+    let mut room = Room::new();
+    match give_in_parts(&mut room, pieces) {
+        Ok(()) => give_all(sink, room.bytes()),
+        Err(_) => give_in_parts(sink, pieces),
+    }
 }
 
 /// The program's status, which is the command's; only a 0 becomes 6 where the text could not be written.

@@ -78,10 +78,6 @@ const LISTED: &[(Asked, &str)] = &[
         "4 device fault\n",
     ),
     (Asked(LIST, File::Attached, &[], &[], &[0]), "6 "),
-    (
-        Asked(LIST, File::Attached, &[], &[], &[3]),
-        "6 attachment 0 ",
-    ),
 ];
 
 #[test]

@@ -36,12 +36,8 @@ const LIVE: &[(Recording, &str)] = &[
         "4 source 0 accepted 3\nsamples 3 durable 2\ndevice fault\nfile 817 history 3 marks [0, 2]",
     ),
     (
-        Recording(COUNTING, &[], &[], &[10]),
+        Recording(COUNTING, &[], &[], &[2]),
         "6 source 0 accepted 3\nsamples 3 durable 3\nfile 857 history 3 marks [0, 2, 3]",
-    ),
-    (
-        Recording(COUNTING, &[], &[], &[11]),
-        "6 source 0 accepted 3\nsamples 3 durable 3\nlive file 857 history 3 marks [0, 2, 3]",
     ),
 ];
 

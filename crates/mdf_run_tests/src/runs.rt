@@ -60,9 +60,10 @@ const OPENED: &[(Asked, &str)] = &[
         "4 device fault\n",
     ),
     (Asked(OPEN, File::TwoBlocks(313), &[], &[], &[0]), "6 "),
+    // a line is given at once
     (
-        Asked(OPEN, File::TwoBlocks(313), &[], &[], &[3]),
-        "6 blocks 2 bytes ",
+        Asked(OPEN, File::TwoBlocks(313), &[], &[], &[1]),
+        "0 blocks 2 bytes 26\n",
     ),
     (Asked(OPEN, File::TwoBlocks(0), &[], &[], &[0]), "3 "),
 ];
@@ -242,20 +243,12 @@ const RECORDED: &[(Recording, &str)] = &[
         "6 file 857 history 3 marks [0, 2, 3]",
     ),
     (
-        Recording(COUNTING, &[], &[], &[3]),
-        "6 source 0 accepted file 857 history 3 marks [0, 2, 3]",
-    ),
-    (
-        Recording(COUNTING, &[], &[], &[5]),
+        Recording(COUNTING, &[], &[], &[1]),
         "6 source 0 accepted 3\nfile 857 history 3 marks [0, 2, 3]",
     ),
     (
-        Recording(COUNTING, &[], &[], &[8]),
-        "6 source 0 accepted 3\nsamples 3 durable file 857 history 3 marks [0, 2, 3]",
-    ),
-    (
-        Recording(COUNTING, &[], &[], &[9]),
-        "6 source 0 accepted 3\nsamples 3 durable 3file 857 history 3 marks [0, 2, 3]",
+        Recording(COUNTING, &[], &[], &[2]),
+        "0 source 0 accepted 3\nsamples 3 durable 3\nfile 857 history 3 marks [0, 2, 3]",
     ),
 ];
 
