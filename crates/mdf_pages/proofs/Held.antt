@@ -1,5 +1,5 @@
 -- Pages that are kept, after one is put first and after one more is.
-use Rattle.std.proofs.Common.{◌≡◌, ◌+◌, ◌-◌, ◌≤◌, ◌<◌, ℕ, Bool, true, false, cond, List, [], ◌∷◌, length, take, Contains, Option, Some, None, is_some, Result, Ok, Err, OnOk, OnErr, slice_get, nat_eq, refl, sym, ◌∙◌, ap, subst, arith, inl, inr}
+use Rattle.std.proofs.Common.{◌≡◌, ◌+◌, ◌-◌, ◌≤◌, ◌<◌, ℕ, zero, suc, Bool, true, false, cond, List, [], ◌∷◌, length, take, Contains, Option, Some, None, is_some, Result, Ok, Err, OnOk, OnErr, slice_get, nat_eq, refl, sym, ◌∙◌, ap, subst, arith, inl, inr}
 use Rattle.std.proofs.lemmas.Bool.{eqb-true, eq-eqb}
 use Rattle.std.proofs.lemmas.List.{take_all}
 use Rattle.std.specs.Option.{option_map_or}
@@ -101,6 +101,18 @@ pages_with told size page bytes kept pages is p b c = elim (Contains-cons (page,
   | inl same ↦ subst (λ (entry : ℕ × List ℕ). IsPageOf told size entry.0 entry.1) same is
   | inr there ↦ pages p b (Contains-take 255 kept (p, b) there)
 ]
+
+-- pages stay pages where those that were used least lately are taken out, and no page comes by it
+pub pages_taken : (told : Option (List ℕ)) (size : ℕ) (kept : List (ℕ × List ℕ)) → ArePages told size kept → ArePages told size (take 255 kept)
+pages_taken told size kept pages p b among = pages p b (Contains-take 255 kept (p, b) among)
+
+pub none_taken : (page n : ℕ) (kept : List (ℕ × List ℕ)) → is_kept page kept ≡ false → is_kept page (take n kept) ≡ false
+none_taken page zero kept none = refl
+none_taken page (suc n) [] none = none
+none_taken page (suc n) (e ∷ es) none = (elim (nat_eq page e.0) as (λ b. nat_eq page e.0 ≡ b → is_kept page (e ∷ take n es) ≡ false) [
+  | true ↦ λ t. absurd (cc (rw t at none))
+  | false ↦ λ t. rw t (none_taken page n es (rw t at none))
+]) refl
 
 -- the entry that stands first is kept
 pub first_kept : (kept : List (ℕ × List ℕ)) (page : ℕ) (entry : ℕ × List ℕ) → Some entry ≡ slice_get kept 0 → first_page kept ≡ Some page

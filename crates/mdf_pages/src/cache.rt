@@ -1,4 +1,4 @@
-ghost use Rattle.std.specs.Prelude.{◌≡◌, ◌≤◌, ◌↔◌, ℕ, List, [], length, false, Option, Some, Contains, IfOk, OnOk, OnErr, IsTrue, IsSome};
+ghost use Rattle.std.specs.Prelude.{◌≡◌, ◌≤◌, ◌↔◌, ℕ, List, [], length, take, false, Option, Some, Contains, IfOk, OnOk, OnErr, IsTrue, IsSome};
 ghost use Rattle.mdf_pages.specs.Page.{ArePages, is_kept, first_page, with_page};
 
 use lru::LruCache;
@@ -78,6 +78,20 @@ impl Cache {
         ensures few { length self.new ≤ 256 }
     {
         self.pages.promote(&page)
+    }
+
+    /// Room for one page more: of as many as can be kept, the one that was used least lately goes, and its bytes are answered, to be
+    /// written over.
+    pub(crate) fn take_room(&mut self, alloc: Global) -> Bytes
+        ensures { self.new ≡ take 255 self.old }
+    {
+        if self.pages.len() < MOST {
+            return Bytes::empty(alloc);
+        }
+        match self.pages.pop_lru() {
+            Some((_, bytes)) => bytes,
+            None => Bytes::empty(alloc),
+        }
     }
 
     /// Puts a page first that is not kept. Where as many as can be are kept, the one that was used least lately goes.

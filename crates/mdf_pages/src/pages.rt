@@ -13,7 +13,7 @@ use mdf_num::{Span, Stop, number_of};
 use std::alloc::Global;
 
 /// The file of a disk, read through pages. At most 256 pages are kept, of 65,536 bytes each, the last page of the file being
-/// shorter; while one more is read its bytes are in memory too. The page that was used least lately goes first.
+/// shorter. The page that was used least lately goes first, and the next one is read into its memory.
 pub struct Pages<D: Disk> {
     alloc: Global,
     disk: D,
@@ -115,7 +115,8 @@ impl<D: Disk> Pages<D> {
         ensures story { D.story self.new.disk ≡ D.story self.old.disk }
         ensures moment { D.moment self.old.disk ≤ D.moment self.new.disk }
     {
-        let bytes = read_page(self.alloc, &mut self.disk, self.size, page)?;
+        let room = self.cache.take_room(self.alloc);
+        let bytes = read_page(self.alloc, &mut self.disk, self.size, page, room)?;
         if self.cache.put(page, bytes).is_err() {
             return Err(Stop::Memory);
         }
