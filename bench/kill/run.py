@@ -78,7 +78,7 @@ def killed(folder, text, seconds):
 
 def main():
     runs = int(sys.argv[1]) if len(sys.argv) > 1 else 200
-    counts = {"no file or no MDF": 0, "finished": 0, "at their end": 0}
+    counts = {form: {"no file or no MDF": 0, "finished": 0, "at their end": 0} for form in (1, 2)}
     samples, most = 0, 0
     with tempfile.TemporaryDirectory() as folder:
         texts = {}
@@ -91,11 +91,12 @@ def main():
             subprocess.run([PROGRAM, "record", f"{folder}/whole.mf4"], stdin=given, stdout=subprocess.DEVNULL, check=True)
         whole = time.time() - began
         for run in range(runs):
-            path, was_killed = killed(folder, texts[run % 2 + 1], random.uniform(0, whole))
+            form = run % 2 + 1
+            path, was_killed = killed(folder, texts[form], random.uniform(0, whole))
             data = open(path, "rb").read() if os.path.exists(path) else b""
             if not data.startswith(b"UnFinMF "):
                 assert len(data) < 2 or data[0] == 0, "a file whose first bytes are no mark"
-                counts["no file or no MDF"] += 1
+                counts[form]["no file or no MDF"] += 1
             else:
                 done = f"{folder}/finished.mf4"
                 subprocess.run([PROGRAM, "finalize", path, done], stdout=subprocess.DEVNULL, check=True)
@@ -104,11 +105,12 @@ def main():
                 for found in samples_of(finished):
                     assert found == list(range(1, len(found) + 1)), "no beginning of a source's samples"
                     samples, most = samples + len(found), max(most, len(found))
-                counts["finished" if was_killed else "at their end"] += 1
+                counts[form]["finished" if was_killed else "at their end"] += 1
                 os.remove(done)
             if os.path.exists(path):
                 os.remove(path)
-    print(f"runs {runs}: " + ", ".join(f"{name} {count}" for name, count in counts.items()))
+    for form, seen in counts.items():
+        print(f"form {form}: " + ", ".join(f"{name} {count}" for name, count in seen.items()))
     print(f"samples found {samples}, of one source at most {most} of {SAMPLES}; nothing was lost and nothing was in another order")
 
 
