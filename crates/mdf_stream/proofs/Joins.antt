@@ -167,6 +167,27 @@ below_end place stretches end k joined within bound before =
       | inr below ↦ below.1
     ]
 
+-- parts before one that begins at a place or before it end there or before
+part_behind : (at : ℕ) (stretches : List Stretch) (end k : ℕ) (d : Stretch) → AreJoined at stretches end → k < length stretches
+    → at + (get_or stretches k d).part.len ≤ (get_or stretches k d).end
+unfolding AreJoined
+part_behind at [] end k d joined below = absurd (omega (arith, below))
+part_behind at (stretch ∷ stretches) end zero d joined below = omega (arith, joined.0)
+part_behind at (stretch ∷ stretches) end (suc k) d joined below =
+    let rest = part_behind stretch.end stretches end k d joined.2 (omega (arith, below)) in
+    omega (arith, joined.0, rest)
+
+pub ends_before : (at place : ℕ) (d : Stretch) (stretches : List Stretch) (end k : ℕ) → AreJoined at stretches end → k < length stretches
+    → (get_or stretches k d).end ≤ place + (get_or stretches k d).part.len → (j : ℕ) → j < k → (get_or stretches j d).end ≤ place
+unfolding AreJoined
+ends_before at place d [] end k joined below begins j less = absurd (omega (arith, below))
+ends_before at place d (stretch ∷ stretches) end zero joined below begins j less = absurd (omega (arith, less))
+ends_before at place d (stretch ∷ stretches) end (suc k) joined below begins zero less =
+    let rest = part_behind stretch.end stretches end k d joined.2 (omega (arith, below)) in
+    omega (arith, rest, begins)
+ends_before at place d (stretch ∷ stretches) end (suc k) joined below begins (suc j) less =
+    ends_before stretch.end place d stretches end k joined.2 (omega (arith, below)) begins j (omega (arith, less))
+
 -- the same, at the place in the whole stream
 pub bytes_there : (f : List ℕ) (n place : ℕ) (d : Stretch) (stretches : List Stretch) (end k : ℕ) → AreJoined 0 stretches end
     → k < length stretches → ((j : ℕ) → j < k → (get_or stretches j d).end ≤ place) → place < (get_or stretches k d).end

@@ -1,4 +1,4 @@
-ghost use Rattle.std.specs.Prelude.{◌≡◌, ◌+◌, ◌-◌, ◌^◌, ◌≤◌, ◌<◌, ◌↔◌, ◌++◌, ◌∷◌, ℕ, List, length, drop, slice_index_or, IsTrue, IfOk};
+ghost use Rattle.std.specs.Prelude.{◌≡◌, ◌+◌, ◌-◌, ◌^◌, ◌≤◌, ◌<◌, ◌↔◌, ◌++◌, ◌∷◌, ℕ, List, length, drop, slice_index_or, IsTrue, IfOk, IfSome};
 ghost use Rattle.std.specs.List.Sorted.{IsNonDecreasingBy};
 ghost use Rattle.mdf_format.specs.Number.{le_number, bytes_at};
 ghost use Rattle.mdf_block.specs.Reads.{Looks};
@@ -121,9 +121,31 @@ fn front_in<P: Span>(
     Ok(count)
 }
 
-/// Fills the buffer with the bytes of the stream from `at` on, part by part. Part `near` and the next are tried first; it
-/// becomes the number of the part that was read last.
-pub(crate) fn fill_in<P: Span>(
+/// Where the `count` bytes of the stream from `at` on stand in the file, where part `near` has them all.
+#[inline]
+fn place_near(items: &[Stretch], end: u64, at: u64, count: u64, near: usize) -> Option<u64>
+    requires joined { AreJoined 0 items.now end }
+    ensures inside { (size : ℕ) → ArePartsInside size (parts_of items.now) → IfSome result (λ place. place + count ≤ size) }
+    ensures bytes { (f : List ℕ) → ArePartsInside (length f) (parts_of items.now) →
+        IfSome result (λ place. bytes_at count (stream_of f (parts_of items.now)) at ≡ bytes_at count f place) }
+{
+    if near >= items.len() {
+        return None;
+    }
+    let stretch = items[near];
+    if stretch.end <= at {
+        return None;
+    }
+    let left = stretch.end - at;
+    if left < count || stretch.part.len < left {
+        return None;
+    }
+    Some(stretch.part.at + (stretch.part.len - left))
+}
+
+/// As `fill_in`, part by part.
+#[inline(never)]
+fn fill_parts<P: Span>(
     span: &mut P,
     items: &[Stretch],
     end: u64,
@@ -141,6 +163,28 @@ pub(crate) fn fill_in<P: Span>(
         done += front_in(span, items, end, at + done as u64, &mut buf[done..], near)?;
     }
     Ok(())
+}
+
+/// Fills the buffer with the bytes of the stream from `at` on. Part `near` and the next are tried first; it becomes the number
+/// of the part that was read last. The span is asked once where part `near` has all the bytes.
+#[inline]
+pub(crate) fn fill_in<P: Span>(
+    span: &mut P,
+    items: &[Stretch],
+    end: u64,
+    at: u64,
+    buf: &mut [u8],
+    near: &mut usize,
+) -> Result<(), Stop>
+    requires joined { AreJoined 0 items.now end }
+    requires inside { ArePartsInside (P.size span.old) (parts_of items.now) }
+    requires within { at + length buf.old ≤ end }
+    ensures reads { Looks P.Span span.old span.new P.may_want result (λ file _. buf.new ≡ bytes_at (length buf.old) (stream_of file (parts_of items.now)) at) }
+{
+    if let Some(place) = place_near(items, end, at, buf.len() as u64, *near) {
+        return span.fill(place, buf);
+    }
+    fill_parts(span, items, end, at, buf, near)
 }
 
 /// Whether each part stands in the file at its place in the stream or behind it.
@@ -176,14 +220,13 @@ fn number_across<P: Span>(
 {
     let mut word = [0u8; 8];
     let bytes = &mut word[..count as usize];
-    fill_in(span, items, end, at, bytes, near)?;
+    fill_parts(span, items, end, at, bytes, near)?;
     Ok(number_of(bytes))
 }
 
-/// The number in the `count` bytes of the stream from `at` on. Part `near` and the next are tried first; it becomes the
-/// number of the part that was read last. The span is asked for the number where one part has all its bytes.
-#[inline]
-pub(crate) fn number_in<P: Span>(
+/// As `number_in`, where the bytes may lie in any part.
+#[inline(never)]
+fn number_far<P: Span>(
     span: &mut P,
     items: &[Stretch],
     end: u64,
@@ -204,4 +247,29 @@ pub(crate) fn number_in<P: Span>(
         return span.number(part.at, count);
     }
     number_across(span, items, end, at, count, near)
+}
+
+/// The number in the `count` bytes of the stream from `at` on. Part `near` and the next are tried first; it becomes the
+/// number of the part that was read last. The span is asked for the number where part `near` has all its bytes.
+#[inline]
+pub(crate) fn number_in<P: Span>(
+    span: &mut P,
+    items: &[Stretch],
+    end: u64,
+    at: u64,
+    count: u8,
+    near: &mut usize,
+) -> Result<u64, Stop>
+    requires joined { AreJoined 0 items.now end }
+    requires inside { ArePartsInside (P.size span.old) (parts_of items.now) }
+    requires some { 0 < count }
+    requires most { count ≤ 8 }
+    requires within { at + count ≤ end }
+    ensures reads { Looks P.Span span.old span.new P.may_want result (λ file n. n ≡ le_number (bytes_at count (stream_of file (parts_of items.now)) at)) }
+    ensures fits { IfOk result (λ n. n < 256 ^ count) }
+{
+    if let Some(place) = place_near(items, end, at, count as u64, *near) {
+        return span.number(place, count);
+    }
+    number_far(span, items, end, at, count, near)
 }

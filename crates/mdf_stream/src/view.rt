@@ -107,6 +107,7 @@ impl DataView {
     ///
     /// # Errors
     /// The span's own. It is as before in what it tells.
+    #[inline]
     pub fn read_near<P: Span>(
         &self,
         span: &mut P,
@@ -152,6 +153,7 @@ impl DataView {
     ///
     /// # Errors
     /// The span's own. It is as before in what it tells.
+    #[inline]
     pub fn u32_near<P: Span>(&self, span: &mut P, at: u64, near: &mut usize) -> Result<u32, Stop>
         requires inside { ArePartsInside (P.size span.old) self.now }
         requires within { at + 4 ≤ stream_size self.now }

@@ -2,7 +2,7 @@ use Rattle.std.proofs.Common.{◌≡◌, ◌-◌, ◌≤◌, ◌++◌, ℕ, List
 use Rattle.mdf_format.specs.Number.{bytes_at}
 use Rattle.mdf_stream.specs.Parts.{stream_of}
 use Rattle.mdf_stream.specs.Stretch.{parts_of}
-use Rattle.mdf_stream.proofs.stretch.fill_in.Given as goal
+use Rattle.mdf_stream.proofs.stretch.fill_parts.Given as goal
 
 abbrev pub invariant-loop-done : goal.invariant-loop-done
 invariant-loop-done g l = record {
