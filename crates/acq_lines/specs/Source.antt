@@ -1,0 +1,21 @@
+-- What a source of lines has read of its source.
+use Rattle.std.specs.Prelude.{ℕ, ◌≡◌, List, [], length, slice_range, Option}
+use Rattle.std.specs.Io.KnownBytes.{Consumes, IsAtEnd, Keeps}
+use Rattle.acq_lines.specs.Lines.{Reads, Unread}
+use Rattle.acq_lines.specs.declared.source.LineSource.{LineSource}
+
+abbrev pub unread : {S : Type 0} → LineSource S → Unread
+unread lines = record { long = lines.long; bytes = slice_range lines.buffer.items lines.start lines.end }
+
+-- So many bytes more were read, and no line handed out. None is the end.
+pub record Fills (left left' : Option (List ℕ)) (old new : Unread) (count : ℕ) : Type 0 where
+  pub bytes : List ℕ
+  pub count_is : length bytes ≡ count
+  pub consumed : Consumes left left' bytes
+  pub reads : Reads old bytes [] new
+  pub at_end : count ≡ 0 → IsAtEnd left'
+
+-- nothing was read, and no line handed out
+pub record Stays (left left' : Option (List ℕ)) (old new : Unread) : Type 0 where
+  pub kept : Keeps left left'
+  pub reads : Reads old [] [] new
