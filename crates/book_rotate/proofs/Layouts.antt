@@ -1,5 +1,5 @@
 -- A layout of which no channel breaks a rule.
-use Rattle.std.proofs.Common.{◌≡◌, ◌<◌, ◌∙◌, ℕ, List, [], ◌∷◌, length, sym, subst, true, false, arith}
+use Rattle.std.proofs.Common.{◌≡◌, ◌∙◌, ℕ, List, [], ◌∷◌, length, sym, subst, true, false, arith}
 use Rattle.mdf_layout.specs.Layout.{Layout, IsRuled}
 use Rattle.mdf_layout.specs.Rule.{AreRuled, IsFirstBad}
 use Rattle.mdf_layout.specs.declared.field.FieldRow.{FieldRow}

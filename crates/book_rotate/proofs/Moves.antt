@@ -1,6 +1,6 @@
 -- A task that was moved into a part.
-use Rattle.std.proofs.Common.{◌≡◌, ◌+◌, ◌≤◌, ◌<◌, ℕ, zero, suc, List, [], ◌∷◌, ◌++◌, length, get_or, All, refl, sym, ◌∙◌, ap, subst, inl, inr, arith, append_assoc}
-use Rattle.std.specs.Prelude.{◌⊎◌, ◌/◌}
+use Rattle.std.proofs.Common.{◌≡◌, ◌+◌, ◌≤◌, ◌<◌, ℕ, List, [], ◌∷◌, ◌++◌, length, get_or, sym, ◌∙◌, ap, subst, inl, inr, arith, append_assoc}
+use Rattle.std.specs.Prelude.{◌/◌}
 use Rattle.mdf_layout.specs.Layout.{Layout}
 use Rattle.mdf_layout.specs.Record.{cost_of}
 use Rattle.acq_script.specs.Plan.{TaskFits}

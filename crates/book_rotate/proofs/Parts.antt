@@ -1,6 +1,6 @@
 -- What a part took, and what is left behind it.
-use Rattle.std.proofs.Common.{◌≡◌, ◌+◌, ◌≤◌, ◌<◌, ℕ, zero, suc, List, [], ◌∷◌, ◌++◌, length, map, get_or, All, refl, sym, ◌∙◌, ap, subst, inl, inr, arith}
-use Rattle.std.specs.Prelude.{◌/◌, ◌⊎◌}
+use Rattle.std.proofs.Common.{◌≡◌, ◌+◌, ◌≤◌, ◌<◌, ℕ, zero, suc, List, [], ◌∷◌, ◌++◌, length, get_or, All, refl, sym, ◌∙◌, ap, subst, inl, inr, arith}
+use Rattle.std.specs.Prelude.{◌/◌}
 use Rattle.std.specs.List.{zip}
 use Rattle.std.proofs.lemmas.List.{length-map}
 use Rattle.std.proofs.lemmas.List.Elements.{All-append, All-cons, All-head, All-nil, All-tail}
@@ -12,7 +12,7 @@ use Rattle.acq_script.specs.declared.script.Plan.{Plan}
 use Rattle.acq_script.specs.declared.script.Script.{Script}
 use Rattle.acq_script.specs.declared.script.Task.{Task}
 use Rattle.acq_script.specs.declared.script.Task.TheVariants as task
-use Rattle.book_rotate.specs.Fill.{HasShare, ShareFits, left_in, parts_in, tasks_in, tasks_of}
+use Rattle.book_rotate.specs.Fill.{HasShare, left_in, parts_in, tasks_in, tasks_of}
 use Rattle.book_rotate.specs.Begin.{HasRoom, IsRotatable, all_samples}
 use Rattle.book_rotate.specs.Part.{HasNoRoom, IsNextOrNone, IsPart, behind, lists_cost, part_plan, tasks_cost}
 use Rattle.book_rotate.specs.declared.fill.Share.{Share}

@@ -1,11 +1,10 @@
 -- What a part takes of the sources' tasks, while it is filled.
-use Rattle.std.specs.Prelude.{ℕ, suc, ◌≡◌, ◌+◌, ◌*◌, ◌/◌, ◌≤◌, ◌<◌, ◌⊎◌, List, [], ◌∷◌, ◌++◌, length, map, All}
-use Rattle.mdf_layout.specs.Layout.{Layout}
+use Rattle.std.specs.Prelude.{ℕ, ◌≡◌, ◌+◌, ◌/◌, ◌≤◌, ◌⊎◌, List, [], ◌∷◌, ◌++◌, map, All}
 use Rattle.mdf_layout.specs.Record.{cost_of}
 use Rattle.acq_script.specs.Plan.{TaskFits}
 use Rattle.acq_script.specs.declared.script.Plan.{Plan}
 use Rattle.acq_script.specs.declared.script.Task.{Task}
-use Rattle.book_rotate.specs.Part.{IsNextOrNone, tasks_cost, lists_cost}
+use Rattle.book_rotate.specs.Part.{IsNextOrNone, tasks_cost}
 use Rattle.book_rotate.specs.declared.fill.Share.{Share}
 
 -- of each source what the part took, what is left, and both

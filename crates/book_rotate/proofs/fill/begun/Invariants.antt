@@ -1,4 +1,4 @@
-use Rattle.std.proofs.Common.{◌≡◌, ◌++◌, ◌+◌, ◌≤◌, [], All, length, map}
+use Rattle.std.proofs.Common.{◌≡◌, ◌++◌, ◌+◌, ◌≤◌, All, length, map}
 use Rattle.std.specs.Vec.{vec_capacity}
 use Rattle.book_rotate.specs.Fill.{HasNone, tasks_in}
 use Rattle.book_rotate.proofs.fill.begun.Given as goal

@@ -1,5 +1,4 @@
-use Rattle.std.proofs.Common.{◌∙◌, sym, arith}
-use Rattle.std.proofs.Math.Nat.{div-le_self}
+use Rattle.std.proofs.Common.{◌∙◌, sym}
 use Rattle.book_rotate.proofs.Fills.{fits_same, none_cost}
 use Rattle.book_rotate.proofs.fill.fill.Goals as goal
 

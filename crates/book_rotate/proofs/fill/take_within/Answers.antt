@@ -1,6 +1,5 @@
 use Rattle.std.proofs.Common.{◌≡◌, ◌∙◌, sym, ap, subst, All, get_or, arith}
 use Rattle.acq_script.specs.Plan.{TaskFits}
-use Rattle.book_rotate.specs.Fill.{HasShare, tasks_of}
 use Rattle.book_rotate.specs.Part.{task_cost}
 use Rattle.book_rotate.proofs.Moves.{moved_cost, moved_share, moved_tasks, next_fits, no_room}
 use Rattle.book_rotate.proofs.fill.take_within.Goals as goal

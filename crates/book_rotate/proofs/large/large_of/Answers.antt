@@ -1,4 +1,4 @@
-use Rattle.std.proofs.Common.{◌≡◌, ◌<◌, ◌∙◌, All, ap, sym, subst, get_or, length, arith}
+use Rattle.std.proofs.Common.{◌≡◌, ◌∙◌, All, ap, subst, get_or, length, arith}
 use Rattle.std.proofs.lemmas.List.{take_all}
 use Rattle.acq_script.specs.Tasks.{samples_of}
 use Rattle.book_rotate.specs.Begin.{HasRoom, IsFirstLargeIn, all_samples}
