@@ -1,32 +1,13 @@
 -- What samples cost.
-use Rattle.std.proofs.Common.{◌≡◌, ◌+◌, ◌-◌, ◌*◌, ◌≤◌, ℕ, zero, suc, List, [], ◌∷◌, ◌++◌, length, drop, slice_get, sum_by, Some, None, sym, ◌∙◌, ap, arith, length-append, length-drop}
+use Rattle.std.proofs.Common.{◌≡◌, ◌+◌, ◌-◌, ◌*◌, ◌≤◌, ℕ, List, [], ◌∷◌, ◌++◌, length, drop, sum_by, sym, ◌∙◌, ap, arith, length-append, length-drop}
 use Rattle.std.proofs.lemmas.List.Sums.{sum_by-cons, sum_by-append}
 use Rattle.std.proofs.lemmas.List.{take_all, drop-drop}
 use Rattle.std.proofs.Math.Seq.{drop-append_seam}
 use mathlib.Core.List.{IsPrefix}
 use Rattle.mdf_layout.specs.Layout.{Layout}
 use Rattle.mdf_layout.specs.Behind.{variables, first_id}
-use Rattle.mdf_layout.specs.Record.{SampleFits, encoded_size, cost_of, history_cost, history_size}
+use Rattle.mdf_layout.specs.Record.{encoded_size, cost_of, history_cost, history_size}
 use Rattle.mdf_layout.specs.declared.sample.Sample.{Sample}
-
--- one of the layouts has no more channels than all
-pub fields_of_one : (layouts : List Layout) (group : ℕ) (layout : Layout) → slice_get layouts group ≡ Some layout
-    → length layout.rows ≤ sum_by (λ l. length l.rows) layouts
-fields_of_one [] group layout known = absurd (none_some known) where
-  none_some : None ≡ Some layout → ⊥
-  none_some e = cc
-fields_of_one (l ∷ layouts) zero layout known =
-    let same : l ≡ layout = cc in
-    omega (arith, sum_by-cons (λ l. length l.rows) l layouts, ap (λ x. length x.rows) same)
-fields_of_one (l ∷ layouts) (suc group) layout known =
-    omega (arith, sum_by-cons (λ l. length l.rows) l layouts, fields_of_one layouts group layout known)
-
--- a sample whose record fits into a block costs little
-pub cost_small : (layouts : List Layout) (sample : Sample) (limit : ℕ) → SampleFits layouts sample → sum_by (λ l. length l.rows) layouts ≤ 1024
-    → encoded_size layouts sample ≤ limit → limit ≤ 16777216 → cost_of layouts sample ≤ 16818272
-cost_small layouts sample limit fits few size small =
-    let one = fields_of_one layouts sample.group fits.layout fits.known in
-    omega (arith, one, fits.entries.count)
 
 -- each sample costs 96 and the length of its record at least
 pub cost_of-least : (layouts : List Layout) (sample : Sample) → encoded_size layouts sample + 96 ≤ cost_of layouts sample

@@ -1,6 +1,7 @@
 -- The last mark.
-use Rattle.std.proofs.Common.{◌≡◌, ◌-◌, ◌<◌, List, [], ◌∷◌, ◌++◌, length, get_or, slice_get, fold, Option, Some, None, refl, sym, ◌∙◌, ap, arith}
+use Rattle.std.proofs.Common.{◌≡◌, ◌≢◌, ◌-◌, ◌<◌, List, [], ◌∷◌, ◌++◌, length, get_or, slice_get, fold, All, Option, Some, None, refl, sym, ◌∙◌, ap, arith}
 use Rattle.std.proofs.lemmas.Grind.{fold-append}
+use Rattle.std.proofs.lemmas.List.Elements.{All-head, All-tail}
 use Rattle.book_owned.specs.Marks.{last_mark}
 use Rattle.book_owned.specs.declared.mark.Mark.{Mark}
 
@@ -42,3 +43,13 @@ slice_get-none (first ∷ marks) none =
     let place : length (first ∷ marks) - 1 ≡ length marks = omega arith in
     let both : None ≡ Some (fold next first marks) = sym none ∙ ap (slice_get (first ∷ marks)) place ∙ last_from first marks in
     cc
+
+-- what holds of each mark holds of the last
+module _ (P : Mark → Type 0) where
+  holds_behind : (mark : Mark) (marks : List Mark) → P mark → All P marks → P (fold next mark marks)
+  holds_behind mark [] one all = one
+  holds_behind mark (later ∷ marks) one all = holds_behind later marks (All-head P later marks all) (All-tail P later marks all)
+
+  pub last_holds : (marks : List Mark) → marks ≢ [] → All P marks → P (last_mark marks)
+  last_holds [] some all = absurd (some refl)
+  last_holds (mark ∷ marks) some all = holds_behind mark marks (All-head P mark marks all) (All-tail P mark marks all)

@@ -3,7 +3,7 @@ mod Costs
 mod Flushing
 mod Fronts
 mod Keeping
-mod Lasts
+pub mod Lasts
 mod Parting
 mod Putting
 mod Resting

@@ -101,11 +101,27 @@ fn with_bits(word: u128, bit: u8, bits: u8, value: u64) -> u128
     (word & !mask) | ((value as u128) << bit)
 }
 
+/// The same of a word of eight bytes.
+fn with_bits_in_eight(word: u64, bit: u8, bits: u8, value: u64) -> u64
+    requires in_byte { bit ≤ 7 }
+    requires within { bit + bits ≤ 64 }
+    requires few { bits < 64 }
+    requires fits { value < 2 ^ bits }
+    ensures inside { (k : ℕ) → k < bits → bit_at result (bit + k) ≡ bit_at value k }
+    ensures below { (k : ℕ) → k < bit → bit_at result k ≡ bit_at word k }
+    ensures above { (k : ℕ) → bit + bits ≤ k → bit_at result k ≡ bit_at word k }
+    ensures fits { (n : ℕ) → bit + bits ≤ n → word < 2 ^ n → result < 2 ^ n }
+{
+    let mask = ((1u64 << bits) - 1) << bit;
+    (word & !mask) | (value << bit)
+}
+
 /// Replaces the `bits` bits of the bytes from `bit` on by those of `value`. The other bits stay.
 #[inline(never)]
 fn put_among(bytes: &mut [u8], big: bool, bit: u8, bits: u8, value: u64)
     requires in_byte { bit ≤ 7 }
     requires in_word { bits ≤ 64 }
+    requires some { bits < 8 * length bytes.old }
     requires few { length bytes.old ≤ 16 }
     requires within { bit + bits ≤ 8 * length bytes.old }
     requires fits { value < 2 ^ bits }
@@ -114,8 +130,14 @@ fn put_among(bytes: &mut [u8], big: bool, bit: u8, bits: u8, value: u64)
     ensures above { (k : ℕ) → bit + bits ≤ k → bit_of (lowest_first big bytes.new) k ≡ bit_of (lowest_first big bytes.old) k }
     ensures len { length bytes.new ≡ length bytes.old }
 {
-    let word = with_bits(word_of(bytes, big), bit, bits, value);
-    put_word(bytes, big, word);
+    let word = word_of(bytes, big);
+    if bytes.len() <= 8 {
+        let short = with_bits_in_eight(word as u64, bit, bits, value);
+        put_word(bytes, big, short as u128);
+        return;
+    }
+    let long = with_bits(word, bit, bits, value);
+    put_word(bytes, big, long);
 }
 
 /// The same. Where these are all the bits, no byte is read.

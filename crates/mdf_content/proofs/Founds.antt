@@ -18,7 +18,7 @@ then_turned turn (Err refusal) finds reads same = refl
 
 -- what is found of each item is turned
 module _ {B C S : Type 0} (turn : B → C) where
-  abbrev pub one : Option B × S → Read (Option C × S)
+  abbrev one : Option B × S → Read (Option C × S)
   one found = Ok (option_map turn found.0, found.1)
 
   abbrev pub all : List B × S → Read (List C × S)
@@ -40,7 +40,7 @@ module _ {B C S : Type 0} (turn : B → C) where
   turned_first (Err refusal) later lately same = refl
 
   -- an item of one list is read as that of another, turned
-  pub every_turned : {A : Type 0} (item : ℕ → A → S → Read (Option B × S)) (other : ℕ → A → S → Read (Option C × S))
+  every_turned : {A : Type 0} (item : ℕ → A → S → Read (Option B × S)) (other : ℕ → A → S → Read (Option C × S))
       → ((k : ℕ) (x : A) (left : S) → other k x left ≡ (item k x left >>= one)) → (k : ℕ) (xs : List A) (left : S)
       → every other k xs left ≡ (every item k xs left >>= all)
   unfolding every
@@ -56,7 +56,7 @@ firsts found = Ok found.0
 abbrev pub turned_list : {B C : Type 0} → (B → C) → List B → Read (List C)
 turned_list turn found = Ok (map turn found)
 
-pub list_turned : {B C S : Type 0} (turn : B → C) (found : Read (List B × S))
+list_turned : {B C S : Type 0} (turn : B → C) (found : Read (List B × S))
     → ((found >>= all turn) >>= firsts) ≡ ((found >>= firsts) >>= turned_list turn)
 list_turned turn (Ok found) = refl
 list_turned turn (Err refusal) = refl

@@ -45,6 +45,7 @@ pub struct DataContents {
 
 /// Reads the record of a size at a place of a stream into a list, from `start` on. The search for it begins at part `near`
 /// of the stream.
+#[inline(always)]
 pub(crate) fn put_record<P: Span>(
     span: &mut P,
     view: &DataView,

@@ -102,6 +102,7 @@ pub fn place_at(places: &Places, row: u64) -> u64
 
 /// How many bytes the value in the record at a place has, with its length. The search for it begins at part `near` of the
 /// stream of the records.
+#[inline(always)]
 pub(crate) fn value_len_in<P: Span>(
     span: &mut P,
     view: &DataView,
@@ -316,6 +317,7 @@ fn number_by<P: Span>(
 
 /// The number of a field in the record at a place, which has so many data bytes. The search for it begins at part `near` of
 /// the stream.
+#[inline(always)]
 fn number_in<P: Span>(
     span: &mut P,
     view: &DataView,

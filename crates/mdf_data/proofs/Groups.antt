@@ -1,13 +1,8 @@
 -- The first group that has an id.
-use Rattle.std.proofs.Common.{false, ◌≡◌, ◌≢◌, ◌+◌, ◌-◌, ◌^◌, ◌<◌, ◌≤◌, ℕ, suc, List, [], ◌∷◌, length, get_or, drop, Option, Some, None, refl, sym, ◌∙◌, ap, subst, inl, inr, arith, add-one, drop-cons}
+use Rattle.std.proofs.Common.{◌≡◌, ◌≢◌, ◌+◌, ◌-◌, ◌^◌, ◌<◌, ◌≤◌, ℕ, suc, List, [], ◌∷◌, length, get_or, drop, Option, Some, None, refl, sym, ◌∙◌, ap, subst, inl, inr, arith, add-one, drop-cons}
 use Rattle.std.proofs.lemmas.Bool.{eqb-true, eq-eqb, ne_eqb, cond-true, cond-false}
 use Rattle.std.proofs.lemmas.List.{drop_all}
 use Rattle.std.proofs.lemmas.Bool.{cases_eq}
-use Rattle.std.proofs.lemmas.Bool.Decides.{leb_tells}
-use Rattle.std.specs.BTreeMap.{is_at}
-use Rattle.std.specs.Ordering.{nat_cmp, is_eq}
-use Rattle.std.specs.declared.cmp.Ordering.TheVariants.{Less, Greater}
-use Rattle.std.specs.Cmp.{nat_cmp_is}
 use Rattle.std.specs.Prelude.{nat_eq}
 use Rattle.mdf_block.proofs.Wholes.{chosen}
 use Rattle.mdf_data.specs.declared.known.Known.{Known}
@@ -96,12 +91,4 @@ table_more known old new k d some within rest here other q =
           (here ∙ sym (group_here known first.id (k - 1) d below refl))
       | inr apart ↦
           other q apart ∙ rest q ∙ ap (λ (n : ℕ). group_of (drop n known) q n) next ∙ sym (group_next known q (k - 1) d below apart)
-    ]
-
--- a key that is another one
-pub is_apart : (key q : ℕ) → (key ≡ q → ⊥) → is_at (nat_cmp key) q ≡ false
-is_apart key q apart =
-    elim (leb_tells q key) [
-      | inl behind ↦ ap is_eq (sym (nat_cmp_is key q Greater (omega (arith, behind.1, apart))))
-      | inr before ↦ ap is_eq (sym (nat_cmp_is key q Less before.1))
     ]

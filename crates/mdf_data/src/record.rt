@@ -83,6 +83,7 @@ fn body_size_in<P: Span>(
 /// The id of the record that begins at `at`, and None at the end of the stream. The search for it begins at part `near` of
 /// the stream.
 #[tactic(auto, unfolding(crate::specs::Record::id_at))]
+#[inline(always)]
 pub(crate) fn id_here_in<P: Span>(
     span: &mut P,
     view: &DataView,
@@ -110,6 +111,7 @@ pub(crate) fn id_here_in<P: Span>(
 /// The record that begins at `at` with this id, which belongs to this group. The search for it begins at part `near` of the
 /// stream.
 #[tactic(auto, unfolding(crate::specs::Record::group_piece))]
+#[inline(always)]
 pub(crate) fn group_piece_in<P: Span>(
     span: &mut P,
     view: &DataView,

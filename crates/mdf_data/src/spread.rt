@@ -1,22 +1,18 @@
 ghost use Rattle.std.specs.Prelude.{◌≡◌, ◌+◌, ◌-◌, ◌^◌, ◌≤◌, ◌<◌, [], List, length, replicate, slice_index_or, true, false, IfOk, IfSome, OnOk};
-ghost use Rattle.std.specs.BTreeMap.{get};
-ghost use Rattle.std.specs.Ordering.{nat_cmp};
 ghost use Rattle.mdf_block.specs.Refusal.{Gives};
 ghost use Rattle.mdf_block.specs.Reads.{Reads, Says};
 ghost use Rattle.mdf_data.specs.declared.known.Known.{Known};
 ghost use Rattle.mdf_stream.specs.Parts.{stream_of, stream_size, ArePartsInside};
 ghost use Rattle.mdf_data.specs.Record.{IsIdSize, piece_at, split_refusal, IsPieceAt};
-ghost use Rattle.mdf_data.specs.Table.{IsTable};
+ghost use Rattle.mdf_data.specs.Table.{find, IsTable};
 ghost use Rattle.mdf_data.specs.Places.{with_place, places_alone, HaveRoom};
 ghost use Rattle.mdf_data.specs.Kept.{kept_places, with_kept};
 
-use crate::known::Group;
 use crate::record::{group_piece_in, id_here_in};
-use crate::table::table_of;
+use crate::table::{Table, table_of};
 use crate::{DataView, Known, Piece, Places, Size, SplitFault};
 use mdf_num::{Halt, Memory, Rows, Span};
 use std::alloc::Global;
-use std::collections::BTreeMap;
 
 /// The record that begins at `at`, whose group a table finds, and None at the end of the stream. The search for it begins
 /// at part `near` of the stream.
@@ -25,22 +21,22 @@ fn piece_by<P: Span>(
     span: &mut P,
     view: &DataView,
     id_size: u8,
-    table: &BTreeMap<u64, Group>,
+    table: &Table,
     at: u64,
     near: &mut usize,
 ) -> Result<Option<Piece>, Halt<SplitFault>>
     requires id_size { IsIdSize id_size }
     requires inside { ArePartsInside (P.size span.old) view.now }
     requires within { at ≤ stream_size view.now }
-    ensures reads { Says P.Span span.old span.new P.may_want split_refusal result (λ file. (known : List Known) → IsTable known (get nat_cmp table.now) →
+    ensures reads { Says P.Span span.old span.new P.may_want split_refusal result (λ file. (known : List Known) → IsTable known (find table.now) →
         Gives split_refusal result (piece_at (stream_of file view.now) id_size known at (stream_size view.now - at))) }
-    ensures piece { IfOk result (λ found. IfSome found (λ piece. (known : List Known) → IsTable known (get nat_cmp table.now) →
+    ensures piece { IfOk result (λ found. IfSome found (λ piece. (known : List Known) → IsTable known (find table.now) →
         IsPieceAt (stream_size view.now) id_size known at piece)) }
 {
     let Some(id) = id_here_in(span, view, id_size, at, near)? else {
         return Ok(None);
     };
-    let group = table.get(&id).copied();
+    let group = table.get(id);
     let piece = group_piece_in(span, view, id_size, at, id, group, near)?;
     Ok(Some(piece))
 }
@@ -57,6 +53,7 @@ fn empties(alloc: Global, count: usize) -> Result<Vec<Places>, Memory>
 }
 
 /// Adds a place of a group.
+#[inline(always)]
 fn add_place(lists: &mut Vec<Places>, which: u32, place: u64) -> Result<(), Memory>
     requires { which < length lists.old.items }
     ensures { OnOk result (lists.new.items ≡ with_place lists.old.items which place) }
@@ -65,6 +62,7 @@ fn add_place(lists: &mut Vec<Places>, which: u32, place: u64) -> Result<(), Memo
 }
 
 /// Adds a place of a group, or counts it alone.
+#[inline(always)]
 fn add_or_count(
     alloc: Global,
     lists: &mut Vec<Places>,

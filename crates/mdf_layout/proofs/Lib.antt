@@ -17,3 +17,4 @@ pub mod Joined
 mod Sealing
 mod Longs
 pub mod Nexts
+pub mod Costs

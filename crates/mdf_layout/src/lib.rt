@@ -37,4 +37,3 @@ pub use sample::{Entries, Entry, Sample, Value};
 pub use samples::Samples;
 pub use shape::{Shape, ShapeFault, shape_of};
 pub use shapes::Shapes;
-pub use writing::encode;

@@ -97,10 +97,7 @@ impl Values for InMemory<'_> {
         let Some(value) = find(self.streams, stream, offset) else {
             return Ok(None);
         };
-        match Bytes::from_slice(alloc, value) {
-            Ok(bytes) => Ok(Some(bytes)),
-            Err(Memory) => Err(Stop::Memory),
-        }
+        Ok(Some(Bytes::from_slice(alloc, value)?))
     }
 }
 

@@ -149,35 +149,8 @@ fn put_marks(rows: &[FieldRow], values: &[Entry], inval: &mut [u8])
 }
 
 /// Writes a record of these values into its data bytes and its invalidation bytes, with the offset of each value of
-/// variable length in the field of its channel. Bits of no channel are 0. `decode` gives the values back where each
-/// offset meets its value and each index is that of the record. It takes no memory.
-pub fn encode(
-    rows: &[FieldRow],
-    values: &[Entry],
-    offsets: &[u64],
-    content: &mut [u8],
-    inval: &mut [u8],
-)
-    requires placed { All (IsRowPlaced (length content.old) (length inval.old)) rows.now }
-    requires valid { All (λ row. row.all_invalid ≡ false) rows.now }
-    requires apart { AreApart rows.now }
-    requires fits { AreEntriesOf rows.now values.now }
-    requires offsets { OffsetsFit rows.now offsets.now }
-    requires few { length rows.now < 2 ^ 32 }
-    ensures sample { (finders : List Finder) (index : ℕ) → AreFound rows.now values.now offsets.now finders index
-        → sample_by rows.now content.new inval.new finders index ≡ Some values.now }
-    ensures values { HoldValues rows.now values.now offsets.now (length rows.now) content.new }
-    ensures marks { HoldMarks rows.now values.now (length rows.now) inval.new }
-    ensures unused { (p : ℕ) → IsFree rows.now p → bit_of content.new p ≡ 0 }
-    ensures unused_positions { (p : ℕ) → IsFreePosition rows.now p → bit_of inval.new p ≡ 0 }
-    ensures size { length content.new ≡ length content.old }
-    ensures inval_size { length inval.new ≡ length inval.old }
-{
-    clear(content);
-    encode_into(rows, values, offsets, content, inval);
-}
-
-/// The same over data bytes in which the bits of no channel are 0.
+/// variable length in the field of its channel. The bits of no channel must be 0 in the data bytes, and stay so. `decode`
+/// gives the values back where each offset meets its value and each index is that of the record. It takes no memory.
 pub(crate) fn encode_into(
     rows: &[FieldRow],
     values: &[Entry],

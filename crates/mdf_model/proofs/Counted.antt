@@ -56,7 +56,7 @@ row_on row = omega arith
 one_on : (row j : ℕ) → row + 1 + j ≡ row + suc j
 one_on row j = omega arith
 
-pub offsets_true : (P : Refusal → Type 0) (meets : ℕ → Bool) (offset : ℕ → ℕ) (c row left : ℕ)
+offsets_true : (P : Refusal → Type 0) (meets : ℕ → Bool) (offset : ℕ → ℕ) (c row left : ℕ)
     → ((j : ℕ) → j < left → meets (offset (row + j)) ≡ false → P (Offset c (row + j) (offset (row + j))))
     → Refusing P (offsets_met meets offset c row left)
 unfolding offsets_met

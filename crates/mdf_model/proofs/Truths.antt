@@ -46,7 +46,7 @@ some_none : {A : Type 0} (x : A) → ◌≡◌ {A = Option A} (Some x) None → 
 some_none x is = cc
 
 -- no group has an id that is not found
-pub unknown_is : (groups : List GroupRow) (id from : ℕ) → group_of (map known_of groups) id from ≡ None
+unknown_is : (groups : List GroupRow) (id from : ℕ) → group_of (map known_of groups) id from ≡ None
     → AllByRecursion (λ (group : GroupRow). group.id ≢ id) groups
 unfolding group_of
 unknown_is [] id from none = tt
@@ -62,7 +62,7 @@ split_any : (stream : List ℕ) (id_size : ℕ) (known : List Known) (empties : 
 split_any stream zero known empties records rest some split = absurd (omega (arith, some))
 split_any stream (suc n) known empties records rest some split = split
 
-pub some_ids : (n : ℕ) → n ≢ 0 → 1 ≤ n
+some_ids : (n : ℕ) → n ≢ 0 → 1 ≤ n
 some_ids n some = grind (arith, some)
 
 -- as many empty records as may be

@@ -161,7 +161,7 @@ pub record IsWhole (f : List ℕ) (all : WholeFound) : Type 0 where
   pub tree : IsTree f all.tree
   pub held : AllZip (IsDataFound f) all.tree.rows all.found
 
-pub all_of_file : (f : List ℕ) (all : WholeFound) → whole_found f ≡ Ok all → IsWhole f all
+all_of_file : (f : List ℕ) (all : WholeFound) → whole_found f ≡ Ok all → IsWhole f all
 unfolding whole_found
 all_of_file f all is =
     let one = bind_ok (finalized f) _ all is in

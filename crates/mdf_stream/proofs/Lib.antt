@@ -1,4 +1,3 @@
-mod Counts
 mod Firsts
 pub mod Joins
 pub mod Links
@@ -8,3 +7,4 @@ pub mod Reached
 pub mod Streams
 pub mod Truths
 pub mod Insides
+pub mod Counts

@@ -97,7 +97,7 @@ module _ (f : List ℕ) (want : Kind) (link : ℕ) where
   lists_count : (at left : ℕ) (x : List Part) (next rest : ℕ) (lists : List ℕ) (last : ℕ) → data_list f want at left ≡ Ok (x, next, rest)
       → Counted rest lists last → Counted left (at ∷ lists) last
   lists_count at left x next rest lists last is behind =
-      omega (arith, list_counts f want at left (x, next, rest) is, behind, sum_by-cons (links_at f) at lists)
+      omega (arith, (list_counts f want at left (x, next, rest) is).0, behind, sum_by-cons (links_at f) at lists)
 
   -- the blocks that a list names
   named_true : (lists : List ℕ) (at left less : ℕ) → AreAlong f Dl link lists at → Counted most_blocks lists left → IsBlock f at Dl

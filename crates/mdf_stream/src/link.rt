@@ -82,14 +82,11 @@ fn named_in<P: Span>(
 {
     let mut parts = Rows::empty(alloc);
     let mut left = most;
-    let links = block.links;
-    let mut k = 1;
-    while k < links {
+    for k in 1..block.links {
         let link = link_in(span, block, k)?;
         let (part, rest) = data_block_in(span, link, want, left)?;
         parts.push(part)?;
         left = rest;
-        k += 1;
     }
     Ok((parts, left))
 }

@@ -122,7 +122,7 @@ fn front_in<P: Span>(
 }
 
 /// Where the `count` bytes of the stream from `at` on stand in the file, where part `near` has them all.
-#[inline]
+#[inline(always)]
 fn place_near(items: &[Stretch], end: u64, at: u64, count: u64, near: usize) -> Option<u64>
     requires joined { AreJoined 0 items.now end }
     ensures inside { (size : ℕ) → ArePartsInside size (parts_of items.now) → IfSome result (λ place. place + count ≤ size) }
@@ -141,6 +141,23 @@ fn place_near(items: &[Stretch], end: u64, at: u64, count: u64, near: usize) -> 
         return None;
     }
     Some(stretch.part.at + (stretch.part.len - left))
+}
+
+/// The same, where part `near` or the next has them all. `near` becomes the number of that part.
+#[inline(always)]
+fn place_here(items: &[Stretch], end: u64, at: u64, count: u64, near: &mut usize) -> Option<u64>
+    requires joined { AreJoined 0 items.now end }
+    ensures inside { (size : ℕ) → ArePartsInside size (parts_of items.now) → IfSome result (λ place. place + count ≤ size) }
+    ensures bytes { (f : List ℕ) → ArePartsInside (length f) (parts_of items.now) →
+        IfSome result (λ place. bytes_at count (stream_of f (parts_of items.now)) at ≡ bytes_at count f place) }
+{
+    if let Some(place) = place_near(items, end, at, count, *near) {
+        return Some(place);
+    }
+    let next = near.saturating_add(1);
+    let place = place_near(items, end, at, count, next)?;
+    *near = next;
+    Some(place)
 }
 
 /// As `fill_in`, part by part.
@@ -166,7 +183,7 @@ fn fill_parts<P: Span>(
 }
 
 /// Fills the buffer with the bytes of the stream from `at` on. Part `near` and the next are tried first; it becomes the number
-/// of the part that was read last. The span is asked once where part `near` has all the bytes.
+/// of the part that was read last. The span is asked once where one of these has all the bytes.
 #[inline]
 pub(crate) fn fill_in<P: Span>(
     span: &mut P,
@@ -181,7 +198,7 @@ pub(crate) fn fill_in<P: Span>(
     requires within { at + length buf.old ≤ end }
     ensures reads { Looks P.Span span.old span.new P.may_want result (λ file _. buf.new ≡ bytes_at (length buf.old) (stream_of file (parts_of items.now)) at) }
 {
-    if let Some(place) = place_near(items, end, at, buf.len() as u64, *near) {
+    if let Some(place) = place_here(items, end, at, buf.len() as u64, near) {
         return span.fill(place, buf);
     }
     fill_parts(span, items, end, at, buf, near)
@@ -250,8 +267,8 @@ fn number_far<P: Span>(
 }
 
 /// The number in the `count` bytes of the stream from `at` on. Part `near` and the next are tried first; it becomes the
-/// number of the part that was read last. The span is asked for the number where part `near` has all its bytes.
-#[inline]
+/// number of the part that was read last. The span is asked for the number where one of these has all its bytes.
+#[inline(always)]
 pub(crate) fn number_in<P: Span>(
     span: &mut P,
     items: &[Stretch],
@@ -268,7 +285,7 @@ pub(crate) fn number_in<P: Span>(
     ensures reads { Looks P.Span span.old span.new P.may_want result (λ file n. n ≡ le_number (bytes_at count (stream_of file (parts_of items.now)) at)) }
     ensures fits { IfOk result (λ n. n < 256 ^ count) }
 {
-    if let Some(place) = place_near(items, end, at, count as u64, *near) {
+    if let Some(place) = place_here(items, end, at, count as u64, near) {
         return span.number(place, count);
     }
     number_far(span, items, end, at, count, near)

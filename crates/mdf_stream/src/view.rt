@@ -153,7 +153,7 @@ impl DataView {
     ///
     /// # Errors
     /// The span's own. It is as before in what it tells.
-    #[inline]
+    #[inline(always)]
     pub fn u32_near<P: Span>(&self, span: &mut P, at: u64, near: &mut usize) -> Result<u32, Stop>
         requires inside { ArePartsInside (P.size span.old) self.now }
         requires within { at + 4 ≤ stream_size self.now }
@@ -169,7 +169,7 @@ impl DataView {
     ///
     /// # Errors
     /// The span's own. It is as before in what it tells.
-    #[inline]
+    #[inline(always)]
     pub fn number_near<P: Span>(
         &self,
         span: &mut P,

@@ -1,5 +1,5 @@
 use Rattle.std.proofs.Common.{arith}
-use Rattle.book_owned.proofs.Costs.{cost_small}
+use Rattle.mdf_layout.proofs.Costs.{cost_small}
 use Rattle.book_owned.proofs.back.refusal.Goals as goal
 
 pub cost_with-cost-requires-clause-room : goal.cost_with-cost-requires-clause-room

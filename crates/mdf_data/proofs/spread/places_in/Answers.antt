@@ -1,7 +1,5 @@
 use Rattle.std.proofs.Common.{◌≡◌, ◌+◌, ◌≤◌, ℕ, Bool, false, List, Ok, length, get_or, refl, sym, ◌∙◌, ap, subst, arith, rules}
 use Rattle.std.proofs.lemmas.List.{length-replicate}
-use Rattle.std.specs.BTreeMap.{get}
-use Rattle.std.specs.Ordering.{nat_cmp}
 use Rattle.std.proofs.lemmas.Result.{err_from_is_err_and}
 use Rattle.mdf_block.specs.Refusal.{Read, ◌>>=◌}
 use Rattle.mdf_block.proofs.Refusals.{halts_then}
@@ -9,6 +7,7 @@ use Rattle.mdf_block.proofs.Readers.{says_of}
 use Rattle.mdf_stream.specs.Parts.{stream_of, stream_size}
 use Rattle.mdf_data.specs.Record.{split_refusal}
 use Rattle.mdf_data.specs.Places.{places, HaveRoom}
+use Rattle.mdf_data.specs.Table.{find}
 use Rattle.mdf_data.specs.Kept.{kept, kept_places, with_kept}
 use Rattle.mdf_data.proofs.Kepts.{LeadsKept, kept_begins, kept_goes_on, length-with_kept, room_kept}
 use Rattle.mdf_data.proofs.Spreads.{is_done, ends, none_of, room_none, some_stands, moves_on, shrinks}
@@ -44,7 +43,7 @@ pub records-smaller : goal.records-smaller
 records-smaller g c =
     let total = stream_size c.args.view.now in
     let stands =
-    some_stands total c.args.id_size c.args.known.now (get nat_cmp c.in_ok-table.table) c.records.at c.in_ok-piece.field-0 c.in-Some.piece c.in-Some.is
+    some_stands total c.args.id_size c.args.known.now (find c.in_ok-table.table) c.records.at c.in_ok-piece.field-0 c.in-Some.piece c.in-Some.is
     c.in_ok-piece.ensures.piece c.in_ok-table.ensures in
     let more = moves_on total c.args.id_size c.args.known.now c.records.at c.in-Some.piece c.requires.id_size stands in
     shrinks total c.records.at (c.in-Some.piece.at + c.in-Some.piece.len) more (omega (arith, stands.begins, stands.ends))
@@ -58,7 +57,7 @@ records-preserved g c =
     let counted = c.args.counted.now in
     let place = piece.at + c.args.id_size in
     let stands =
-    some_stands total c.args.id_size known (get nat_cmp c.in_ok-table.table) loop.at c.in_ok-piece.field-0 piece c.in-Some.is
+    some_stands total c.args.id_size known (find c.in_ok-table.table) loop.at c.in_ok-piece.field-0 piece c.in-Some.is
     c.in_ok-piece.ensures.piece c.in_ok-table.ensures in
     let more = moves_on total c.args.id_size known loop.at piece c.requires.id_size stands in
     let ends : piece.at + piece.len ≤ total = omega (arith, stands.begins, stands.ends) in

@@ -46,4 +46,4 @@ returns-clause-reads g c = says_of (search rules) (λ f told.
     let loop = c.loop-k in
     let block = c.args.block.now in
     sym (loop.invariant.found f told)
-    ∙ is_done (named_block f c.args.want block.at) loop.parts loop.k block.links loop.left c.loop-k-test.false)
+    ∙ is_done (named_block f c.args.want block.at) loop.parts loop.k block.links loop.left (omega (arith, c.loop-k-test.false)))

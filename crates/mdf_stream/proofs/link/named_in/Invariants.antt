@@ -8,13 +8,10 @@ use Rattle.mdf_stream.proofs.link.named_in.Given as goal
 abbrev pub invariant-loop-k : goal.invariant-loop-k
 invariant-loop-k g l = record {
   found : (f : List ℕ) → g.P.Span.bytes l.initial.span ≡ Some f
-      → with_front l.parts (each (named_block f l.want l.block.at) l.k (l.links - l.k) l.left)
-      ≡ each (named_block f l.want l.block.at) 1 (l.links - 1) l.fn.most;
+      → with_front l.parts (each (named_block f l.want l.block.at) l.k (l.block.links - l.k) l.left)
+      ≡ each (named_block f l.want l.block.at) 1 (l.block.links - 1) l.fn.most;
   inside : ArePartsInside (g.P.Span.size l.initial.span) l.parts;
   same : g.P.Span.bytes l.span ≡ g.P.Span.bytes l.initial.span;
   size : g.P.Span.size l.span ≡ g.P.Span.size l.initial.span;
   later : g.P.Span.faults l.initial.span ≤ g.P.Span.faults l.span;
 }
-
-abbrev pub decreases-loop-k : goal.decreases-loop-k
-decreases-loop-k g l = l.links - l.k

@@ -1,4 +1,4 @@
-use Rattle.std.proofs.Common.{◌+◌, ◌≡◌, ◌∙◌, ◌++◌, [], ◌∷◌, List, ap, arith, length, sym, subst, take}
+use Rattle.std.proofs.Common.{◌≡◌, ◌∙◌, ◌++◌, [], ◌∷◌, List, ap, arith, length, sym, subst, take}
 use Rattle.std.specs.Arc.{arc_value}
 use Rattle.mdf_layout.specs.Chunked.{start_of}
 use Rattle.mdf_layout.specs.Parts.{AreParts, chunks_of}

@@ -1,4 +1,4 @@
-use Rattle.std.proofs.Common.{◌≡◌, ◌≤◌, ◌*◌, List, inl, inr, length, ap, sym, subst, arith}
+use Rattle.std.proofs.Common.{◌≤◌, ◌*◌, List, inl, inr, length, ap, sym, subst, arith}
 use Rattle.std.proofs.lemmas.Bool.{cases_lt}
 use Rattle.mdf_bits.proofs.Orders.{bit_of_past}
 use Rattle.mdf_layout.specs.Written.{IsFree}
