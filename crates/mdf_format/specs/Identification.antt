@@ -29,8 +29,3 @@ pub record IsMdf (file : List ℕ) : Type 0 where
 pub record HasReadVersion (file : List ℕ) : Type 0 where
   pub not_below : 400 ≤ version_of file
   pub not_above : version_of file ≤ 419
-
--- an unfinalized file in this project's form of a recording, which the custom word names
-pub record IsInRecordingForm (file : List ℕ) : Type 0 where
-  pub unfinalized : IsUnfinalized file
-  pub custom : custom_flags file ≡ 1

@@ -2,7 +2,6 @@ pub mod Number
 pub mod Cause
 pub mod Identification
 pub mod Block
-pub mod Recording
 pub mod Field
 pub mod Row
 pub mod Value

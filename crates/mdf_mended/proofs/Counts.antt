@@ -91,10 +91,10 @@ module _ (stream : List ℕ) (at rest n : ℕ) where
 
 module _ (stream : List ℕ) (id_size : ℕ) (known : List Known) (some : 1 ≤ id_size) (at : ℕ) where
   -- a record that is found lies in the stream, and is found in each beginning of it that holds it
-  record IsThere (piece : Piece) : Type 0 where
-    begins : piece.at ≡ at
-    ends : at + piece.len ≤ length stream
-    long : id_size ≤ piece.len
+  pub record IsThere (piece : Piece) : Type 0 where
+    pub begins : piece.at ≡ at
+    pub ends : at + piece.len ≤ length stream
+    pub long : id_size ≤ piece.len
     kept : (p : ℕ) → at + piece.len ≤ p → piece_at (front p stream) id_size known at (p - at) ≡ Ok (Some piece)
 
   record IsIdThere (id : ℕ) : Type 0 where
@@ -157,7 +157,7 @@ module _ (stream : List ℕ) (id_size : ℕ) (known : List Known) (some : 1 ≤ 
       let same : Some first.0 ≡ Some piece = ok_injective {A = Option Piece} _ _ first.2 in
       subst IsThere (some_injective first.0 piece same) (group_there id _ first.0 (id_there id is_id) refl first.1)
 
-  piece_there : (piece : Piece) → piece_at stream id_size known at (length stream - at) ≡ Ok (Some piece) → IsThere piece
+  pub piece_there : (piece : Piece) → piece_at stream id_size known at (length stream - at) ≡ Ok (Some piece) → IsThere piece
   unfolding piece_at
   piece_there piece found =
       let first = bind_ok (id_at stream id_size at (length stream - at)) (piece_with stream id_size known at (length stream - at)) (Some piece) found in

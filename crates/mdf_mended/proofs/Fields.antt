@@ -78,5 +78,5 @@ read_all (setting ∷ settings) file all numbers apart = (
   read_all settings (set_one setting file) (fields_still setting settings file all.0 all.1) numbers.1 apart.1,
 )
 
-pub are_set : (file : List ℕ) (settings : List Setting) → AreFieldsIn (length file) settings → AreNumbers settings → AreSetIn file settings (set_all settings file)
-are_set file settings all numbers = record { as_long = long_all settings file all; others = λ i out. outside_all settings file i all out; read = read_all settings file all numbers }
+pub are_set : (file : List ℕ) (settings : List Setting) → AreFieldsIn (length file) settings → AreSetIn file settings (set_all settings file)
+are_set file settings all = record { as_long = long_all settings file all; others = λ i out. outside_all settings file i all out; read = read_all settings file all }

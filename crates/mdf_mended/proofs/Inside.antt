@@ -1,8 +1,8 @@
 -- The fields of the numbers that are set in a file lie in it.
-use Rattle.std.proofs.Common.{◌≡◌, ◌≢◌, ℕ, Bool, true, false, ◌+◌, ◌-◌, List, [], ◌∷◌, ◌++◌, length, Option, Some, None, Ok, Err, refl, sym, ◌∙◌, ap, subst, arith}
+use Rattle.std.proofs.Common.{◌≡◌, ◌≢◌, ℕ, Bool, true, false, ◌+◌, ◌-◌, List, [], ◌∷◌, length, Option, Some, None, Ok, Err, refl, sym, ◌∙◌, ap, subst, arith}
 use Rattle.std.proofs.lemmas.Bool.{eqb-false}
 use Rattle.std.specs.Prelude.{nat_eq, if◌then◌else◌}
-use Rattle.std.specs.List.{flat_map}
+use Rattle.std.specs.List.{AllByRecursion, flat_map}
 use Rattle.mdf_format.specs.Identification.{standard_flags}
 use Rattle.mdf_format.specs.declared.kind.Kind.TheVariants.{Cg, Dt}
 use Rattle.mdf_block.specs.declared.place.BlockAt.{BlockAt}
@@ -13,6 +13,7 @@ use Rattle.mdf_group.specs.declared.row.DataRow.{DataRow}
 use Rattle.mdf_model.specs.declared.tree.Tree.{Tree}
 use Rattle.mdf_model.specs.Contents.{sample_groups}
 use Rattle.mdf_model.specs.Tree.{tree}
+use Rattle.mdf_stream.proofs.Links.{all_more}
 use Rattle.mdf_mended.specs.declared.cut.Cut.{Cut}
 use Rattle.mdf_mended.specs.declared.setting.Setting.{Setting}
 use Rattle.mdf_mended.specs.Completed.{Split, count_at, counts_by, counts_if, cut_by, cut_settings, cut_with, first_cut, group_count, mended, mended_by, mended_file, or_else, row_counts, row_cut, settings_of, split_of}
@@ -21,23 +22,20 @@ use Rattle.mdf_mended.specs.Flags.{has_bit}
 use Rattle.mdf_mended.specs.InWords.{IsHeaded, changes}
 use Rattle.mdf_mended.specs.Named.{final_name}
 use Rattle.mdf_mended.specs.Records.{count_of}
-use Rattle.mdf_mended.specs.Settings.{AreFieldsIn}
+use Rattle.mdf_mended.specs.Settings.{AreFieldsIn, IsFieldIn}
 use Rattle.mdf_mended.proofs.Fields.{long_all}
 use Rattle.mdf_mended.proofs.Naming.{last_is_last}
 
-module _ (size : ℕ) where
-  both_in : (first other : List Setting) → AreFieldsIn size first → AreFieldsIn size other → AreFieldsIn size (first ++ other)
-  both_in [] other all behind = behind
-  both_in (setting ∷ first) other all behind = (all.0, both_in first other all.1 behind)
+-- what holds of the numbers that are set here and there holds of all
+module _ (P : Setting → Type 0) where
+  pub each_set : {A : Type 0} (f : A → List Setting) (xs : List A) → ((x : A) → AllByRecursion P (f x)) → AllByRecursion P (flat_map f xs)
+  each_set f [] all = tt
+  each_set f (x ∷ xs) all = all_more P (f x) (flat_map f xs) (all x) (each_set f xs all)
 
-  each_in : {A : Type 0} (f : A → List Setting) (xs : List A) → ((x : A) → AreFieldsIn size (f x)) → AreFieldsIn size (flat_map f xs)
-  each_in f [] all = tt
-  each_in f (x ∷ xs) all = both_in (f x) (flat_map f xs) (all x) (each_in f xs all)
-
-  either_in : (first other : Option Cut) → AreFieldsIn size (cut_settings first) → AreFieldsIn size (cut_settings other)
-      → AreFieldsIn size (cut_settings (or_else first other))
-  either_in (Some cut) other all behind = all
-  either_in None other all behind = behind
+  pub either_set : (first other : Option Cut) → AllByRecursion P (cut_settings first) → AllByRecursion P (cut_settings other)
+      → AllByRecursion P (cut_settings (or_else first other))
+  either_set (Some cut) other all behind = all
+  either_set None other all behind = behind
 
 module _ (file : List ℕ) where
   -- the cycle count of a channel group
@@ -50,7 +48,7 @@ module _ (file : List ℕ) where
 
   split_in : (row : DataRow) (split : Option Split) → AreFieldsIn (length file) (counts_by file row split)
   split_in row (Some split) =
-      each_in (length file) (group_count file split.records) (sample_groups row)
+      each_set (IsFieldIn (length file)) (group_count file split.records) (sample_groups row)
       (λ group. count_in (count_of group.0 split.records) group.1.at (block file group.1.at Cg) refl)
   split_in row None = tt
 
@@ -82,12 +80,12 @@ module _ (file : List ℕ) where
   unfolding first_cut
   first_in last [] = tt
   first_in last (row ∷ rows) =
-      either_in (length file) (row_cut file last row) (first_cut file last rows) (cut_in last row) (first_in last rows)
+      either_set (IsFieldIn (length file)) (row_cut file last row) (first_cut file last rows) (cut_in last row) (first_in last rows)
 
   tree_in : (last : ℕ) (counted : Bool) (read : Read Tree) → AreFieldsIn (length file) (settings_of (mended_by file last counted read))
   tree_in last counted (Ok found) =
-      both_in (length file) (cut_settings (first_cut file last found.rows)) (flat_map (counts_if counted file) found.rows) (first_in last found.rows)
-      (each_in (length file) (counts_if counted file) found.rows (counts_in counted))
+      all_more (IsFieldIn (length file)) (cut_settings (first_cut file last found.rows)) (flat_map (counts_if counted file) found.rows) (first_in last found.rows)
+      (each_set (IsFieldIn (length file)) (counts_if counted file) found.rows (counts_in counted))
   tree_in last counted (Err refusal) = tt
 
   mended_in : (last : ℕ) (counted : Bool) → AreFieldsIn (length file) (settings_of (mended file last counted))
@@ -115,7 +113,7 @@ module _ (file : List ℕ) (long_marked : length (marked file) ≡ length file) 
           let headed = bit_headed (marked file) (has_bit (standard_flags file) 2) (eqb-false (last_block file) 0 is) in
           (omega (arith, headed.inside, long_marked), tt)
 
-  long_ended : length (ended_file file) ≡ length file
+  pub long_ended : length (ended_file file) ≡ length file
   unfolding ended_file
   long_ended =
       long_all (end_settings (length (marked file)) (last_block file)) (marked file)
@@ -124,6 +122,6 @@ module _ (file : List ℕ) (long_marked : length (marked file) ≡ length file) 
 
   pub changes_in : AreFieldsIn (length file) (changes file)
   changes_in =
-      both_in (length file) (end_settings (length file) (last_block file)) (settings_of (mended_file file)) end_in
+      all_more (IsFieldIn (length file)) (end_settings (length file) (last_block file)) (settings_of (mended_file file)) end_in
       (subst (λ (size : ℕ). AreFieldsIn size (settings_of (mended_file file))) long_ended
       (mended_in (ended_file file) (last_block file) (has_bit (standard_flags file) 0)))

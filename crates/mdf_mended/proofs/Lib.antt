@@ -10,4 +10,6 @@ pub mod Naming
 pub mod Fields
 pub mod Inside
 pub mod Counts
+pub mod Sizes
+pub mod Numbers
 pub mod Marks

@@ -1,9 +1,10 @@
 -- The completed file is the marked one in which numbers are set, and its last block is the last in words.
-use Rattle.std.proofs.Common.{◌≡◌, ◌≢◌, ◌≤◌, ℕ, true, List, [], ◌∷◌, ◌++◌, codes, length, get_or, Ok, refl, sym, ◌∙◌, ap, subst, inl, arith}
+use Rattle.std.proofs.Common.{◌≡◌, ◌≢◌, ◌≤◌, ◌<◌, ◌^◌, ℕ, true, List, [], ◌∷◌, ◌++◌, codes, length, get_or, Ok, refl, sym, ◌∙◌, ap, subst, inl, arith}
 use Rattle.std.proofs.lemmas.Bool.{cond-true}
 use Rattle.mdf_disk.proofs.Patches.{get_or-patched, length-patched}
 use Rattle.mdf_format.specs.Identification.{standard_flags}
 use Rattle.mdf_format.specs.Number.{bytes_at, patched}
+use Rattle.mdf_spell.specs.Standing.{AreBytes}
 use Rattle.mdf_model.specs.declared.tree.Tree.{Tree}
 use Rattle.mdf_model.specs.Tree.{tree}
 use Rattle.mdf_mended.specs.declared.setting.Setting.{Setting}
@@ -15,6 +16,7 @@ use Rattle.mdf_mended.specs.Settings.{AreFieldsIn, set_all, set_one}
 use Rattle.mdf_mended.proofs.Fields.{are_set}
 use Rattle.mdf_mended.proofs.Inside.{changes_in}
 use Rattle.mdf_mended.proofs.Naming.{last_is_last, none_is_last}
+use Rattle.mdf_mended.proofs.Numbers.{changes_small}
 
 set_behind : (first other : List Setting) (file : List ℕ) → set_all (first ++ other) file ≡ set_all other (set_all first file)
 set_behind [] other file = refl
@@ -36,10 +38,12 @@ module _ (file : List ℕ) (long : 64 ≤ length file) where
   pub completed_inside : AreFieldsIn (length file) (changes file)
   completed_inside = changes_in file long_marked
 
-  pub completed_reads : AreNumbers (changes file) → AreSetIn (marked file) (changes file) (completed_file file)
-  completed_reads numbers =
-      subst (AreSetIn (marked file) (changes file)) (sym completed_is_set)
-      (are_set (marked file) (changes file) (rw long_marked completed_inside) numbers)
+  pub completed_reads : AreSetIn (marked file) (changes file) (completed_file file)
+  completed_reads =
+      subst (AreSetIn (marked file) (changes file)) (sym completed_is_set) (are_set (marked file) (changes file) (rw long_marked completed_inside))
+
+  pub completed_numbers : length file < 2 ^ 44 → AreBytes file → AreNumbers (changes file)
+  completed_numbers = changes_small file long_marked
 
   -- no DTBLOCK stands where the identification does
   first_byte : get_or (marked file) 0 0 ≡ 77

@@ -54,12 +54,12 @@ IsOutside settings i = AllByRecursion (λ (setting : Setting). (i < setting.at) 
 abbrev pub AreNumbers : List Setting → Type 0
 AreNumbers settings = AllByRecursion (λ (setting : Setting). setting.value < 2 ^ 64) settings
 
--- a file in which these numbers are set: it is as long, each byte outside the fields is as before, and where no two of them share a byte
--- each number is read
+-- a file in which these numbers are set: it is as long, each byte outside the fields is as before, and where the numbers have 8 bytes and no
+-- two fields share a byte each number is read
 pub record AreSetIn (file : List ℕ) (settings : List Setting) (now : List ℕ) : Type 0 where
   pub as_long : length now ≡ length file
   pub others : (i : ℕ) → IsOutside settings i → get_or now i 0 ≡ get_or file i 0
-  pub read : AreApart settings → AllByRecursion (λ (setting : Setting). le_number (bytes_at 8 now setting.at) ≡ setting.value) settings
+  pub read : AreNumbers settings → AreApart settings → AllByRecursion (λ (setting : Setting). le_number (bytes_at 8 now setting.at) ≡ setting.value) settings
 
 -- the numbers that are set in a file that is marked as finalized: the length of the last DTBLOCK, that of the block that is cut, and the
 -- cycle counts

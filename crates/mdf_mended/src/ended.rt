@@ -28,11 +28,9 @@ fn last_of(alloc: Global, bytes: &[u8], rows: &[DataRow]) -> Result<u64, Memory>
     ensures inside { IfOk result (λ last. last + 16 ≤ length bytes.now) }
 {
     let mut last = 0;
-    let mut k = 0;
-    while k < rows.len() {
-        let names = data_names(alloc, bytes, rows[k].content)?;
+    for row in rows {
+        let names = data_names(alloc, bytes, row.content)?;
         last = last_headed(bytes, names.as_slice(), last);
-        k += 1;
     }
     Ok(last)
 }

@@ -58,10 +58,8 @@ pub(crate) fn last_headed(bytes: &[u8], names: &[u64], last: u64) -> u64
     ensures last { result ≡ max last (greatest (filter (is_headed bytes.now) names.now)) }
 {
     let mut last = last;
-    let mut k = 0;
-    while k < names.len() {
-        last = later(bytes, names[k], last);
-        k += 1;
+    for name in names {
+        last = later(bytes, *name, last);
     }
     last
 }

@@ -1,6 +1,7 @@
-ghost use Rattle.std.specs.Prelude.{◌≡◌, ◌≢◌, ◌≤◌, ℕ, List, length, Ok, Some, true};
+ghost use Rattle.std.specs.Prelude.{◌≡◌, ◌≢◌, ◌≤◌, ◌<◌, ◌^◌, ℕ, List, length, Ok, Some, true};
 ghost use Rattle.mdf_format.specs.Identification.{standard_flags};
 ghost use Rattle.mdf_group.specs.declared.row.DataRow.{DataRow};
+ghost use Rattle.mdf_spell.specs.Standing.{AreBytes};
 ghost use Rattle.mdf_model.specs.declared.tree.Tree.{Tree};
 ghost use Rattle.mdf_model.specs.Tree.{tree};
 ghost use Rattle.mdf_mended.specs.Completed.{Split, completed_file, split_of};
@@ -19,10 +20,11 @@ pub fn what_is_the_last_block()
 {}
 
 /// The completed file is the one that is marked as finalized with its changes, which lie in it: each byte outside of these is as before,
-/// and where no two of them share a byte each number is read.
+/// and where no two of them share a byte each number is read. A file of fewer than 2^44 bytes has no number that is too great for its field.
 pub fn what_is_completed()
     ensures inside { (file : List ℕ) → 64 ≤ length file → AreFieldsIn (length file) (changes file) }
-    ensures set { (file : List ℕ) → 64 ≤ length file → AreNumbers (changes file) → AreSetIn (marked file) (changes file) (completed_file file) }
+    ensures numbers { (file : List ℕ) → 64 ≤ length file → length file < 2 ^ 44 → AreBytes file → AreNumbers (changes file) }
+    ensures set { (file : List ℕ) → 64 ≤ length file → AreSetIn (marked file) (changes file) (completed_file file) }
 {}
 
 /// What is counted of the stream of a data group is of its split into records and a rest: the whole records are those of the split, and

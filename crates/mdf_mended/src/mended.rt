@@ -131,10 +131,8 @@ fn mended_rows(
     ensures inside { IfOk result (AreMendedIn (length bytes.now)) }
 {
     let mut mended = nothing(alloc);
-    let mut k = 0;
-    while k < rows.len() {
-        mend_row(alloc, bytes, last, counted, &rows[k], &mut mended)?;
-        k += 1;
+    for row in rows {
+        mend_row(alloc, bytes, last, counted, row, &mut mended)?;
     }
     Ok(mended)
 }

@@ -18,10 +18,8 @@ fn add_links(names: &mut Rows<u64>, bytes: &[u8], list: &BlockAt, most: u64) -> 
     ensures { OnOk result (names.new ≡ names.old ++ links_from bytes.now list.now.at 1 (min most (list.now.links - 1))) }
 {
     let count = most.min(list.links - 1);
-    let mut k = 0;
-    while k < count {
+    for k in 0..count {
         names.push(link_of(bytes, list, k + 1))?;
-        k += 1;
     }
     Ok(())
 }

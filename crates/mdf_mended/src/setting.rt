@@ -25,9 +25,7 @@ pub(crate) fn set_all(bytes: &mut [u8], settings: &[Setting])
     requires { AreFieldsIn (length bytes.old) settings.now }
     ensures { bytes.new ≡ set_all settings.now bytes.old }
 {
-    let mut k = 0;
-    while k < settings.len() {
-        set_one(bytes, settings[k]);
-        k += 1;
+    for setting in settings {
+        set_one(bytes, *setting);
     }
 }

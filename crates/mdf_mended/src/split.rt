@@ -111,10 +111,8 @@ pub(crate) fn add_counts(
         → OnOk result (settings.new ≡ settings.old ++ flat_map (group_count bytes.now records) (filter is_of_samples (enumerate_from 0 groups.now))) }
     ensures inside { AreFieldsIn (length bytes.now) settings.old → OnOk result (AreFieldsIn (length bytes.now) settings.new) }
 {
-    let mut k = 0;
-    while k < groups.len() {
-        add_count(settings, bytes, &groups[k], counts[k])?;
-        k += 1;
+    for (k, group) in groups.iter().enumerate() {
+        add_count(settings, bytes, group, counts[k])?;
     }
     Ok(())
 }

@@ -82,11 +82,8 @@ pub(crate) fn place_attachments(
 ) -> Result<(), Memory>
     ensures { OnOk result (draft.new ≡ draft.old ++ attachments_blocks (length draft.old) rows.now) }
 {
-    let mut i = 0;
-    while i < rows.len() {
-        let row = &rows[i];
+    for (i, row) in rows.iter().enumerate() {
         place_attachment(alloc, draft, row, i + 1 < rows.len())?;
-        i += 1;
     }
     Ok(())
 }

@@ -1,7 +1,7 @@
--- Where each offset of a record meets a value, the moved record has a sample too.
+-- Where each offset of a record meets a value, the moved record meets the same one, and has a sample too.
 use Rattle.std.proofs.Common.{◌≡◌, ◌+◌, ◌-◌, ◌<◌, ◌≤◌, ℕ, zero, suc, Bool, true, false, List, [], ◌∷◌, ◌++◌, length, take, map, get_or, Option, Some, None, refl, sym, ◌∙◌, ap, arith, length-append}
 use Rattle.std.proofs.lemmas.Bool.{and_from, and_parts, le-leb, leb-true}
-use Rattle.std.proofs.lemmas.Option.{option_and_then_some}
+use Rattle.std.proofs.lemmas.Option.{option_and_then_some, same_Some}
 use Rattle.std.specs.Prelude.{◌&&◌, nat_le, if◌then◌else◌}
 use Rattle.std.specs.Option.{option_and_then, option_map}
 use Rattle.mdf_format.specs.Field.{Spot, field_number}
@@ -22,42 +22,61 @@ use Rattle.tool_concat.specs.Joined.{joined_streams}
 use Rattle.tool_concat.specs.Moved.{IsVariableAt, offset_in, shift_of}
 
 -- a value at an offset of a stream
-tested : (b : Bool) (x v : List ℕ) → (if b then Some x else None) ≡ Some v → b ≡ true
-tested true x v is = refl
-tested false x v is = let wrong : ◌≡◌ {A = Option (List ℕ)} None (Some v) = is in cc
+record IsThere (stream : List ℕ) (o : ℕ) (v : List ℕ) : Type 0 where
+  pub size : o + 4 ≤ length stream
+  pub all : o + 4 + size_there stream o ≤ length stream
+  pub is : bytes_at (size_there stream o) stream (o + 4) ≡ v
 
-value_there : (stream : List ℕ) (o : ℕ) (v : List ℕ) → value_at stream o ≡ Some v
-    → (o + 4 ≤ length stream) × (o + 4 + size_there stream o ≤ length stream)
+tested : (b : Bool) (x v : List ℕ) → (if b then Some x else None) ≡ Some v → (b ≡ true) × (x ≡ v)
+tested true x v is = (refl, same_Some x v is)
+tested false x v is = let wrong : ◌≡◌ {A = Option (List ℕ)} None (Some v) = is in absurd (cc wrong)
+
+value_there : (stream : List ℕ) (o : ℕ) (v : List ℕ) → value_at stream o ≡ Some v → IsThere stream o v
 value_there stream o v is =
-    let both = and_parts (nat_le (o + 4) (length stream)) (nat_le (o + 4 + size_there stream o) (length stream))
-    (tested (nat_le (o + 4) (length stream) && nat_le (o + 4 + size_there stream o) (length stream)) (bytes_at (size_there stream o) stream (o + 4)) v is) in
-    (leb-true (o + 4) (length stream) both.0, leb-true (o + 4 + size_there stream o) (length stream) both.1)
+    let head = nat_le (o + 4) (length stream) in
+    let all = nat_le (o + 4 + size_there stream o) (length stream) in
+    let found = tested (head && all) (bytes_at (size_there stream o) stream (o + 4)) v is in
+    let both = and_parts head all found.0 in
+    record {
+      size = leb-true (o + 4) (length stream) both.0;
+      all = leb-true (o + 4 + size_there stream o) (length stream) both.1;
+      is = found.1;
+    }
 
-value_from : (stream : List ℕ) (o : ℕ) → o + 4 ≤ length stream → o + 4 + size_there stream o ≤ length stream
-    → (v : List ℕ) × (value_at stream o ≡ Some v)
-value_from stream o head all =
-    let bytes = bytes_at (size_there stream o) stream (o + 4) in (
-      bytes,
-      ap (λ (b : Bool). if b then Some bytes else None)
-          (and_from (nat_le (o + 4) (length stream)) (nat_le (o + 4 + size_there stream o) (length stream))
-          (le-leb (o + 4) (length stream) head) (le-leb (o + 4 + size_there stream o) (length stream) all)),
-    )
+value_from : (stream : List ℕ) (o : ℕ) (v : List ℕ) → IsThere stream o v → value_at stream o ≡ Some v
+value_from stream o v there =
+    let bytes = bytes_at (size_there stream o) stream (o + 4) in
+    ap (λ (b : Bool). if b then Some bytes else None)
+    (and_from (nat_le (o + 4) (length stream)) (nat_le (o + 4 + size_there stream o) (length stream))
+    (le-leb (o + 4) (length stream) there.size) (le-leb (o + 4 + size_there stream o) (length stream) there.all))
+    ∙ ap Some there.is
 
 -- it stays where another stream stands behind, and it moves where one stands before
-value_first : (stream other : List ℕ) (o : ℕ) (v : List ℕ) → value_at stream o ≡ Some v → (w : List ℕ) × (value_at (stream ++ other) o ≡ Some w)
+value_first : (stream other : List ℕ) (o : ℕ) (v : List ℕ) → value_at stream o ≡ Some v → value_at (stream ++ other) o ≡ Some v
 value_first stream other o v is =
     let there = value_there stream o v is in
-    let size : size_there (stream ++ other) o ≡ size_there stream o = ap le_number (bytes_at-first 4 o stream other there.0) in
-    value_from (stream ++ other) o (omega (arith, there.0, length-append stream other)) (omega (arith, there.1, size, length-append stream other))
+    let size : size_there (stream ++ other) o ≡ size_there stream o = ap le_number (bytes_at-first 4 o stream other there.size) in
+    value_from (stream ++ other) o v (record {
+      size = omega (arith, there.size, length-append stream other);
+      all = omega (arith, there.all, size, length-append stream other);
+      is = ap (λ (n : ℕ). bytes_at n (stream ++ other) (o + 4)) size
+          ∙ bytes_at-first (size_there stream o) (o + 4) stream other there.all ∙ there.is;
+    })
 
-value_second : (stream other : List ℕ) (o : ℕ) (v : List ℕ) → value_at other o ≡ Some v
-    → (w : List ℕ) × (value_at (stream ++ other) (o + length stream) ≡ Some w)
+value_second : (stream other : List ℕ) (o : ℕ) (v : List ℕ) → value_at other o ≡ Some v → value_at (stream ++ other) (o + length stream) ≡ Some v
 value_second stream other o v is =
     let there = value_there other o v is in
     let back : o + length stream - length stream ≡ o = omega arith in
+    let behind : o + length stream + 4 - length stream ≡ o + 4 = omega arith in
     let size : size_there (stream ++ other) (o + length stream) ≡ size_there other o =
     ap le_number (bytes_at-second 4 (o + length stream) stream other (omega arith) ∙ ap (bytes_at 4 other) back) in
-    value_from (stream ++ other) (o + length stream) (omega (arith, there.0, length-append stream other)) (omega (arith, there.1, size, length-append stream other))
+    value_from (stream ++ other) (o + length stream) v (record {
+      size = omega (arith, there.size, length-append stream other);
+      all = omega (arith, there.all, size, length-append stream other);
+      is = ap (λ (n : ℕ). bytes_at n (stream ++ other) (o + length stream + 4)) size
+          ∙ bytes_at-second (size_there other o) (o + length stream + 4) stream other (omega arith)
+          ∙ ap (bytes_at (size_there other o) other) behind ∙ there.is;
+    })
 
 -- the stream in which a channel finds its value
 found_in : (streams : List (List ℕ)) (n o : ℕ) (v : List ℕ) → finder_at (map value_at streams) n o ≡ Some v
@@ -85,26 +104,25 @@ joined_at (stream ∷ streams) [] n same below = absurd (omega (arith, same))
 joined_at (stream ∷ streams) (other ∷ others) zero same below = refl
 joined_at (stream ∷ streams) (other ∷ others) (suc n) same below = joined_at streams others n (omega (arith, same)) (omega (arith, below))
 
--- where a channel of variable length finds a value by one record's offset, it does by another's
-abbrev pub FindsToo : List FieldRow → List ℕ → List ℕ → List Finder → List Finder → Type 0
-FindsToo rows old new finders others = (k : ℕ) (row : FieldRow) (v : List ℕ) → IsVariableAt rows k row
+-- the value that a channel of variable length finds by one record's offset, it finds by another's
+abbrev pub FindsSame : List FieldRow → List ℕ → List ℕ → List Finder → List Finder → Type 0
+FindsSame rows old new finders others = (k : ℕ) (row : FieldRow) (v : List ℕ) → IsVariableAt rows k row
     → finder_at finders (streams_before rows k) (offset_in row old) ≡ Some v
-    → (w : List ℕ) × (finder_at others (streams_before rows k) (offset_in row new) ≡ Some w)
+    → finder_at others (streams_before rows k) (offset_in row new) ≡ Some v
 
 value_too : (kind : FieldKind) (spot : Spot) (old new : List ℕ) (find other : Finder) (index next : ℕ) (v : Value)
-    → (kind ≡ Variable → (u : List ℕ) → find (field_number spot old) ≡ Some u → (w : List ℕ) × (other (field_number spot new) ≡ Some w))
+    → (kind ≡ Variable → (u : List ℕ) → find (field_number spot old) ≡ Some u → other (field_number spot new) ≡ Some u)
     → value_in kind spot old find index ≡ Some v → (w : Value) × (value_in kind spot new other next ≡ Some w)
 value_too Unsigned spot old new find other index next v finds is = (_, refl)
 value_too Signed spot old new find other index next v finds is = (_, refl)
 value_too Fixed spot old new find other index next v finds is = (_, refl)
 value_too Variable spot old new find other index next v finds is =
     let one = mapped {A = List ℕ} {B = Value} value.Bytes (find (field_number spot old)) v is in
-    let another = finds refl one.0 one.1 in
-    (value.Bytes another.0, ap (option_map {T = List ℕ} {U = Value} value.Bytes) another.1)
+    (value.Bytes one.0, ap (option_map {T = List ℕ} {U = Value} value.Bytes) (finds refl one.0 one.1))
 value_too Virtual spot old new find other index next v finds is = (_, refl)
 
 entry_too : (row : FieldRow) (old new inval later : List ℕ) (find other : Finder) (index next : ℕ) (entry : Entry)
-    → (row.kind ≡ Variable → (u : List ℕ) → find (offset_in row old) ≡ Some u → (w : List ℕ) × (other (offset_in row new) ≡ Some w))
+    → (row.kind ≡ Variable → (u : List ℕ) → find (offset_in row old) ≡ Some u → other (offset_in row new) ≡ Some u)
     → entry_of row old inval find index ≡ Some entry → (e : Entry) × (entry_of row new later other next ≡ Some e)
 entry_too row old new inval later find other index next entry finds is =
     let make : Value → Entry = λ (v : Value). record { value = v; valid = is_valid row inval } in
@@ -113,16 +131,16 @@ entry_too row old new inval later find other index next entry finds is =
     let another = value_too row.kind (spot_in row) old new find other index next one.0 finds one.1 in
     (made another.0, ap (option_map {T = Value} {U = Entry} made) another.1)
 
-finds_behind : (row : FieldRow) (rows : List FieldRow) (old new : List ℕ) (finders others : List Finder) → FindsToo (row ∷ rows) old new finders others
-    → FindsToo rows old new (finders_behind row finders) (finders_behind row others)
+pub finds_behind : (row : FieldRow) (rows : List FieldRow) (old new : List ℕ) (finders others : List Finder) → FindsSame (row ∷ rows) old new finders others
+    → FindsSame rows old new (finders_behind row finders) (finders_behind row others)
 finds_behind row rows old new finders others finds k other v is found =
     let before = finder_behind (is_variable row) row (take k rows) finders refl in
     let behind = finder_behind (is_variable row) row (take k rows) others refl in
     let there = finds (suc k) other v (record { there = is.there; kind = is.kind }) (ap (λ (find : Finder). find (offset_in other old)) (sym before) ∙ found) in
-    (there.0, ap (λ (find : Finder). find (offset_in other new)) behind ∙ there.1)
+    ap (λ (find : Finder). find (offset_in other new)) behind ∙ there
 
 pub sample_too : (rows : List FieldRow) (old new inval later : List ℕ) (finders others : List Finder) (index next : ℕ) (entries : List Entry)
-    → FindsToo rows old new finders others → sample_by rows old inval finders index ≡ Some entries
+    → FindsSame rows old new finders others → sample_by rows old inval finders index ≡ Some entries
     → (found : List Entry) × (sample_by rows new later others next ≡ Some found)
 unfolding sample_by
 sample_too [] old new inval later finders others index next entries finds is = ([], refl)
@@ -143,28 +161,25 @@ sample_too (row ∷ rows) old new inval later finders others index next entries 
 
 -- the records of the first find their values in the joined streams, and so do those of the second once they are moved
 pub first_finds : (rows : List FieldRow) (bytes : List ℕ) (streams others : List (List ℕ)) → length streams ≡ length others
-    → FindsToo rows bytes bytes (map value_at streams) (map value_at (joined_streams streams others))
+    → FindsSame rows bytes bytes (map value_at streams) (map value_at (joined_streams streams others))
 first_finds rows bytes streams others same k row v is found =
     let n = streams_before rows k in
     let o = offset_in row bytes in
     let there = found_in streams n o v found in
-    let value = value_first (get_or streams n []) (get_or others n []) o v there.1 in (
-      value.0,
-      found_from (joined_streams streams others) n o value.0 (omega (arith, there.0, joined_length streams others same))
-          (ap (λ (stream : List ℕ). value_at stream o) (joined_at streams others n same there.0) ∙ value.1),
-    )
+    found_from (joined_streams streams others) n o v (omega (arith, there.0, joined_length streams others same))
+    (ap (λ (stream : List ℕ). value_at stream o) (joined_at streams others n same there.0)
+    ∙ value_first (get_or streams n []) (get_or others n []) o v there.1)
 
 pub second_finds : (rows : List FieldRow) (old new : List ℕ) (streams others : List (List ℕ)) → length streams ≡ length others
     → ((k : ℕ) (row : FieldRow) → IsVariableAt rows k row → offset_in row new ≡ offset_in row old + shift_of rows streams k)
-    → FindsToo rows old new (map value_at others) (map value_at (joined_streams streams others))
+    → FindsSame rows old new (map value_at others) (map value_at (joined_streams streams others))
 second_finds rows old new streams others same moved k row v is found =
     let n = streams_before rows k in
     let o = offset_in row old in
     let there = found_in others n o v found in
     let below : n < length streams = omega (arith, there.0, same) in
-    let value = value_second (get_or streams n []) (get_or others n []) o v there.1 in (
-      value.0,
-      ap (finder_at (map value_at (joined_streams streams others)) n) (moved k row is)
-          ∙ found_from (joined_streams streams others) n (o + length (get_or streams n [])) value.0 (omega (arith, below, joined_length streams others same))
-          (ap (λ (stream : List ℕ). value_at stream (o + length (get_or streams n []))) (joined_at streams others n same below) ∙ value.1),
-    )
+    let stream = get_or streams n [] in
+    ap (finder_at (map value_at (joined_streams streams others)) n) (moved k row is)
+    ∙ found_from (joined_streams streams others) n (o + length stream) v (omega (arith, below, joined_length streams others same))
+    (ap (λ (s : List ℕ). value_at s (o + length stream)) (joined_at streams others n same below)
+    ∙ value_second stream (get_or others n []) o v there.1)

@@ -1,8 +1,8 @@
 mod Steps
 mod Counts
-mod Apart
+pub mod Apart
 mod Moves
-mod Finds
+pub mod Finds
 mod Joinings
 mod Holds
 mod Streams

@@ -75,11 +75,9 @@ fn lines_between<L: SampleList, P: Span>(
 {
     let mut lines = Vec::new(alloc);
     let mut scratch = Vec::new(alloc);
-    let mut index = from;
-    while index < to {
+    for index in from..to {
         let entries = list.sample(alloc, span, index, &mut scratch)?;
         push_sample(alloc, &mut lines, index, entries.as_slice())?;
-        index += 1;
     }
     Ok(lines)
 }

@@ -1,4 +1,3 @@
-use Rattle.std.proofs.Common.{arith}
 use Rattle.mdf_mended.proofs.Mends.{counts_done, counts_more}
 use Rattle.mdf_mended.proofs.split.add_counts.Goals as goal
 
@@ -8,7 +7,6 @@ loop-k-preserved c = record {
       counts_more c.args.bytes.now records c.args.groups.now c.loop-k.k _ c.index-groups-k.result c.loop-k.settings _ _ c.loop-k-test.true
       c.index-groups-k.is (each c.loop-k.k c.loop-k-test.true) c.in_ok-add_count.ensures.added (c.loop-k.invariant.added records each);
   inside = λ inside. c.in_ok-add_count.ensures.inside (c.loop-k.invariant.inside inside);
-  within = omega (arith, c.loop-k-test.true);
 }
 
 pub returns-clause-added : goal.returns-clause-added

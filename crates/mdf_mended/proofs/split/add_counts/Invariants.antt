@@ -1,4 +1,4 @@
-use Rattle.std.proofs.Common.{◌≡◌, ◌-◌, ◌<◌, ◌≤◌, ◌++◌, ℕ, List, length, drop}
+use Rattle.std.proofs.Common.{◌≡◌, ◌<◌, ◌++◌, ℕ, List, length, drop}
 use Rattle.std.specs.Prelude.{slice_index_or}
 use Rattle.mdf_data.specs.declared.known.Piece.{Piece}
 use Rattle.mdf_mended.specs.Records.{count_of}
@@ -11,8 +11,4 @@ invariant-loop-k l = record {
   added : (records : List Piece) → ((k : ℕ) → k < length l.groups → slice_index_or l.counts k 0 ≡ count_of k records)
       → l.settings ++ counts_from l.bytes records l.k (drop l.k l.groups) ≡ l.initial.settings ++ counts_from l.bytes records 0 l.groups;
   inside : AreFieldsIn (length l.bytes) l.initial.settings → AreFieldsIn (length l.bytes) l.settings;
-  within : l.k ≤ length l.groups;
 }
-
-abbrev pub decreases-loop-k : goal.decreases-loop-k
-decreases-loop-k l = length l.groups - l.k

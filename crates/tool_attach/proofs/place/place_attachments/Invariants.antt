@@ -1,4 +1,4 @@
-use Rattle.std.proofs.Common.{◌≡◌, ◌-◌, ◌++◌, length, drop}
+use Rattle.std.proofs.Common.{◌≡◌, ◌++◌, length, drop}
 use Rattle.tool_attach.specs.Attached.{attachments_blocks}
 use Rattle.tool_attach.proofs.place.place_attachments.Given as goal
 
@@ -7,6 +7,3 @@ abbrev pub invariant-loop-i : goal.invariant-loop-i
 invariant-loop-i l =
     l.draft ++ attachments_blocks (length l.draft) (drop l.i l.rows)
     ≡ l.initial.draft ++ attachments_blocks (length l.initial.draft) l.rows
-
-abbrev pub decreases-loop-i : goal.decreases-loop-i
-decreases-loop-i l = length l.rows - l.i

@@ -1,4 +1,4 @@
-use Rattle.std.proofs.Common.{◌≡◌, ◌-◌, ◌≤◌, ◌++◌, ℕ, List, Some}
+use Rattle.std.proofs.Common.{◌≡◌, ◌≤◌, ◌++◌, ℕ, List, Some}
 use Rattle.tool_export.specs.Table.{sample_lines}
 use Rattle.tool_export.proofs.give.lines_between.Given as goal
 
@@ -13,6 +13,3 @@ invariant-loop-index g l = record {
   size : g.P.Span.size l.span ≡ g.P.Span.size l.initial.span;
   later : g.P.Span.faults l.initial.span ≤ g.P.Span.faults l.span;
 }
-
-abbrev pub decreases-loop-index : goal.decreases-loop-index
-decreases-loop-index g l = l.to - l.index
