@@ -39,16 +39,19 @@ use std::time::Duration;
 /// made for each sample.
 const NAP: u64 = 100;
 
+/// How long it sleeps at most before it asks for the device again, in microseconds. A write takes far longer than `NAP`, and who gives the
+/// device back wakes all.
+const LONGEST_NAP: u64 = 5000;
+
 /// How often a seat whose samples are not durable sleeps before it takes a device that others wait for too.
 const NAPS: u64 = 2;
 
 /// The greatest even turn word. From it no turn is taken any more.
 const LAST: u64 = 18446744073709551614;
 
-/// Sleeps for `NAP`, or until another wakes who sleeps on this word.
-fn park<R: Wait>(rt: &R, word: &AtomicU64) {
-    let seen = word.load(SeqCst);
-    word.park_timeout(rt, (seen % 4294967296) as u32, Duration::from_micros(NAP));
+/// Sleeps for so many microseconds, or until another wakes who sleeps on this word; not at all where it is no longer what was seen.
+fn park<R: Wait>(rt: &R, word: &AtomicU64, seen: u64, nap: u64) {
+    word.park_timeout(rt, (seen % 4294967296) as u32, Duration::from_micros(nap));
 }
 
 /// Puts a sample into the front where that needs no call of the disk.
@@ -187,12 +190,12 @@ impl<D: Disk, V: Shown> SharedBook<D, V> {
 
     /// Sleeps for `NAP`, or until a seat gives the device back.
     pub(crate) fn sleep<R: Wait>(&self, rt: &R) {
-        park(rt, &self.flushes);
+        park(rt, &self.flushes, self.flushes.load(SeqCst), NAP);
     }
 
     /// Sleeps for `NAP`, whoever gives the device back meanwhile.
     fn nap<R: Wait>(&self, rt: &R) {
-        park(rt, &self.waiting);
+        park(rt, &self.waiting, self.waiting.load(SeqCst), NAP);
     }
 
     /// Wakes all who wait for the turn or the device.
@@ -321,17 +324,20 @@ impl<D: Disk, V: Shown> SharedBook<D, V> {
         ensures table { seat.new.table_id ≡ seat.old.table_id }
         ensures seized { seat.new.me ≡ (at_device (wanted seat.old.me.0 (option_copied due.entry)) resting, seat.old.me.1) }
     {
-        let mut alone = self.waiting.fetch_add(1, SeqCst) == 0;
+        let mut given = self.waiting.fetch_add(1, SeqCst) > 0;
+        let mut nap = NAP;
         for _ in rt.forever() {
-            if !alone {
+            if given {
                 self.let_pass(rt, accepted);
             }
+            let seen = self.flushes.load(SeqCst);
             if self.take_device(seat, due) {
                 self.waiting.fetch_sub(1, SeqCst);
                 return;
             }
-            self.sleep(rt);
-            alone = false;
+            park(rt, &self.flushes, seen, nap);
+            nap = nap.saturating_mul(2).min(LONGEST_NAP);
+            given = self.flushes.load(SeqCst) != seen;
         }
         unreachable!()
     }

@@ -30,10 +30,8 @@ fn table_of(owners: &[u8]) -> [u8; 64]
     ensures owners { (group : ℕ) → slice_index result group ≡ slice_index owners.now group }
 {
     let mut table = [0; 64];
-    let mut group = 0;
-    while group < owners.len() {
-        table[group] = owners[group];
-        group += 1;
+    for (group, owner) in owners.iter().enumerate() {
+        table[group] = *owner;
     }
     table
 }
