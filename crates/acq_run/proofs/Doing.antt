@@ -1,6 +1,7 @@
 -- What a source does, task by task.
-use Rattle.std.proofs.Common.{◌≡◌, ◌+◌, ◌*◌, ◌≤◌, inl, inr, ⊎_elim, ℕ, suc, List, [], ◌∷◌, ◌++◌, length, take, refl, sym, ◌∙◌, ap, subst, arith, append_assoc, append-nil, length-append, All}
-use Rattle.std.proofs.lemmas.List.{take-append-le}
+use Rattle.std.proofs.Common.{◌≡◌, ◌+◌, ◌*◌, ◌≤◌, ◌<◌, ◌^◌, inl, inr, ⊎_elim, ℕ, suc, List, [], ◌∷◌, ◌++◌, length, take, refl, sym, ◌∙◌, ap, subst, arith, append_assoc, append-nil, length-append, All}
+use Rattle.std.proofs.lemmas.List.{get_or_at, take-append-le}
+use Rattle.atomic_table.specs.Seated.{TableId}
 use mathlib.Core.List.{IsPrefix}
 use Rattle.mdf_gate.proofs.Carrying.{prefix_self, prefix_trans}
 use Rattle.mdf_layout.specs.History.{source_samples}
@@ -12,10 +13,12 @@ use Rattle.book_shared.specs.Place.{Place, own_part}
 use Rattle.book_shared.specs.Told.{HasMark}
 use Rattle.book_shared.specs.Turns.{HasTurnsFor}
 use Rattle.book_shared.specs.declared.view.View.{View}
-use Rattle.acq_run.specs.Tasks.{flushes_of, samples_of, Feeds, IsTask, MayFeed}
-use Rattle.acq_run.specs.Works.{AreMarked, IsFlushed, IsMarkedAt, IsLater, turns_for, Does, Ends, HasDriven, HasFed, HasHeard, HasTurns, IsSameSeat, OnlyDueOf}
-use Rattle.acq_run.specs.declared.tasks.Fed.{Fed}
-use Rattle.acq_run.specs.declared.tasks.Fed.TheVariants as fed
+use Rattle.acq_feed.specs.Feeds.{flushes_of, samples_of, Feeds, IsTask}
+use Rattle.acq_run.specs.Tasks.{MayFeed}
+use Rattle.acq_run.specs.Workers.{IsReady}
+use Rattle.acq_run.specs.Works.{AreMarked, IsFlushed, IsMarkedAt, IsLater, turns_for, Does, Ends, HasDriven, HasTurns, HasWorked, IsSameSeat, OnlyDueOf}
+use Rattle.acq_feed.specs.declared.feed.Fed.{Fed}
+use Rattle.acq_feed.specs.declared.feed.Fed.TheVariants as fed
 use Rattle.acq_run.specs.declared.work.Ended.{Ended}
 use Rattle.acq_run.specs.declared.work.Ended.TheVariants.{Running, Done, SessionFull, Stopped, DiskFault, Memory}
 
@@ -147,53 +150,32 @@ does_more v u w source done more n m first second = record {
       (second.asked k there);
 }
 
+-- what was among the first stays when more comes behind
+pub front_among : (done more : List Fed) (sample : Sample) → IsAmong (samples_of done) sample → IsAmong (samples_of (done ++ more)) sample
+front_among [] more sample is = absurd is
+front_among (fed.Sample one ∷ done) more sample is = ⊎_elim (λ here. inl here) (λ later. inr (front_among done more sample later)) is
+front_among (fed.Flush ∷ done) more sample is = front_among done more sample is
+front_among (fed.End ∷ done) more sample is = front_among done more sample is
+
+due_longer : (v u : View) (done more : List Fed) → OnlyDueOf v u done → OnlyDueOf v u (done ++ more)
+due_longer v u done more due sample there = ⊎_elim (λ before. inl before) (λ its. inr (front_among done more sample its)) (due sample there)
+
 -- what a source was driven to so far
-pub record HasDone (old new : Place) (feds left : List Fed) (accepted : ℕ) : Type 0 where
+pub record HasDone (old new : Place) (done : List Fed) (accepted : ℕ) : Type 0 where
   pub seat : IsSameSeat old new
-  pub done : List Fed
-  pub parts : done ++ left ≡ feds
   pub does : Does old.know new.know old.number done accepted
   pub turns : old.know.turns + length done ≤ new.know.turns
   pub few_turns : HasTurnsFor (3 * length done) old.know new.know
-  pub due : OnlyDueOf old.know new.know feds
-  pub may : All (MayFeed new.know.basis.owners new.know.basis.terms new.number) left
+  pub due : OnlyDueOf old.know new.know done
 
-pub done_first : (seat : Place) (feds : List Fed) → All (MayFeed seat.know.basis.owners seat.know.basis.terms seat.number) feds → HasDone seat seat feds feds 0
-done_first seat feds may = record {
+pub done_first : (seat : Place) → HasDone seat seat [] 0
+done_first seat = record {
   seat = record { table_is = refl; number_is = refl };
-  done = [];
-  parts = refl;
   does = does_none seat.know seat.number;
   turns = omega arith;
   few_turns = omega arith;
   due = λ sample there. inl there;
-  may = may;
 }
-
--- what a feed hands in that is no end is the first of what was left
-pub took : (left : List Fed) (task : Fed) (later : List Fed) → Feeds left task later → IsTask task → left ≡ task ∷ later
-took [] task later feeds is = absurd (subst IsTask feeds.0 is)
-took (next ∷ rest) task later feeds is = ap (λ t. t ∷ rest) (sym feeds.0) ∙ ap (λ r. task ∷ r) (sym feeds.2)
-
-pub task_of : (left : List Fed) (task : Fed) (later : List Fed) → Feeds left task later → (task ≡ fed.End → ⊥) → IsTask task
-task_of [] task later feeds some = absurd (some feeds.0)
-task_of (next ∷ rest) task later feeds some = subst IsTask (sym feeds.0) feeds.1
-
--- at the end nothing is left
-pub nothing_left : (left later : List Fed) → Feeds left fed.End later → left ≡ []
-nothing_left [] later feeds = refl
-nothing_left (next ∷ rest) later feeds = absurd (subst IsTask (sym feeds.0) feeds.1)
-
--- and nothing behind it
-nothing_behind : (left later : List Fed) → Feeds left fed.End later → later ≡ []
-nothing_behind [] later feeds = feeds.1
-nothing_behind (next ∷ rest) later feeds = absurd (subst IsTask (sym feeds.0) feeds.1)
-
-first_may : (basis : Basis) (number : ℕ) (left : List Fed) (task : Fed) (later : List Fed) → left ≡ task ∷ later → All (MayFeed basis.owners basis.terms number) left → MayFeed basis.owners basis.terms number task
-first_may basis number left task later is all = subst (All (MayFeed basis.owners basis.terms number)) is all 0 task (omega arith)
-
-later_may : (basis : Basis) (number : ℕ) (left : List Fed) (task : Fed) (later : List Fed) → left ≡ task ∷ later → All (MayFeed basis.owners basis.terms number) left → All (MayFeed basis.owners basis.terms number) later
-later_may basis number left task later is all k d within = subst (All (MayFeed basis.owners basis.terms number)) is all (suc k) d (omega (arith, within))
 
 few_samples : (feds : List Fed) → length (samples_of feds) ≤ length feds
 few_samples [] = omega arith
@@ -210,80 +192,63 @@ ends_last u number task later (Stopped mark) ends = refl
 ends_last u number task later (DiskFault before after) ends = refl
 ends_last u number task later Memory ends = refl
 
-module _ (old mid : Place) (feds left : List Fed) (n : ℕ) (has : HasDone old mid feds left n) where
-  -- the next task
-  pub next_may : (task : Fed) (later : List Fed) → Feeds left task later → IsTask task → MayFeed mid.know.basis.owners mid.know.basis.terms mid.number task
-  next_may task later feeds is = first_may mid.know.basis mid.number left task later (took left task later feeds is) has.may
+-- where something was not done, the work did not end with the feed
+not_done : (u : View) (number : ℕ) (task : Fed) (later : List Fed) (how : Ended) → Ends u number (task ∷ later) how → how ≡ Done → ⊥
+not_done u number task later how ends is = omega (arith, ends_last u number task later how ends, ap turns_for is)
 
+module _ (old mid : Place) (done : List Fed) (n : ℕ) (has : HasDone old mid done n) where
   module _ (new : Place) (seat : IsSameSeat mid new) (task : Fed) (turn : HasTurns mid.know new.know) (due : OnlyDueOf mid.know new.know (task ∷ [])) where
     same_seat : IsSameSeat old new
     same_seat = record { table_is = seat.table_is ∙ has.seat.table_is; number_is = seat.number_is ∙ has.seat.number_is }
 
-    parts_on : (later : List Fed) → Feeds left task later → IsTask task → has.done ++ task ∷ later ≡ feds
-    parts_on later feeds is = ap (λ l. has.done ++ l) (sym (took left task later feeds is)) ∙ has.parts
+    due_now : OnlyDueOf old.know new.know (done ++ task ∷ [])
+    due_now = due_more old.know mid.know new.know done task [] (done ++ task ∷ []) refl (due_longer old.know mid.know done (task ∷ []) has.due) due
 
-    due_now : (later : List Fed) → Feeds left task later → IsTask task → OnlyDueOf old.know new.know feds
-    due_now later feeds is = due_more old.know mid.know new.know has.done task later feds (parts_on later feeds is) has.due due
+    -- the next was done
+    pub done_on : (m : ℕ) → Does mid.know new.know mid.number (task ∷ []) m → HasDone old new (done ++ task ∷ []) (n + m)
+    done_on m does = record {
+      seat = same_seat;
+      does = does_more old.know mid.know new.know old.number done (task ∷ []) n m has.does
+          (subst (λ k. Does mid.know new.know k (task ∷ []) m) has.seat.number_is does);
+      turns = omega (arith, turn.some, has.turns, length-append done (task ∷ []));
+      few_turns = omega (arith, turn.few, has.few_turns, length-append done (task ∷ []));
+      due = due_now;
+    }
 
-    -- was done
-    pub done_on : (later : List Fed) (m : ℕ) → Feeds left task later → IsTask task → Does mid.know new.know mid.number (task ∷ []) m
-        → HasDone old new feds later (n + m)
-    done_on later m feeds is does =
-        let first = took left task later feeds is in
-        record {
-          seat = same_seat;
-          done = has.done ++ task ∷ [];
-          parts = append_assoc has.done (task ∷ []) later ∙ parts_on later feeds is;
-          does = does_more old.know mid.know new.know old.number has.done (task ∷ []) n m has.does
-              (subst (λ k. Does mid.know new.know k (task ∷ []) m) has.seat.number_is does);
-          turns = omega (arith, turn.some, has.turns, length-append has.done (task ∷ []));
-          few_turns = omega (arith, turn.few, has.few_turns, length-append has.done (task ∷ []));
-          due = due_now later feeds is;
-          may = subst (λ (b : Basis). All (MayFeed b.owners b.terms new.number) later) (sym does.later.basis_is)
-              (subst (λ k. All (MayFeed mid.know.basis.owners mid.know.basis.terms k) later) (sym seat.number_is) (later_may mid.know.basis mid.number left task later first has.may));
-        }
-
-    -- so many samples are no more than the feed had
-    pub few_more : (later : List Fed) (m : ℕ) → Feeds left task later → IsTask task → Does mid.know new.know mid.number (task ∷ []) m
-        → n + m ≤ length feds
-    few_more later m feeds is does =
-        let all = done_on later m feeds is does in
-        omega (arith, all.does.counted, few_samples all.done, ap length all.parts, length-append all.done later)
+    -- so many samples are no more than were handed in
+    pub few_more : (m : ℕ) → Does mid.know new.know mid.number (task ∷ []) m → n + m ≤ length (done ++ task ∷ [])
+    few_more m does =
+        let all = done_on m does in
+        omega (arith, all.does.counted, few_samples (done ++ task ∷ []))
 
     -- or was not, and the work ends
-    pub stopped_at : (later : List Fed) (how : Ended) → Feeds left task later → IsTask task → Does mid.know new.know mid.number [] 0
-        → ((rest : List Fed) → Ends new.know new.number (task ∷ rest) how) → HasDriven old new feds n how
-    stopped_at later how feeds is does ends =
-        let more = does_more old.know mid.know new.know old.number has.done [] n 0 has.does
+    pub stopped_at : (how : Ended) → Does mid.know new.know mid.number [] 0 → ((rest : List Fed) → Ends new.know new.number (task ∷ rest) how)
+        → HasDriven old new (done ++ task ∷ []) n how
+    stopped_at how does ends =
+        let more = does_more old.know mid.know new.know old.number done [] n 0 has.does
         (subst (λ k. Does mid.know new.know k [] 0) has.seat.number_is does) in
         record {
           seat = same_seat;
           drives = record {
-            done = has.done ++ [];
-            rest = task ∷ later;
-            parts = ap (λ d. d ++ (task ∷ later)) (append-nil has.done) ∙ parts_on later feeds is;
-            does = subst (λ k. Does old.know new.know old.number (has.done ++ []) k) (omega arith) more;
-            turns = omega (arith, turn.some, has.turns, ends_last new.know new.number task later how (ends later), length-append has.done []);
-            few_turns = omega (arith, turn.few, has.few_turns, ends_last new.know new.number task later how (ends later), length-append has.done []);
-            due = due_now later feeds is;
-            ends = subst (λ k. Ends new.know k (task ∷ later) how) same_seat.number_is (ends later);
+            done = done ++ [];
+            rest = task ∷ [];
+            parts = ap (λ d. d ++ (task ∷ [])) (append-nil done);
+            does = subst (λ k. Does old.know new.know old.number (done ++ []) k) (omega arith) more;
+            turns = omega (arith, turn.some, has.turns, ends_last new.know new.number task [] how (ends []), length-append done []);
+            few_turns = omega (arith, turn.few, has.few_turns, ends_last new.know new.number task [] how (ends []), length-append done []);
+            due = due_now;
+            ends = subst (λ k. Ends new.know k (task ∷ []) how) same_seat.number_is (ends []);
           };
         }
 
-    -- what is behind it is left of the feed
-    pub fed_stopped : (later : List Fed) (how : Ended) → Feeds left task later → IsTask task → Does mid.know new.know mid.number [] 0
-        → ((rest : List Fed) → Ends new.know new.number (task ∷ rest) how) → HasFed old new feds n how later
-    unfolding stopped_at
-    fed_stopped later how feeds is does ends = record { driven = stopped_at later how feeds is does ends; left_is = refl }
-
   -- the feed has ended
-  pub all_done : (later : List Fed) → Feeds left fed.End later → HasDriven old mid feds n Done
-  all_done later feeds = record {
+  pub all_done : HasDriven old mid done n Done
+  all_done = record {
     seat = has.seat;
     drives = record {
-      done = has.done;
+      done = done;
       rest = [];
-      parts = ap (λ l. has.done ++ l) (sym (nothing_left left later feeds)) ∙ has.parts;
+      parts = append-nil done;
       does = has.does;
       turns = omega (arith, has.turns);
       few_turns = omega (arith, has.few_turns);
@@ -292,46 +257,101 @@ module _ (old mid : Place) (feds left : List Fed) (n : ℕ) (has : HasDone old m
     };
   }
 
-  -- and nothing is left of it
-  pub fed_all : (later : List Fed) → Feeds left fed.End later → HasFed old mid feds n Done later
-  unfolding all_done
-  fed_all later feeds = record { driven = all_done later feeds; left_is = nothing_behind left later feeds }
+-- what a feed handed in that is no end
+pub took : {F : Type 0} (hands : F → List Fed → F → Type 0) (ends : F → Type 0) (old : F) (task : Fed) (new : F) → Feeds hands ends old task new → (task ≡ fed.End → ⊥)
+    → hands old (task ∷ []) new
+took hands ends old (fed.Sample sample) new feeds some = feeds
+took hands ends old fed.Flush new feeds some = feeds
+took hands ends old fed.End new feeds some = absurd (some refl)
 
--- what a source was driven to so far, and its follower was told of each flush
-pub record HasTold {L : Type 0} (hears : L → List ℕ → L → Type 0) (old new : Place) (feds left : List Fed) (accepted : ℕ) (follower follower' : L) : Type 0 where
-  pub done : HasDone old new feds left accepted
+pub task_of : (task : Fed) → (task ≡ fed.End → ⊥) → IsTask task
+task_of (fed.Sample sample) some = tt
+task_of fed.Flush some = tt
+task_of fed.End some = absurd (some refl)
+
+last_may : (basis : Basis) (number : ℕ) (done : List Fed) (task : Fed) → All (MayFeed basis.owners basis.terms number) (done ++ task ∷ []) → MayFeed basis.owners basis.terms number task
+last_may basis number done task all =
+    subst (MayFeed basis.owners basis.terms number) (get_or_at done task [] task (length done) refl) (all (length done) task (omega (arith, length-append done (task ∷ []))))
+
+-- What a source was driven to so far over its feed: just what that handed in was done, and its follower was told of each flush.
+pub record HasLed {F L : Type 0} (hands : F → List Fed → F → Type 0) (hears : L → List ℕ → L → Type 0) (old new : Place) (accepted : ℕ) (feed feed' : F) (follower follower' : L) : Type 0 where
+  pub handed : List Fed
+  pub fed : hands feed handed feed'
+  pub done : HasDone old new handed accepted
   pub shown : List ℕ
-  pub count : length shown ≡ flushes_of done.done
+  pub count : length shown ≡ flushes_of handed
   pub heard : hears follower shown follower'
 
-pub told_first : {L : Type 0} (hears : L → List ℕ → L → Type 0) (none : (l : L) → hears l [] l) (follower : L) (seat : Place) (feds : List Fed)
-    → All (MayFeed seat.know.basis.owners seat.know.basis.terms seat.number) feds → HasTold hears seat seat feds feds 0 follower follower
-unfolding done_first
-told_first hears none follower seat feds may = record { done = done_first seat feds may; shown = []; count = refl; heard = none follower }
+module _ {F L : Type 0} (hands : F → List Fed → F → Type 0) (ends : F → Type 0) (hands_none : (f : F) → hands f [] f)
+    (hands_more : (first second third : F) (some more : List Fed) → hands first some second → hands second more third → hands first (some ++ more) third)
+    (hears : L → List ℕ → L → Type 0) (hears_none : (l : L) → hears l [] l)
+    (hears_more : (first second third : L) (n m : List ℕ) → hears first n second → hears second m third → hears first (n ++ m) third) where
+  pub led_first : (seat : Place) (feed : F) (follower : L) → HasLed hands hears seat seat 0 feed feed follower follower
+  led_first seat feed follower = record {
+    handed = [];
+    fed = hands_none feed;
+    done = done_first seat;
+    shown = [];
+    count = refl;
+    heard = hears_none follower;
+  }
 
-module _ {L : Type 0} (hears : L → List ℕ → L → Type 0) (more : (first second third : L) (n m : List ℕ) → hears first n second → hears second m third → hears first (n ++ m) third)
-    (old mid : Place) (feds left : List Fed) (n : ℕ) (first second : L) (has : HasTold hears old mid feds left n first second) where
-  module _ (new : Place) (seat : IsSameSeat mid new) (task : Fed) (turn : HasTurns mid.know new.know) (due : OnlyDueOf mid.know new.know (task ∷ [])) (third : L) where
-    pub told_on : (later : List Fed) (m : ℕ) → Feeds left task later → IsTask task → Does mid.know new.know mid.number (task ∷ []) m
-        → (shown : List ℕ) × (length shown ≡ flushes_of (task ∷ [])) × hears second shown third → HasTold hears old new feds later (n + m) first third
-    unfolding done_on
-    told_on later m feeds is does told = record {
-      done = done_on old mid feds left n has.done new seat task turn due later m feeds is does;
-      shown = has.shown ++ told.0;
-      count = omega (arith, length-append has.shown told.0, has.count, told.1, flushes_of-append has.done.done (task ∷ []));
-      heard = more first second third has.shown told.0 has.heard told.2;
-    }
+  module _ (table : TableId) (old mid : Place) (n : ℕ) (feed feed' : F) (follower follower' : L) (has : HasLed hands hears old mid n feed feed' follower follower')
+      (ready : IsReady table old (λ feds. (later : F) × hands feed feds later)) where
+    -- the feed has ended, and was left
+    pub led_all : (now left : F) → hands feed' [] now × ends now → hands now [] left → (ends now → ends left) → HasWorked hands ends hears old mid n Done feed left follower follower'
+    unfolding all_done
+    led_all now left over leaves stays =
+        let handed = has.handed in record {
+          handed = handed;
+          fed = subst (λ (fs : List Fed). hands feed fs left) (append-nil (handed ++ []) ∙ append-nil handed)
+              (hands_more feed now left (handed ++ []) [] (hands_more feed feed' now handed [] has.fed over.0) leaves);
+          driven = all_done old mid handed n has.done;
+          one = omega arith;
+          ended = λ is. stays over.1;
+          shown = has.shown;
+          count = has.count;
+          heard = has.heard;
+        }
 
-    pub heard_stopped : (later : List Fed) (how : Ended) → Feeds left task later → IsTask task → Does mid.know new.know mid.number [] 0
-        → ((rest : List Fed) → Ends new.know new.number (task ∷ rest) how) → third ≡ second → HasHeard hears old new feds n how first third
-    unfolding stopped_at
-    heard_stopped later how feeds is does ends same = record {
-      driven = stopped_at old mid feds left n has.done new seat task turn due later how feeds is does ends;
-      shown = has.shown;
-      count = has.count ∙ ap flushes_of (sym (append-nil has.done.done));
-      heard = subst (hears first has.shown) (sym same) has.heard;
-    }
+    module _ (task : Fed) (now : F) (fed : hands feed' (task ∷ []) now) where
+      on : hands feed (has.handed ++ task ∷ []) now
+      on = hands_more feed feed' now has.handed (task ∷ []) has.fed fed
 
-  pub heard_all : (later : List Fed) → Feeds left fed.End later → HasHeard hears old mid feds n Done first second
-  unfolding all_done
-  heard_all later feeds = record { driven = all_done old mid feds left n has.done later feeds; shown = has.shown; count = has.count; heard = has.heard }
+      -- the task may be done
+      pub led_may : MayFeed mid.know.basis.owners mid.know.basis.terms mid.number task
+      led_may = subst (λ (b : Basis). MayFeed b.owners b.terms mid.number task) (sym has.done.does.later.basis_is)
+          (subst (λ k. MayFeed old.know.basis.owners old.know.basis.terms k task) (sym has.done.seat.number_is)
+          (last_may old.know.basis old.number has.handed task (ready.fits (has.handed ++ task ∷ []) (now, on))))
+
+      module _ (new : Place) (seat : IsSameSeat mid new) (turn : HasTurns mid.know new.know) (due : OnlyDueOf mid.know new.know (task ∷ [])) (follower'' : L) where
+        -- it was
+        pub led_on : (m : ℕ) → Does mid.know new.know mid.number (task ∷ []) m → (shown : List ℕ) × (length shown ≡ flushes_of (task ∷ [])) × hears follower' shown follower''
+            → HasLed hands hears old new (n + m) feed now follower follower''
+        led_on m does told = record {
+          handed = has.handed ++ task ∷ [];
+          fed = on;
+          done = done_on old mid has.handed n has.done new seat task turn due m does;
+          shown = has.shown ++ told.0;
+          count = omega (arith, length-append has.shown told.0, has.count, told.1, flushes_of-append has.handed (task ∷ []));
+          heard = hears_more follower follower' follower'' has.shown told.0 has.heard told.2;
+        }
+
+        pub led_few : (m : ℕ) → Does mid.know new.know mid.number (task ∷ []) m → n + m < 2 ^ 64
+        led_few m does =
+            omega (arith, few_more old mid has.handed n has.done new seat task turn due m does, ready.few (has.handed ++ task ∷ []) (now, on))
+
+        -- or it was not, the work ends, and the feed was left
+        pub led_stopped : (how : Ended) (left : F) → Does mid.know new.know mid.number [] 0 → ((rest : List Fed) → Ends new.know new.number (task ∷ rest) how) → follower'' ≡ follower'
+            → hands now [] left → HasWorked hands ends hears old new n how feed left follower follower''
+        unfolding stopped_at
+        led_stopped how left does stop same leaves = record {
+          handed = has.handed ++ task ∷ [];
+          fed = subst (λ (fs : List Fed). hands feed fs left) (append-nil (has.handed ++ task ∷ [])) (hands_more feed now left (has.handed ++ task ∷ []) [] on leaves);
+          driven = stopped_at old mid has.handed n has.done new seat task turn due how does stop;
+          one = omega arith;
+          ended = λ is. absurd (not_done new.know new.number task [] how (stop []) is);
+          shown = has.shown;
+          count = has.count ∙ ap flushes_of (sym (append-nil has.handed));
+          heard = subst (hears follower has.shown) (sym same) has.heard;
+        }

@@ -15,11 +15,12 @@ use Rattle.book_shared.specs.Rule.{asks}
 use Rattle.book_shared.specs.Place.{Place}
 use Rattle.book_shared.specs.Seats.{new_seat, new_seats, AreOf, AskedBy, DueBy, HasNumber, Closed, Closes}
 use Rattle.book_shared.proofs.Beginning.{new_seats-length}
-use Rattle.acq_run.specs.Tasks.{MayFeed, samples_of}
-use Rattle.acq_run.specs.Works.{AreMarked, Ends, HasDriven, HasRoomNext, IsFlushed, IsOver}
-use Rattle.acq_run.specs.Workers.{IsReady, driven_of}
-use Rattle.acq_run.specs.Ran.{AllMayFeed, AllRan, AskedFor, DueFor, EndsIn, Ran, seen_by}
-use Rattle.acq_run.specs.declared.tasks.Fed.{Fed}
+use Rattle.acq_feed.specs.Feeds.{samples_of}
+use Rattle.acq_run.specs.Tasks.{MayFeed}
+use Rattle.acq_run.specs.Works.{AreMarked, Ends, HasDriven, HasRoomNext, HasWorked, IsFlushed, IsOver}
+use Rattle.acq_run.specs.Workers.{CanHand, HasWorkedOn, IsReady, driven_of}
+use Rattle.acq_run.specs.Ran.{AllEnded, AllHanded, AllMayHand, AllRan, AskedFor, DueFor, EndsIn, Ran, seen_by}
+use Rattle.acq_feed.specs.declared.feed.Fed.{Fed}
 use Rattle.acq_run.specs.declared.work.Driven.{Driven}
 use Rattle.acq_run.specs.declared.work.Ended.{Ended}
 use Rattle.acq_run.specs.declared.work.Ended.TheVariants.{Running, Done, SessionFull, Stopped, DiskFault, Memory}
@@ -57,10 +58,14 @@ module _ {D V : Type 0} (basis : Basis) (book : Account D V) (terms : book.terms
     ends = ends_in basis book seat number driven.drives.rest how closed (ap (λ (b : Basis). b.terms) same_basis ∙ sym terms) driven.drives.ends;
   }
 
-  -- what is said to be done of it is what its work did
+  -- what is said to be done of it is what its work did, and so is what is not
   pub done_of : ran_of.done ≡ driven.drives.done
   unfolding ran_of
   done_of = refl
+
+  pub rest_of : ran_of.rest ≡ driven.drives.rest
+  unfolding ran_of
+  rest_of = refl
 
 -- some of two counts
 some_of : (a b : ℕ) → 0 < a + b → (0 < a) ⊎ (0 < b)
@@ -87,7 +92,7 @@ pub seats_count : (table : TableId) (basis : Basis) (seats : List Place) (source
 seats_count table basis seats sources is = ap length is ∙ new_seats-length table basis 0 sources
 
 -- all sources
-module _ {F L : Type 0} (left : F → List Fed) (table : TableId) (basis : Basis) where
+module _ {F L : Type 0} (hands : F → List Fed → F → Type 0) (ends : F → Type 0) (hears : L → List ℕ → L → Type 0) (table : TableId) (basis : Basis) where
   abbrev pub seats_of : List (Worker F L) → List Place
   seats_of workers = map (λ (w : Worker F L). w.seat) workers
 
@@ -116,24 +121,46 @@ module _ {F L : Type 0} (left : F → List Fed) (table : TableId) (basis : Basis
       → seats_of workers ≡ new_seats table basis 0 (length workers)
   seated workers seats sources are is = are ∙ is ∙ ap (new_seats table basis 0) (sym (seated_count workers seats sources are is))
 
-  -- each worker was driven from a new seat, with the feed that it had
+  -- a worker worked from a seat
+  abbrev WorkedFrom : Place → Worker F L → Worker F L → Type 0
+  WorkedFrom seat old new = HasWorked hands ends hears seat new.seat new.accepted new.ended old.feed new.feed old.follower new.follower
+
+  -- each worker worked from a new seat
   abbrev pub AllDriven : ℕ → List (Worker F L) → List (Worker F L) → Type 0
   AllDriven first [] [] = Unit {0}
-  AllDriven first (old ∷ olds) (new ∷ news) =
-      HasDriven (new_seat table basis first) new.seat (left old.feed) new.accepted new.ended × AllDriven (suc first) olds news
+  AllDriven first (old ∷ olds) (new ∷ news) = WorkedFrom (new_seat table basis first) old new × AllDriven (suc first) olds news
   AllDriven first _ _ = ⊥
 
+  -- what their feeds handed in
+  abbrev pub handed_of : (first : ℕ) (olds news : List (Worker F L)) → AllDriven first olds news → List (List Fed)
+  handed_of first [] [] all = []
+  handed_of first [] (new ∷ news) all = []
+  handed_of first (old ∷ olds) [] all = []
+  handed_of first (old ∷ olds) (new ∷ news) all = all.0.handed ∷ handed_of (suc first) olds news all.1
+
   pub all_driven : (first : ℕ) (olds news : List (Worker F L)) → seats_of olds ≡ new_seats table basis first (length olds) → length news ≡ length olds
-      → ((k : ℕ) (d : Worker F L) → k < length olds
-      → HasDriven (get_or olds k d).seat (get_or news k d).seat (left (get_or olds k d).feed) (get_or news k d).accepted (get_or news k d).ended)
+      → ((k : ℕ) (d : Worker F L) → k < length olds → HasWorkedOn hands ends hears (get_or olds k d) (get_or news k d))
       → AllDriven first olds news
   all_driven first [] [] seats same each = tt
   all_driven first [] (new ∷ news) seats same each = absurd (omega (arith, same))
   all_driven first (old ∷ olds) [] seats same each = absurd (omega (arith, same))
   all_driven first (old ∷ olds) (new ∷ news) seats same each = (
-    subst (λ (s : Place). HasDriven s new.seat (left old.feed) new.accepted new.ended) (first_seat first old olds seats) (each 0 old (omega arith)),
+    subst (λ (s : Place). WorkedFrom s old new) (first_seat first old olds seats) (each 0 old (omega arith)),
     all_driven (suc first) olds news (later_seats first old olds seats) (omega (arith, same)) (λ k d within. each (suc k) d (omega (arith, within))),
   )
+
+  -- and what is left of them
+  pub all_handed : (first : ℕ) (olds news : List (Worker F L)) (all : AllDriven first olds news) → AllHanded hands (feeds_of olds) (handed_of first olds news all) (feeds_of news)
+  all_handed first [] [] all = tt
+  all_handed first [] (new ∷ news) all = absurd all
+  all_handed first (old ∷ olds) [] all = absurd all
+  all_handed first (old ∷ olds) (new ∷ news) all = (all.0.fed, all_handed (suc first) olds news all.1)
+
+  pub all_ended : (first : ℕ) (olds news : List (Worker F L)) → AllDriven first olds news → AllEnded ends (map driven_of news) (feeds_of news)
+  all_ended first [] [] all = tt
+  all_ended first [] (new ∷ news) all = absurd all
+  all_ended first (old ∷ olds) [] all = absurd all
+  all_ended first (old ∷ olds) (new ∷ news) all = (all.0.ended, all_ended (suc first) olds news all.1)
 
   -- this is what each has seen
   abbrev pub AllSaw : List (List Sample) → ℕ → List (Worker F L) → Type 0
@@ -165,63 +192,64 @@ module _ {F L : Type 0} (left : F → List Fed) (table : TableId) (basis : Basis
   of_table first [] [] all = tt
   of_table first [] (new ∷ news) all = absurd all
   of_table first (old ∷ olds) [] all = absurd all
-  of_table first (old ∷ olds) (new ∷ news) all = (all.0.seat.table_is, of_table (suc first) olds news all.1)
+  of_table first (old ∷ olds) (new ∷ news) all = (all.0.driven.seat.table_is, of_table (suc first) olds news all.1)
 
   pub has_number : (first : ℕ) (olds news : List (Worker F L)) → AllDriven first olds news → (n : ℕ) → first ≤ n → n < first + length olds → HasNumber n (seats_of news)
   has_number first [] [] all n low high = absurd (omega (arith, low, high))
   has_number first [] (new ∷ news) all n low high = absurd all
   has_number first (old ∷ olds) [] all n low high = absurd all
   has_number first (old ∷ olds) (new ∷ news) all n low high = ⊎_elim
-      (λ same. inl (all.0.seat.number_is ∙ sym same))
+      (λ same. inl (all.0.driven.seat.number_is ∙ sym same))
       (λ differs. inr (has_number (suc first) olds news all.1 n (above first n low differs) (omega (arith, high)))) (cases_eq n first) where
         above : (a b : ℕ) → a ≤ b → (b ≡ a → ⊥) → suc a ≤ b
         above a b low differs = ⊎_elim (λ less. omega (arith, less)) (λ more. absurd (differs (omega (arith, low, more)))) (cases_lt a b)
 
   -- what the seats had to append is of the feeds
-  all_due : (first : ℕ) (olds news : List (Worker F L)) → AllDriven first olds news → (sample : Sample) → DueBy (seats_of news) sample → DueFor (map left (feeds_of olds)) sample
+  all_due : (first : ℕ) (olds news : List (Worker F L)) (all : AllDriven first olds news) → (sample : Sample) → DueBy (seats_of news) sample
+      → DueFor (handed_of first olds news all) sample
   all_due first [] [] all sample there = absurd there
   all_due first [] (new ∷ news) all sample there = absurd all
   all_due first (old ∷ olds) [] all sample there = absurd all
   all_due first (old ∷ olds) (new ∷ news) all sample there = ⊎_elim
-      (λ here. inl (due_of table basis first new.seat (left old.feed) new.accepted new.ended all.0 sample here))
+      (λ here. inl (due_of table basis first new.seat all.0.handed new.accepted new.ended all.0.driven sample here))
       (λ later. inr (all_due (suc first) olds news all.1 sample later)) there
 
   module _ {D V : Type 0} (owners : List ℕ) (alike : (group : ℕ) → slice_index basis.owners group ≡ slice_index owners group) (book : Account D V) (terms : book.terms ≡ basis.terms) where
-    pub all_ran : (seen : List (List Sample)) (first : ℕ) (olds news : List (Worker F L)) → AllSaw seen first news → AllDriven first olds news → Closes basis book (seats_of news)
-        → AllRan owners book seen first (map left (feeds_of olds)) (map driven_of news)
+    pub all_ran : (seen : List (List Sample)) (first : ℕ) (olds news : List (Worker F L)) → AllSaw seen first news → (all : AllDriven first olds news) → Closes basis book (seats_of news)
+        → AllRan owners book seen first (handed_of first olds news all) (map driven_of news)
     all_ran seen first [] [] saw all closes = tt
     all_ran seen first [] (new ∷ news) saw all closes = absurd all
     all_ran seen first (old ∷ olds) [] saw all closes = absurd all
     all_ran seen first (old ∷ olds) (new ∷ news) saw all closes = (
-      subst (λ s. Ran owners book first s (left old.feed) (driven_of new)) (sym saw.0)
-          (ran_same basis.owners owners alike first book new.seat.know.seen (left old.feed) (driven_of new)
-          (ran_of basis book terms table first new.seat closes.0 (left old.feed) new.accepted new.ended all.0)),
+      subst (λ s. Ran owners book first s all.0.handed (driven_of new)) (sym saw.0)
+          (ran_same basis.owners owners alike first book new.seat.know.seen all.0.handed (driven_of new)
+          (ran_of basis book terms table first new.seat closes.0 all.0.handed new.accepted new.ended all.0.driven)),
       all_ran seen (suc first) olds news saw.1 all.1 closes.1,
     )
 
     -- what the seats asked for was asked for by the flushes of the feeds
-    all_asked : (first : ℕ) (olds news : List (Worker F L)) → AllDriven first olds news → Closes basis book (seats_of news) → (n : ℕ) → AskedBy (seats_of news) n
-        → AskedFor owners first (map left (feeds_of olds)) book.history n
+    all_asked : (first : ℕ) (olds news : List (Worker F L)) (all : AllDriven first olds news) → Closes basis book (seats_of news) → (n : ℕ) → AskedBy (seats_of news) n
+        → AskedFor owners first (handed_of first olds news all) book.history n
     all_asked first [] [] all closes n there = absurd (omega (arith, there))
     all_asked first [] (new ∷ news) all closes n there = absurd all
     all_asked first (old ∷ olds) [] all closes n there = absurd all
     all_asked first (old ∷ olds) (new ∷ news) all closes n there = ⊎_elim
-        (λ here. inl (flushed_same basis.owners owners alike first book.history [] (left old.feed) n
-        (asked_of basis book table first new.seat closes.0 (left old.feed) new.accepted new.ended all.0 n here)))
+        (λ here. inl (flushed_same basis.owners owners alike first book.history [] all.0.handed n
+        (asked_of basis book table first new.seat closes.0 all.0.handed new.accepted new.ended all.0.driven n here)))
         (λ later. inr (all_asked (suc first) olds news all.1 closes.1 n later))
         (some_of (asks n new.seat.know) _ there)
 
   -- the workers may begin
   pub all_ready : (owners : List ℕ) (terms : Terms) → ((group : ℕ) → slice_index basis.owners group ≡ slice_index owners group) → basis.terms ≡ terms
       → (first : ℕ) (workers : List (Worker F L)) → seats_of workers ≡ new_seats table basis first (length workers)
-      → AllMayFeed owners terms first (map left (feeds_of workers)) → All (λ (w : Worker F L). IsReady table w.seat (left w.feed)) workers
+      → AllMayHand hands owners terms first (feeds_of workers) → All (λ (w : Worker F L). IsReady table w.seat (CanHand hands w.feed)) workers
   all_ready owners terms alike same first [] seats may k d within = absurd (omega (arith, within))
   all_ready owners terms alike same first (worker ∷ workers) seats may zero d within =
-      subst (λ (s : Place). IsReady table s (left worker.feed)) (sym (first_seat first worker workers seats)) (record {
+      subst (λ (s : Place). IsReady table s (CanHand hands worker.feed)) (sym (first_seat first worker workers seats)) (record {
         table_is = refl;
-        fits = λ k d less. may_same basis.owners owners alike first basis.terms (get_or (left worker.feed) k d)
-            (subst (λ t. MayFeed owners t first (get_or (left worker.feed) k d)) (sym same) (may.0.0 k d less));
-        few = may.0.1;
+        fits = λ feds can k d less. may_same basis.owners owners alike first basis.terms (get_or feds k d)
+            (subst (λ t. MayFeed owners t first (get_or feds k d)) (sym same) ((may.0 feds can).0 k d less));
+        few = λ feds can. (may.0 feds can).1;
       })
   all_ready owners terms alike same first (worker ∷ workers) seats may (suc k) d within =
       all_ready owners terms alike same (suc first) workers (later_seats first worker workers seats) may.1 k d (omega (arith, within))
@@ -249,7 +277,7 @@ module _ {F L : Type 0} (left : F → List Fed) (table : TableId) (basis : Basis
       still_follow first (old ∷ olds) [] all closes each k d within = absurd all
       still_follow first (old ∷ olds) (new ∷ news) all closes each zero d within =
           stays new.follower basis.terms.which new.seat.know.seen book.history
-          (subst (λ (b : Basis). follows new.follower b.terms.which new.seat.know.seen) all.0.drives.does.later.basis_is (each 0 new (omega arith))) closes.0.seen
+          (subst (λ (b : Basis). follows new.follower b.terms.which new.seat.know.seen) all.0.driven.drives.does.later.basis_is (each 0 new (omega arith))) closes.0.seen
       still_follow first (old ∷ olds) (new ∷ news) all closes each (suc k) d within =
           still_follow (suc first) olds news all.1 closes.1 (λ j e less. each (suc j) e (omega (arith, less))) k d (omega (arith, within))
 
@@ -262,8 +290,7 @@ module _ {F L : Type 0} (left : F → List Fed) (table : TableId) (basis : Basis
 
   pub have_worked : (workers lent news : List (Worker F L)) (len sources : ℕ) (seats : List Place) (feeds : List F) → seats_of workers ≡ seats
       → seats ≡ new_seats table basis 0 sources → feeds_of workers ≡ feeds → lent ≡ workers → length news ≡ length lent → length lent ≡ len
-      → ((k : ℕ) (d : Worker F L) → k < length lent
-      → HasDriven (get_or lent k d).seat (get_or news k d).seat (left (get_or lent k d).feed) (get_or news k d).accepted (get_or news k d).ended)
+      → ((k : ℕ) (d : Worker F L) → k < length lent → HasWorkedOn hands ends hears (get_or lent k d) (get_or news k d))
       → HaveWorked lent news (take len (news ++ drop (length news) workers)) feeds
   have_worked workers lent news len sources seats feeds are is fed same long lent_is each = record {
     all = all_driven 0 lent news (subst (λ (ws : List (Worker F L)). seats_of ws ≡ new_seats table basis 0 (length ws)) (sym same) (seated workers seats sources are is)) long each;
@@ -273,6 +300,20 @@ module _ {F L : Type 0} (left : F → List Fed) (table : TableId) (basis : Basis
   }
 
   module _ (lent news after : List (Worker F L)) (feeds : List F) (worked : HaveWorked lent news after feeds) where
+    -- what the feeds handed in
+    abbrev pub handed_in : List (List Fed)
+    handed_in = handed_of 0 lent news worked.all
+
+    pub worked_handed : (rest : List F) → rest ≡ feeds_of after → AllHanded hands feeds handed_in rest
+    worked_handed rest are =
+        subst (AllHanded hands feeds handed_in) (sym (are ∙ ap feeds_of worked.after_is))
+        (subst (λ fs. AllHanded hands fs handed_in (feeds_of news)) worked.feeds_are (all_handed 0 lent news worked.all))
+
+    pub worked_ended : (rest : List F) (all : List Driven) → rest ≡ feeds_of after → all ≡ map driven_of after → AllEnded ends all rest
+    worked_ended rest all are is =
+        subst (AllEnded ends all) (sym (are ∙ ap feeds_of worked.after_is))
+        (subst (λ ds. AllEnded ends ds (feeds_of news)) (sym (is ∙ ap (λ (ws : List (Worker F L)). map driven_of ws) worked.after_is)) (all_ended 0 lent news worked.all))
+
     pub worked_of_table : (seats : List Place) → seats ≡ seats_of after → AreOf table seats
     worked_of_table seats are = subst (AreOf table) (sym (are ∙ ap seats_of worked.after_is)) (of_table 0 lent news worked.all)
 
@@ -284,10 +325,8 @@ module _ {F L : Type 0} (left : F → List Fed) (table : TableId) (basis : Basis
     pub worked_count : {B : Type 0} (f : Worker F L → B) (made : List B) → made ≡ map f after → length made ≡ length feeds
     worked_count f made are = omega (arith, ap length are, length-map after f, ap length worked.after_is, all_long 0 lent news worked.all, worked.count)
 
-    pub worked_due : (seats : List Place) → seats ≡ seats_of after → (sample : Sample) → DueBy seats sample → DueFor (map left feeds) sample
-    worked_due seats are sample there =
-        subst (λ fs. DueFor (map left fs) sample) worked.feeds_are
-        (all_due 0 lent news worked.all sample (subst (λ ss. DueBy ss sample) (are ∙ ap seats_of worked.after_is) there))
+    pub worked_due : (seats : List Place) → seats ≡ seats_of after → (sample : Sample) → DueBy seats sample → DueFor handed_in sample
+    worked_due seats are sample there = all_due 0 lent news worked.all sample (subst (λ ss. DueBy ss sample) (are ∙ ap seats_of worked.after_is) there)
 
     pub worked_seen : (seats : List Place) → seats ≡ seats_of after → length (seen_by seats) ≡ length feeds
     worked_seen seats are = length-map seats (λ (seat : Place). seat.know.seen) ∙ worked_count (λ (w : Worker F L). w.seat) seats are
@@ -306,16 +345,14 @@ module _ {F L : Type 0} (left : F → List Fed) (table : TableId) (basis : Basis
 
     module _ {D V : Type 0} (owners : List ℕ) (alike : (group : ℕ) → slice_index basis.owners group ≡ slice_index owners group) (book : Account D V) (terms : book.terms ≡ basis.terms) where
       pub worked_ran : (seats : List Place) (all : List Driven) → seats ≡ seats_of after → all ≡ map driven_of after → Closes basis book seats
-          → AllRan owners book (seen_by seats) 0 (map left feeds) all
+          → AllRan owners book (seen_by seats) 0 handed_in all
       worked_ran seats all are is closes =
           let seats_are = are ∙ ap seats_of worked.after_is in
-          subst (λ ss. AllRan owners book (seen_by ss) 0 (map left feeds) all) (sym seats_are)
-          (subst (λ ds. AllRan owners book (seen_by (seats_of news)) 0 (map left feeds) ds) (sym (is ∙ ap (λ (ws : List (Worker F L)). map driven_of ws) worked.after_is))
-          (subst (λ fs. AllRan owners book (seen_by (seats_of news)) 0 (map left fs) (map driven_of news)) worked.feeds_are
-          (all_ran owners alike book terms (seen_by (seats_of news)) 0 lent news (all_saw news) worked.all (subst (Closes basis book) seats_are closes))))
+          subst (λ ss. AllRan owners book (seen_by ss) 0 handed_in all) (sym seats_are)
+          (subst (λ ds. AllRan owners book (seen_by (seats_of news)) 0 handed_in ds) (sym (is ∙ ap (λ (ws : List (Worker F L)). map driven_of ws) worked.after_is))
+          (all_ran owners alike book terms (seen_by (seats_of news)) 0 lent news (all_saw news) worked.all (subst (Closes basis book) seats_are closes)))
 
-      pub worked_asked : (seats : List Place) → seats ≡ seats_of after → Closes basis book seats → (n : ℕ) → AskedBy seats n → AskedFor owners 0 (map left feeds) book.history n
+      pub worked_asked : (seats : List Place) → seats ≡ seats_of after → Closes basis book seats → (n : ℕ) → AskedBy seats n → AskedFor owners 0 handed_in book.history n
       worked_asked seats are closes n there =
           let seats_are = are ∙ ap seats_of worked.after_is in
-          subst (λ fs. AskedFor owners 0 (map left fs) book.history n) worked.feeds_are
-          (all_asked owners alike book terms 0 lent news worked.all (subst (Closes basis book) seats_are closes) n (subst (λ ss. AskedBy ss n) seats_are there))
+          all_asked owners alike book terms 0 lent news worked.all (subst (Closes basis book) seats_are closes) n (subst (λ ss. AskedBy ss n) seats_are there)

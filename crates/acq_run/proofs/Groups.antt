@@ -7,10 +7,11 @@ use Rattle.std.proofs.lemmas.Option.{slice_get_within}
 use Rattle.mdf_layout.specs.History.{source_samples}
 use Rattle.mdf_layout.specs.declared.sample.Sample.{Sample}
 use Rattle.book_owned.specs.Account.{Account, Terms}
-use Rattle.acq_run.specs.Tasks.{MayAppend, MayFeed, samples_of}
-use Rattle.acq_run.specs.Ran.{AllMayFeed, AllRan, AreOwned}
-use Rattle.acq_run.specs.declared.tasks.Fed.{Fed}
-use Rattle.acq_run.specs.declared.tasks.Fed.TheVariants as fed
+use Rattle.acq_feed.specs.Feeds.{samples_of}
+use Rattle.acq_run.specs.Tasks.{MayAppend, MayFeed}
+use Rattle.acq_run.specs.Ran.{AllHanded, AllMayFeed, AllMayHand, AllRan, AreOwned}
+use Rattle.acq_feed.specs.declared.feed.Fed.{Fed}
+use Rattle.acq_feed.specs.declared.feed.Fed.TheVariants as fed
 use Rattle.acq_run.specs.declared.work.Driven.{Driven}
 
 -- each of these is of one of so many groups
@@ -18,7 +19,7 @@ abbrev Grouped : ℕ → List Sample → Type 0
 Grouped groups samples = All (λ (s : Sample). s.group < groups) samples
 
 -- what is done of a feed
-front_may : (owners : List ℕ) (terms : Terms) (source : ℕ) (done rest : List Fed) → All (MayFeed owners terms source) (done ++ rest) → All (MayFeed owners terms source) done
+pub front_may : (owners : List ℕ) (terms : Terms) (source : ℕ) (done rest : List Fed) → All (MayFeed owners terms source) (done ++ rest) → All (MayFeed owners terms source) done
 front_may owners terms source done rest may k d within =
     subst (MayFeed owners terms source) (get_or_append_left done rest d k within) (may k d (omega (arith, within, length-append done rest)))
 
@@ -70,6 +71,30 @@ module _ (owners : List ℕ) (groups sources : ℕ) where
       all_owned history
       (λ s less. behind groups (slice_index owners sample.group == s) sample (source_samples owners history s) (each s less))
       (λ j e less. owned (suc j) e (omega (arith, less))) k d (omega (arith, within))
+
+-- what was handed in is what may be
+pub handed_may : {F : Type 0} (hands : F → List Fed → F → Type 0) (owners : List ℕ) (terms : Terms) (first : ℕ) (feeds rest : List F) (handed : List (List Fed))
+    → AllHanded hands feeds handed rest → AllMayHand hands owners terms first feeds → AllMayFeed owners terms first handed
+handed_may hands owners terms first [] [] [] all may = tt
+handed_may hands owners terms first [] [] (feds ∷ handed) all may = absurd all
+handed_may hands owners terms first [] (left ∷ rest) [] all may = absurd all
+handed_may hands owners terms first [] (left ∷ rest) (feds ∷ handed) all may = absurd all
+handed_may hands owners terms first (feed ∷ feeds) [] [] all may = absurd all
+handed_may hands owners terms first (feed ∷ feeds) [] (feds ∷ handed) all may = absurd all
+handed_may hands owners terms first (feed ∷ feeds) (left ∷ rest) [] all may = absurd all
+handed_may hands owners terms first (feed ∷ feeds) (left ∷ rest) (feds ∷ handed) all may =
+    (may.0 feds (left, all.0), handed_may hands owners terms (suc first) feeds rest handed all.1 may.1)
+
+pub handed_count : {F : Type 0} (hands : F → List Fed → F → Type 0) (feeds rest : List F) (handed : List (List Fed)) → AllHanded hands feeds handed rest
+    → length handed ≡ length feeds
+handed_count hands [] [] [] all = refl
+handed_count hands [] [] (feds ∷ handed) all = absurd all
+handed_count hands [] (left ∷ rest) [] all = absurd all
+handed_count hands [] (left ∷ rest) (feds ∷ handed) all = absurd all
+handed_count hands (feed ∷ feeds) [] [] all = absurd all
+handed_count hands (feed ∷ feeds) [] (feds ∷ handed) all = absurd all
+handed_count hands (feed ∷ feeds) (left ∷ rest) [] all = absurd all
+handed_count hands (feed ∷ feeds) (left ∷ rest) (feds ∷ handed) all = omega (arith, handed_count hands feeds rest handed all.1)
 
 -- all that sources did which may hand in what they have
 pub ran_owned : {D V : Type 0} (owners : List ℕ) (terms : Terms) (book : Account D V) (seen : List (List Sample)) (feeds : List (List Fed)) (all : List Driven) (sources : ℕ)

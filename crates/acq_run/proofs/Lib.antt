@@ -1,6 +1,6 @@
 pub mod Doing
 pub mod Gathering
-mod Groups
+pub mod Groups
 pub mod Later
 pub mod Looks
 pub mod Owning

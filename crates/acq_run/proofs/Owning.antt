@@ -9,8 +9,8 @@ use Rattle.book_owned.specs.declared.mark.Mark.{Mark}
 use Rattle.acq_run.specs.Tasks.{MayFeed}
 use Rattle.acq_run.specs.Works.{AreMarked, IsFlushed, IsMarkedAt}
 use Rattle.acq_run.specs.Ran.{Ran}
-use Rattle.acq_run.specs.declared.tasks.Fed.{Fed}
-use Rattle.acq_run.specs.declared.tasks.Fed.TheVariants as fed
+use Rattle.acq_feed.specs.declared.feed.Fed.{Fed}
+use Rattle.acq_feed.specs.declared.feed.Fed.TheVariants as fed
 use Rattle.acq_run.specs.declared.work.Driven.{Driven}
 
 module _ (table owners : List ℕ) (alike : (group : ℕ) → slice_index table group ≡ slice_index owners group) (source : ℕ) where
@@ -66,6 +66,11 @@ module _ (table owners : List ℕ) (alike : (group : ℕ) → slice_index table 
       → (ran_same book seen feds driven ran).done ≡ ran.done
   unfolding ran_same
   done_same book seen feds driven ran = refl
+
+  pub rest_same : {D V : Type 0} (book : Account D V) (seen : List Sample) (feds : List Fed) (driven : Driven) (ran : Ran table book source seen feds driven)
+      → (ran_same book seen feds driven ran).rest ≡ ran.rest
+  unfolding ran_same
+  rest_same book seen feds driven ran = refl
 
   pub owned_same : (sources count : ℕ) → sources ≡ count → (history : List Sample) → All (λ (s : Sample). slice_index table s.group < sources) history
       → All (λ (s : Sample). slice_index owners s.group < count) history

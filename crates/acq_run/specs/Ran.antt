@@ -1,5 +1,5 @@
 -- What the sources of a recording have done, when all have worked and the book is one again.
-use Rattle.std.specs.Prelude.{ℕ, suc, ◌≡◌, ◌<◌, ◌⊎◌, ◌^◌, true, List, [], ◌∷◌, ◌++◌, length, map, slice_index, All}
+use Rattle.std.specs.Prelude.{ℕ, suc, ◌≡◌, ◌≤◌, ◌<◌, ◌⊎◌, ◌^◌, true, List, [], ◌∷◌, ◌++◌, length, map, slice_index, All}
 use Rattle.std.specs.List.{slice_index_or}
 use mathlib.Core.List.{IsPrefix}
 use Rattle.mdf_format.specs.Cause.{Rose}
@@ -8,11 +8,13 @@ use Rattle.mdf_layout.specs.declared.sample.Sample.{Sample}
 use Rattle.book_owned.specs.Account.{Account, Terms}
 use Rattle.book_owned.specs.Marks.{last_mark}
 use Rattle.book_owned.specs.declared.mark.Mark.{Mark}
-use Rattle.book_shared.specs.Causes.{AnyOf, IsAmong}
+use Rattle.book_shared.specs.Causes.{AnyOf, IsAmong, MarksCaused}
 use Rattle.book_shared.specs.Place.{Place}
-use Rattle.acq_run.specs.Tasks.{flushes_of, samples_of, MayFeed}
+use Rattle.acq_feed.specs.Feeds.{flushes_of, samples_of}
+use Rattle.acq_run.specs.Tasks.{MayFeed}
 use Rattle.acq_run.specs.Works.{AreMarked, HasRoomNext, IsFlushed, IsOver}
-use Rattle.acq_run.specs.declared.tasks.Fed.{Fed}
+use Rattle.acq_run.specs.Workers.{CanHand}
+use Rattle.acq_feed.specs.declared.feed.Fed.{Fed}
 use Rattle.acq_run.specs.declared.work.Driven.{Driven}
 use Rattle.acq_run.specs.declared.work.Ended.{Ended}
 use Rattle.acq_run.specs.declared.work.Ended.TheVariants.{Running, Done, SessionFull, Stopped, DiskFault, Memory}
@@ -55,12 +57,13 @@ AllRan owners book seen source (feds ∷ feeds) (driven ∷ all) =
     Ran owners book source (slice_index_or seen source []) feds driven × AllRan owners book seen (suc source) feeds all
 AllRan owners book seen source _ _ = ⊥
 
--- So have they, and from each follower to what came of it it was told of each flush that was done of its source, and how many
--- samples were shown at it.
+-- So have they: of what each feed handed in all was done but the last at most, and from each follower to what came of it it was told
+-- of each flush that was done of its source, and how many samples were shown at it.
 abbrev pub AllHeard : {D V L : Type 0} → (L → List ℕ → L → Type 0) → List ℕ → Account D V → List (List Sample) → ℕ → List (List Fed) → List Driven → List L → List L → Type 0
 AllHeard hears owners book seen source [] [] [] [] = Unit {0}
 AllHeard hears owners book seen source (feds ∷ feeds) (driven ∷ all) (first ∷ followers) (last ∷ followers') =
-    ((ran : Ran owners book source (slice_index_or seen source []) feds driven) × (shown : List ℕ) × (length shown ≡ flushes_of ran.done) × hears first shown last)
+    ((ran : Ran owners book source (slice_index_or seen source []) feds driven) × (length ran.rest ≤ 1)
+    × (shown : List ℕ) × (length shown ≡ flushes_of ran.done) × hears first shown last)
     × AllHeard hears owners book seen (suc source) feeds all followers followers'
 AllHeard hears owners book seen source _ _ _ _ = ⊥
 
@@ -79,6 +82,34 @@ abbrev pub AllMayFeed : List ℕ → Terms → ℕ → List (List Fed) → Type 
 AllMayFeed owners terms source [] = Unit {0}
 AllMayFeed owners terms source (feds ∷ feeds) =
     (All (MayFeed owners terms source) feds × (length feds < 2 ^ 64)) × AllMayFeed owners terms (suc source) feeds
+
+-- so may they whatever these feeds can hand in
+abbrev pub AllMayHand : {F : Type 0} → (F → List Fed → F → Type 0) → List ℕ → Terms → ℕ → List F → Type 0
+AllMayHand hands owners terms source [] = Unit {0}
+AllMayHand hands owners terms source (feed ∷ feeds) =
+    ((feds : List Fed) → CanHand hands feed feds → All (MayFeed owners terms source) feds × (length feds < 2 ^ 64)) × AllMayHand hands owners terms (suc source) feeds
+
+-- from each feed to what is left of it it handed in its list
+abbrev pub AllHanded : {F : Type 0} → (F → List Fed → F → Type 0) → List F → List (List Fed) → List F → Type 0
+AllHanded hands [] [] [] = Unit {0}
+AllHanded hands (feed ∷ feeds) (feds ∷ handed) (rest ∷ left) = hands feed feds rest × AllHanded hands feeds handed left
+AllHanded hands _ _ _ = ⊥
+
+-- nothing more comes of the feed of a source that has done all
+abbrev pub AllEnded : {F : Type 0} → (F → Type 0) → List Driven → List F → Type 0
+AllEnded ends [] [] = Unit {0}
+AllEnded ends (driven ∷ all) (feed ∷ feeds) = (driven.ended ≡ Done → ends feed) × AllEnded ends all feeds
+AllEnded ends _ _ = ⊥
+
+-- The sources of a recording have worked, each with its feed and its follower, over a book that had these terms and marks.
+pub record HaveWorked {D V F L : Type 0} (hands : F → List Fed → F → Type 0) (ends : F → Type 0) (hears : L → List ℕ → L → Type 0) (owners : List ℕ) (terms : Terms) (begun : List Mark)
+    (book : Account D V) (seen : List (List Sample)) (feeds feeds' : List F) (all : List Driven) (followers followers' : List L) : Type 0 where
+  pub handed : List (List Fed)
+  pub fed : AllHanded hands feeds handed feeds'
+  pub ended : AllEnded ends all feeds'
+  pub ran : AllRan owners book seen 0 handed all
+  pub marks : MarksCaused (AskedFor owners 0 handed book.history) (DueFor handed) terms.layouts terms.block_limit book.history begun book.marks
+  pub heard : AllHeard hears owners book seen 0 handed all followers followers'
 
 -- a sample is of one of so many groups, and one of so many sources owns that group
 pub record IsOwned (owners : List ℕ) (groups sources : ℕ) (sample : Sample) : Type 0 where

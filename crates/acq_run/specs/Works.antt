@@ -1,5 +1,5 @@
 -- What the work of a source does to its seat.
-use Rattle.std.specs.Prelude.{ℕ, ◌≡◌, ◌+◌, ◌*◌, ◌≤◌, ◌<◌, ◌⊎◌, Bool, true, false, List, [], ◌∷◌, ◌++◌, length, take, drop, Result, Ok, Err}
+use Rattle.std.specs.Prelude.{ℕ, ◌≡◌, ◌+◌, ◌*◌, ◌≤◌, ◌<◌, ◌⊎◌, Bool, true, false, List, [], ◌∷◌, ◌++◌, length, take, Result, Ok, Err}
 use mathlib.Core.List.{IsPrefix}
 use Rattle.mdf_format.specs.Cause.{Rose}
 use Rattle.mdf_disk.specs.declared.disk.Disk.{Ghosts as DiskOf}
@@ -19,9 +19,9 @@ use Rattle.book_shared.specs.Told.{HasMark, MeetsFault, Turned}
 use Rattle.book_shared.specs.Place.{Place, own_part}
 use Rattle.book_shared.specs.Turns.{HasTurnsFor}
 use Rattle.book_shared.specs.declared.view.View.{View}
-use Rattle.acq_run.specs.Tasks.{flushes_of, samples_of}
-use Rattle.acq_run.specs.declared.tasks.Fed.{Fed}
-use Rattle.acq_run.specs.declared.tasks.Fed.TheVariants as fed
+use Rattle.acq_feed.specs.Feeds.{flushes_of, samples_of}
+use Rattle.acq_feed.specs.declared.feed.Fed.{Fed}
+use Rattle.acq_feed.specs.declared.feed.Fed.TheVariants as fed
 use Rattle.acq_run.specs.declared.work.Ended.{Ended}
 use Rattle.acq_run.specs.declared.work.Ended.TheVariants.{Running, Done, SessionFull, Stopped, DiskFault, Memory}
 
@@ -166,15 +166,15 @@ pub record HasDriven (old new : Place) (feds : List Fed) (accepted : ℕ) (how :
   pub seat : IsSameSeat old new
   pub drives : Drives old.know new.know old.number feds accepted how
 
--- So did a source's work, and its feed has then left what comes behind the first that was not done.
-pub record HasFed (old new : Place) (feds : List Fed) (accepted : ℕ) (how : Ended) (left : List Fed) : Type 0 where
-  pub driven : HasDriven old new feds accepted how
-  pub left_is : left ≡ drop 1 driven.drives.rest
-
--- So did a source's work, and from the one follower to the other it was told of each flush that was done, and how many samples
--- were shown at it.
-pub record HasHeard {L : Type 0} (hears : L → List ℕ → L → Type 0) (old new : Place) (feds : List Fed) (accepted : ℕ) (how : Ended) (follower follower' : L) : Type 0 where
-  pub driven : HasDriven old new feds accepted how
+-- A source worked over a feed, with a follower. What the feed handed in was done, in order, but for the last of it where the work ended
+-- otherwise than with the feed. The follower was told of each flush that was done, and how many samples were shown at it.
+pub record HasWorked {F L : Type 0} (hands : F → List Fed → F → Type 0) (ends : F → Type 0) (hears : L → List ℕ → L → Type 0)
+    (old new : Place) (accepted : ℕ) (how : Ended) (feed feed' : F) (follower follower' : L) : Type 0 where
+  pub handed : List Fed
+  pub fed : hands feed handed feed'
+  pub driven : HasDriven old new handed accepted how
+  pub one : length driven.drives.rest ≤ 1
+  pub ended : how ≡ Done → ends feed'
   pub shown : List ℕ
   pub count : length shown ≡ flushes_of driven.drives.done
   pub heard : hears follower shown follower'

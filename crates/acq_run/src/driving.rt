@@ -1,13 +1,14 @@
 //! How a source works.
 ghost use Rattle.std.specs.Prelude.{ℕ, ◌≡◌, ◌<◌, length, List, [], ◌∷◌, IfOk, IfErr};
-ghost use Rattle.acq_run.specs.Tasks.{IsTask, MayFeed, flushes_of};
-ghost use Rattle.acq_run.specs.Works.{CountsFaults, Does, Ends, HasDriven, HasFed, HasHeard, HasTurns, IsSameSeat, OnlyDueOf, appended};
-ghost use Rattle.acq_run.specs.Workers.{IsReady};
-ghost use Rattle.acq_run.specs.declared.tasks.Fed.{Fed};
+ghost use Rattle.acq_feed.specs.Feeds.{IsTask, flushes_of};
+ghost use Rattle.acq_run.specs.Tasks.{MayFeed};
+ghost use Rattle.acq_run.specs.Works.{CountsFaults, Does, Ends, HasTurns, HasWorked, IsSameSeat, OnlyDueOf, appended};
+ghost use Rattle.acq_run.specs.Workers.{CanHand, HasWorkedOn, IsReady};
+ghost use Rattle.acq_feed.specs.declared.feed.Fed.{Fed};
 
 use crate::following::Follower;
-use crate::tasks::{Fed, Feed};
 use crate::work::{Driven, Ended, Worker};
+use acq_feed::{Fed, Feed};
 use book_owned::{Append, Flush, Shown};
 use book_shared::{SharedBook, SourceSeat};
 use mdf_disk::Disk;
@@ -69,7 +70,7 @@ fn perform<R: Threads + Wait + Sync, D: Disk, V: Shown, L: Follower<V>>(
 }
 
 /// Does what the feed of a source hands in, in order, up to its end or to the first that is not done, and tells the follower
-/// of each flush that was done.
+/// of each flush that was done. The feed is left then.
 pub fn drive_with<R: Threads + Wait + Sync, D: Disk, V: Shown, F: Feed, L: Follower<V>>(
     rt: &R,
     book: &SharedBook<D, V>,
@@ -77,18 +78,17 @@ pub fn drive_with<R: Threads + Wait + Sync, D: Disk, V: Shown, F: Feed, L: Follo
     feed: &mut F,
     follower: &mut L,
 ) -> Driven
-    requires ready { IsReady book.now.table seat.old (F.left feed.old) }
+    requires ready { IsReady book.now.table seat.old (CanHand F.hands feed.old) }
     requires follows { L.follows follower.old seat.old.know.basis.terms.which seat.old.know.seen }
-    ensures driven { HasDriven seat.old seat.new (F.left feed.old) result.accepted result.ended }
+    ensures worked { HasWorked F.hands F.ends L.hears seat.old seat.new result.accepted result.ended feed.old feed.new follower.old follower.new }
     ensures follows { L.follows follower.new seat.new.know.basis.terms.which seat.new.know.seen }
-    ensures heard { HasHeard L.hears seat.old seat.new (F.left feed.old) result.accepted result.ended follower.old follower.new }
-    ensures fed { HasFed seat.old seat.new (F.left feed.old) result.accepted result.ended (F.left feed.new) }
     ensures counted { CountsFaults D.Disk V.Shown seat.new.know result.ended }
 {
     let mut accepted = 0;
     for _ in rt.forever() {
         match feed.next(rt) {
             Fed::End => {
+                feed.leave();
                 return Driven {
                     accepted,
                     ended: Ended::Done,
@@ -96,7 +96,10 @@ pub fn drive_with<R: Threads + Wait + Sync, D: Disk, V: Shown, F: Feed, L: Follo
             }
             task => match perform(rt, book, seat, follower, task) {
                 Ok(more) => accepted += more,
-                Err(ended) => return Driven { accepted, ended },
+                Err(ended) => {
+                    feed.leave();
+                    return Driven { accepted, ended };
+                }
             },
         }
     }
@@ -110,13 +113,10 @@ pub fn drive<R: Threads + Wait + Sync, D: Disk, V: Shown, F: Feed, L: Follower<V
     book: &SharedBook<D, V>,
     worker: &mut Worker<F, L>,
 )
-    requires ready { IsReady book.now.table worker.old.seat (F.left worker.old.feed) }
+    requires ready { IsReady book.now.table worker.old.seat (CanHand F.hands worker.old.feed) }
     requires follows { L.follows worker.old.follower worker.old.seat.know.basis.terms.which worker.old.seat.know.seen }
-    ensures driven { HasDriven worker.old.seat worker.new.seat (F.left worker.old.feed) worker.new.accepted worker.new.ended }
+    ensures worked { HasWorkedOn F.hands F.ends L.hears worker.old worker.new }
     ensures follows { L.follows worker.new.follower worker.new.seat.know.basis.terms.which worker.new.seat.know.seen }
-    ensures heard { HasHeard L.hears worker.old.seat worker.new.seat (F.left worker.old.feed) worker.new.accepted worker.new.ended
-        worker.old.follower worker.new.follower }
-    ensures fed { HasFed worker.old.seat worker.new.seat (F.left worker.old.feed) worker.new.accepted worker.new.ended (F.left worker.new.feed) }
     ensures counted { CountsFaults D.Disk V.Shown worker.new.seat.know worker.new.ended }
 {
     let Driven { accepted, ended } = drive_with(

@@ -38,30 +38,33 @@ pub fn seat_all<F: Drop, L: Drop>(
     }
 }
 
-/// Takes the workers apart: their seats, what they did, and their followers, in order.
+/// Takes the workers apart: their seats, what they did, their feeds, and their followers, in order.
 pub fn part_all<F: Drop, L: Drop>(
     workers: Vec<Worker<F, L>>,
     seats: &mut Vec<SourceSeat>,
     all: &mut Vec<Driven>,
+    feeds: &mut Vec<F>,
     followers: &mut Vec<L>,
 )
-    requires empty { (seats.old.items ≡ []) × (all.old.items ≡ []) × (followers.old.items ≡ []) }
+    requires empty { (seats.old.items ≡ []) × (all.old.items ≡ []) × (feeds.old.items ≡ []) × (followers.old.items ≡ []) }
     requires room { (length workers.items ≤ vec_capacity seats.old) × (length workers.items ≤ vec_capacity all.old)
-        × (length workers.items ≤ vec_capacity followers.old) }
+        × (length workers.items ≤ vec_capacity feeds.old) × (length workers.items ≤ vec_capacity followers.old) }
     ensures seats { seats.new.items ≡ map (λ worker. worker.seat) workers.items }
     ensures driven { all.new.items ≡ map driven_of workers.items }
+    ensures feeds { feeds.new.items ≡ map (λ worker. worker.feed) workers.items }
     ensures followers { followers.new.items ≡ map (λ worker. worker.follower) workers.items }
 {
     for worker in workers {
         let Worker {
             seat,
-            feed: _,
+            feed,
             follower,
             accepted,
             ended,
         } = worker;
         seats.push_reserved(seat);
         all.push_reserved(Driven { accepted, ended });
+        feeds.push_reserved(feed);
         followers.push_reserved(follower);
     }
 }

@@ -7,7 +7,8 @@ ghost use Rattle.book_shared_tests.specs.Words.{AreGroups};
 use crate::books::{TestDisk, fits, listed, recording, sample};
 use crate::gates::{Gate, LOOKS, Step, wait_for};
 use crate::told::is_told;
-use acq_run::{Audience, Driven, Fed, Feed, Gathered, ScriptFeed, Watcher, record_live};
+use acq_feed::{Fed, Feed, ScriptFeed};
+use acq_run::{Audience, Driven, Gathered, Watcher, record_live};
 use book_owned::Book;
 use mdf_layout::{Samples, Shapes};
 use mdf_num::{Memory, Rows};
@@ -68,12 +69,24 @@ pub struct Meets {
 }
 
 impl Feed for Meets {
-    ghost left = { λ feed. feed.list };
+    ghost use Rattle.acq_feed.specs.Listed.{IsBehind, IsEmpty, behind_none, behind_more};
+
+    ghost hands = { λ feed feds later. IsBehind feed.list feds later.list };
+
+    ghost ends = { λ feed. IsEmpty feed.list };
+
+    ghost hands_none = { λ feed. behind_none feed.list };
+
+    ghost hands_more = { λ first second third. behind_more first.list second.list third.list };
 
     fn next<R: Wait>(&mut self, rt: &R) -> Fed {
         self.meeting.pass(self.is_first, self.taken);
         self.taken = self.taken.saturating_add(1);
         self.list.next(rt)
+    }
+
+    fn leave(&mut self) {
+        self.list.leave();
     }
 }
 
@@ -219,6 +232,7 @@ where
                 book,
                 all,
                 seen: _seen,
+                feeds: _feeds,
                 watchers: _watchers,
             },
         ) => {

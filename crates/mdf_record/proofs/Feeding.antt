@@ -4,12 +4,13 @@ use Rattle.std.specs.Prelude.{◌^◌}
 use Rattle.mdf_layout.specs.declared.sample.Sample.{Sample}
 use Rattle.book_owned.specs.Account.{Account, Terms}
 use Rattle.book_owned.specs.declared.mark.Mark.{Mark}
-use Rattle.acq_run.specs.Tasks.{MayFeed, samples_of as samples_fed}
+use Rattle.acq_feed.specs.Feeds.{samples_of as samples_fed}
+use Rattle.acq_run.specs.Tasks.{MayFeed}
 use Rattle.acq_run.specs.Works.{AreMarked, IsNext}
 use Rattle.acq_run.specs.Ran.{AllMayFeed, AllRan}
 use Rattle.acq_run.specs.declared.work.Driven.{Driven}
-use Rattle.acq_run.specs.declared.tasks.Fed.{Fed}
-use Rattle.acq_run.specs.declared.tasks.Fed.TheVariants as fed
+use Rattle.acq_feed.specs.declared.feed.Fed.{Fed}
+use Rattle.acq_feed.specs.declared.feed.Fed.TheVariants as fed
 use Rattle.std.proofs.lemmas.List.{length-map}
 use Rattle.acq_script.specs.Plan.{IsTaskOf, TaskFits}
 use Rattle.acq_script.specs.Stage.{IsScript}

@@ -1,11 +1,12 @@
 mod Heads
 mod Lengths
 mod Feeding
+mod Handing
 mod Begins
 pub mod Runs
 mod Causing
-mod Recording
+pub mod Recording
 mod Idle
-mod Recovering
+pub mod Recovering
 mod Texts
 mod Ending

@@ -1,5 +1,6 @@
 pub mod Head
 pub mod Sources
+pub mod Feeding
 pub mod Script
 pub mod Finish
 pub mod Causes

@@ -7,7 +7,7 @@ use Rattle.book_owned.specs.Members.{DiskOf}
 use Rattle.book_view.specs.Known.{Note}
 use Rattle.book_shared.specs.Causes.{MarksCaused}
 use Rattle.acq_run.specs.Ran.{AllMayFeed, AllRan, AreOwned, AskedFor, DueFor}
-use Rattle.acq_run.specs.declared.tasks.Fed.{Fed}
+use Rattle.acq_feed.specs.declared.feed.Fed.{Fed}
 use Rattle.acq_run.specs.declared.work.Driven.{Driven}
 use Rattle.acq_run.specs.Audience.{count_in, hands_in, shows_in, which_in}
 use Rattle.acq_run.specs.Watching.{Watches, counted}
@@ -15,6 +15,7 @@ use Rattle.acq_run.specs.declared.audience.Audience.{Audience}
 use Rattle.acq_script.specs.declared.script.Task.{Task}
 use Rattle.mdf_command.specs.declared.fault.Fault.{Fault}
 use Rattle.mdf_command.specs.declared.fault.Fault.TheVariants.{Memory}
+use Rattle.mdf_record.specs.Feeding.{left_in}
 use Rattle.mdf_record.specs.Finish.{Finishes, MarksLast}
 use Rattle.mdf_record.specs.Recorded.{Closes}
 use Rattle.mdf_record.specs.Sources.{counts_of, ends_of, feds_of, worst}
@@ -25,7 +26,7 @@ use Rattle.mdf_record.specs.declared.record.Recorded.{Recorded}
 
 -- what each of these feeds has left
 abbrev pub fed_by : {G : Type 0} → List (TaskFeed G) → List (List Fed)
-fed_by {G} feeds = map (λ (feed : TaskFeed G). feds_of feed.tasks.rest.items) feeds
+fed_by {G} feeds = map (λ (feed : TaskFeed G). left_in feed) feeds
 
 -- room for the numbers of the sources that have these lists, a feed for each, and a watcher of the view for each
 pub record IsPrepared {G : Type 0} (lists : List (List Task)) (live : Bool) (sources : ℕ) (prepared : Prepared G) (view : Audience) : Type 0 where

@@ -9,5 +9,5 @@ mod sources;
 
 pub use gate::{Gate, Open};
 pub use law::what_is_recoverable_is_finalizable;
-pub use record::{RecordEnd, Recorded, run_generated, run_record};
+pub use record::{RecordEnd, Recorded, read_source, record_script, run_generated, run_record};
 pub use sources::{Accepted, End};

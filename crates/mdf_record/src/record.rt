@@ -93,8 +93,8 @@ fn script_from(alloc: Global, text: &[u8]) -> Result<Script, Fault>
     Ok(read_script(alloc, text)?)
 }
 
-/// Reads the script of a source.
-fn read<S: Source>(alloc: Global, source: &mut S) -> Result<Script, Fault>
+/// Reads the script of a source, which is taken whole.
+pub fn read_source<S: Source>(alloc: Global, source: &mut S) -> Result<Script, Fault>
     ensures says { IfOk result (SaysScript (source_state S.Source source.old) (source_state S.Source source.new)) }
     ensures script { IfOk result IsScript }
     ensures fault { IfErr result (ScriptFaultComes (source_state S.Source source.old) (source_state S.Source source.new)) }
@@ -289,6 +289,7 @@ fn work<'a, R: Threads + Wait + Sync, C: Disk + Send, G: Gate + Sync>(
                 mut book,
                 all,
                 seen,
+                feeds: _feeds,
                 watchers,
             } = gathered;
             let driven = told_all(all, &mut accepted);
@@ -354,7 +355,7 @@ fn close<R: Wait, C: Disk>(
 }
 
 /// Records a script into a new file of this name, unless there was a fault in its place.
-fn record<R: Threads + Wait + Sync, C: Disk + Send, G: Gate + Sync>(
+pub fn record_script<R: Threads + Wait + Sync, C: Disk + Send, G: Gate + Sync>(
     rt: &R,
     alloc: Global,
     output: &Bytes,
@@ -391,14 +392,14 @@ fn record<R: Threads + Wait + Sync, C: Disk + Send, G: Gate + Sync>(
 fn give_sources<K: Sink>(sink: &mut K, accepted: &[u64]) -> Result<(), Failed>
     ensures { Gives (numbered source_line 0 accepted.now) (sink_state K.Sink sink.old) (sink_state K.Sink sink.new) result }
 {
-    for source in 0..accepted.len() {
+    for (source, samples) in accepted.iter().enumerate() {
         give_line(
             sink,
             &[
                 Text(b"source "),
                 Number(source as u64),
                 Text(b" accepted "),
-                Number(accepted[source]),
+                Number(*samples),
             ],
         )?;
     }
@@ -523,8 +524,8 @@ where
     ensures printed { Prints (record_text result.1.end) (record_status result.1.end)
         (sink_state K.Sink sink.old) (sink_state K.Sink sink.new) result.0 }
 {
-    let script = read(alloc, source);
-    let recorded = record(rt, alloc, output, now_ns, script, out, gate);
+    let script = read_source(alloc, source);
+    let recorded = record_script(rt, alloc, output, now_ns, script, out, gate);
     let status = report(sink, &recorded.end);
     (status, recorded)
 }
@@ -566,7 +567,7 @@ where
         (sink_state K.Sink sink.old) (sink_state K.Sink sink.new) result.0 }
 {
     let script = generate(alloc, samples);
-    let recorded = record(rt, alloc, output, now_ns, script, out, gate);
+    let recorded = record_script(rt, alloc, output, now_ns, script, out, gate);
     let status = report(sink, &recorded.end);
     (status, recorded)
 }

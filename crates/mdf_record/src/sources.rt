@@ -1,10 +1,11 @@
 // The sources of a recording, each in a thread of its own.
 ghost use Rattle.std.specs.Prelude.{◌≡◌, ◌≤◌, ◌<◌, [], length, map, replicate, vec_len, IfOk};
-ghost use Rattle.std.specs.Vec.Iter.{into_iter_items};
-ghost use Rattle.mdf_record.specs.Sources.{counts_of, ends_of, fed_of, feds_of, told_of, worse, worst};
+ghost use Rattle.mdf_record.specs.Sources.{counts_of, ends_of, feds_of, told_of, worse, worst};
+ghost use Rattle.mdf_record.specs.Work.{fed_by};
 
 use crate::gate::Gate;
-use acq_run::{Driven, Ended, Fed, Feed};
+use acq_feed::{Fed, Feed};
+use acq_run::{Driven, Ended};
 use acq_script::Task;
 use mdf_layout::Reserved;
 use mdf_num::{Memory, Rows};
@@ -35,28 +36,29 @@ pub(crate) struct TaskFeed<'a, G> {
     gate: &'a G,
 }
 
-/// What a source hands in for a task.
-fn fed(task: Task) -> Fed
-    ensures { result ≡ fed_of task }
-{
-    match task {
-        Task::Sample(sample) => Fed::Sample(sample),
-        Task::Flush => Fed::Flush,
-    }
-}
-
 impl<'a, G: Gate> Feed for TaskFeed<'a, G> {
-    ghost left = { λ feed. feds_of (into_iter_items feed.tasks) };
+    ghost use Rattle.mdf_record.specs.Feeding.{HandsTasks, HasNone, tasks_none, tasks_more};
+
+    ghost hands = { HandsTasks };
+
+    ghost ends = { HasNone };
+
+    ghost hands_none = { tasks_none };
+
+    ghost hands_more = { tasks_more };
 
     fn next<R: Wait>(&mut self, _rt: &R) -> Fed {
-        match self.tasks.next() {
-            Some(task) => {
-                self.gate.pass(self.source);
-                fed(task)
-            }
-            None => Fed::End,
+        let Some(task) = self.tasks.next() else {
+            return Fed::End;
+        };
+        self.gate.pass(self.source);
+        match task {
+            Task::Sample(sample) => Fed::Sample(sample),
+            Task::Flush => Fed::Flush,
         }
     }
+
+    fn leave(&mut self) {}
 }
 
 /// The feeds of these lists, in order.
@@ -66,7 +68,7 @@ pub(crate) fn feeds_of<'a, G: Gate>(
     gate: &'a G,
 ) -> Result<Vec<TaskFeed<'a, G>>, Memory>
     requires few { vec_len lists ≤ 255 }
-    ensures feeds { IfOk result (λ feeds. map ⟦<TaskFeed<'a, G> as Feed>⟧.left feeds.items ≡ map feds_of lists.items) }
+    ensures feeds { IfOk result (λ feeds. fed_by feeds.items ≡ map feds_of lists.items) }
 {
     let mut feeds = Vec::new(alloc);
     let mut source = 0;

@@ -32,11 +32,23 @@ push_reserved-requires-in-loop-worker-2 g c =
     let so_far = c.loop-worker.invariant in
     omega (
       arith,
+      fewer_done (λ worker. worker.feed) c.loop-worker.feeds.items c.loop-worker.yielded c.loop-worker.worker-iterator.rest.items c.next.new.self.rest.items
+          c.args.workers.items c.in-Some.worker so_far.feeds so_far.parts c.in-Some.ensures.steps.0,
+      c.loop-worker.feeds.ok.0,
+      so_far.feeds_room,
+      c.requires.room.2,
+    )
+
+pub push_reserved-requires-in-loop-worker-3 : goal.push_reserved-requires-in-loop-worker-3
+push_reserved-requires-in-loop-worker-3 g c =
+    let so_far = c.loop-worker.invariant in
+    omega (
+      arith,
       fewer_done (λ worker. worker.follower) c.loop-worker.followers.items c.loop-worker.yielded c.loop-worker.worker-iterator.rest.items c.next.new.self.rest.items
           c.args.workers.items c.in-Some.worker so_far.followers so_far.parts c.in-Some.ensures.steps.0,
       c.loop-worker.followers.ok.0,
       so_far.followers_room,
-      c.requires.room.2,
+      c.requires.room.3,
     )
 
 -- one worker more was taken apart
@@ -48,10 +60,12 @@ loop-worker-preserved g c =
       parts = took_next c.loop-worker.yielded c.loop-worker.worker-iterator.rest.items c.next.new.self.rest.items c.args.workers.items worker so_far.parts c.in-Some.ensures.steps.0;
       seats = pushed (λ worker. worker.seat) c.loop-worker.yielded worker c.loop-worker.seats.items _ so_far.seats c.push_reserved.ensures.items;
       all = pushed driven_of c.loop-worker.yielded worker c.loop-worker.all.items _ so_far.all c.push_reserved-in-loop-worker.ensures.items;
-      followers = pushed (λ worker. worker.follower) c.loop-worker.yielded worker c.loop-worker.followers.items _ so_far.followers c.push_reserved-in-loop-worker-2.ensures.items;
+      feeds = pushed (λ worker. worker.feed) c.loop-worker.yielded worker c.loop-worker.feeds.items _ so_far.feeds c.push_reserved-in-loop-worker-2.ensures.items;
+      followers = pushed (λ worker. worker.follower) c.loop-worker.yielded worker c.loop-worker.followers.items _ so_far.followers c.push_reserved-in-loop-worker-3.ensures.items;
       seats_room = c.push_reserved.ensures.capacity ∙ so_far.seats_room;
       all_room = c.push_reserved-in-loop-worker.ensures.capacity ∙ so_far.all_room;
-      followers_room = c.push_reserved-in-loop-worker-2.ensures.capacity ∙ so_far.followers_room;
+      feeds_room = c.push_reserved-in-loop-worker-2.ensures.capacity ∙ so_far.feeds_room;
+      followers_room = c.push_reserved-in-loop-worker-3.ensures.capacity ∙ so_far.followers_room;
     }
 
 pub returns : goal.returns
@@ -62,5 +76,6 @@ returns g c =
     record {
       seats = done_of_all (λ worker. worker.seat) c.loop-worker.seats.items c.loop-worker.yielded left.items c.args.workers.items so_far.seats so_far.parts none;
       driven = done_of_all driven_of c.loop-worker.all.items c.loop-worker.yielded left.items c.args.workers.items so_far.all so_far.parts none;
+      feeds = done_of_all (λ worker. worker.feed) c.loop-worker.feeds.items c.loop-worker.yielded left.items c.args.workers.items so_far.feeds so_far.parts none;
       followers = done_of_all (λ worker. worker.follower) c.loop-worker.followers.items c.loop-worker.yielded left.items c.args.workers.items so_far.followers so_far.parts none;
     }

@@ -11,4 +11,4 @@ returns-clause-comes g c =
     comes_as (λ said. answer ≡ Ok said) (λ said. said ≡ generated_script n) (λ problem. answer ≡ Err problem) (λ problem. problem ≡ Memory)
     (λ said is. of_ok (λ script. script ≡ generated_script n) answer said c.generate-script.ensures.exact is)
     (λ problem is. of_err (λ fault. fault ≡ Memory) answer problem c.generate-script.ensures.fault is)
-    _ _ _ _ _ c.record-recorded.ensures.comes
+    _ _ _ _ _ c.record_script-recorded.ensures.comes

@@ -5,7 +5,7 @@ use Rattle.mdf_gate.specs.Images.{IsBegun}
 use Rattle.acq_script.specs.Stage.{IsScript}
 use Rattle.mdf_record.proofs.Recording.{fresh_begun, of_ok, record_comes, was_asked}
 use Rattle.mdf_record.proofs.Recovering.{none_recovered, run_recovers}
-use Rattle.mdf_record.proofs.record.record.Goals as goal
+use Rattle.mdf_record.proofs.record.record_script.Goals as goal
 
 pub returns-in-Err : goal.returns-in-Err
 returns-in-Err g c =

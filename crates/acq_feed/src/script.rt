@@ -1,35 +1,12 @@
-//! What sources hand in.
-ghost use Rattle.std.specs.Prelude.{◌≡◌, List};
-ghost use Rattle.acq_run.specs.Tasks.{Feeds, before_end};
-ghost use Rattle.acq_run.specs.declared.tasks.Fed.{Fed};
+ghost use Rattle.std.specs.Prelude.{◌≡◌};
+ghost use Rattle.acq_feed.specs.Feeds.{before_end};
 
-use mdf_layout::Sample;
+use crate::{Fed, Feed};
 use mdf_num::Rows;
 use std::alloc::Global;
 use std::marker::Model;
 use std::sync::Wait;
 use std::vec::IntoIter;
-
-/// What a source hands in next.
-#[derive(Debug, Drop)]
-pub enum Fed {
-    /// A sample.
-    Sample(Sample),
-    /// All samples so far are to be durable.
-    Flush,
-    /// Nothing is left.
-    End,
-}
-
-/// Where a source has its samples and its flushes from.
-pub trait Feed {
-    /// What is left: samples and flushes, in order.
-    ghost left: { Self → List Fed };
-
-    /// The first of what is left, and `End` exactly where nothing is left.
-    fn next<R: Wait>(&mut self, rt: &R) -> Fed
-        ensures { Feeds (left self.old) result (left self.new) };
-}
 
 /// The feed of a list. Contracts see it as the list of what is left.
 #[derive(Drop)]
@@ -41,8 +18,8 @@ pub struct ScriptFeed {
 impl Model for ScriptFeed {
     ghost use Rattle.std.specs.Prelude.{List, [], if◌then◌else◌};
     ghost use Rattle.std.specs.Vec.Iter.{into_iter_items};
-    ghost use Rattle.acq_run.specs.Tasks.{before_end};
-    ghost use Rattle.acq_run.specs.declared.tasks.Fed.{Fed};
+    ghost use Rattle.acq_feed.specs.Feeds.{before_end};
+    ghost use Rattle.acq_feed.specs.declared.feed.Fed.{Fed};
 
     ghost Value = { List Fed };
 
@@ -62,7 +39,15 @@ impl ScriptFeed {
 }
 
 impl Feed for ScriptFeed {
-    ghost left = { λ feed. feed };
+    ghost use Rattle.acq_feed.specs.Listed.{IsBehind, IsEmpty, behind_none, behind_more};
+
+    ghost hands = { IsBehind };
+
+    ghost ends = { IsEmpty };
+
+    ghost hands_none = { behind_none };
+
+    ghost hands_more = { behind_more };
 
     fn next<R: Wait>(&mut self, _rt: &R) -> Fed {
         if self.ended {
@@ -76,4 +61,6 @@ impl Feed for ScriptFeed {
             Some(task) => task,
         }
     }
+
+    fn leave(&mut self) {}
 }

@@ -3,7 +3,7 @@ use Rattle.std.specs.Io.KnownBytes.{Consumes}
 use Rattle.mdf_port.specs.State.{source_state}
 use Rattle.mdf_record.specs.Script.{SCRIPT_LIMIT}
 use Rattle.mdf_record.proofs.Texts.{refused_of, says_of}
-use Rattle.mdf_record.proofs.record.read.Goals as goal
+use Rattle.mdf_record.proofs.record.read_source.Goals as goal
 
 pub returns-clause-says : goal.returns-clause-says
 returns-clause-says g c =

@@ -1,0 +1,15 @@
+-- The feed of a list hands in the front of what is left of it.
+use Rattle.std.proofs.Common.{◌≡◌, ◌∙◌, sym, ap, refl, List, [], ◌++◌, append_assoc}
+use Rattle.acq_feed.specs.declared.feed.Fed.{Fed}
+
+abbrev pub IsBehind : List Fed → List Fed → List Fed → Type 0
+IsBehind old feds new = old ≡ feds ++ new
+
+abbrev pub IsEmpty : List Fed → Type 0
+IsEmpty left = left ≡ []
+
+pub behind_none : (left : List Fed) → IsBehind left [] left
+behind_none left = refl
+
+pub behind_more : (first second third : List Fed) (some more : List Fed) → IsBehind first some second → IsBehind second more third → IsBehind first (some ++ more) third
+behind_more first second third some more one two = one ∙ ap (λ (rest : List Fed). some ++ rest) two ∙ sym (append_assoc some more third)
