@@ -3,6 +3,7 @@ ghost use Rattle.std.specs.Option.{option_map};
 ghost use Rattle.mdf_format.specs.Cause.{HasCause};
 ghost use Rattle.acq_lines.specs.Lines.{FindsLf, IsCut, Reads, limited, nothing};
 
+use mdf_input::Input;
 use mdf_num::{Failed, Memory};
 use mdf_port::Source;
 use memchr::memchr;
@@ -42,6 +43,14 @@ impl<S: Source> LineSource<S> {
             end: 0,
             long: false,
         })
+    }
+
+    /// The source, without what was read of it.
+    pub fn into_source(self) -> S
+        ensures { result ≡ self.source }
+    {
+        let LineSource { source, .. } = self;
+        source
     }
 
     /// How many bytes stand before the first LF, if one was read.
@@ -113,5 +122,31 @@ impl<S: Source> LineSource<S> {
         ensures { IsTrue result ↔ IsCut (unread self.now) }
     {
         self.long || self.start < self.end
+    }
+}
+
+impl<S: Input> LineSource<S> {
+    ghost use Rattle.acq_lines.specs.Source.{unread};
+
+    /// Waits until the next `fill` need not wait, a tenth of a second at most, and answers whether it need not.
+    ///
+    /// # Errors
+    /// `Failed` where the source failed.
+    pub fn wait(&mut self) -> Result<bool, Failed>
+        ensures unread { unread self.new ≡ unread self.old }
+        ensures left { S.left self.new.source ≡ S.left self.old.source }
+        ensures cause { HasCause (S.faults self.old.source) (S.faults self.new.source) result }
+        ensures calm { OnOk result (S.faults self.new.source ≡ S.faults self.old.source) }
+    {
+        self.source.wait()
+    }
+
+    /// Lets the source go, so that who sends to it is told. What was read of it stays.
+    pub fn close(&mut self)
+        ensures unread { unread self.new ≡ unread self.old }
+        ensures left { S.left self.new.source ≡ S.left self.old.source }
+        ensures faults { S.faults self.new.source ≡ S.faults self.old.source }
+    {
+        self.source.close();
     }
 }

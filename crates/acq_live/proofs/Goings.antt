@@ -1,0 +1,337 @@
+-- The single steps of a feed of lines.
+use Rattle.std.proofs.Common.{◌≡◌, ◌∙◌, sym, ap, refl, subst, inl, inr, ℕ, ◌+◌, ◌^◌, ◌≤◌, ◌<◌, Bool, true, false, List, [], ◌∷◌, ◌++◌, length, map, All, Option, Some, None, arith, append-nil}
+use Rattle.std.specs.Prelude.{◌||◌, ◌==◌}
+use Rattle.std.specs.Option.{option_to_list}
+use Rattle.std.specs.Io.KnownBytes.{Appends, Consumes, IsAtEnd}
+use Rattle.std.specs.Prelude.{Result, Ok, Err, is_err}
+use Rattle.mdf_port.specs.Sink.{AppendsFront}
+use Rattle.mdf_port.specs.declared.source.Source as source
+use Rattle.mdf_port.specs.declared.sink.Sink as sink
+use Rattle.mdf_command.specs.Texts.{Gives}
+use Rattle.std.specs.List.{slice_split}
+use Rattle.std.proofs.lemmas.Grind.{get_or_default_zero}
+use Rattle.std.proofs.lemmas.List.Elements.{All-cons, All-nil}
+use Rattle.std.proofs.lemmas.List.Splits.{slice_split_none}
+use Rattle.mdf_port.specs.State.{SinkState, SourceState}
+use Rattle.acq_feed.specs.Feeds.{Feeds, flushes_behind, samples_of}
+use Rattle.acq_feed.specs.declared.feed.Fed.{Fed}
+use Rattle.acq_feed.specs.declared.feed.Fed.TheVariants as fed
+use Rattle.acq_lines.specs.Lines.{FindsLf, Reads, Unread, closed, lines_behind}
+use Rattle.acq_lines.specs.Source.{Fills}
+use Rattle.acq_live.specs.Act.{Act, AreCommitted, handed_in, pending_behind, pending_with, read_in}
+use Rattle.acq_live.specs.Act as act
+use Rattle.acq_live.specs.Handled.{Goes, Halts, Handled, Hands}
+use Rattle.acq_live.specs.Rules.{MayCome, Rules}
+use Rattle.acq_live.specs.Said.{AreFlushedMore, bad_in, feds_for, feds_in, is_end, said_by}
+use Rattle.acq_live.specs.Spot.{Fixed, Spot}
+use Rattle.acq_live.specs.Steps.{consumes_none, hands_more, none_handled, or_none, tells_none}
+use Rattle.acq_live.specs.Told.{TellsOn, durable_line}
+use Rattle.acq_live.specs.declared.feed.LineFeed.{LineFeed}
+use Rattle.acq_live.specs.declared.said.Said.{Said}
+use Rattle.acq_live.specs.declared.said.Said.TheVariants.{Nothing, Sampled, Flush, End, Bad}
+
+-- a flush behind a sample
+abbrev pub flushed : Spot → Spot
+flushed spot = record spot { pending = false; steps = spot.steps + 1; flushed = Some spot.count }
+
+flush_told : (before : Option ℕ) (n : ℕ) → before ≡ None → [] ++ option_to_list (Some n) ≡ option_to_list before ++ n ∷ []
+flush_told (Some m) n is = absurd (cc is)
+flush_told None n is = refl
+
+may_flush : (rules : Rules) (number : ℕ) → All (MayCome rules number) (fed.Flush ∷ [])
+may_flush rules number = All-cons (MayCome rules number) fed.Flush [] tt (All-nil (MayCome rules number))
+
+pub flush_handled : (at : Fixed) (spot : Spot) → spot.pending ≡ true → spot.flushed ≡ None → spot.steps + 1 < 2 ^ 64 → Handled at spot (fed.Flush ∷ []) (flushed spot)
+flush_handled at spot pending none room = record {
+  later = omega arith;
+  may = may_flush at.rules at.number;
+  steps = omega arith;
+  few = λ is. room;
+  acts = act.Hand fed.Flush ∷ [];
+  handed = refl;
+  taken = consumes_none spot.input.left;
+  committed = tt;
+  pending_is = refl;
+  lines = [];
+  reads = record { each = λ later. refl };
+  none_over = λ is. refl;
+  ends_last = tt;
+  over_is = or_none spot.over;
+  says = inr (pending, refl);
+  bad_is = omega arith;
+  count_is = omega arith;
+  numbers = [];
+  told = tells_none at.number spot.deaf spot.told;
+  told_are = flush_told spot.flushed spot.count none;
+}
+
+-- what stands behind a line that says this
+abbrev pub flush_with : Said → ℕ → Option ℕ → Option ℕ
+flush_with Flush count flushed = Some count
+flush_with _ count flushed = flushed
+
+abbrev pub over_with : Said → Bool → Bool
+over_with End over = true
+over_with _ over = over
+
+abbrev pub bad_with : Said → ℕ → ℕ
+bad_with Bad bad = bad + 1
+bad_with _ bad = bad
+
+abbrev pub count_with : Said → ℕ → ℕ
+count_with (Sampled sample) count = count + 1
+count_with _ count = count
+
+abbrev pub passed : Spot → Said → SourceState → Unread → Spot
+passed spot said input unread = record spot {
+  input = input;
+  unread = unread;
+  pending = pending_behind spot.pending (feds_for said);
+  over = over_with said spot.over;
+  steps = spot.steps + 1;
+  bad = bad_with said spot.bad;
+  count = count_with said spot.count;
+  flushed = flush_with said spot.count spot.flushed;
+}
+
+hand_none : (feds : List Fed) → read_in (map act.Hand feds) ≡ []
+hand_none [] = refl
+hand_none (task ∷ feds) = hand_none feds
+
+hand_all : (feds : List Fed) → handed_in (map act.Hand feds) ≡ feds
+hand_all [] = refl
+hand_all (task ∷ feds) = ap (λ (rest : List Fed). task ∷ rest) (hand_all feds)
+
+hand_committed : (pending : Bool) (feds : List Fed) → AreCommitted pending (map act.Hand feds)
+hand_committed pending [] = tt
+hand_committed pending (task ∷ feds) = hand_committed (pending_with pending task) feds
+
+few_fed : (said : Said) → length (feds_for said) ≤ 1
+few_fed Nothing = omega arith
+few_fed (Sampled sample) = omega arith
+few_fed Flush = omega arith
+few_fed End = omega arith
+few_fed Bad = omega arith
+
+said_alone : (pending : Bool) (said : Said) → AreFlushedMore pending (feds_for said) (feds_in (said ∷ []))
+said_alone pending Nothing = refl
+said_alone pending (Sampled sample) = ([], refl, refl)
+said_alone pending Flush = inl ([], refl, refl)
+said_alone pending End = refl
+said_alone pending Bad = refl
+
+said_told : (before : Option ℕ) (n : ℕ) (said : Said) → before ≡ None → [] ++ option_to_list (flush_with said n before) ≡ option_to_list before ++ flushes_behind n (feds_for said)
+said_told (Some m) n said is = absurd (cc is)
+said_told None n Nothing is = refl
+said_told None n (Sampled sample) is = refl
+said_told None n Flush is = refl
+said_told None n End is = refl
+said_told None n Bad is = refl
+
+ended_alone : (over : Bool) (said : Said) → over ≡ false → over_with said over ≡ (over || (is_end said || false))
+ended_alone true said is = absurd (cc is)
+ended_alone false Nothing is = refl
+ended_alone false (Sampled sample) is = refl
+ended_alone false Flush is = refl
+ended_alone false End is = refl
+ended_alone false Bad is = refl
+
+bad_alone : (said : Said) (bad : ℕ) → bad_with said bad ≡ bad + bad_in (said ∷ [])
+bad_alone Nothing bad = omega arith
+bad_alone (Sampled sample) bad = omega arith
+bad_alone Flush bad = omega arith
+bad_alone End bad = omega arith
+bad_alone Bad bad = omega arith
+
+count_alone : (said : Said) (count : ℕ) → count_with said count ≡ count + length (samples_of (feds_for said))
+count_alone Nothing count = omega arith
+count_alone (Sampled sample) count = omega arith
+count_alone Flush count = omega arith
+count_alone End count = omega arith
+count_alone Bad count = omega arith
+
+line_handled : (at : Fixed) (spot : Spot) (line : Option (List ℕ)) (unread : Unread)
+    → All (MayCome at.rules at.number) (feds_for (said_by at.rules at.number line)) → Reads spot.unread [] (line ∷ []) unread
+    → spot.over ≡ false → spot.flushed ≡ None → spot.steps + 2 < 2 ^ 64
+    → Handled at spot (feds_for (said_by at.rules at.number line)) (passed spot (said_by at.rules at.number line) spot.input unread)
+line_handled at spot line unread may reads running none room =
+    let said = said_by at.rules at.number line in
+    let feds = feds_for said in
+    record {
+      later = omega arith;
+      may = may;
+      steps = omega (arith, few_fed said);
+      few = λ is. omega (arith, room);
+      acts = map act.Hand feds;
+      handed = hand_all feds;
+      taken = subst (Consumes spot.input.left spot.input.left) (sym (hand_none feds)) (consumes_none spot.input.left);
+      committed = hand_committed spot.pending feds;
+      pending_is = refl;
+      lines = line ∷ [];
+      reads = subst (λ (bytes : List ℕ). Reads spot.unread bytes (line ∷ []) unread) (sym (hand_none feds)) reads;
+      none_over = λ is. absurd (cc (sym running ∙ is));
+      ends_last = (λ is. refl, tt);
+      over_is = ended_alone spot.over said running;
+      says = said_alone spot.pending said;
+      bad_is = bad_alone said spot.bad;
+      count_is = count_alone said spot.count;
+      numbers = [];
+      told = tells_none at.number spot.deaf spot.told;
+      told_are = said_told spot.flushed spot.count said none;
+    }
+
+-- a line that says this was passed
+pub line_passed : (at : Fixed) (spot : Spot) (line : Option (List ℕ)) (input : SourceState) (unread : Unread) (said kind : Said)
+    → said ≡ said_by at.rules at.number line → said ≡ kind → All (MayCome at.rules at.number) (feds_for said) → Reads spot.unread [] (line ∷ []) unread → input ≡ spot.input
+    → spot.over ≡ false → spot.flushed ≡ None → spot.steps + 2 < 2 ^ 64
+    → Handled at spot (feds_for kind) (passed spot kind input unread)
+line_passed at spot line input unread said kind says is may reads same running none room =
+    subst (λ (input : SourceState). Handled at spot (feds_for kind) (passed spot kind input unread)) (sym same)
+    (subst (λ (said : Said). Handled at spot (feds_for said) (passed spot said spot.input unread)) (sym says ∙ is)
+    (line_handled at spot line unread (subst (λ (said : Said). All (MayCome at.rules at.number) (feds_for said)) says may) reads running none room))
+
+-- no whole line is left of what was read
+abbrev lf : ℕ → Bool
+lf b = b == 10
+
+passed_not : (test : Bool) → (test ≡ true → ⊥) → test ≡ false
+passed_not true not = absurd (not refl)
+passed_not false not = refl
+
+none_in : (bytes : List ℕ) → FindsLf bytes None → All (λ x. lf x ≡ false) bytes
+none_in bytes none k d below = ap lf (get_or_default_zero bytes k d below) ∙ passed_not _ (none k (omega arith) below)
+
+none_closed : (unread : Unread) → FindsLf unread.bytes None → lines_behind unread [] ≡ []
+none_closed unread none =
+    ap (λ (bytes : List ℕ). closed unread.long (slice_split lf bytes)) (append-nil unread.bytes)
+    ∙ ap (closed unread.long) (slice_split_none lf unread.bytes (none_in unread.bytes none))
+
+pub none_left : (old new : Unread) (bytes : List ℕ) → FindsLf old.bytes None → length bytes ≡ 0 → Reads old bytes [] new → lines_behind new [] ≡ []
+none_left old new [] none is reads = sym (reads.each []) ∙ none_closed old none
+none_left old new (byte ∷ bytes) none is reads = absurd (omega (arith, is))
+
+-- more was read
+pub read_handled : (at : Fixed) (spot : Spot) (input : SourceState) (unread : Unread) (bytes : List ℕ)
+    → spot.pending ≡ false → spot.input.faults ≤ input.faults → Consumes spot.input.left input.left bytes → Reads spot.unread bytes [] unread
+    → Handled at spot [] (record spot { input = input; unread = unread })
+read_handled at spot input unread bytes calm later taken reads = record {
+  later = later;
+  may = λ k d below. absurd (omega (arith, below));
+  steps = omega arith;
+  few = λ is. is;
+  acts = act.Read bytes ∷ [];
+  handed = refl;
+  taken = subst (Consumes spot.input.left input.left) (sym (append-nil bytes)) taken;
+  committed = (calm, tt);
+  pending_is = refl;
+  lines = [];
+  reads = subst (λ (all : List ℕ). Reads spot.unread all [] unread) (sym (append-nil bytes)) reads;
+  none_over = λ is. refl;
+  ends_last = tt;
+  over_is = or_none spot.over;
+  says = refl;
+  bad_is = omega arith;
+  count_is = omega arith;
+  numbers = [];
+  told = tells_none at.number spot.deaf spot.told;
+  told_are = sym (append-nil (option_to_list spot.flushed));
+}
+
+-- nothing was read
+pub same_handled : (at : Fixed) (spot : Spot) (input : SourceState) (unread : Unread)
+    → spot.input.faults ≤ input.faults → input.left ≡ spot.input.left → unread ≡ spot.unread → Handled at spot [] (record spot { input = input; unread = unread })
+same_handled at spot input unread later left same = record {
+  later = later;
+  may = λ k d below. absurd (omega (arith, below));
+  steps = omega arith;
+  few = λ is. is;
+  acts = [];
+  handed = refl;
+  taken = subst (λ (left : Option (List ℕ)). Consumes spot.input.left left []) (sym left) (consumes_none spot.input.left);
+  committed = tt;
+  pending_is = refl;
+  lines = [];
+  reads = subst (λ (unread : Unread). Reads spot.unread [] [] unread) (sym same) (record { each = λ later. refl });
+  none_over = λ is. refl;
+  ends_last = tt;
+  over_is = or_none spot.over;
+  says = refl;
+  bad_is = omega arith;
+  count_is = omega arith;
+  numbers = [];
+  told = tells_none at.number spot.deaf spot.told;
+  told_are = sym (append-nil (option_to_list spot.flushed));
+}
+
+-- no more was read, and no whole line is left of what was
+pub read_ended : (left left' : Option (List ℕ)) (old new : Unread) (count : ℕ) → Fills left left' old new count → count ≡ 0 → FindsLf old.bytes None
+    → IsAtEnd left' × (lines_behind new [] ≡ [])
+read_ended left left' old new count fills none found = (fills.at_end none, none_left old new fills.bytes found (fills.count_is ∙ none) fills.reads)
+
+-- the flush that was handed in last was told of
+told_handled : (at : Fixed) (spot : Spot) (count : ℕ) (deaf : Bool) (told : SinkState)
+    → spot.flushed ≡ Some count → TellsOn spot.deaf deaf spot.told told at.number (count ∷ [])
+    → Handled at spot [] (record spot { flushed = None; deaf = deaf; told = told })
+told_handled at spot count deaf told is tells = record {
+  later = omega arith;
+  may = λ k d below. absurd (omega (arith, below));
+  steps = omega arith;
+  few = λ is. is;
+  acts = [];
+  handed = refl;
+  taken = consumes_none spot.input.left;
+  committed = tt;
+  pending_is = refl;
+  lines = [];
+  reads = record { each = λ later. refl };
+  none_over = λ is. refl;
+  ends_last = tt;
+  over_is = or_none spot.over;
+  says = refl;
+  bad_is = omega arith;
+  count_is = omega arith;
+  numbers = count ∷ [];
+  told = tells;
+  told_are = sym (append-nil (option_to_list spot.flushed) ∙ ap option_to_list is);
+}
+
+pub told_on : (at : Fixed) (spot : Spot) (count : ℕ) (flushed : Option ℕ) (deaf : Bool) (told : SinkState)
+    → spot.flushed ≡ Some count → flushed ≡ None → TellsOn spot.deaf deaf spot.told told at.number (count ∷ [])
+    → Handled at spot [] (record spot { flushed = flushed; deaf = deaf; told = told })
+told_on at spot count flushed deaf told is none tells =
+    subst (λ (flushed : Option ℕ). Handled at spot [] (record spot { flushed = flushed; deaf = deaf; told = told })) (sym none) (told_handled at spot count deaf told is tells)
+
+-- none was handed in
+pub none_told : (at : Fixed) (spot : Spot) (flushed : Option ℕ) → spot.flushed ≡ None → flushed ≡ None → Handled at spot [] (record spot { flushed = flushed })
+none_told at spot flushed is none =
+    subst (λ (flushed : Option ℕ). Handled at spot [] (record spot { flushed = flushed })) (is ∙ sym none) (none_handled at spot)
+
+-- the line was given, or the sink failed
+pub given : {E : Type 0} (number count : ℕ) (old new : SinkState) (result : Result Unit E) (before deaf : Bool)
+    → before ≡ false → deaf ≡ is_err result → Gives (durable_line number count) old new result → TellsOn before deaf old new number (count ∷ [])
+given number count old new result true deaf hears is gives = absurd (cc hears)
+given number count old new (Ok done) false true hears is gives = absurd (cc is)
+given number count old new (Ok done) false false hears is gives =
+    (subst (Appends old.held new.held) (sym (append-nil (durable_line number count))) gives.ok, gives.cause.later)
+given number count old new (Err failed) false true hears is gives =
+    (subst (AppendsFront old.held new.held) (sym (append-nil (durable_line number count))) gives.err, gives.cause.failed)
+given number count old new (Err failed) false false hears is gives = absurd (cc is)
+
+-- one that has failed is told no more
+pub silent : (number count : ℕ) (told : SinkState) (deaf : Bool) → deaf ≡ true → TellsOn deaf deaf told told number (count ∷ [])
+silent number count told true is = (refl, refl)
+silent number count told false is = absurd (cc is)
+
+module _ {S K : Type 0} {tells : source.Ghosts S} (holds : sink.Ghosts K) where
+  -- what came behind what was handed in before
+  pub feeds_on : (first second third : LineFeed S K tells) (task : Fed) → Hands holds first [] second → Feeds (Hands holds) (Halts holds) second task third
+      → Feeds (Hands holds) (Halts holds) first task third
+  feeds_on first second third (fed.Sample sample) one two = hands_more holds first second third [] (fed.Sample sample ∷ []) one two
+  feeds_on first second third fed.Flush one two = hands_more holds first second third [] (fed.Flush ∷ []) one two
+  feeds_on first second third fed.End one two = (hands_more holds first second third [] [] one two.0, two.1)
+
+  -- nothing came, and nothing is left to be told
+  pub goes_on : (first second third : LineFeed S K tells) (result : Option Fed) → result ≡ None → Hands holds first [] second → Goes holds second result third
+      → Hands holds first [] third × (third.flushed ≡ None)
+  goes_on first second third None is one two = (hands_more holds first second third [] [] one two.0, two.1)
+  goes_on first second third (Some task) is one two = absurd (cc is)

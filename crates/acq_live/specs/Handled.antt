@@ -1,0 +1,95 @@
+-- What a feed of lines did from one spot to another, and why nothing more comes of it.
+use Rattle.std.specs.Prelude.{ℕ, ◌≡◌, ◌+◌, ◌^◌, ◌≤◌, ◌<◌, true, false, ◌||◌, List, [], ◌++◌, length, take, All, Option, Some, None}
+use Rattle.std.specs.Io.KnownBytes.{Consumes, IsAtEnd}
+use Rattle.std.specs.Option.{option_to_list}
+use Rattle.mdf_format.specs.Cause.{Rose}
+use Rattle.mdf_port.specs.State.{sink_state, source_state}
+use Rattle.mdf_port.specs.declared.source.Source as source
+use Rattle.mdf_port.specs.declared.sink.Sink as sink
+use Rattle.acq_lines.specs.Lines.{FindsLf, Reads, Unread, limited, lines_behind, nothing}
+use Rattle.acq_feed.specs.Feeds.{Feeds, flushes_behind, samples_of}
+use Rattle.acq_feed.specs.declared.feed.Fed.{Fed}
+use Rattle.acq_live.specs.Act.{Act, AreCommitted, handed_in, pending_behind, read_in}
+use Rattle.acq_live.specs.Rules.{MayCome, Rules, rules_of}
+use Rattle.acq_live.specs.Told.{TellsOn}
+use Rattle.acq_live.specs.Said.{AreFlushedMore, EndsLast, IsSampleLine, bad_in, feds_in, is_ended, said_in}
+use Rattle.acq_live.specs.Spot.{Fixed, Spot, fixed, spot}
+use Rattle.acq_live.specs.declared.rules.LineRules.{LineRules}
+use Rattle.acq_live.specs.declared.feed.Halt.{Halt}
+use Rattle.acq_live.specs.declared.feed.Halt.TheVariants.{Input, Line, Failed, Memory, Count, Called}
+use Rattle.acq_live.specs.declared.feed.LineFeed.{LineFeed}
+
+-- Just this was read, just these lines of it were handled, in order, and just what they say was handed in, with more flushes among it: none is
+-- left out where more is read. So many lines were bad. Nothing is handled behind a line that ends it. Of each flush that was handed in its source
+-- was told how many of its samples stand before it, when the next was asked for and no sooner: then it was done.
+pub record Handled (at : Fixed) (old : Spot) (feds : List Fed) (new : Spot) : Type 0 where
+  pub later : old.input.faults ≤ new.input.faults
+  pub may : All (MayCome at.rules at.number) feds
+  pub steps : old.steps + length feds ≤ new.steps
+  pub few : old.steps < 2 ^ 64 → new.steps < 2 ^ 64
+  pub acts : List Act
+  pub handed : handed_in acts ≡ feds
+  pub taken : Consumes old.input.left new.input.left (read_in acts)
+  pub committed : AreCommitted old.pending acts
+  pub pending_is : new.pending ≡ pending_behind old.pending feds
+  pub lines : List (Option (List ℕ))
+  pub reads : Reads old.unread (read_in acts) lines new.unread
+  pub none_over : old.over ≡ true → lines ≡ []
+  pub ends_last : EndsLast (said_in at.rules at.number lines)
+  pub over_is : new.over ≡ (old.over || is_ended (said_in at.rules at.number lines))
+  pub says : AreFlushedMore old.pending feds (feds_in (said_in at.rules at.number lines))
+  pub bad_is : new.bad ≡ old.bad + bad_in (said_in at.rules at.number lines)
+  pub count_is : new.count ≡ old.count + length (samples_of feds)
+  pub numbers : List ℕ
+  pub told : TellsOn old.deaf new.deaf old.told new.told at.number numbers
+  pub told_are : numbers ++ option_to_list new.flushed ≡ option_to_list old.flushed ++ flushes_behind old.count feds
+
+-- from the one feed to the other. In an impl generic in K: Sink it is `Hands K.Sink`
+abbrev pub Hands : {S K : Type 0} {tells : source.Ghosts S} → sink.Ghosts K → LineFeed S K tells → List Fed → LineFeed S K tells → Type 0
+Hands holds old feds new = (fixed new ≡ fixed old) × Handled (fixed old) (spot holds old) feds (spot holds new)
+
+-- the next line of what was read says a sample of a group that there is
+pub record WantsMemory (rules : Rules) (unread : Unread) : Type 0 where
+  pub count : ℕ
+  pub found : FindsLf unread.bytes (Some count)
+  pub says : IsSampleLine rules (limited unread.long (take count unread.bytes))
+
+-- Why nothing more comes: the input is at its end, and no line is left of what was read; a line ended it; the input failed; memory was wanted
+-- for a line; as much was handed in as can be counted; it was called off.
+abbrev pub HaltsAt : Fixed → Spot → Halt → Type 0
+HaltsAt at spot Input = IsAtEnd spot.input.left × (lines_behind spot.unread [] ≡ [])
+HaltsAt at spot Line = spot.over ≡ true
+HaltsAt at spot Failed = Rose at.first_faults spot.input.faults
+HaltsAt at spot Memory = WantsMemory at.rules spot.unread
+HaltsAt at spot Count = 2 ^ 64 ≤ spot.steps + 2
+HaltsAt at spot Called = Unit {0}
+
+-- so it is, all that was handed in has a flush behind it, and its source was told of each
+pub record Halts {S K : Type 0} {tells : source.Ghosts S} (holds : sink.Ghosts K) (feed : LineFeed S K tells) : Type 0 where
+  pub halt : Halt
+  pub halt_is : feed.halt ≡ Some halt
+  pub cause : HaltsAt (fixed feed) (spot holds feed) halt
+  pub committed : feed.pending ≡ false
+  pub told : feed.flushed ≡ None
+
+-- It went on by one step, and this was handed in, or nothing.
+abbrev pub Goes : {S K : Type 0} {tells : source.Ghosts S} → sink.Ghosts K → LineFeed S K tells → Option Fed → LineFeed S K tells → Type 0
+Goes holds old None new = Hands holds old [] new × (new.flushed ≡ None)
+Goes holds old (Some task) new = Feeds (Hands holds) (Halts holds) old task new
+
+-- a feed of this source over this input, of which nothing was taken
+pub record IsFresh {S K : Type 0} {tells : source.Ghosts S} (holds : sink.Ghosts K) (rules : LineRules) (number : ℕ) (input : S) (told : K) (feed : LineFeed S K tells) : Type 0 where
+  pub fixed_is : fixed feed ≡ record { rules = rules_of rules; number = number; first_faults = tells.faults input }
+  pub spot_is : spot holds feed ≡ record {
+    input = source_state tells input;
+    unread = nothing;
+    pending = false;
+    over = false;
+    steps = 0;
+    bad = 0;
+    count = 0;
+    flushed = None;
+    deaf = false;
+    told = sink_state holds told;
+  }
+  pub running : feed.halt ≡ None

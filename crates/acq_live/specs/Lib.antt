@@ -1,0 +1,7 @@
+pub mod Rules
+pub mod Said
+pub mod Act
+pub mod Told
+pub mod Spot
+pub mod Handled
+pub mod Steps

@@ -1,0 +1,309 @@
+ghost use Rattle.std.specs.Prelude.{◌≡◌, ◌≤◌, ◌<◌, ◌+◌, ◌^◌, true};
+
+use crate::told::give_durable;
+use crate::{LineRules, Said, said_by};
+use acq_feed::{Fed, Feed};
+use acq_lines::LineSource;
+use mdf_input::Input;
+use mdf_num::Memory;
+use mdf_port::{Sink, Source};
+use std::alloc::Global;
+use std::sync::Wait;
+use std::sync::atomic::{AtomicBool, Ordering};
+
+/// Why nothing more comes of a feed.
+#[derive(Clone, Copy, Debug)]
+pub enum Halt {
+    /// The input is at its end.
+    Input,
+    /// A line said so.
+    Line,
+    /// The input failed.
+    Failed,
+    /// Want of memory, for a line.
+    Memory,
+    /// As much was handed in as can be counted.
+    Count,
+    /// It was called off, since another source of the recording had to stop.
+    Called,
+}
+
+/// The feed of a source over its input.
+#[derive(Drop)]
+pub struct LineFeed<'a, S: Source, K> {
+    alloc: Global,
+    lines: LineSource<S>,
+    rules: LineRules<'a>,
+    number: u8,
+    called: &'a AtomicBool,
+    first_faults: u64,
+    pending: bool,
+    over: bool,
+    steps: u64,
+    bad: u64,
+    count: u64,
+    flushed: Option<u64>,
+    told: K,
+    deaf: bool,
+    halt: Option<Halt>,
+    ghost since: { first_faults ≤ S.faults lines.source },
+    ghost bad_counted: { bad ≤ steps },
+    ghost counted: { count ≤ steps },
+    ghost room: { pending ≡ true → steps + 1 < 2 ^ 64 },
+}
+
+impl<'a, S: Input + Drop, K: Sink + Drop> LineFeed<'a, S, K> {
+    ghost use Rattle.std.specs.Prelude.{◌≡◌, ◌<◌, ◌+◌, ◌^◌, ◌∷◌, [], ◌↔◌, Some, None, true, false, All, IfOk, IsTrue, OnErr, take};
+    ghost use Rattle.acq_feed.specs.Feeds.{Feeds};
+    ghost use Rattle.acq_feed.specs.declared.feed.Fed.TheVariants.{Flush as FlushFed};
+    ghost use Rattle.acq_lines.specs.Lines.{FindsLf, IsCut, limited};
+    ghost use Rattle.acq_lines.specs.Source.{unread};
+    ghost use Rattle.acq_live.specs.Rules.{MayCome, rules_of};
+    ghost use Rattle.acq_live.specs.Said.{IsSampleLine, feds_for, said_by};
+    ghost use Rattle.acq_live.specs.Spot.{fixed, spot};
+    ghost use Rattle.acq_live.specs.Handled.{Goes, Halts, HaltsAt, Hands, IsFresh};
+
+    /// Of the source of this number. It finds the memory for its lines here, and takes nothing of its input yet. Feeds that are
+    /// called off together share the flag.
+    pub fn new(
+        alloc: Global,
+        input: S,
+        told: K,
+        rules: LineRules<'a>,
+        number: u8,
+        called: &'a AtomicBool,
+    ) -> Result<LineFeed<'a, S, K>, Memory>
+        ensures fresh { IfOk result (λ feed. IsFresh K.Sink rules.entry number input told feed) }
+    {
+        let first_faults = input.faults();
+        Ok(LineFeed {
+            alloc,
+            lines: LineSource::new(alloc, input)?,
+            rules,
+            number,
+            called,
+            first_faults,
+            pending: false,
+            over: false,
+            steps: 0,
+            bad: 0,
+            count: 0,
+            flushed: None,
+            told,
+            deaf: false,
+            halt: None,
+        })
+    }
+
+    /// Hands in a flush.
+    fn flush(&mut self)
+        requires pending { self.old.pending ≡ true }
+        requires told { self.old.flushed ≡ None }
+        ensures { Hands K.Sink self.old (FlushFed ∷ []) self.new }
+    {
+        self.pending = false;
+        self.steps += 1;
+        self.flushed = Some(self.count);
+    }
+
+    /// Hands in a flush, where a sample has none behind it, and else says that nothing more comes.
+    fn halt(&mut self, halt: Halt) -> Fed
+        requires told { self.old.flushed ≡ None }
+        requires cause { HaltsAt (fixed self.old) (spot K.Sink self.old) halt }
+        ensures { Feeds (Hands K.Sink) (Halts K.Sink) self.old result self.new }
+    {
+        if !self.pending {
+            self.halt = Some(halt);
+            return Fed::End;
+        }
+        self.flush();
+        Fed::Flush
+    }
+
+    /// Tells of the flush that was handed in last, which was done, since more is asked for. A sink that failed is told no more.
+    fn tell(&mut self)
+        ensures hands { Hands K.Sink self.old [] self.new }
+        ensures told { self.new.flushed ≡ None }
+    {
+        let Some(count) = self.flushed.take() else {
+            return;
+        };
+        if !self.deaf {
+            self.deaf = give_durable(&mut self.told, self.number, count).is_err();
+        }
+    }
+
+    /// What the next line says, before whose LF so many bytes stand.
+    fn said(&self, count: usize) -> Result<Said, Memory>
+        requires { FindsLf (unread self.now.lines).bytes (Some count) }
+        ensures said { IfOk result (λ said. said ≡ said_by (rules_of self.now.rules) self.now.number
+            (limited (unread self.now.lines).long (take count (unread self.now.lines).bytes))) }
+        ensures may { IfOk result (λ said. All (MayCome (rules_of self.now.rules) self.now.number) (feds_for said)) }
+        ensures wanted { OnErr result (IsSampleLine (rules_of self.now.rules)
+            (limited (unread self.now.lines).long (take count (unread self.now.lines).bytes))) }
+    {
+        said_by(self.alloc, &self.rules, self.number, self.lines.line(count))
+    }
+
+    /// Passes the next line, before whose LF so many bytes stand, and answers what is handed in for what it says, if something is.
+    fn pass(&mut self, count: usize, said: Said) -> Option<Fed>
+        requires told { self.old.flushed ≡ None }
+        requires running { self.old.over ≡ false }
+        requires room { self.old.steps + 2 < 2 ^ 64 }
+        requires found { FindsLf (unread self.old.lines).bytes (Some count) }
+        requires said { said ≡ said_by (rules_of self.old.rules) self.old.number
+            (limited (unread self.old.lines).long (take count (unread self.old.lines).bytes)) }
+        requires may { All (MayCome (rules_of self.old.rules) self.old.number) (feds_for said) }
+        ensures { Goes K.Sink self.old result self.new }
+    {
+        self.lines.pass(count);
+        self.steps += 1;
+        match said {
+            Said::Nothing => None,
+            Said::Sampled(sample) => {
+                self.pending = true;
+                self.count += 1;
+                Some(Fed::Sample(sample))
+            }
+            Said::Flush => {
+                self.pending = false;
+                self.flushed = Some(self.count);
+                Some(Fed::Flush)
+            }
+            Said::End => {
+                self.over = true;
+                None
+            }
+            Said::Bad => {
+                self.bad += 1;
+                None
+            }
+        }
+    }
+
+    /// Handles the next line, before whose LF so many bytes stand.
+    fn handle(&mut self, count: usize) -> Option<Fed>
+        requires told { self.old.flushed ≡ None }
+        requires running { self.old.over ≡ false }
+        requires room { self.old.steps + 2 < 2 ^ 64 }
+        requires found { FindsLf (unread self.old.lines).bytes (Some count) }
+        ensures { Goes K.Sink self.old result self.new }
+    {
+        match self.said(count) {
+            Ok(said) => self.pass(count, said),
+            Err(_) => Some(self.halt(Halt::Memory)),
+        }
+    }
+
+    /// Reads more, where the input need not be waited for.
+    fn fill(&mut self) -> Option<Fed>
+        requires told { self.old.flushed ≡ None }
+        requires committed { self.old.pending ≡ false }
+        requires none { FindsLf (unread self.old.lines).bytes None }
+        ensures { Goes K.Sink self.old result self.new }
+    {
+        match self.lines.fill() {
+            Ok(0) => Some(self.halt(Halt::Input)),
+            Ok(_) => None,
+            Err(_) => Some(self.halt(Halt::Failed)),
+        }
+    }
+
+    /// Waits for the input a while, and reads more where something came. What does not come holds up nobody who calls it off.
+    fn read(&mut self) -> Option<Fed>
+        requires told { self.old.flushed ≡ None }
+        requires committed { self.old.pending ≡ false }
+        requires none { FindsLf (unread self.old.lines).bytes None }
+        ensures { Goes K.Sink self.old result self.new }
+    {
+        if self.called.load(Ordering::SeqCst) {
+            return Some(self.halt(Halt::Called));
+        }
+        match self.lines.wait() {
+            Ok(true) => self.fill(),
+            Ok(false) => None,
+            Err(_) => Some(self.halt(Halt::Failed)),
+        }
+    }
+
+    /// Goes on by one line or one read, and answers what is handed in, if something is. Before a read it is a flush, where a sample has none
+    /// behind it.
+    fn step(&mut self) -> Option<Fed>
+        requires { self.old.flushed ≡ None }
+        ensures { Goes K.Sink self.old result self.new }
+    {
+        if self.over {
+            return Some(self.halt(Halt::Line));
+        }
+        if self.steps >= u64::MAX - 1 {
+            return Some(self.halt(Halt::Count));
+        }
+        match self.lines.line_end() {
+            Some(count) => self.handle(count),
+            None if self.pending => {
+                self.flush();
+                Some(Fed::Flush)
+            }
+            None => self.read(),
+        }
+    }
+
+    /// Why nothing more comes, once that was answered.
+    pub fn halted(&self) -> Option<Halt>
+        ensures { result ≡ self.now.halt }
+    {
+        self.halt
+    }
+
+    /// How many lines no rule admitted.
+    pub fn bad(&self) -> u64
+        ensures { result ≡ (spot K.Sink self.now).bad }
+    {
+        self.bad
+    }
+
+    /// Whether its sink failed, and is told no more.
+    pub fn is_deaf(&self) -> bool
+        ensures { result ≡ (spot K.Sink self.now).deaf }
+    {
+        self.deaf
+    }
+
+    /// Whether what was read ends in the middle of a line, where no whole line is left of it.
+    pub fn is_cut(&self) -> bool
+        ensures { IsTrue result ↔ IsCut (spot K.Sink self.now).unread }
+    {
+        self.lines.is_cut()
+    }
+}
+
+impl<'a, S: Input + Drop, K: Sink + Drop> Feed for LineFeed<'a, S, K> {
+    ghost use Rattle.acq_live.specs.Handled.{Halts, Hands};
+    ghost use Rattle.acq_live.specs.Steps.{hands_more, hands_none};
+
+    ghost hands = { Hands K.Sink };
+
+    ghost ends = { Halts K.Sink };
+
+    ghost hands_none = { hands_none K.Sink };
+
+    ghost hands_more = { hands_more K.Sink };
+
+    fn next<R: Wait>(&mut self, rt: &R) -> Fed {
+        self.tell();
+        for _ in rt.forever() {
+            if let Some(task) = self.step() {
+                return task;
+            }
+        }
+        unreachable!()
+    }
+
+    /// Lets its input go. Where its last was not done, it calls off all feeds that share its flag.
+    fn leave(&mut self) {
+        if self.halt.is_none() {
+            self.called.store(true, Ordering::SeqCst);
+        }
+        self.lines.close();
+    }
+}

@@ -1,0 +1,5 @@
+//! Tests of what reads the lines of a log: worked examples.
+#![tactic(auto)]
+
+#[cfg(test)]
+mod floats;
