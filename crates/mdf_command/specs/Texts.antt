@@ -18,7 +18,7 @@ line (piece ∷ pieces) = piece ++ line pieces
 
 abbrev pub usage_line : List ℕ
 usage_line =
-    line (codes "usage: opened IN | record OUT | finalize IN OUT | check IN | info IN | sort IN OUT | cut IN OUT FROM TO | concat A B OUT | export IN GROUP | gen N OUT | attachments IN | attach A B OUT" ∷ [])
+    line (codes "usage: opened IN | record OUT | finalize IN OUT | check IN | info IN | sort IN OUT | cut IN OUT FROM TO | concat A B OUT | export IN GROUP | gen N OUT | attachments IN | attach A B OUT | rotate OUT" ∷ [])
 
 -- what is printed of a name's byte: `?` for a control character
 abbrev pub shown : ℕ → List ℕ

@@ -10,9 +10,11 @@ mod input;
 mod parts;
 mod report;
 mod room;
+mod usage;
 
 pub use attached::attach_fault;
 pub use command::{Aspect, Command, Origin, Product, Union, command_of};
 pub use fault::Fault;
 pub use input::{INPUT_LIMIT, READING_LIMIT, load, open};
 pub use report::{Piece, give_line, status_after};
+pub use usage::run_usage;

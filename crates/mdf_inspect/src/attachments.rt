@@ -126,11 +126,8 @@ fn give_attachment<K: Sink>(sink: &mut K, number: u64, row: &Entry) -> Result<()
 fn give_attachments<K: Sink>(sink: &mut K, rows: &[Entry]) -> Result<(), Failed>
     ensures { Gives (numbered attachment_line 0 rows.now) (sink_state K.Sink sink.old) (sink_state K.Sink sink.new) result }
 {
-    let mut i = 0;
-    while i < rows.len() {
-        let row = &rows[i];
+    for (i, row) in rows.iter().enumerate() {
         give_attachment(sink, i as u64, row)?;
-        i += 1;
     }
     Ok(())
 }

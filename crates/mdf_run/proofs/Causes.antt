@@ -9,12 +9,12 @@ use Rattle.mdf_block.specs.Refusal.{Refusal}
 use Rattle.mdf_content.specs.Fault.{read_refusal}
 use Rattle.mdf_gate.specs.declared.answer.Opened.{Opened}
 use Rattle.mdf_attach.specs.declared.entry.Entry.{Entry}
-use Rattle.mdf_run.specs.declared.said.Said.{Said}
+use Rattle.mdf_make.specs.declared.said.Said.{Said}
 use Rattle.mdf_command.specs.Texts.{Prints, unwritten_status}
 use Rattle.mdf_command.specs.Faults.{fault_line, fault_status, refused_status}
 use Rattle.mdf_command.specs.declared.fault.Fault.{Fault}
 use Rattle.mdf_command.specs.declared.fault.Fault.TheVariants as fault
-use Rattle.mdf_run.specs.Making.{EndsMaking, Inputs, MakingComes, making_status, making_text}
+use Rattle.mdf_make.specs.Making.{EndsMaking, Inputs, MakingComes, making_status, making_text}
 use Rattle.mdf_inspect.specs.Opened.{EndsOpened, OpenedComes, OpenedFaultComes, opened_status, opened_text}
 use Rattle.mdf_inspect.specs.Reading.{EndsReading, Reading, ReadingComes, ReadingFaultComes, answer_text, reading_status}
 use Rattle.mdf_inspect.specs.Attachments.{EndsListing, ListingComes, ListingFaultComes, listing_status, listing_text}

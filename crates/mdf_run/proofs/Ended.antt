@@ -9,13 +9,13 @@ use Rattle.acq_script.specs.declared.script.Script.{Script}
 use Rattle.acq_script.specs.Generated.{generated_script}
 use Rattle.mdf_inspect.specs.Check.{verdict_text}
 use Rattle.mdf_inspect.specs.Info.{contents_text}
-use Rattle.mdf_run.specs.Cut.{Cuts}
-use Rattle.mdf_run.specs.Concat.{AreNotJoined, Joins, OneFailed, two_inputs}
-use Rattle.mdf_run.specs.Attach.{AreNotCarried, Carries}
-use Rattle.mdf_run.specs.Finalize.{Finalizes, IsNotFinalized}
-use Rattle.mdf_run.specs.Blamed.{only_blamed}
-use Rattle.mdf_run.specs.Making.{one_input}
-use Rattle.mdf_run.specs.Sort.{IsNotMeasured, Sorts}
+use Rattle.mdf_make.specs.Cut.{Cuts}
+use Rattle.mdf_make.specs.Concat.{AreNotJoined, Joins, OneFailed, two_inputs}
+use Rattle.mdf_make.specs.Attach.{AreNotCarried, Carries}
+use Rattle.mdf_make.specs.Finalize.{Finalizes, IsNotFinalized}
+use Rattle.mdf_make.specs.Blamed.{only_blamed}
+use Rattle.mdf_make.specs.Making.{one_input}
+use Rattle.mdf_make.specs.Sort.{IsNotMeasured, Sorts}
 use Rattle.mdf_record.specs.Recovers.{AreRecovered}
 use Rattle.mdf_command.specs.Texts.{Prints, usage_line}
 use Rattle.mdf_carried.specs.Recovers.{IsReadable}
@@ -32,13 +32,14 @@ use Rattle.mdf_command.specs.declared.command.Union.{Union}
 use Rattle.mdf_command.specs.declared.command.Union.TheVariants.{Concat, Attach}
 use Rattle.mdf_command.specs.declared.command.Origin.TheVariants.{Source, Generated}
 use Rattle.mdf_run.specs.Kept.{AreJoinable, AsksToJoin, HasGroup, IfRecorded, IsCompletable, IsDoneOrLacked, IsDurable, IsListable, IsMeasured, Keeps, OfRecording, RecordsNothing}
-use Rattle.mdf_run.specs.Asked.{AsksOnly, IsOnlyMade, IsOnlyRead, IsUnrecorded, TakesNothing, asked_by, file_asked}
+use Rattle.mdf_make.specs.Asked.{AsksOnly, IsOnlyMade, IsOnlyRead}
+use Rattle.mdf_run.specs.Asked.{IsUnrecorded, TakesNothing, asked_by, file_asked}
 use Rattle.mdf_run.specs.Ends.{Blames, Does, EndsJoin, EndsMake, EndsShow, HasEnded, IsCaused}
 use Rattle.mdf_run.specs.Told.{Told}
 use Rattle.mdf_run.proofs.Scripts.{if_none, of_generated, of_none, of_record}
 use Rattle.mdf_run.proofs.Causes.{export_caused, listing_caused, making_caused, opened_caused, reading_caused, widened}
 use Rattle.mdf_run.proofs.Joinable.{joinable_is_taken, listable_is_taken, two_are_made}
-use Rattle.mdf_run.proofs.Finalizing.{source_is_none}
+use Rattle.mdf_make.proofs.Finalizing.{source_is_none}
 use Rattle.mdf_run.proofs.Keeps.{was_status}
 use Rattle.mdf_run.proofs.Requests.{as_named, one_request}
 use Rattle.mdf_run.proofs.Sound.{completable_is_taken, finalizable_is_taken, group_is_exported, listable_is_listed, measured_is_taken, one_is_made, read_is_taken}

@@ -5,7 +5,7 @@ use Rattle.mdf_port.specs.State.{SinkState}
 use Rattle.mdf_disk.specs.State.{DiskState}
 use Rattle.mdf_content.specs.Fault.{read_refusal}
 use Rattle.mdf_model.specs.declared.part.Measure.{Measure}
-use Rattle.mdf_run.specs.declared.said.Said.{Said}
+use Rattle.mdf_make.specs.declared.said.Said.{Said}
 use Rattle.mdf_model.specs.Measurement.{Measured, measurement}
 use Rattle.tool_concat.specs.Concat.{AreRead, Joining}
 use Rattle.tool_concat.specs.Difference.{AreAlike, IsFirstDifference}
@@ -14,9 +14,9 @@ use Rattle.mdf_command.proofs.Pieces.{first_of}
 use Rattle.mdf_command.specs.Faults.{INPUT_LIMIT, fault_status}
 use Rattle.mdf_command.specs.declared.fault.Fault.{Fault}
 use Rattle.mdf_command.specs.declared.fault.Fault.TheVariants as fault
-use Rattle.mdf_run.specs.Attach.{AreNotCarried}
-use Rattle.mdf_run.specs.Concat.{AreBothLoaded, AreNotJoined, OneIsOver, two_inputs}
-use Rattle.mdf_run.specs.Making.{EndsMaking}
+use Rattle.mdf_make.specs.Attach.{AreNotCarried}
+use Rattle.mdf_make.specs.Concat.{AreBothLoaded, AreNotJoined, OneIsOver, two_inputs}
+use Rattle.mdf_make.specs.Making.{EndsMaking}
 use Rattle.mdf_run.specs.Kept.{AreJoinable, IsDoneOrLacked, IsListable, IsMeasured}
 use Rattle.mdf_run.proofs.Sound.{loaded_is, making_well, not_over, not_refused, not_refused_with, one_read}
 

@@ -18,7 +18,7 @@ use Rattle.mdf_session.specs.Session.{recording, recording_by, session}
 use Rattle.mdf_session.proofs.Identified.{session_is_identified}
 use Rattle.mdf_carried.specs.Recovers.{IsReadable}
 use Rattle.mdf_record.specs.Recovers.{IsFinalizable}
-use Rattle.mdf_run.specs.declared.said.Said.{Said}
+use Rattle.mdf_make.specs.declared.said.Said.{Said}
 use Rattle.mdf_command.specs.Faults.{INPUT_LIMIT, READING_LIMIT, fault_line, fault_status, refused_status}
 use Rattle.mdf_command.specs.Load.{IsLoaded, IsOverOf}
 use Rattle.mdf_command.specs.Texts.{unwritten_status}
@@ -28,9 +28,9 @@ use Rattle.mdf_head.specs.declared.identity.Ident.{Ident}
 use Rattle.mdf_head.specs.Ident.{identify}
 use Rattle.mdf_mended.specs.Completed.{completed_file, completion, dropped_rest}
 use Rattle.mdf_mended.specs.Flags.{is_mendable, unfinished, unfinished_by}
-use Rattle.mdf_run.specs.Finalize.{IsNotFinalized, RefusesBy}
-use Rattle.mdf_run.specs.Sort.{IsNotMeasured}
-use Rattle.mdf_run.specs.Making.{EndsMaking, Inputs, MakingComes, making_text, making_status, one_input}
+use Rattle.mdf_make.specs.Finalize.{IsNotFinalized, RefusesBy}
+use Rattle.mdf_make.specs.Sort.{IsNotMeasured}
+use Rattle.mdf_make.specs.Making.{EndsMaking, Inputs, MakingComes, making_text, making_status, one_input}
 use Rattle.tool_export.specs.Export.{HasNoGroup}
 use Rattle.mdf_inspect.specs.Export.{EndsExport, LacksGroup, PrintsEnd, TableComes, TableFaultComes}
 use Rattle.mdf_inspect.specs.declared.table.TableEnd.{TableEnd}

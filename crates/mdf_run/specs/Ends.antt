@@ -25,14 +25,14 @@ use Rattle.mdf_inspect.specs.Check.{EndsCheck}
 use Rattle.mdf_inspect.specs.Info.{EndsInfo}
 use Rattle.mdf_inspect.specs.Export.{EndsExport}
 use Rattle.mdf_inspect.specs.Attachments.{EndsListing}
-use Rattle.mdf_run.specs.Making.{LeavesOf}
-use Rattle.mdf_run.specs.Finalize.{EndsFinalize, IsFinalImage}
-use Rattle.mdf_run.specs.Sort.{EndsSort}
-use Rattle.mdf_run.specs.Cut.{EndsCut}
-use Rattle.mdf_run.specs.Concat.{AreBothLoaded, EndsConcat}
-use Rattle.mdf_run.specs.Attach.{EndsAttach, IsAttachImage}
-use Rattle.mdf_run.specs.Blamed.{BlamesCarried, BlamesJoined, only_blamed}
-use Rattle.mdf_run.specs.declared.blamed.Input.{Input}
+use Rattle.mdf_make.specs.Making.{LeavesOf}
+use Rattle.mdf_make.specs.Finalize.{EndsFinalize, IsFinalImage}
+use Rattle.mdf_make.specs.Sort.{EndsSort}
+use Rattle.mdf_make.specs.Cut.{EndsCut}
+use Rattle.mdf_make.specs.Concat.{AreBothLoaded, EndsConcat}
+use Rattle.mdf_make.specs.Attach.{EndsAttach, IsAttachImage}
+use Rattle.mdf_make.specs.Blamed.{BlamesCarried, BlamesJoined, only_blamed}
+use Rattle.mdf_make.specs.declared.blamed.Input.{Input}
 use Rattle.mdf_record.specs.Record.{Outcome}
 use Rattle.mdf_record.specs.Recorded.{EndsGenerated, EndsRecord}
 use Rattle.mdf_record.specs.Recovers.{AreRecovered}

@@ -3,11 +3,3 @@ pub mod Asked
 pub mod Told
 pub mod Ends
 pub mod Run
-pub mod Tool
-pub mod Making
-pub mod Finalize
-pub mod Sort
-pub mod Cut
-pub mod Concat
-pub mod Attach
-pub mod Blamed

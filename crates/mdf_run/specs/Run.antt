@@ -32,13 +32,13 @@ use Rattle.mdf_record.specs.Record.{IsComplete, OfSources}
 use Rattle.mdf_record.specs.Recorded.{EndsGenerated, EndsRecord}
 use Rattle.mdf_record.specs.Recovers.{IsFinalizable, MarksRecover, StartRecovers}
 use Rattle.mdf_record.specs.Sources.{AreOwnMarked}
-use Rattle.mdf_run.specs.Making.{LeavesOf}
-use Rattle.mdf_run.specs.Finalize.{EndsFinalize, IsFinalImage}
-use Rattle.mdf_run.specs.Sort.{EndsSort}
-use Rattle.mdf_run.specs.Cut.{EndsCut}
-use Rattle.mdf_run.specs.Concat.{AreBothLoaded, EndsConcat}
-use Rattle.mdf_run.specs.Attach.{EndsAttach, IsAttachImage}
-use Rattle.mdf_run.specs.Blamed.{BlamesCarried, BlamesJoined, only_blamed}
+use Rattle.mdf_make.specs.Making.{LeavesOf}
+use Rattle.mdf_make.specs.Finalize.{EndsFinalize, IsFinalImage}
+use Rattle.mdf_make.specs.Sort.{EndsSort}
+use Rattle.mdf_make.specs.Cut.{EndsCut}
+use Rattle.mdf_make.specs.Concat.{AreBothLoaded, EndsConcat}
+use Rattle.mdf_make.specs.Attach.{EndsAttach, IsAttachImage}
+use Rattle.mdf_make.specs.Blamed.{BlamesCarried, BlamesJoined, only_blamed}
 use Rattle.mdf_run.specs.Kept.{AreJoinable, AsksToJoin, HasGroup, HasSaved, IfRecorded, IsCompletable, IsDone, IsDoneOrLacked, IsListable, IsMeasured, IsReported, OfRecording, RecordsNothing}
 use Rattle.mdf_run.specs.Told.{Told}
 

@@ -6,7 +6,7 @@ use Rattle.mdf_port.specs.State.{SinkState, SourceState, sink_state, source_stat
 use Rattle.mdf_disk.specs.State.{DiskState, state_of}
 use Rattle.book_owned.specs.Members.{DiskOf}
 use Rattle.mdf_record.specs.Record.{Outcome, outcome}
-use Rattle.mdf_run.specs.declared.blamed.Input.{Input}
+use Rattle.mdf_make.specs.declared.blamed.Input.{Input}
 use Rattle.mdf_run.specs.declared.finished.Finished.{Finished}
 
 pub record Told : Type 0 where

@@ -3,37 +3,25 @@ ghost use Rattle.std.specs.Prelude.{◌≡◌, None};
 ghost use Rattle.mdf_port.specs.State.{sink_state};
 ghost use Rattle.mdf_command.specs.Texts.{Prints, usage_line};
 ghost use Rattle.mdf_command.specs.Words.{input_of, output_of, second_of};
-ghost use Rattle.mdf_run.specs.Asked.{HasNumbers, IsOnlyMade, IsOnlyRead, TakesNothing, asked_by, file_asked};
+ghost use Rattle.mdf_make.specs.Asked.{IsOnlyMade, IsOnlyRead};
+ghost use Rattle.mdf_run.specs.Asked.{HasNumbers, TakesNothing, asked_by, file_asked};
 ghost use Rattle.mdf_run.specs.Ends.{HasEnded};
 ghost use Rattle.mdf_run.specs.Told.{told};
 
-use crate::blamed::of_one;
 use crate::finished::{Finished, without_recording};
 use crate::making::make;
 use crate::recording::record;
 use crate::showing::show;
 use crate::uniting::unite;
-use mdf_command::Piece::Text;
-use mdf_command::{Command, give_line, status_after};
+use mdf_command::{Command, run_usage};
 use mdf_disk::Disk;
 use mdf_inspect::Shown;
+use mdf_make::Verdict;
 use mdf_port::{Sink, Source};
 use mdf_record::Gate;
 use std::alloc::Global;
 use std::sync::Wait;
 use std::thread::Threads;
-
-/// What is printed where the words are no command.
-const USAGE: &[u8] =
-    b"usage: opened IN | record OUT | finalize IN OUT | check IN | info IN | sort IN OUT | cut IN OUT FROM TO | concat A B OUT | export IN GROUP | gen N OUT | attachments IN | attach A B OUT";
-
-/// Prints the usage line.
-fn run_usage<K: Sink>(sink: &mut K) -> u8
-    ensures { Prints usage_line 1 (sink_state K.Sink sink.old) (sink_state K.Sink sink.new) result }
-{
-    let given = give_line(sink, &[Text(USAGE)]);
-    status_after(given, 1)
-}
 
 /// Does what the words ask for, or prints the usage line where they ask for nothing.
 pub(crate) fn answer<R, S, K, A, B, C, G>(
@@ -70,7 +58,7 @@ where
     match command {
         Some(Command::Show { input, aspect }) => {
             let Shown { status, first } = show(alloc, aspect, input, sink, first);
-            without_recording(alloc, of_one(status), first, out)
+            without_recording(alloc, Verdict::of_one(status), first, out)
         }
         Some(
             Command::Make {
@@ -84,7 +72,7 @@ where
             let status = make(
                 alloc, product, input, output, now_ns, sink, &mut first, &mut out,
             );
-            without_recording(alloc, of_one(status), first, out)
+            without_recording(alloc, Verdict::of_one(status), first, out)
         }
         Some(
             Command::Join {
@@ -106,7 +94,7 @@ where
         ),
         None => {
             let status = run_usage(sink);
-            without_recording(alloc, of_one(status), first, out)
+            without_recording(alloc, Verdict::of_one(status), first, out)
         }
     }
 }

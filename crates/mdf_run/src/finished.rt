@@ -1,9 +1,9 @@
 // How a run ended.
 ghost use Rattle.std.specs.Prelude.{◌≡◌, [], None};
 
-use crate::blamed::{Input, Verdict};
 use book_owned::Marks;
 use mdf_layout::Samples;
+use mdf_make::{Input, Verdict};
 use mdf_record::Recorded;
 use std::alloc::Global;
 

@@ -3,12 +3,12 @@ ghost use Rattle.std.specs.Prelude.{◌≡◌, Some, None};
 ghost use Rattle.mdf_port.specs.State.{sink_state};
 ghost use Rattle.mdf_disk.specs.State.{state_of};
 ghost use Rattle.mdf_command.specs.Words.{IsInRange, made};
-ghost use Rattle.mdf_run.specs.Asked.{IsOnlyMade, IsOnlyRead};
+ghost use Rattle.mdf_make.specs.Asked.{IsOnlyMade, IsOnlyRead};
 ghost use Rattle.mdf_run.specs.Ends.{EndsMake, Leaves};
 
-use crate::{run_cut, run_finalize, run_sort};
 use mdf_command::Product;
 use mdf_disk::Disk;
+use mdf_make::{run_cut, run_finalize, run_sort};
 use mdf_num::Bytes;
 use mdf_port::Sink;
 use std::alloc::Global;

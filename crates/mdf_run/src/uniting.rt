@@ -2,13 +2,12 @@
 ghost use Rattle.std.specs.Prelude.{◌≡◌, Some, None};
 ghost use Rattle.mdf_port.specs.State.{sink_state};
 ghost use Rattle.mdf_disk.specs.State.{state_of};
-ghost use Rattle.mdf_run.specs.Asked.{IsOnlyMade, IsOnlyRead};
+ghost use Rattle.mdf_make.specs.Asked.{IsOnlyMade, IsOnlyRead};
 ghost use Rattle.mdf_run.specs.Ends.{BlamesJoin, EndsJoin, LeavesJoined};
 
-use crate::blamed::Verdict;
-use crate::{run_attach, run_concat};
 use mdf_command::Union;
 use mdf_disk::Disk;
+use mdf_make::{Verdict, run_attach, run_concat};
 use mdf_num::Bytes;
 use mdf_port::Sink;
 use std::alloc::Global;

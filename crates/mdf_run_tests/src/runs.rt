@@ -74,7 +74,7 @@ fn opened_prints_its_line(rt: HostRuntime) -> Result<(), Fail> {
 }
 
 const USAGE: &str =
-    "1 usage: opened IN | record OUT | finalize IN OUT | check IN | info IN | sort IN OUT | cut IN OUT FROM TO | concat A B OUT | export IN GROUP | gen N OUT | attachments IN | attach A B OUT\n";
+    "1 usage: opened IN | record OUT | finalize IN OUT | check IN | info IN | sort IN OUT | cut IN OUT FROM TO | concat A B OUT | export IN GROUP | gen N OUT | attachments IN | attach A B OUT | rotate OUT\n";
 
 // Words that are no command, a command a line, with one blank between two words.
 const WRONG: &str = "frob

@@ -1,4 +1,4 @@
-use Rattle.std.proofs.Common.{◌-◌, ◌≤◌, length, take}
+use Rattle.std.proofs.Common.{◌≤◌, take}
 use Rattle.std.specs.Io.KnownBytes.{Appends}
 use Rattle.mdf_command.specs.Texts.{numbered}
 use Rattle.mdf_inspect.specs.Attachments.{attachment_line}
@@ -10,6 +10,3 @@ invariant-loop-i g l = record {
   given : Appends (g.K.Sink.held l.initial.sink) (g.K.Sink.held l.sink) (numbered attachment_line 0 (take l.i l.rows));
   later : g.K.Sink.faults l.initial.sink ≤ g.K.Sink.faults l.sink;
 }
-
-abbrev pub decreases-loop-i : goal.decreases-loop-i
-decreases-loop-i g l = length l.rows - l.i

@@ -2,8 +2,8 @@ use Rattle.mdf_disk.specs.State.{state_of}
 use Rattle.mdf_port.specs.State.{sink_state}
 use Rattle.tool_cut.specs.Cut.{IsCutImage}
 use Rattle.mdf_command.specs.Load.{IsLoaded}
-use Rattle.mdf_run.specs.Cut.{EndsCut}
-use Rattle.mdf_run.specs.Making.{LeavesOf}
+use Rattle.mdf_make.specs.Cut.{EndsCut}
+use Rattle.mdf_make.specs.Making.{LeavesOf}
 use Rattle.mdf_run.proofs.Words.{passed}
 use Rattle.mdf_run.proofs.making.make.Goals as goal
 

@@ -1,0 +1,4 @@
+mod Blaming
+pub mod Finalizing
+pub mod Leaving
+mod WithoutRest

@@ -1,0 +1,10 @@
+use Rattle.mdf_disk.specs.State.{state_of}
+use Rattle.tool_concat.specs.Concat.{IsConcatOf}
+use Rattle.mdf_make.specs.Concat.{AreBothLoaded}
+use Rattle.mdf_make.proofs.WithoutRest.{made_leaves}
+use Rattle.mdf_make.proofs.concat.run_concat.Goals as goal
+
+pub returns-clause-any_moment : goal.returns-clause-any_moment
+returns-clause-any_moment g c =
+    made_leaves (AreBothLoaded c.args.now_ns (state_of g.A.Disk c.args.first.now) (state_of g.B.Disk c.args.second.now)) IsConcatOf
+    (state_of g.C.Disk c.args.out.now) (state_of g.C.Disk c.run_pair.new.out) c.run_pair.ensures.any_moment
