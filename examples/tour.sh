@@ -42,6 +42,14 @@ show './mdf4rec concat part.mf4 done.mf4 both.mf4'
 show './mdf4rec check both.mf4'
 show './mdf4rec export both.mf4 0'
 
+# A drive of two sources that is longer than a session: recorded in parts, which are finished and joined, two at a time.
+show './mdf4rec rotate parts < examples/parts.txt'
+show 'for k in 0 1 2; do ./mdf4rec finalize parts.$k part$k.mf4; done'
+show './mdf4rec concat part0.mf4 part1.mf4 parts01.mf4'
+show './mdf4rec concat parts01.mf4 part2.mf4 whole.mf4'
+show './mdf4rec export whole.mf4 0'
+show './mdf4rec export whole.mf4 1'
+
 # The script of the first drive is attached to it, and listed.
 show 'python3 examples/attach_text.py examples/drive.txt > script.mf4'
 show './mdf4rec attach script.mf4 finished.mf4 scripted.mf4'

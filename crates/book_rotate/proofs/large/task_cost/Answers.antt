@@ -1,6 +1,6 @@
 use Rattle.std.proofs.Common.{subst, arith}
 use Rattle.acq_script.specs.Plan.{TaskFits}
-use Rattle.book_rotate.proofs.Costs.{cost_small}
+use Rattle.mdf_layout.proofs.Costs.{cost_small}
 use Rattle.book_rotate.proofs.large.task_cost.Goals as goal
 
 pub cost_of-requires-clause-room : goal.cost_of-requires-clause-room

@@ -1,0 +1,9 @@
+mod Behind
+mod Costs
+mod Counts
+mod Cuts
+mod Ending
+mod Keeps
+mod Lines
+mod Room
+mod Said

@@ -1,0 +1,11 @@
+use Rattle.std.proofs.lemmas.Result.{err_from_is_err_and}
+use Rattle.mdf_command.proofs.Pieces.{gives_behind, gives_failed}
+use Rattle.mdf_rotate.proofs.report.give_all.Goals as goal
+
+pub returns-in_err-give_parts : goal.returns-in_err-give_parts
+returns-in_err-give_parts g c =
+    let p = err_from_is_err_and c.from_residual.result c.from_residual.ensures.1 in
+    rw (p.1) (gives_failed _ _ _ _ _ _ c.in_err-give_parts.ensures)
+
+pub returns : goal.returns
+returns g c = gives_behind _ _ _ _ _ _ c.in_ok-give_parts.ensures.ok c.give_parts.ensures.cause.later c.give_end.ensures
