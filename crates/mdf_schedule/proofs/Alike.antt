@@ -2,7 +2,6 @@
 use Rattle.std.proofs.Common.{◌≡◌, ℕ, List, [], ◌∷◌, map, refl, sym, ◌∙◌, ap, subst}
 use Rattle.std.proofs.lemmas.Option.{same_Some}
 use Rattle.std.specs.Prelude.{slice_get}
-use Rattle.std.specs.List.{concat}
 use Rattle.mdf_form.specs.declared.form.Form.{Form}
 use Rattle.mdf_group.specs.declared.row.DataRow.{DataRow}
 use Rattle.mdf_group.specs.declared.row.GroupRow.{GroupRow}
@@ -18,23 +17,22 @@ use Rattle.mdf_spell.specs.Session.{session_blocks, session_data, session_file}
 use Rattle.mdf_carried.specs.Recovered.{Recovery, IsSessionOf}
 use Rattle.mdf_carried.specs.Recovers.{IsReadHead}
 use Rattle.mdf_carried.proofs.Placed.{RulesAgree}
-use Rattle.mdf_carried.proofs.Rows.{IsRecorded}
 use Rattle.mdf_carried.proofs.Sampled.{recovery}
 use Rattle.tool_final.specs.Finalized.{IsSessionFile}
 use Rattle.mdf_schedule.specs.Forms.{HaveSameData}
 use Rattle.mdf_schedule.specs.Records.{AreRecords}
-use Rattle.mdf_schedule.specs.Schedules.{IsRecordingOf}
+use Rattle.mdf_schedule.specs.Schedules.{IsLeftOf}
 use Rattle.mdf_schedule.proofs.Found.{found, is, pieces, bytes, records_are}
 use Rattle.mdf_schedule.proofs.Pieces.{records_once}
 
 module _ (agree : RulesAgree) (start : ℕ) (rows : List GroupRow) (are : AreRecordable rows) (form also : Form) (read : IsReadHead form start rows)
-    (read' : IsReadHead also start rows) (history other : List Sample) (file second : List ℕ) (one : IsRecordingOf form start rows history file)
-    (two : IsRecordingOf also start rows other second) (same : HaveSameData file second) where
+    (read' : IsReadHead also start rows) (history other : List Sample) (file second : List ℕ) (one : IsLeftOf form start rows history file)
+    (two : IsLeftOf also start rows other second) (same : HaveSameData file second) where
   abbrev layouts : List Layout
   layouts = map layout_of rows
 
   data_same : bytes agree start rows are form read history file one ≡ bytes agree start rows are also read' other second two
-  data_same = same one.encoded.blocks two.encoded.blocks one.encoded.opened two.encoded.opened
+  data_same = same one.carried.blocks two.carried.blocks one.carried.opened two.carried.opened
 
   pieces_same : pieces agree start rows are form read history file one ≡ pieces agree start rows are also read' other second two
   pieces_same =

@@ -29,7 +29,7 @@ layout_same row is =
     ap (λ (channels : List ChannelRow). record { rows = map field_of channels; data_bytes = row.data_bytes; inval_bytes = row.inval_bytes })
     (sym (cond-false (is_variable row) [] row.channels samples))
 
-layouts_same : (rows : List GroupRow) → AllByRecursion IsRecordableGroup rows → map plans.layout_of rows ≡ map contents.layout_of rows
+pub layouts_same : (rows : List GroupRow) → AllByRecursion IsRecordableGroup rows → map plans.layout_of rows ≡ map contents.layout_of rows
 layouts_same [] each = refl
 layouts_same (row ∷ rows) each =
     ap (λ (l : Layout). l ∷ map plans.layout_of rows) (layout_same row each.0) ∙ ap (λ (ls : List Layout). contents.layout_of row ∷ ls) (layouts_same rows each.1)

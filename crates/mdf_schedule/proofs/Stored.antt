@@ -22,12 +22,12 @@ use Rattle.mdf_block.proofs.Cases.{two_ways}
 use Rattle.mdf_schedule.specs.Records.{IsStoredIn, AreStored}
 
 -- the first bytes, and those behind them
-taken : (n : ℕ) (bytes : List ℕ) → AreBytes bytes → AreBytes (take n bytes)
+pub taken : (n : ℕ) (bytes : List ℕ) → AreBytes bytes → AreBytes (take n bytes)
 taken zero bytes small = tt
 taken (suc n) [] small = tt
 taken (suc n) (b ∷ bytes) small = (small.0, taken n bytes small.1)
 
-left : (n : ℕ) (bytes : List ℕ) → AreBytes bytes → AreBytes (drop n bytes)
+pub left : (n : ℕ) (bytes : List ℕ) → AreBytes bytes → AreBytes (drop n bytes)
 left zero bytes small = small
 left (suc n) [] small = tt
 left (suc n) (b ∷ bytes) small = left n bytes small.1

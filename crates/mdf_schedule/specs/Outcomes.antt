@@ -1,10 +1,11 @@
--- Recordings of whole scripts.
+-- Recordings of scripts, and what a crash leaves of them.
 use Rattle.std.specs.Prelude.{ℕ, ◌≡◌, ◌≤◌, ◌<◌, List, [], length, slice_index, Option, Some, None}
 use Rattle.std.specs.List.{slice_index_or}
-use Rattle.mdf_disk.specs.Story.{Story, IsNow}
+use Rattle.mdf_disk.specs.Story.{Story, IsNow, LeftSince}
 use Rattle.mdf_disk.specs.State.{DiskState}
 use Rattle.mdf_layout.specs.History.{group_samples}
 use Rattle.mdf_layout.specs.declared.sample.Sample.{Sample}
+use Rattle.mdf_command.specs.declared.fault.Fault.{Fault}
 use Rattle.mdf_spell.specs.Standing.{AreBytes}
 use Rattle.book_owned.specs.Kept.{StartHolds}
 use Rattle.acq_script.specs.Tasks.{samples_of}
@@ -52,3 +53,18 @@ pub record IsRecordedTo (script : Script) (start : ℕ) (left : Outcome) (file :
   pub now : IsNow story left.disk.content left.disk.moment
   pub content : left.disk.content ≡ Some file
   pub bytes : AreBytes file
+
+-- The command `record` was given the script at this time in ns, on a disk that was as this one before, and made a recording of it: a crash at
+-- some moment since, while it ran or when it had ended, with a fault or with none, left this file.
+pub record IsLeftBy (script : Script) (start : ℕ) (file : List ℕ) : Type 0 where
+  pub name : List ℕ
+  pub disk : DiskState
+  pub left : Outcome
+  pub accepted : List ℕ
+  pub samples : ℕ
+  pub last : ℕ
+  pub live : Option ℕ
+  pub fault : Option Fault
+  pub seen : List (List Sample)
+  pub closed : IsClosed (λ said. said ≡ script) name start disk left accepted samples last live fault seen
+  pub since : LeftSince left.disk.story disk.moment file

@@ -3,7 +3,7 @@ use Rattle.mdf_layout.specs.Row.{field_row}
 use Rattle.mdf_carried.specs.Recovered.{Recovery}
 use Rattle.mdf_carried.proofs.Placed.{RulesAgree}
 use Rattle.tool_final.specs.Keeping.{KeepsRecovery}
-use Rattle.mdf_schedule.proofs.Found.{found, is_found, groups_same}
+use Rattle.mdf_schedule.proofs.Found.{found_of, is_found_of, groups_same}
 use Rattle.mdf_schedule.proofs.Measures.{keeps_same}
 use Rattle.mdf_schedule.proofs.histories.one_measurement_of_each_schedule.Goals as goal
 
@@ -12,10 +12,10 @@ returns c = λ form also start rows history other file second now final last m n
     let laws = c.rules_are_tested.ensures in
     let agree : RulesAgree = λ data_bytes inval_bytes rs k row breaks.
     (laws.numbers data_bytes inval_bytes rs k row).0 ((laws.fields data_bytes inval_bytes (map field_row rs) k (field_row row)).1 breaks) in
-    let first = found agree start rows are form read history file one in
-    let next = found agree start rows are also read' other second two in
-    let is_first = c.recoveries_agree.ensures.found file fin.recovered.found first fin.recovered.recovery (is_found agree start rows are form read history file one) in
-    let is_next = c.recoveries_agree.ensures.found second fin'.recovered.found next fin'.recovered.recovery (is_found agree start rows are also read' other second two) in
+    let first = found_of agree start rows are form history file one read in
+    let next = found_of agree start rows are also other second two read' in
+    let is_first = c.recoveries_agree.ensures.found file fin.recovered.found first fin.recovered.recovery (is_found_of agree start rows are form history file one read) in
+    let is_next = c.recoveries_agree.ensures.found second fin'.recovered.found next fin'.recovered.recovery (is_found_of agree start rows are also other second two read') in
     keeps_same c.measurements_agree.ensures first next final last now m n refl refl refl
     (groups_same agree start rows are form also read read' history other file second one two same)
     (subst (λ (r : Recovery). KeepsRecovery r final now) is_first fin.keeps)
