@@ -1,11 +1,12 @@
 //! The program.
 #![tactic(auto)]
 
-use mdf_hostfile::FileDisk;
+use mdf_hostfile::{FileDisk, hold_streams};
 use mdf_program::{disks, start};
 use std::process::ExitCode;
 
 fn main(rt: HostRuntime) -> ExitCode {
+    let _streams = hold_streams(&rt);
     let (first, second, out) = (FileDisk::new(&rt), FileDisk::new(&rt), FileDisk::new(&rt));
     start(&rt, rt.stdin(), rt.stdout(), first, second, out, disks(&rt))
 }

@@ -4,8 +4,10 @@
 
 mod clock;
 mod file;
+mod streams;
 mod system;
 
 pub use clock::now_ns;
 pub use file::FileDisk;
+pub use streams::hold_streams;
 pub use system::{FileCalls, SystemFile};
