@@ -10,11 +10,11 @@ IsTask (fed.Sample sample) = Unit {0}
 IsTask fed.Flush = Unit {0}
 IsTask fed.End = ⊥
 
--- From the one to the other a feed handed in just this; and at the end nothing, and nothing more comes of it.
-abbrev pub Feeds : {F : Type 0} → (F → List Fed → F → Type 0) → (F → Type 0) → F → Fed → F → Type 0
-Feeds hands ends old (fed.Sample sample) new = hands old (fed.Sample sample ∷ []) new
-Feeds hands ends old fed.Flush new = hands old (fed.Flush ∷ []) new
-Feeds hands ends old fed.End new = hands old [] new × ends new
+-- From the one to the other a feed handed in just this, and waits to be asked for more; and at the end nothing, and nothing more comes of it.
+abbrev pub Feeds : {F : Type 0} → (F → List Fed → F → Type 0) → (F → Fed → Type 0) → (F → Type 0) → F → Fed → F → Type 0
+Feeds hands waits ends old (fed.Sample sample) new = hands old (fed.Sample sample ∷ []) new × waits new (fed.Sample sample)
+Feeds hands waits ends old fed.Flush new = hands old (fed.Flush ∷ []) new × waits new fed.Flush
+Feeds hands waits ends old fed.End new = hands old [] new × ends new
 
 -- the items before the first End
 abbrev pub before_end : List Fed → List Fed

@@ -5,6 +5,10 @@ use Rattle.acq_feed.specs.declared.feed.Fed.{Fed}
 abbrev pub IsBehind : List Fed → List Fed → List Fed → Type 0
 IsBehind old feds new = old ≡ feds ++ new
 
+-- of what it handed in last a list says nothing
+abbrev pub IsAny : List Fed → Fed → Type 0
+IsAny left task = Unit {0}
+
 abbrev pub IsEmpty : List Fed → Type 0
 IsEmpty left = left ≡ []
 

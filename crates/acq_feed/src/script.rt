@@ -39,9 +39,11 @@ impl ScriptFeed {
 }
 
 impl Feed for ScriptFeed {
-    ghost use Rattle.acq_feed.specs.Listed.{IsBehind, IsEmpty, behind_none, behind_more};
+    ghost use Rattle.acq_feed.specs.Listed.{IsAny, IsBehind, IsEmpty, behind_none, behind_more};
 
     ghost hands = { IsBehind };
+
+    ghost waits = { IsAny };
 
     ghost ends = { IsEmpty };
 

@@ -1,5 +1,5 @@
 -- What a source does, task by task.
-use Rattle.std.proofs.Common.{◌≡◌, ◌+◌, ◌*◌, ◌≤◌, ◌<◌, ◌^◌, inl, inr, ⊎_elim, ℕ, suc, List, [], ◌∷◌, ◌++◌, length, take, refl, sym, ◌∙◌, ap, subst, arith, append_assoc, append-nil, length-append, All}
+use Rattle.std.proofs.Common.{◌≡◌, ◌+◌, ◌*◌, ◌≤◌, ◌<◌, ◌^◌, inl, inr, ⊎_elim, ℕ, suc, List, [], ◌∷◌, ◌++◌, length, take, get_or, refl, sym, ◌∙◌, ap, subst, arith, append_assoc, append-nil, length-append, All}
 use Rattle.std.proofs.lemmas.List.{get_or_at, take-append-le}
 use Rattle.atomic_table.specs.Seated.{TableId}
 use mathlib.Core.List.{IsPrefix}
@@ -257,12 +257,12 @@ module _ (old mid : Place) (done : List Fed) (n : ℕ) (has : HasDone old mid do
     };
   }
 
--- what a feed handed in that is no end
-pub took : {F : Type 0} (hands : F → List Fed → F → Type 0) (ends : F → Type 0) (old : F) (task : Fed) (new : F) → Feeds hands ends old task new → (task ≡ fed.End → ⊥)
-    → hands old (task ∷ []) new
-took hands ends old (fed.Sample sample) new feeds some = feeds
-took hands ends old fed.Flush new feeds some = feeds
-took hands ends old fed.End new feeds some = absurd (some refl)
+-- what a feed handed in that is no end, and waits for
+pub took : {F : Type 0} (hands : F → List Fed → F → Type 0) (waits : F → Fed → Type 0) (ends : F → Type 0) (old : F) (task : Fed) (new : F) → Feeds hands waits ends old task new
+    → (task ≡ fed.End → ⊥) → hands old (task ∷ []) new × waits new task
+took hands waits ends old (fed.Sample sample) new feeds some = feeds
+took hands waits ends old fed.Flush new feeds some = feeds
+took hands waits ends old fed.End new feeds some = absurd (some refl)
 
 pub task_of : (task : Fed) → (task ≡ fed.End → ⊥) → IsTask task
 task_of (fed.Sample sample) some = tt
@@ -282,7 +282,7 @@ pub record HasLed {F L : Type 0} (hands : F → List Fed → F → Type 0) (hear
   pub count : length shown ≡ flushes_of handed
   pub heard : hears follower shown follower'
 
-module _ {F L : Type 0} (hands : F → List Fed → F → Type 0) (ends : F → Type 0) (hands_none : (f : F) → hands f [] f)
+module _ {F L : Type 0} (hands : F → List Fed → F → Type 0) (waits : F → Fed → Type 0) (ends : F → Type 0) (hands_none : (f : F) → hands f [] f)
     (hands_more : (first second third : F) (some more : List Fed) → hands first some second → hands second more third → hands first (some ++ more) third)
     (hears : L → List ℕ → L → Type 0) (hears_none : (l : L) → hears l [] l)
     (hears_more : (first second third : L) (n m : List ℕ) → hears first n second → hears second m third → hears first (n ++ m) third) where
@@ -299,7 +299,7 @@ module _ {F L : Type 0} (hands : F → List Fed → F → Type 0) (ends : F → 
   module _ (table : TableId) (old mid : Place) (n : ℕ) (feed feed' : F) (follower follower' : L) (has : HasLed hands hears old mid n feed feed' follower follower')
       (ready : IsReady table old (λ feds. (later : F) × hands feed feds later)) where
     -- the feed has ended, and was left
-    pub led_all : (now left : F) → hands feed' [] now × ends now → hands now [] left → (ends now → ends left) → HasWorked hands ends hears old mid n Done feed left follower follower'
+    pub led_all : (now left : F) → hands feed' [] now × ends now → hands now [] left → (ends now → ends left) → HasWorked hands waits ends hears old mid n Done feed left follower follower'
     unfolding all_done
     led_all now left over leaves stays =
         let handed = has.handed in record {
@@ -308,6 +308,7 @@ module _ {F L : Type 0} (hands : F → List Fed → F → Type 0) (ends : F → 
               (hands_more feed now left (handed ++ []) [] (hands_more feed feed' now handed [] has.fed over.0) leaves);
           driven = all_done old mid handed n has.done;
           one = omega arith;
+          waiting = λ task is. absurd (omega (arith, ap length is));
           ended = λ is. stays over.1;
           shown = has.shown;
           count = has.count;
@@ -343,13 +344,14 @@ module _ {F L : Type 0} (hands : F → List Fed → F → Type 0) (ends : F → 
 
         -- or it was not, the work ends, and the feed was left
         pub led_stopped : (how : Ended) (left : F) → Does mid.know new.know mid.number [] 0 → ((rest : List Fed) → Ends new.know new.number (task ∷ rest) how) → follower'' ≡ follower'
-            → hands now [] left → HasWorked hands ends hears old new n how feed left follower follower''
+            → hands now [] left → waits left task → HasWorked hands waits ends hears old new n how feed left follower follower''
         unfolding stopped_at
-        led_stopped how left does stop same leaves = record {
+        led_stopped how left does stop same leaves waiting = record {
           handed = has.handed ++ task ∷ [];
           fed = subst (λ (fs : List Fed). hands feed fs left) (append-nil (has.handed ++ task ∷ [])) (hands_more feed now left (has.handed ++ task ∷ []) [] on leaves);
           driven = stopped_at old mid has.handed n has.done new seat task turn due how does stop;
           one = omega arith;
+          waiting = λ other is. subst (waits left) (ap (λ fs. get_or fs 0 task) is) waiting;
           ended = λ is. absurd (not_done new.know new.number task [] how (stop []) is);
           shown = has.shown;
           count = has.count ∙ ap flushes_of (sym (append-nil has.handed));

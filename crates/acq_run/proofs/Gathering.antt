@@ -33,10 +33,10 @@ ends_in : {D V : Type 0} (basis : Basis) (book : Account D V) (seat : Place) (so
     → seat.know.basis.terms ≡ book.terms → Ends seat.know source rest how → EndsIn book seat.know.seen rest how
 ends_in basis book seat source rest Running closed terms ends = absurd ends
 ends_in basis book seat source rest Done closed terms ends = ends
-ends_in basis book seat source rest (SessionFull held size limit) closed terms ends = subst (λ (t : Terms). IsOver t seat.know.seen rest held size limit) terms ends.0
+ends_in basis book seat source rest (SessionFull held size limit) closed terms ends = subst (λ (t : Terms). IsOver t.layouts t.session_limit seat.know.seen rest held size limit) terms ends.0
 ends_in basis book seat source rest (Stopped mark) closed terms ends = (closed.knows ends.1, (seat.know.kept, closed.kept, ends.0))
 ends_in basis book seat source rest (DiskFault before after) closed terms ends = (closed.knows ends.1, ends.0)
-ends_in basis book seat source rest Memory closed terms ends = subst (λ (t : Terms). HasRoomNext t seat.know.seen rest) terms ends.1
+ends_in basis book seat source rest Memory closed terms ends = subst (λ (t : Terms). HasRoomNext t.layouts t.session_limit seat.know.seen rest) terms ends.1
 
 -- one source
 module _ {D V : Type 0} (basis : Basis) (book : Account D V) (terms : book.terms ≡ basis.terms) (table : TableId) (number : ℕ) (seat : Place)
@@ -92,7 +92,7 @@ pub seats_count : (table : TableId) (basis : Basis) (seats : List Place) (source
 seats_count table basis seats sources is = ap length is ∙ new_seats-length table basis 0 sources
 
 -- all sources
-module _ {F L : Type 0} (hands : F → List Fed → F → Type 0) (ends : F → Type 0) (hears : L → List ℕ → L → Type 0) (table : TableId) (basis : Basis) where
+module _ {F L : Type 0} (hands : F → List Fed → F → Type 0) (waits : F → Fed → Type 0) (ends : F → Type 0) (hears : L → List ℕ → L → Type 0) (table : TableId) (basis : Basis) where
   abbrev pub seats_of : List (Worker F L) → List Place
   seats_of workers = map (λ (w : Worker F L). w.seat) workers
 
@@ -123,7 +123,7 @@ module _ {F L : Type 0} (hands : F → List Fed → F → Type 0) (ends : F → 
 
   -- a worker worked from a seat
   abbrev WorkedFrom : Place → Worker F L → Worker F L → Type 0
-  WorkedFrom seat old new = HasWorked hands ends hears seat new.seat new.accepted new.ended old.feed new.feed old.follower new.follower
+  WorkedFrom seat old new = HasWorked hands waits ends hears seat new.seat new.accepted new.ended old.feed new.feed old.follower new.follower
 
   -- each worker worked from a new seat
   abbrev pub AllDriven : ℕ → List (Worker F L) → List (Worker F L) → Type 0
@@ -139,7 +139,7 @@ module _ {F L : Type 0} (hands : F → List Fed → F → Type 0) (ends : F → 
   handed_of first (old ∷ olds) (new ∷ news) all = all.0.handed ∷ handed_of (suc first) olds news all.1
 
   pub all_driven : (first : ℕ) (olds news : List (Worker F L)) → seats_of olds ≡ new_seats table basis first (length olds) → length news ≡ length olds
-      → ((k : ℕ) (d : Worker F L) → k < length olds → HasWorkedOn hands ends hears (get_or olds k d) (get_or news k d))
+      → ((k : ℕ) (d : Worker F L) → k < length olds → HasWorkedOn hands waits ends hears (get_or olds k d) (get_or news k d))
       → AllDriven first olds news
   all_driven first [] [] seats same each = tt
   all_driven first [] (new ∷ news) seats same each = absurd (omega (arith, same))
@@ -290,7 +290,7 @@ module _ {F L : Type 0} (hands : F → List Fed → F → Type 0) (ends : F → 
 
   pub have_worked : (workers lent news : List (Worker F L)) (len sources : ℕ) (seats : List Place) (feeds : List F) → seats_of workers ≡ seats
       → seats ≡ new_seats table basis 0 sources → feeds_of workers ≡ feeds → lent ≡ workers → length news ≡ length lent → length lent ≡ len
-      → ((k : ℕ) (d : Worker F L) → k < length lent → HasWorkedOn hands ends hears (get_or lent k d) (get_or news k d))
+      → ((k : ℕ) (d : Worker F L) → k < length lent → HasWorkedOn hands waits ends hears (get_or lent k d) (get_or news k d))
       → HaveWorked lent news (take len (news ++ drop (length news) workers)) feeds
   have_worked workers lent news len sources seats feeds are is fed same long lent_is each = record {
     all = all_driven 0 lent news (subst (λ (ws : List (Worker F L)). seats_of ws ≡ new_seats table basis 0 (length ws)) (sym same) (seated workers seats sources are is)) long each;

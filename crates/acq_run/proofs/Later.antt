@@ -17,14 +17,14 @@ module _ {D V : Type 0} (old new : Account D V) (steps : Steps old new []) where
   same : new.history ≡ old.history
   same = steps.history ∙ append-nil old.history
 
-  ends_later : (seen : List Sample) (rest : List Fed) (how : Ended) → EndsIn old seen rest how → EndsIn new seen rest how
+  pub ends_later : (seen : List Sample) (rest : List Fed) (how : Ended) → EndsIn old seen rest how → EndsIn new seen rest how
   ends_later seen rest Running ends = absurd ends
   ends_later seen rest Done ends = ends
-  ends_later seen rest (SessionFull held size limit) ends = subst (λ (t : Terms). IsOver t seen rest held size limit) (sym steps.terms) ends
+  ends_later seen rest (SessionFull held size limit) ends = subst (λ (t : Terms). IsOver t.layouts t.session_limit seen rest held size limit) (sym steps.terms) ends
   ends_later seen rest (Stopped mark) ends =
       (steps.stopped ends.0, (ends.1.0, prefix_trans ends.1.0 old.marks new.marks ends.1.1 steps.marks, ends.1.2))
   ends_later seen rest (DiskFault less more) ends = (steps.stopped ends.0, ends.1)
-  ends_later seen rest Memory ends = subst (λ (t : Terms). HasRoomNext t seen rest) (sym steps.terms) ends
+  ends_later seen rest Memory ends = subst (λ (t : Terms). HasRoomNext t.layouts t.session_limit seen rest) (sym steps.terms) ends
 
   ran_later : (owners : List ℕ) (source : ℕ) (seen : List Sample) (feds : List Fed) (driven : Driven) → Ran owners old source seen feds driven
       → Ran owners new source seen feds driven

@@ -27,10 +27,10 @@ WasLast marks mark = (kept : List Mark) × IsPrefix kept marks × (mark ≡ last
 abbrev pub EndsIn : {D V : Type 0} → Account D V → List Sample → List Fed → Ended → Type 0
 EndsIn book seen rest Running = ⊥
 EndsIn book seen rest Done = rest ≡ []
-EndsIn book seen rest (SessionFull held size limit) = IsOver book.terms seen rest held size limit
+EndsIn book seen rest (SessionFull held size limit) = IsOver book.terms.layouts book.terms.session_limit seen rest held size limit
 EndsIn book seen rest (Stopped mark) = (book.stopped ≡ true) × WasLast book.marks mark
 EndsIn book seen rest (DiskFault less more) = (book.stopped ≡ true) × Rose less more
-EndsIn book seen rest Memory = HasRoomNext book.terms seen rest
+EndsIn book seen rest Memory = HasRoomNext book.terms.layouts book.terms.session_limit seen rest
 
 -- what each of these seats has seen of the history
 abbrev pub seen_by : List Place → List (List Sample)
@@ -57,15 +57,16 @@ AllRan owners book seen source (feds ∷ feeds) (driven ∷ all) =
     Ran owners book source (slice_index_or seen source []) feds driven × AllRan owners book seen (suc source) feeds all
 AllRan owners book seen source _ _ = ⊥
 
--- So have they: of what each feed handed in all was done but the last at most, and from each follower to what came of it it was told
--- of each flush that was done of its source, and how many samples were shown at it.
-abbrev pub AllHeard : {D V L : Type 0} → (L → List ℕ → L → Type 0) → List ℕ → Account D V → List (List Sample) → ℕ → List (List Fed) → List Driven → List L → List L → Type 0
-AllHeard hears owners book seen source [] [] [] [] = Unit {0}
-AllHeard hears owners book seen source (feds ∷ feeds) (driven ∷ all) (first ∷ followers) (last ∷ followers') =
-    ((ran : Ran owners book source (slice_index_or seen source []) feds driven) × (length ran.rest ≤ 1)
+-- So have they: of what each feed handed in all was done but the last at most, for which the feed waits that is left; and from each
+-- follower to what came of it it was told of each flush that was done of its source, and how many samples were shown at it.
+abbrev pub AllHeard : {D V F L : Type 0} → (F → Fed → Type 0) → (L → List ℕ → L → Type 0) → List ℕ → Account D V → List (List Sample) → ℕ → List (List Fed) → List Driven → List F
+    → List L → List L → Type 0
+AllHeard waits hears owners book seen source [] [] [] [] [] = Unit {0}
+AllHeard waits hears owners book seen source (feds ∷ handed) (driven ∷ all) (feed ∷ feeds) (first ∷ followers) (last ∷ followers') =
+    ((ran : Ran owners book source (slice_index_or seen source []) feds driven) × (length ran.rest ≤ 1) × ((task : Fed) → ran.rest ≡ task ∷ [] → waits feed task)
     × (shown : List ℕ) × (length shown ≡ flushes_of ran.done) × hears first shown last)
-    × AllHeard hears owners book seen (suc source) feeds all followers followers'
-AllHeard hears owners book seen source _ _ _ _ = ⊥
+    × AllHeard waits hears owners book seen (suc source) handed all feeds followers followers'
+AllHeard waits hears owners book seen source _ _ _ _ _ = ⊥
 
 -- a flush of one of the sources from this one on, with these feeds, goes through so many samples
 abbrev pub AskedFor : List ℕ → ℕ → List (List Fed) → List Sample → ℕ → Type 0
@@ -102,14 +103,14 @@ AllEnded ends (driven ∷ all) (feed ∷ feeds) = (driven.ended ≡ Done → end
 AllEnded ends _ _ = ⊥
 
 -- The sources of a recording have worked, each with its feed and its follower, over a book that had these terms and marks.
-pub record HaveWorked {D V F L : Type 0} (hands : F → List Fed → F → Type 0) (ends : F → Type 0) (hears : L → List ℕ → L → Type 0) (owners : List ℕ) (terms : Terms) (begun : List Mark)
+pub record HaveWorked {D V F L : Type 0} (hands : F → List Fed → F → Type 0) (waits : F → Fed → Type 0) (ends : F → Type 0) (hears : L → List ℕ → L → Type 0) (owners : List ℕ) (terms : Terms) (begun : List Mark)
     (book : Account D V) (seen : List (List Sample)) (feeds feeds' : List F) (all : List Driven) (followers followers' : List L) : Type 0 where
   pub handed : List (List Fed)
   pub fed : AllHanded hands feeds handed feeds'
   pub ended : AllEnded ends all feeds'
   pub ran : AllRan owners book seen 0 handed all
   pub marks : MarksCaused (AskedFor owners 0 handed book.history) (DueFor handed) terms.layouts terms.block_limit book.history begun book.marks
-  pub heard : AllHeard hears owners book seen 0 handed all followers followers'
+  pub heard : AllHeard waits hears owners book seen 0 handed all feeds' followers followers'
 
 -- a sample is of one of so many groups, and one of so many sources owns that group
 pub record IsOwned (owners : List ℕ) (groups sources : ℕ) (sample : Sample) : Type 0 where

@@ -25,9 +25,9 @@ pub record IsIdle {F L : Type 0} (worker : Worker F L) : Type 0 where
   pub ended : worker.ended ≡ Running
 
 -- A worker has worked, from the one to the other.
-abbrev pub HasWorkedOn : {F L : Type 0} → (F → List Fed → F → Type 0) → (F → Type 0) → (L → List ℕ → L → Type 0) → Worker F L → Worker F L → Type 0
-HasWorkedOn hands ends hears old new =
-    HasWorked hands ends hears old.seat new.seat new.accepted new.ended old.feed new.feed old.follower new.follower
+abbrev pub HasWorkedOn : {F L : Type 0} → (F → List Fed → F → Type 0) → (F → Fed → Type 0) → (F → Type 0) → (L → List ℕ → L → Type 0) → Worker F L → Worker F L → Type 0
+HasWorkedOn hands waits ends hears old new =
+    HasWorked hands waits ends hears old.seat new.seat new.accepted new.ended old.feed new.feed old.follower new.follower
 
 -- what a worker did
 abbrev pub driven_of : {F L : Type 0} → Worker F L → Driven

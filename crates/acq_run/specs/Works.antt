@@ -4,9 +4,9 @@ use mathlib.Core.List.{IsPrefix}
 use Rattle.mdf_format.specs.Cause.{Rose}
 use Rattle.mdf_disk.specs.declared.disk.Disk.{Ghosts as DiskOf}
 use Rattle.mdf_layout.specs.History.{source_samples}
+use Rattle.mdf_layout.specs.Layout.{Layout}
 use Rattle.mdf_layout.specs.Record.{cost_of, history_cost}
 use Rattle.mdf_layout.specs.declared.sample.Sample.{Sample}
-use Rattle.book_owned.specs.Account.{Terms}
 use Rattle.book_owned.specs.FrontHalf.{FrontAccount}
 use Rattle.book_owned.specs.Marks.{last_mark}
 use Rattle.book_owned.specs.declared.answer.Append.{Append}
@@ -56,19 +56,19 @@ pub record IsNext (rest : List Fed) (sample : Sample) : Type 0 where
   pub rest_is : rest ≡ fed.Sample sample ∷ later
 
 -- behind this history the next sample would pass the session limit
-pub record IsOver (terms : Terms) (history : List Sample) (rest : List Fed) (held size limit : ℕ) : Type 0 where
+pub record IsOver (layouts : List Layout) (session : ℕ) (history : List Sample) (rest : List Fed) (held size limit : ℕ) : Type 0 where
   pub sample : Sample
   pub next : IsNext rest sample
-  pub held_is : held ≡ history_cost terms.layouts history
-  pub size_is : size ≡ cost_of terms.layouts sample
-  pub limit_is : limit ≡ terms.session_limit
+  pub held_is : held ≡ history_cost layouts history
+  pub size_is : size ≡ cost_of layouts sample
+  pub limit_is : limit ≡ session
   pub over : limit < held + size
 
 -- behind this history the session has room for the next sample
-pub record HasRoomNext (terms : Terms) (history : List Sample) (rest : List Fed) : Type 0 where
+pub record HasRoomNext (layouts : List Layout) (session : ℕ) (history : List Sample) (rest : List Fed) : Type 0 where
   pub sample : Sample
   pub next : IsNext rest sample
-  pub room : history_cost terms.layouts history + cost_of terms.layouts sample ≤ terms.session_limit
+  pub room : history_cost layouts history + cost_of layouts sample ≤ session
 
 -- the seat's last turn found the book stopped, or not
 abbrev pub Found : View → Bool → Type 0
@@ -84,11 +84,11 @@ abbrev pub Ends : View → ℕ → List Fed → Ended → Type 0
 Ends u source rest Running = ⊥
 Ends u source rest Done = rest ≡ []
 Ends u source rest (SessionFull held size limit) =
-    IsOver u.basis.terms u.seen rest held size limit × HasSeenOwn u source
+    IsOver u.basis.terms.layouts u.basis.terms.session_limit u.seen rest held size limit × HasSeenOwn u source
 Ends u source rest (Stopped mark) = (mark ≡ last_mark u.kept) × (u.knows ≡ true) × Found u true
 Ends u source rest (DiskFault before after) = Rose before after × (u.knows ≡ true) × Found u false
 Ends u source rest Memory =
-    (u.knows ≡ false) × HasRoomNext u.basis.terms u.seen rest × HasSeenOwn u source
+    (u.knows ≡ false) × HasRoomNext u.basis.terms.layouts u.basis.terms.session_limit u.seen rest × HasSeenOwn u source
 
 -- Where a source's work ended by a fault of the disk, the seat's last turn stopped the book, and the two numbers say how often
 -- the disk had failed before the write that met the fault, and after it.
@@ -167,13 +167,15 @@ pub record HasDriven (old new : Place) (feds : List Fed) (accepted : ℕ) (how :
   pub drives : Drives old.know new.know old.number feds accepted how
 
 -- A source worked over a feed, with a follower. What the feed handed in was done, in order, but for the last of it where the work ended
--- otherwise than with the feed. The follower was told of each flush that was done, and how many samples were shown at it.
-pub record HasWorked {F L : Type 0} (hands : F → List Fed → F → Type 0) (ends : F → Type 0) (hears : L → List ℕ → L → Type 0)
+-- otherwise than with the feed, which was not asked for more then. The follower was told of each flush that was done, and how many samples
+-- were shown at it.
+pub record HasWorked {F L : Type 0} (hands : F → List Fed → F → Type 0) (waits : F → Fed → Type 0) (ends : F → Type 0) (hears : L → List ℕ → L → Type 0)
     (old new : Place) (accepted : ℕ) (how : Ended) (feed feed' : F) (follower follower' : L) : Type 0 where
   pub handed : List Fed
   pub fed : hands feed handed feed'
   pub driven : HasDriven old new handed accepted how
   pub one : length driven.drives.rest ≤ 1
+  pub waiting : (task : Fed) → driven.drives.rest ≡ task ∷ [] → waits feed' task
   pub ended : how ≡ Done → ends feed'
   pub shown : List ℕ
   pub count : length shown ≡ flushes_of driven.drives.done

@@ -19,7 +19,7 @@ mod work;
 pub use audience::Audience;
 pub use driving::{drive, drive_with};
 pub use following::Follower;
-pub use record::{Gathered, drive_all, record_live};
+pub use record::{Gathered, Unshared, drive_all, record_live};
 pub use seen::Seen;
 pub use watcher::{Watcher, last_look, look};
 pub use whole::{part_all, seat_all};

@@ -26,7 +26,7 @@ pub fn drive_all<R: Threads + Wait + Sync, D: Disk + Send, F: Feed + Send>(
     requires ready { All (λ worker. IsReady book.now.table worker.seat (CanHand F.hands worker.feed)) workers.old }
     requires follow { All (λ worker. Watches worker.follower worker.seat.know.basis.terms.which worker.seat.know.seen) workers.old }
     ensures worked { (k : ℕ) (d : _) → k < length workers.old
-        → HasWorkedOn F.hands F.ends Hears (slice_index_or workers.old k d) (slice_index_or workers.new k d) }
+        → HasWorkedOn F.hands F.waits F.ends Hears (slice_index_or workers.old k d) (slice_index_or workers.new k d) }
     ensures follow { (k : ℕ) (d : _) → k < length workers.old
         → Watches (slice_index_or workers.new k d).follower (slice_index_or workers.new k d).seat.know.basis.terms.which
         (slice_index_or workers.new k d).seat.know.seen }
@@ -39,7 +39,7 @@ pub fn drive_all<R: Threads + Wait + Sync, D: Disk + Send, F: Feed + Send>(
         &|_place: usize, worker: &mut Worker<F, Watcher>|
             requires ready { IsReady book.now.table worker.old.seat (CanHand F.hands worker.old.feed) }
             requires follows { Watches worker.old.follower worker.old.seat.know.basis.terms.which worker.old.seat.know.seen }
-            ensures worked { HasWorkedOn F.hands F.ends Hears worker.old worker.new }
+            ensures worked { HasWorkedOn F.hands F.waits F.ends Hears worker.old worker.new }
             ensures follows { Watches worker.new.follower worker.new.seat.know.basis.terms.which worker.new.seat.know.seen }
         { drive(rt, book, worker) },
     );
@@ -86,13 +86,20 @@ pub struct Gathered<D: Disk, F> {
     pub watchers: Vec<Watcher>,
 }
 
+/// What comes back of a recording for which memory was wanted: the book, the feeds and the watchers, as they were.
+pub struct Unshared<D: Disk, F> {
+    pub book: Book<D, Audience>,
+    pub feeds: Vec<F>,
+    pub watchers: Vec<Watcher>,
+}
+
 /// Shares a book that has no sample yet among sources, one for each feed, drives all of them at once, and hands the book
 /// back with what each source did and its feed, in order. `owners` has the source that owns each group, by the number of the group. Each
 /// source has a watcher, whose reader, where it has one, looks at what is shown after each flush of the source. All room is
 /// found before any source works.
 ///
 /// # Errors
-/// Want of memory, with the book as it was.
+/// Want of memory, with all as it was.
 pub fn record_live<R: Threads + Wait + Sync, D: Disk + Send, F: Feed + Send + Drop>(
     rt: &R,
     alloc: Global,
@@ -100,25 +107,30 @@ pub fn record_live<R: Threads + Wait + Sync, D: Disk + Send, F: Feed + Send + Dr
     owners: &[u8],
     feeds: Vec<F>,
     watchers: Vec<Watcher>,
-) -> Result<Gathered<D, F>, (Memory, Book<D, Audience>)>
+) -> Result<Gathered<D, F>, Unshared<D, F>>
     requires fresh { book.history ≡ [] }
     requires sources { (0 < vec_len feeds) × (vec_len feeds ≤ 16) }
     requires owners { length owners.now ≤ 64 }
     requires may { AllMayHand F.hands owners.now book.terms 0 feeds.items }
     requires followers { length watchers.items ≡ length feeds.items }
     requires follow { All (λ watcher. Watches watcher book.terms.which []) watchers.items }
-    ensures worked { IfOk result (λ done. HaveWorked F.hands F.ends Hears owners.now book.terms book.marks done.book done.seen
+    ensures worked { IfOk result (λ done. HaveWorked F.hands F.waits F.ends Hears owners.now book.terms book.marks done.book done.seen
         feeds.items done.feeds.items done.all.items watchers.items done.watchers.items) }
     ensures saw { IfOk result (λ done. length done.seen ≡ length feeds.items) }
     ensures owned { IfOk result (λ done. AreOwned owners.now (length book.terms.layouts) (vec_len feeds) done.book.history) }
     ensures terms { IfOk result (λ done. done.book.terms ≡ book.terms) }
     ensures followers { IfOk result (λ done. length done.watchers.items ≡ length feeds.items) }
     ensures follow { IfOk result (λ done. All (λ watcher. Watches watcher book.terms.which done.book.history) done.watchers.items) }
-    ensures back { IfErr result (λ refused. refused.1 ≡ book) }
+    ensures back { IfErr result (λ unshared. unshared.book ≡ book) }
+    ensures unused { IfErr result (λ unshared. (unshared.feeds.items ≡ feeds.items) × (unshared.watchers.items ≡ watchers.items)) }
 {
     let count = feeds.len();
     let Ok(room) = room_for(alloc, count) else {
-        return Err((Memory, book));
+        return Err(Unshared {
+            book,
+            feeds,
+            watchers,
+        });
     };
     let Room {
         mut workers,
@@ -127,7 +139,16 @@ pub fn record_live<R: Threads + Wait + Sync, D: Disk + Send, F: Feed + Send + Dr
         feeds: mut left,
         mut followed,
     } = room;
-    let (shared, seats) = SharedBook::begin(alloc, book, owners, count as u8)?;
+    let (shared, seats) = match SharedBook::begin(alloc, book, owners, count as u8) {
+        Ok(begun) => begun,
+        Err((_, book)) => {
+            return Err(Unshared {
+                book,
+                feeds,
+                watchers,
+            });
+        }
+    };
     seat_all(&mut workers, seats, feeds, watchers);
     drive_all(rt, &shared, workers.as_mut_slice());
     part_all(workers, &mut back, &mut all, &mut left, &mut followed);
