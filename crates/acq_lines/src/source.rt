@@ -1,4 +1,4 @@
-ghost use Rattle.std.specs.Prelude.{◌≡◌, ◌≤◌, ◌<◌, ◌↔◌, ◌∷◌, [], Some, None, length, take, IsTrue, IfOk, OnOk, OnErr};
+ghost use Rattle.std.specs.Prelude.{◌≡◌, ◌≤◌, ◌<◌, ◌↔◌, ◌∷◌, [], Some, None, false, length, take, IsTrue, IfOk, OnOk, OnErr};
 ghost use Rattle.std.specs.Option.{option_map};
 ghost use Rattle.mdf_format.specs.Cause.{HasCause};
 ghost use Rattle.acq_lines.specs.Lines.{FindsLf, IsCut, Reads, limited, nothing};
@@ -20,13 +20,15 @@ pub struct LineSource<S> {
     start: usize,
     end: usize,
     long: bool,
+    passed: usize,
     ghost front: { start ≤ end },
+    ghost behind: { passed ≤ start },
     ghost within: { end ≤ length buffer.items },
     ghost room: { length buffer.items ≡ 65536 },
 }
 
 impl<S: Source> LineSource<S> {
-    ghost use Rattle.acq_lines.specs.Source.{Fills, Stays, unread};
+    ghost use Rattle.acq_lines.specs.Source.{Fills, Stays, unpassed, unread};
 
     /// Over a source of which nothing was read. It finds all its memory here.
     pub fn new(alloc: Global, source: S) -> Result<LineSource<S>, Memory>
@@ -42,6 +44,7 @@ impl<S: Source> LineSource<S> {
             start: 0,
             end: 0,
             long: false,
+            passed: 0,
         })
     }
 
@@ -75,10 +78,22 @@ impl<S: Source> LineSource<S> {
     pub fn pass(&mut self, count: usize)
         requires { FindsLf (unread self.old).bytes (Some count) }
         ensures reads { Reads (unread self.old) [] (limited (unread self.old).long (take count (unread self.old).bytes) ∷ []) (unread self.new) }
+        ensures back { (unread self.old).long ≡ false → unpassed self.new ≡ unread self.old }
         ensures source { self.new.source ≡ self.old.source }
     {
         self.start += count + 1;
         self.long = false;
+        self.passed = count + 1;
+    }
+
+    /// Puts the line back that was passed last, where it was not too long and nothing was read since.
+    pub fn put_back(&mut self)
+        ensures unread { unread self.new ≡ unpassed self.old }
+        ensures source { self.new.source ≡ self.old.source }
+    {
+        self.start -= self.passed;
+        self.long = false;
+        self.passed = 0;
     }
 
     /// Drops what was read of a line that has too many bytes already, and moves what else was read to the front of the buffer.
@@ -89,6 +104,7 @@ impl<S: Source> LineSource<S> {
         ensures source { self.new.source ≡ self.old.source }
     {
         let count = self.end - self.start;
+        self.passed = 0;
         if count >= LINE_LIMIT {
             self.start = 0;
             self.end = 0;
