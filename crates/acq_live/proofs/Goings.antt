@@ -1,9 +1,9 @@
 -- The single steps of a feed of lines.
-use Rattle.std.proofs.Common.{◌≡◌, ◌∙◌, sym, ap, refl, subst, inl, inr, ℕ, ◌+◌, ◌^◌, ◌≤◌, ◌<◌, Bool, true, false, List, [], ◌∷◌, ◌++◌, length, map, All, Option, Some, None, arith, append-nil}
-use Rattle.std.specs.Prelude.{◌||◌, ◌==◌}
+use Rattle.std.proofs.Common.{◌≡◌, ◌∙◌, sym, ap, refl, subst, inl, inr, ℕ, ◌+◌, ◌^◌, ◌≤◌, ◌<◌, Bool, true, false, List, [], ◌∷◌, ◌++◌, length, map, All, Option, Some, None, arith, append-nil, length-append}
+use Rattle.std.specs.Prelude.{◌||◌, ◌==◌, ◌-◌}
 use Rattle.std.specs.Option.{option_to_list}
 use Rattle.std.specs.Io.KnownBytes.{Appends, Consumes, IsAtEnd}
-use Rattle.std.specs.Prelude.{Result, Ok, Err, is_err}
+use Rattle.std.specs.Prelude.{IfSome, Result, Ok, Err, is_err, is_some}
 use Rattle.mdf_port.specs.Sink.{AppendsFront}
 use Rattle.mdf_port.specs.declared.source.Source as source
 use Rattle.mdf_port.specs.declared.sink.Sink as sink
@@ -13,19 +13,22 @@ use Rattle.std.proofs.lemmas.Grind.{get_or_default_zero}
 use Rattle.std.proofs.lemmas.List.Elements.{All-cons, All-nil}
 use Rattle.std.proofs.lemmas.List.Splits.{slice_split_none}
 use Rattle.mdf_port.specs.State.{SinkState, SourceState}
+use Rattle.mdf_layout.specs.declared.sample.Sample.{Sample}
 use Rattle.acq_feed.specs.Feeds.{Feeds, flushes_behind, samples_of}
 use Rattle.acq_feed.specs.declared.feed.Fed.{Fed}
 use Rattle.acq_feed.specs.declared.feed.Fed.TheVariants as fed
-use Rattle.acq_lines.specs.Lines.{FindsLf, Reads, Unread, closed, lines_behind}
-use Rattle.acq_lines.specs.Source.{Fills}
+use Rattle.acq_lines.specs.Lines.{FindsLf, Reads, Unread, closed, limited, lines_behind}
+use Rattle.acq_lines.specs.Source.{Fills, unpassed}
 use Rattle.acq_live.specs.Act.{Act, AreCommitted, handed_in, pending_behind, pending_with, read_in}
 use Rattle.acq_live.specs.Act as act
-use Rattle.acq_live.specs.Handled.{Goes, Halts, Handled, Hands}
+use Rattle.acq_live.specs.Handled.{CanGoBack, Goes, Halts, HaltsAt, Handled, Hands, IsAsked, Resumes, ResumesFrom, Serves, Stops, StopsWell, Waits}
 use Rattle.acq_live.specs.Rules.{MayCome, Rules}
 use Rattle.acq_live.specs.Said.{AreFlushedMore, bad_in, feds_for, feds_in, is_end, said_by}
-use Rattle.acq_live.specs.Spot.{Fixed, Spot}
-use Rattle.acq_live.specs.Steps.{consumes_none, hands_more, none_handled, or_none, tells_none}
+use Rattle.acq_live.specs.Spot.{Fixed, Spot, before, fixed, spot, spot_before}
+use Rattle.acq_live.specs.Steps.{consumes_none, none_handled, on_with, or_none, serves_more, tells_none}
 use Rattle.acq_live.specs.Told.{TellsOn, durable_line}
+use Rattle.acq_live.specs.declared.feed.Halt.{Halt}
+use Rattle.acq_live.specs.declared.feed.Halt.TheVariants.{Input, Line, Failed, Memory, Count, Called}
 use Rattle.acq_live.specs.declared.feed.LineFeed.{LineFeed}
 use Rattle.acq_live.specs.declared.said.Said.{Said}
 use Rattle.acq_live.specs.declared.said.Said.TheVariants.{Nothing, Sampled, Flush, End, Bad}
@@ -322,16 +325,189 @@ pub silent : (number count : ℕ) (told : SinkState) (deaf : Bool) → deaf ≡ 
 silent number count told true is = (refl, refl)
 silent number count told false is = absurd (cc is)
 
-module _ {S K : Type 0} {tells : source.Ghosts S} (holds : sink.Ghosts K) where
-  -- what came behind what was handed in before
-  pub feeds_on : (first second third : LineFeed S K tells) (task : Fed) → Hands holds first [] second → Feeds (Hands holds) (Halts holds) second task third
-      → Feeds (Hands holds) (Halts holds) first task third
-  feeds_on first second third (fed.Sample sample) one two = hands_more holds first second third [] (fed.Sample sample ∷ []) one two
-  feeds_on first second third fed.Flush one two = hands_more holds first second third [] (fed.Flush ∷ []) one two
-  feeds_on first second third fed.End one two = (hands_more holds first second third [] [] one two.0, two.1)
+-- nothing was handed in before a last that is alone
+alone : (front : List Fed) (task last : Fed) → task ∷ [] ≡ front ++ last ∷ [] → front ≡ []
+alone [] task last is = refl
+alone (first ∷ front) task last is = absurd (omega (arith, ap length is, length-append front (last ∷ [])))
 
-  -- nothing came, and nothing is left to be told
-  pub goes_on : (first second third : LineFeed S K tells) (result : Option Fed) → result ≡ None → Hands holds first [] second → Goes holds second result third
-      → Hands holds first [] third × (third.flushed ≡ None)
-  goes_on first second third None is one two = (hands_more holds first second third [] [] one two.0, two.1)
+-- what is alone is the last
+alone_is : (front : List Fed) (task last : Fed) → task ∷ [] ≡ front ++ last ∷ [] → task ≡ last
+alone_is [] task last is = cc is
+alone_is (first ∷ front) task last is = absurd (omega (arith, ap length is, length-append front (last ∷ [])))
+
+same_step : (at : Fixed) (spot : Spot) (unread : Unread) (pending : Bool) (steps count : ℕ) → unread ≡ spot.unread → pending ≡ spot.pending
+    → steps ≡ spot.steps → count ≡ spot.count → Handled at spot [] (record spot { unread = unread; pending = pending; steps = steps; count = count })
+same_step at spot unread pending steps count reads was stepped counted = record {
+  later = omega arith;
+  may = λ k d below. absurd (omega (arith, below));
+  steps = omega (arith, stepped);
+  few = λ is. omega (arith, stepped, is);
+  acts = [];
+  handed = refl;
+  taken = consumes_none spot.input.left;
+  committed = tt;
+  pending_is = was;
+  lines = [];
+  reads = subst (λ (unread : Unread). Reads spot.unread [] [] unread) (sym reads) (record { each = λ later. refl });
+  none_over = λ is. refl;
+  ends_last = tt;
+  over_is = or_none spot.over;
+  says = refl;
+  bad_is = omega arith;
+  count_is = omega (arith, counted);
+  numbers = [];
+  told = tells_none at.number spot.deaf spot.told;
+  told_are = sym (append-nil (option_to_list spot.flushed));
+}
+
+-- the spot before a sample, where its line can be put back
+pub before_step : (at : Fixed) (spot : Spot) (input : SourceState) (unread : Unread) (pending : Bool) (steps count : ℕ) → input ≡ spot.input → unread ≡ spot.unread
+    → pending ≡ spot.pending → steps ≡ spot.steps → count ≡ spot.count
+    → Handled at spot [] (record spot { input = input; unread = unread; pending = pending; steps = steps; count = count })
+before_step at spot input unread pending steps count same reads was stepped counted =
+    subst (λ (input : SourceState). Handled at spot [] (record spot { input = input; unread = unread; pending = pending; steps = steps; count = count })) (sym same)
+    (same_step at spot unread pending steps count reads was stepped counted)
+
+-- a line that is too long says no sample
+pub not_long : (rules : Rules) (number : ℕ) (long : Bool) (text : List ℕ) (said : Said) (sample : Sample)
+    → said ≡ said_by rules number (limited long text) → said ≡ Sampled sample → long ≡ false
+not_long rules number true text said sample says is = absurd (cc (says, is))
+not_long rules number false text said sample says is = refl
+
+-- the input tells the same, and so does what was read of it
+pub same_spot : (spot : Spot) (input : SourceState) (unread : Unread) → input.left ≡ spot.input.left → input.faults ≡ spot.input.faults → unread ≡ spot.unread
+    → record spot { input = input; unread = unread } ≡ spot
+same_spot spot input unread left faults reads =
+    ap (λ left. record spot { input = record { left = left; faults = input.faults }; unread = unread }) left
+    ∙ ap (λ faults. record spot { input = record { left = spot.input.left; faults = faults }; unread = unread }) faults
+    ∙ ap (λ unread. record spot { unread = unread }) reads
+
+-- the sample was put back, or there is none
+pub put_back : (spot : Spot) (was : Option Bool) (pending : Bool) (input : SourceState) (unread before_it : Unread) → was ≡ Some pending → input ≡ spot.input → unread ≡ before_it
+    → record spot { input = input; unread = unread; pending = pending; steps = spot.steps - 1; count = spot.count - 1 } ≡ before was before_it spot
+put_back spot was pending input unread before_it is same reads =
+    ap (λ (input : SourceState). record spot { input = input; unread = unread; pending = pending; steps = spot.steps - 1; count = spot.count - 1 }) same
+    ∙ ap (λ (unread : Unread). record spot { unread = unread; pending = pending; steps = spot.steps - 1; count = spot.count - 1 }) reads
+    ∙ ap (λ (was : Option Bool). before was before_it spot) (sym is)
+
+pub none_back : (spot : Spot) (was : Option Bool) (before_it : Unread) → was ≡ None → spot ≡ before was before_it spot
+none_back spot was before_it is = ap (λ (was : Option Bool). before was before_it spot) (sym is)
+
+-- of what it was told nothing is put back
+before_told : (spot : Spot) (was : Option Bool) (unread : Unread) → (before was unread spot).flushed ≡ spot.flushed
+before_told spot None unread = refl
+before_told spot (Some pending) unread = refl
+
+-- it is there
+pub found : (halt : Option Halt) (there : Bool) → there ≡ is_some halt → there ≡ true → (why : Halt) × (halt ≡ Some why)
+found None there is so = absurd (cc (is, so))
+found (Some why) there is so = (why, refl)
+
+module _ {S K : Type 0} {tells : source.Ghosts S} (holds : sink.Ghosts K) where
+  running : (feed : LineFeed S K tells) → feed.halt ≡ None → StopsWell holds feed
+  running feed is = subst (λ (halt : Option Halt). IfSome halt (Stops holds feed)) (sym is) tt
+
+  -- it goes on behind what was handed in
+  pub served : (old new : LineFeed S K tells) (feds : List Fed) → fixed new ≡ fixed old → Handled (fixed old) (spot holds old) feds (spot holds new) → new.halt ≡ None
+      → Serves holds old feds new
+  served old new feds same handled run = record { fixed_is = same; handled = handled; stops = λ is. running new run }
+
+  ended_back : (old new : LineFeed S K tells) (feds : List Fed) → Halts new → CanGoBack holds old feds new
+  ended_back old new feds halts = record {
+    last = λ some sample is run. absurd (cc (run, halts.halt_is));
+    none = λ is run. absurd (cc (run, halts.halt_is));
+  }
+
+  -- what came behind what was read before
+  pub goes_behind : (first second third : LineFeed S K tells) (task : Fed) → Serves holds first [] second → Goes holds second (Some task) third → Goes holds first (Some task) third
+  goes_behind first second third (fed.Sample sample) one two =
+      (serves_more holds first second third [] (fed.Sample sample ∷ []) one two.0, two.1, on_with holds first second (spot_before holds third) [] [] one two.2)
+  goes_behind first second third fed.Flush one two = (serves_more holds first second third [] (fed.Flush ∷ []) one two.0, two.1)
+  goes_behind first second third fed.End one two = (serves_more holds first second third [] [] one two.0, two.1)
+
+  fed_by : (first third : LineFeed S K tells) (task : Fed) → Goes holds first (Some task) third → Feeds (Hands holds) Waits Halts first task third
+  fed_by first third (fed.Sample sample) goes = (
+    (
+      goes.0,
+      record {
+        last = λ front other is run. subst (λ (feds : List Fed). Handled (fixed first) (spot holds first) feds (spot_before holds third))
+            (sym (alone front (fed.Sample sample) (fed.Sample other) is)) goes.2;
+        none = λ is run. absurd (cc is);
+      },
+    ),
+    goes.1,
+  )
+  fed_by first third fed.Flush goes = (
+    (
+      goes.0,
+      record {
+        last = λ front other is run. absurd (cc (alone_is front fed.Flush (fed.Sample other) is));
+        none = λ is run. absurd (cc is);
+      },
+    ),
+    goes.1,
+  )
+  fed_by first third fed.End goes = ((goes.0, ended_back first third [] goes.1), goes.1)
+
+  -- what came behind what was handed in before
+  pub feeds_on : (first second third : LineFeed S K tells) (task : Fed) → Serves holds first [] second → Goes holds second (Some task) third
+      → Feeds (Hands holds) Waits Halts first task third
+  feeds_on first second third task one two = fed_by first third task (goes_behind first second third task one two)
+
+  -- nothing came
+  pub goes_on : (first second third : LineFeed S K tells) (result : Option Fed) → result ≡ None → Serves holds first [] second → Goes holds second result third
+      → Serves holds first [] third × IsAsked third
+  goes_on first second third None is one two = (serves_more holds first second third [] [] one two.0, two.1)
   goes_on first second third (Some task) is one two = absurd (cc is)
+
+  -- the same spot
+  stop_same : (old new : LineFeed S K tells) (halt : Halt) → fixed new ≡ fixed old → spot holds new ≡ spot holds old → Stops holds old halt → Stops holds new halt
+  stop_same old new halt same at stops = record {
+    cause = subst (λ (spot : Spot). HaltsAt (fixed new) spot halt) (sym at) (subst (λ (at : Fixed). HaltsAt at (spot holds old) halt) (sym same) stops.cause);
+    committed = ap (λ (spot : Spot). spot.pending) at ∙ stops.committed;
+    told = ap (λ (spot : Spot). spot.flushed) at ∙ stops.told;
+  }
+
+  stops_same : (old new : LineFeed S K tells) (halt : Option Halt) → fixed new ≡ fixed old → spot holds new ≡ spot holds old → IfSome halt (Stops holds old) → IfSome halt (Stops holds new)
+  stops_same old new None same at is = tt
+  stops_same old new (Some halt) same at is = stop_same old new halt same at is
+
+  -- nothing came of one that has ended
+  pub ended_on : (old new : LineFeed S K tells) → fixed new ≡ fixed old → spot holds new ≡ spot holds old → new.halt ≡ old.halt → Halts new → Hands holds old [] new
+  ended_on old new same at halt halts = (
+    record {
+      fixed_is = same;
+      handled = subst (Handled (fixed old) (spot holds old) []) (sym at) (none_handled (fixed old) (spot holds old));
+      stops = λ is. stops_same old new new.halt same at (subst (λ (halt : Option Halt). IfSome halt (Stops holds old)) (sym halt) is);
+    },
+    ended_back old new [] halts,
+  )
+
+  -- it goes on in a next part: behind a sample that was put back; called off; or not, since it has ended
+  pub resumed_behind : (old new : LineFeed S K tells) → old.halt ≡ None → new.halt ≡ old.halt → fixed new ≡ fixed old → spot holds new ≡ spot_before holds old → Resumes holds old new
+  resumed_behind old new run halt same at =
+      subst (λ (halt : Option Halt). ResumesFrom holds halt old new) (sym run) (
+        halt ∙ run,
+        ap (λ (spot : Spot). spot.flushed) at ∙ before_told (spot holds old) old.pending_before (unpassed old.lines),
+        λ first some sample hands. served first new some (same ∙ hands.0.fixed_is)
+            (subst (Handled (fixed first) (spot holds first) some) (sym at) (hands.1.last some sample refl run)) (halt ∙ run),
+      )
+
+  pub resumed_called : (old new : LineFeed S K tells) → old.halt ≡ Some Called → new.halt ≡ None → fixed new ≡ fixed old → spot holds new ≡ spot holds old → Resumes holds old new
+  resumed_called old new called run same at =
+      subst (λ (halt : Option Halt). ResumesFrom holds halt old new) (sym called) (
+        run,
+        ap (λ (spot : Spot). spot.flushed) at,
+        λ first feds serves. served first new feds (same ∙ serves.fixed_is) (subst (Handled (fixed first) (spot holds first) feds) (sym at) serves.handled) run,
+      )
+
+  ended_stays : (old : LineFeed S K tells) (halt : Halt) → (halt ≡ Called → ⊥) → ResumesFrom holds (Some halt) old old
+  ended_stays old Input other = refl
+  ended_stays old Line other = refl
+  ended_stays old Failed other = refl
+  ended_stays old Memory other = refl
+  ended_stays old Count other = refl
+  ended_stays old Called other = absurd (other refl)
+
+  pub resumed_ended : (old : LineFeed S K tells) (halt : Halt) → old.halt ≡ Some halt → (halt ≡ Called → ⊥) → Resumes holds old old
+  resumed_ended old halt is other = subst (λ (halt : Option Halt). ResumesFrom holds halt old old) (sym is) (ended_stays old halt other)

@@ -1,5 +1,5 @@
 -- What a feed of lines did from one spot to another, and why nothing more comes of it.
-use Rattle.std.specs.Prelude.{ℕ, ◌≡◌, ◌+◌, ◌^◌, ◌≤◌, ◌<◌, true, false, ◌||◌, List, [], ◌++◌, length, take, All, Option, Some, None}
+use Rattle.std.specs.Prelude.{ℕ, ◌≡◌, ◌+◌, ◌^◌, ◌≤◌, ◌<◌, true, false, ◌||◌, List, [], ◌∷◌, ◌++◌, length, take, All, Option, Some, None, IfSome}
 use Rattle.std.specs.Io.KnownBytes.{Consumes, IsAtEnd}
 use Rattle.std.specs.Option.{option_to_list}
 use Rattle.mdf_format.specs.Cause.{Rose}
@@ -7,13 +7,15 @@ use Rattle.mdf_port.specs.State.{sink_state, source_state}
 use Rattle.mdf_port.specs.declared.source.Source as source
 use Rattle.mdf_port.specs.declared.sink.Sink as sink
 use Rattle.acq_lines.specs.Lines.{FindsLf, Reads, Unread, limited, lines_behind, nothing}
-use Rattle.acq_feed.specs.Feeds.{Feeds, flushes_behind, samples_of}
+use Rattle.mdf_layout.specs.declared.sample.Sample.{Sample}
+use Rattle.acq_feed.specs.Feeds.{flushes_behind, samples_of}
 use Rattle.acq_feed.specs.declared.feed.Fed.{Fed}
+use Rattle.acq_feed.specs.declared.feed.Fed.TheVariants as fed
 use Rattle.acq_live.specs.Act.{Act, AreCommitted, handed_in, pending_behind, read_in}
 use Rattle.acq_live.specs.Rules.{MayCome, Rules, rules_of}
 use Rattle.acq_live.specs.Told.{TellsOn}
 use Rattle.acq_live.specs.Said.{AreFlushedMore, EndsLast, IsSampleLine, bad_in, feds_in, is_ended, said_in}
-use Rattle.acq_live.specs.Spot.{Fixed, Spot, fixed, spot}
+use Rattle.acq_live.specs.Spot.{Fixed, Spot, fixed, spot, spot_before}
 use Rattle.acq_live.specs.declared.rules.LineRules.{LineRules}
 use Rattle.acq_live.specs.declared.feed.Halt.{Halt}
 use Rattle.acq_live.specs.declared.feed.Halt.TheVariants.{Input, Line, Failed, Memory, Count, Called}
@@ -44,10 +46,6 @@ pub record Handled (at : Fixed) (old : Spot) (feds : List Fed) (new : Spot) : Ty
   pub told : TellsOn old.deaf new.deaf old.told new.told at.number numbers
   pub told_are : numbers ++ option_to_list new.flushed ≡ option_to_list old.flushed ++ flushes_behind old.count feds
 
--- from the one feed to the other. In an impl generic in K: Sink it is `Hands K.Sink`
-abbrev pub Hands : {S K : Type 0} {tells : source.Ghosts S} → sink.Ghosts K → LineFeed S K tells → List Fed → LineFeed S K tells → Type 0
-Hands holds old feds new = (fixed new ≡ fixed old) × Handled (fixed old) (spot holds old) feds (spot holds new)
-
 -- the next line of what was read says a sample of a group that there is
 pub record WantsMemory (rules : Rules) (unread : Unread) : Type 0 where
   pub count : ℕ
@@ -64,18 +62,68 @@ HaltsAt at spot Memory = WantsMemory at.rules spot.unread
 HaltsAt at spot Count = 2 ^ 64 ≤ spot.steps + 2
 HaltsAt at spot Called = Unit {0}
 
--- so it is, all that was handed in has a flush behind it, and its source was told of each
-pub record Halts {S K : Type 0} {tells : source.Ghosts S} (holds : sink.Ghosts K) (feed : LineFeed S K tells) : Type 0 where
-  pub halt : Halt
-  pub halt_is : feed.halt ≡ Some halt
+-- So it is with this cause, all that was handed in has a flush behind it, and its source was told of each.
+pub record Stops {S K : Type 0} {tells : source.Ghosts S} (holds : sink.Ghosts K) (feed : LineFeed S K tells) (halt : Halt) : Type 0 where
   pub cause : HaltsAt (fixed feed) (spot holds feed) halt
   pub committed : feed.pending ≡ false
   pub told : feed.flushed ≡ None
 
--- It went on by one step, and this was handed in, or nothing.
+-- where nothing more comes of it, it is so
+abbrev pub StopsWell : {S K : Type 0} {tells : source.Ghosts S} → sink.Ghosts K → LineFeed S K tells → Type 0
+StopsWell holds feed = IfSome feed.halt (Stops holds feed)
+
+-- From the one feed to the other, in one part or over several, these were handed in and none of them was put back. In an impl generic in
+-- K: Sink it is `Serves K.Sink`
+pub record Serves {S K : Type 0} {tells : source.Ghosts S} (holds : sink.Ghosts K) (old : LineFeed S K tells) (feds : List Fed) (new : LineFeed S K tells) : Type 0 where
+  pub fixed_is : fixed new ≡ fixed old
+  pub handled : Handled (fixed old) (spot holds old) feds (spot holds new)
+  pub stops : StopsWell holds old → StopsWell holds new
+
+-- As long as it goes on it can go back behind all of these but the last, where that is a sample; and where none was handed in it went on before,
+-- and goes back to where it could then.
+pub record CanGoBack {S K : Type 0} {tells : source.Ghosts S} (holds : sink.Ghosts K) (old : LineFeed S K tells) (feds : List Fed) (new : LineFeed S K tells) : Type 0 where
+  pub last : (some : List Fed) (sample : Sample) → feds ≡ some ++ fed.Sample sample ∷ [] → new.halt ≡ None → Handled (fixed old) (spot holds old) some (spot_before holds new)
+  pub none : feds ≡ [] → new.halt ≡ None → (old.halt ≡ None) × (spot_before holds new ≡ spot_before holds old)
+
+-- From the one feed to the other, in one part, these were handed in, and the last may be put back where it is a sample.
+abbrev pub Hands : {S K : Type 0} {tells : source.Ghosts S} → sink.Ghosts K → LineFeed S K tells → List Fed → LineFeed S K tells → Type 0
+Hands holds old feds new = Serves holds old feds new × CanGoBack holds old feds new
+
+-- This was handed in last, and it was not asked since: of a flush its source was not told.
+abbrev pub Waits : {S K : Type 0} {tells : source.Ghosts S} → LineFeed S K tells → Fed → Type 0
+Waits feed (fed.Sample sample) = (feed.halt ≡ None) × (feed.flushed ≡ None)
+Waits feed fed.Flush = (feed.halt ≡ None) × (feed.flushed ≡ Some feed.count)
+Waits feed fed.End = ⊥
+
+-- nothing more comes of it
+pub record Halts {S K : Type 0} {tells : source.Ghosts S} (feed : LineFeed S K tells) : Type 0 where
+  pub halt : Halt
+  pub halt_is : feed.halt ≡ Some halt
+
+-- From a feed that one part asks for no more to the one that the next asks. A sample that it handed in last, and that was not done, is put back;
+-- one that was called off goes on; and one that has ended stays. None is told of anything.
+abbrev pub ResumesFrom : {S K : Type 0} {tells : source.Ghosts S} → sink.Ghosts K → Option Halt → LineFeed S K tells → LineFeed S K tells → Type 0
+ResumesFrom {S} {K} {tells} holds None old new =
+    (new.halt ≡ None) × (new.flushed ≡ old.flushed) × ((first : LineFeed S K tells) (some : List Fed) (sample : Sample) → Hands holds first (some ++ fed.Sample sample ∷ []) old → Serves holds first some new)
+ResumesFrom {S} {K} {tells} holds (Some Called) old new =
+    (new.halt ≡ None) × (new.flushed ≡ old.flushed) × ((first : LineFeed S K tells) (feds : List Fed) → Serves holds first feds old → Serves holds first feds new)
+ResumesFrom holds (Some halt) old new = new ≡ old
+
+abbrev pub Resumes : {S K : Type 0} {tells : source.Ghosts S} → sink.Ghosts K → LineFeed S K tells → LineFeed S K tells → Type 0
+Resumes holds old new = ResumesFrom holds old.halt old new
+
+-- a feed that goes on, and whose source was told of each flush
+pub record IsAsked {S K : Type 0} {tells : source.Ghosts S} (feed : LineFeed S K tells) : Type 0 where
+  pub told : feed.flushed ≡ None
+  pub running : feed.halt ≡ None
+
+-- It went on by one step, and this was handed in, or nothing. Behind a sample it can go back to where it stood.
 abbrev pub Goes : {S K : Type 0} {tells : source.Ghosts S} → sink.Ghosts K → LineFeed S K tells → Option Fed → LineFeed S K tells → Type 0
-Goes holds old None new = Hands holds old [] new × (new.flushed ≡ None)
-Goes holds old (Some task) new = Feeds (Hands holds) (Halts holds) old task new
+Goes holds old None new = Serves holds old [] new × IsAsked new
+Goes holds old (Some (fed.Sample sample)) new =
+    Serves holds old (fed.Sample sample ∷ []) new × Waits new (fed.Sample sample) × Handled (fixed old) (spot holds old) [] (spot_before holds new)
+Goes holds old (Some fed.Flush) new = Serves holds old (fed.Flush ∷ []) new × Waits new fed.Flush
+Goes holds old (Some fed.End) new = Serves holds old [] new × Halts new
 
 -- a feed of this source over this input, of which nothing was taken
 pub record IsFresh {S K : Type 0} {tells : source.Ghosts S} (holds : sink.Ghosts K) (rules : LineRules) (number : ℕ) (input : S) (told : K) (feed : LineFeed S K tells) : Type 0 where

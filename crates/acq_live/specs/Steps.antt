@@ -17,10 +17,10 @@ use Rattle.acq_lines.specs.Lines.{Reads}
 use Rattle.acq_lines.proofs.Parts.{reads_more}
 use Rattle.acq_live.specs.Act.{Act, AreCommitted, handed_in, pending_behind, pending_with, read_in}
 use Rattle.acq_live.specs.Act as act
-use Rattle.acq_live.specs.Handled.{Handled, Hands}
+use Rattle.acq_live.specs.Handled.{CanGoBack, Handled, Hands, Serves}
 use Rattle.acq_live.specs.Rules.{MayCome, Rules}
 use Rattle.acq_live.specs.Said.{AreFlushedMore, EndsLast, bad_in, feds_in, is_end, is_ended, said_by, said_in}
-use Rattle.acq_live.specs.Spot.{Fixed, Spot, fixed, spot}
+use Rattle.acq_live.specs.Spot.{Fixed, Spot, fixed, spot, spot_before}
 use Rattle.acq_live.specs.Told.{TellsOn, durable_line, durable_lines}
 use Rattle.acq_live.specs.declared.feed.LineFeed.{LineFeed}
 use Rattle.acq_live.specs.declared.said.Said.{Said}
@@ -103,7 +103,7 @@ flushed_more pending (fed.Flush ∷ some) more said later first second = ⊎_eli
 flushed_more pending (fed.End ∷ some) more said later first second = absurd first
 
 -- the flushes of two steps
-behind_more : (n : ℕ) (some more : List Fed) → flushes_behind n (some ++ more) ≡ flushes_behind n some ++ flushes_behind (n + length (samples_of some)) more
+pub behind_more : (n : ℕ) (some more : List Fed) → flushes_behind n (some ++ more) ≡ flushes_behind n some ++ flushes_behind (n + length (samples_of some)) more
 behind_more n [] more = let same : n ≡ n + 0 = omega arith in ap (λ k. flushes_behind k more) same
 behind_more n (fed.Sample sample ∷ some) more =
     let same : (n + 1) + length (samples_of some) ≡ n + length (sample ∷ samples_of some) = omega arith in
@@ -129,7 +129,7 @@ front_longer front text later is = (is.0 ++ later, sym (append_assoc front is.0 
 front_behind : (before front text : List ℕ) → IsPrefix front text → IsPrefix (before ++ front) (before ++ text)
 front_behind before front text is = (is.0, append_assoc before front is.0 ∙ ap (λ (rest : List ℕ). before ++ rest) is.1)
 
-tells_more : (source : ℕ) (first second third : Bool) (old mid new : SinkState) (some more : List ℕ) → TellsOn first second old mid source some → TellsOn second third mid new source more
+pub tells_more : (source : ℕ) (first second third : Bool) (old mid new : SinkState) (some more : List ℕ) → TellsOn first second old mid source some → TellsOn second third mid new source more
     → TellsOn first third old new source (some ++ more)
 tells_more source true true third old mid new some more one two = (two.0, two.1 ∙ one.1)
 tells_more source true false third old mid new some more one two = absurd (cc (one.0))
@@ -237,13 +237,62 @@ more_handled at first second third some more one two =
       told_are = told_more first.flushed second.flushed third.flushed first.count second.count some more one.numbers two.numbers one.count_is one.told_are two.told_are;
     }
 
+-- what ends two lists, of which the second is not empty, ends the second
+last_of : (some : List Fed) (task : Fed) (more front : List Fed) (last : Fed) → some ++ task ∷ more ≡ front ++ last ∷ []
+    → (before : List Fed) × (task ∷ more ≡ before ++ last ∷ []) × (front ≡ some ++ before)
+last_of [] task more front last is = (front, is, refl)
+last_of (first ∷ some) task more [] last is = absurd (omega (arith, ap length is, length-append some (task ∷ more)))
+last_of (first ∷ some) task more (other ∷ front) last is =
+    let (before, ends, rest) = last_of some task more front last (cc is) in
+    (before, ends, cc (is, rest))
+
+none_last : (some : List Fed) (last : Fed) → [] ≡ some ++ last ∷ [] → ⊥
+none_last some last is = omega (arith, ap length is, length-append some (last ∷ []))
+
 module _ {S K : Type 0} {tells : source.Ghosts S} (holds : sink.Ghosts K) where
+  pub serves_none : (feed : LineFeed S K tells) → Serves holds feed [] feed
+  serves_none feed = record { fixed_is = refl; handled = none_handled (fixed feed) (spot holds feed); stops = λ is. is }
+
+  -- what came behind it, of the same source
+  pub on_with : (first second : LineFeed S K tells) (third : Spot) (some more : List Fed) → Serves holds first some second → Handled (fixed second) (spot holds second) more third
+      → Handled (fixed first) (spot holds first) (some ++ more) third
+  on_with first second third some more one two = more_handled (fixed first) (spot holds first) (spot holds second) third some more one.handled
+      (subst (λ (at : Fixed). Handled at (spot holds second) more third) one.fixed_is two)
+
+  pub serves_more : (first second third : LineFeed S K tells) (some more : List Fed) → Serves holds first some second → Serves holds second more third
+      → Serves holds first (some ++ more) third
+  serves_more first second third some more one two = record {
+    fixed_is = two.fixed_is ∙ one.fixed_is;
+    handled = on_with first second (spot holds third) some more one two.handled;
+    stops = λ is. two.stops (one.stops is);
+  }
+
   pub hands_none : (feed : LineFeed S K tells) → Hands holds feed [] feed
-  hands_none feed = (refl, none_handled (fixed feed) (spot holds feed))
+  hands_none feed = (
+    serves_none feed,
+    record {
+      last = λ some sample is run. absurd (none_last some (fed.Sample sample) is);
+      none = λ is run. (run, refl);
+    },
+  )
+
+  back_more : (first second third : LineFeed S K tells) (some more : List Fed) → Hands holds first some second → Hands holds second more third → CanGoBack holds first (some ++ more) third
+  back_more first second third some [] one two = record {
+    last = λ front sample is run.
+        let kept = two.1.none refl run in
+        subst (Handled (fixed first) (spot holds first) front) (sym kept.1) (one.1.last front sample (sym (append-nil some) ∙ is) kept.0);
+    none = λ is run.
+        let kept = two.1.none refl run in
+        let was = one.1.none (sym (append-nil some) ∙ is) kept.0 in
+        (was.0, kept.1 ∙ was.1);
+  }
+  back_more first second third some (task ∷ more) one two = record {
+    last = λ front sample is run.
+        let (before, ends, rest) = last_of some task more front (fed.Sample sample) is in
+        subst (λ (feds : List Fed). Handled (fixed first) (spot holds first) feds (spot_before holds third)) (sym rest)
+        (on_with first second (spot_before holds third) some before one.0 (two.1.last before sample ends run));
+    none = λ is run. absurd (omega (arith, ap length is, length-append some (task ∷ more)));
+  }
 
   pub hands_more : (first second third : LineFeed S K tells) (some more : List Fed) → Hands holds first some second → Hands holds second more third → Hands holds first (some ++ more) third
-  hands_more first second third some more one two = (
-    two.0 ∙ one.0,
-    more_handled (fixed first) (spot holds first) (spot holds second) (spot holds third) some more one.1
-        (subst (λ (at : Fixed). Handled at (spot holds second) more (spot holds third)) one.0 two.1),
-  )
+  hands_more first second third some more one two = (serves_more first second third some more one.0 two.0, back_more first second third some more one two)

@@ -1,4 +1,4 @@
-ghost use Rattle.std.specs.Prelude.{◌≡◌, ◌≤◌, ◌<◌, ◌+◌, ◌^◌, true};
+ghost use Rattle.std.specs.Prelude.{◌≡◌, ◌≤◌, ◌<◌, ◌+◌, ◌^◌, Bool, true, Some};
 
 use crate::told::give_durable;
 use crate::{LineRules, Said, said_by};
@@ -38,6 +38,7 @@ pub struct LineFeed<'a, S: Source, K> {
     called: &'a AtomicBool,
     first_faults: u64,
     pending: bool,
+    pending_before: Option<bool>,
     over: bool,
     steps: u64,
     bad: u64,
@@ -47,21 +48,21 @@ pub struct LineFeed<'a, S: Source, K> {
     deaf: bool,
     halt: Option<Halt>,
     ghost since: { first_faults ≤ S.faults lines.source },
-    ghost bad_counted: { bad ≤ steps },
-    ghost counted: { count ≤ steps },
+    ghost counted: { bad + count ≤ steps },
+    ghost sampled: { (pending : Bool) → pending_before ≡ Some pending → 0 < count },
     ghost room: { pending ≡ true → steps + 1 < 2 ^ 64 },
 }
 
 impl<'a, S: Input + Drop, K: Sink + Drop> LineFeed<'a, S, K> {
-    ghost use Rattle.std.specs.Prelude.{◌≡◌, ◌<◌, ◌+◌, ◌^◌, ◌∷◌, [], ◌↔◌, Some, None, true, false, All, IfOk, IsTrue, OnErr, take};
-    ghost use Rattle.acq_feed.specs.Feeds.{Feeds};
+    ghost use Rattle.std.specs.Prelude.{◌≡◌, ◌<◌, ◌+◌, ◌^◌, [], ◌↔◌, Some, None, true, false, All, IfOk, IsTrue, OnErr, take};
+    ghost use Rattle.mdf_port.specs.State.{sink_state, source_state};
     ghost use Rattle.acq_feed.specs.declared.feed.Fed.TheVariants.{Flush as FlushFed};
     ghost use Rattle.acq_lines.specs.Lines.{FindsLf, IsCut, limited};
     ghost use Rattle.acq_lines.specs.Source.{unread};
     ghost use Rattle.acq_live.specs.Rules.{MayCome, rules_of};
     ghost use Rattle.acq_live.specs.Said.{IsSampleLine, feds_for, said_by};
-    ghost use Rattle.acq_live.specs.Spot.{fixed, spot};
-    ghost use Rattle.acq_live.specs.Handled.{Goes, Halts, HaltsAt, Hands, IsFresh};
+    ghost use Rattle.acq_live.specs.Spot.{fixed, spot, spot_before};
+    ghost use Rattle.acq_live.specs.Handled.{Goes, HaltsAt, IsAsked, IsFresh, Resumes, Serves};
 
     /// Of the source of this number. It finds the memory for its lines here, and takes nothing of its input yet. Feeds that are
     /// called off together share the flag.
@@ -84,6 +85,7 @@ impl<'a, S: Input + Drop, K: Sink + Drop> LineFeed<'a, S, K> {
             called,
             first_faults,
             pending: false,
+            pending_before: None,
             over: false,
             steps: 0,
             bad: 0,
@@ -97,9 +99,9 @@ impl<'a, S: Input + Drop, K: Sink + Drop> LineFeed<'a, S, K> {
 
     /// Hands in a flush.
     fn flush(&mut self)
+        requires asked { IsAsked self.old }
         requires pending { self.old.pending ≡ true }
-        requires told { self.old.flushed ≡ None }
-        ensures { Hands K.Sink self.old (FlushFed ∷ []) self.new }
+        ensures { Goes K.Sink self.old (Some FlushFed) self.new }
     {
         self.pending = false;
         self.steps += 1;
@@ -108,9 +110,9 @@ impl<'a, S: Input + Drop, K: Sink + Drop> LineFeed<'a, S, K> {
 
     /// Hands in a flush, where a sample has none behind it, and else says that nothing more comes.
     fn halt(&mut self, halt: Halt) -> Fed
-        requires told { self.old.flushed ≡ None }
+        requires asked { IsAsked self.old }
         requires cause { HaltsAt (fixed self.old) (spot K.Sink self.old) halt }
-        ensures { Feeds (Hands K.Sink) (Halts K.Sink) self.old result self.new }
+        ensures { Goes K.Sink self.old (Some result) self.new }
     {
         if !self.pending {
             self.halt = Some(halt);
@@ -120,11 +122,13 @@ impl<'a, S: Input + Drop, K: Sink + Drop> LineFeed<'a, S, K> {
         Fed::Flush
     }
 
-    /// Tells of the flush that was handed in last, which was done, since more is asked for. A sink that failed is told no more.
+    /// Goes on behind what was handed in last, which was done, since more is asked for: of a flush it tells. A sink that failed is told no more.
     fn tell(&mut self)
-        ensures hands { Hands K.Sink self.old [] self.new }
-        ensures told { self.new.flushed ≡ None }
+        requires running { self.old.halt ≡ None }
+        ensures serves { Serves K.Sink self.old [] self.new }
+        ensures asked { IsAsked self.new }
     {
+        self.pending_before = None;
         let Some(count) = self.flushed.take() else {
             return;
         };
@@ -147,7 +151,7 @@ impl<'a, S: Input + Drop, K: Sink + Drop> LineFeed<'a, S, K> {
 
     /// Passes the next line, before whose LF so many bytes stand, and answers what is handed in for what it says, if something is.
     fn pass(&mut self, count: usize, said: Said) -> Option<Fed>
-        requires told { self.old.flushed ≡ None }
+        requires asked { IsAsked self.old }
         requires running { self.old.over ≡ false }
         requires room { self.old.steps + 2 < 2 ^ 64 }
         requires found { FindsLf (unread self.old.lines).bytes (Some count) }
@@ -161,6 +165,7 @@ impl<'a, S: Input + Drop, K: Sink + Drop> LineFeed<'a, S, K> {
         match said {
             Said::Nothing => None,
             Said::Sampled(sample) => {
+                self.pending_before = Some(self.pending);
                 self.pending = true;
                 self.count += 1;
                 Some(Fed::Sample(sample))
@@ -183,7 +188,7 @@ impl<'a, S: Input + Drop, K: Sink + Drop> LineFeed<'a, S, K> {
 
     /// Handles the next line, before whose LF so many bytes stand.
     fn handle(&mut self, count: usize) -> Option<Fed>
-        requires told { self.old.flushed ≡ None }
+        requires asked { IsAsked self.old }
         requires running { self.old.over ≡ false }
         requires room { self.old.steps + 2 < 2 ^ 64 }
         requires found { FindsLf (unread self.old.lines).bytes (Some count) }
@@ -197,7 +202,7 @@ impl<'a, S: Input + Drop, K: Sink + Drop> LineFeed<'a, S, K> {
 
     /// Reads more, where the input need not be waited for.
     fn fill(&mut self) -> Option<Fed>
-        requires told { self.old.flushed ≡ None }
+        requires asked { IsAsked self.old }
         requires committed { self.old.pending ≡ false }
         requires none { FindsLf (unread self.old.lines).bytes None }
         ensures { Goes K.Sink self.old result self.new }
@@ -211,7 +216,7 @@ impl<'a, S: Input + Drop, K: Sink + Drop> LineFeed<'a, S, K> {
 
     /// Waits for the input a while, and reads more where something came. What does not come holds up nobody who calls it off.
     fn read(&mut self) -> Option<Fed>
-        requires told { self.old.flushed ≡ None }
+        requires asked { IsAsked self.old }
         requires committed { self.old.pending ≡ false }
         requires none { FindsLf (unread self.old.lines).bytes None }
         ensures { Goes K.Sink self.old result self.new }
@@ -229,7 +234,7 @@ impl<'a, S: Input + Drop, K: Sink + Drop> LineFeed<'a, S, K> {
     /// Goes on by one line or one read, and answers what is handed in, if something is. Before a read it is a flush, where a sample has none
     /// behind it.
     fn step(&mut self) -> Option<Fed>
-        requires { self.old.flushed ≡ None }
+        requires { IsAsked self.old }
         ensures { Goes K.Sink self.old result self.new }
     {
         if self.over {
@@ -246,6 +251,42 @@ impl<'a, S: Input + Drop, K: Sink + Drop> LineFeed<'a, S, K> {
             }
             None => self.read(),
         }
+    }
+
+    /// Puts back the sample that it handed in last, where that was the last.
+    fn put_back(&mut self)
+        ensures fixed { fixed self.new ≡ fixed self.old }
+        ensures spot { spot K.Sink self.new ≡ spot_before K.Sink self.old }
+        ensures halt { self.new.halt ≡ self.old.halt }
+    {
+        let Some(pending) = self.pending_before.take() else {
+            return;
+        };
+        self.lines.put_back();
+        self.pending = pending;
+        self.steps -= 1;
+        self.count -= 1;
+    }
+
+    /// Is to be asked again, in a next part: a sample that it handed in last, and that was not done, is put back; and one that was called off goes
+    /// on. One that has ended by itself stays so.
+    pub fn resume(&mut self)
+        ensures { Resumes K.Sink self.old self.new }
+    {
+        match self.halt {
+            None => self.put_back(),
+            Some(Halt::Called) => self.halt = None,
+            Some(_) => {}
+        }
+    }
+
+    /// Its input, without what was read of it, and what it told of flushes.
+    pub fn into_tap(self) -> (S, K)
+        ensures input { source_state S.Source result.0 ≡ (spot K.Sink self.entry).input }
+        ensures told { sink_state K.Sink result.1 ≡ (spot K.Sink self.entry).told }
+    {
+        let LineFeed { lines, told, .. } = self;
+        (lines.into_source(), told)
     }
 
     /// Why nothing more comes, once that was answered.
@@ -278,18 +319,23 @@ impl<'a, S: Input + Drop, K: Sink + Drop> LineFeed<'a, S, K> {
 }
 
 impl<'a, S: Input + Drop, K: Sink + Drop> Feed for LineFeed<'a, S, K> {
-    ghost use Rattle.acq_live.specs.Handled.{Halts, Hands};
+    ghost use Rattle.acq_live.specs.Handled.{Halts, Hands, Waits};
     ghost use Rattle.acq_live.specs.Steps.{hands_more, hands_none};
 
     ghost hands = { Hands K.Sink };
 
-    ghost ends = { Halts K.Sink };
+    ghost waits = { Waits };
+
+    ghost ends = { Halts };
 
     ghost hands_none = { hands_none K.Sink };
 
     ghost hands_more = { hands_more K.Sink };
 
     fn next<R: Wait>(&mut self, rt: &R) -> Fed {
+        if self.halt.is_some() {
+            return Fed::End;
+        }
         self.tell();
         for _ in rt.forever() {
             if let Some(task) = self.step() {
@@ -299,11 +345,13 @@ impl<'a, S: Input + Drop, K: Sink + Drop> Feed for LineFeed<'a, S, K> {
         unreachable!()
     }
 
-    /// Lets its input go. Where its last was not done, it calls off all feeds that share its flag.
+    /// Where its last was not done, it calls off all feeds that share its flag. It lets its input go where it has ended by itself; else it may
+    /// be resumed.
     fn leave(&mut self) {
-        if self.halt.is_none() {
-            self.called.store(true, Ordering::SeqCst);
+        match self.halt {
+            None => self.called.store(true, Ordering::SeqCst),
+            Some(Halt::Called) => {}
+            Some(_) => self.lines.close(),
         }
-        self.lines.close();
     }
 }

@@ -1,9 +1,12 @@
 use Rattle.std.proofs.Common.{refl}
 use Rattle.acq_live.specs.Spot.{fixed, spot}
-use Rattle.acq_live.proofs.Goings.{flush_handled}
+use Rattle.acq_live.proofs.Goings.{flush_handled, served}
 use Rattle.acq_live.proofs.feed.LineFeed.flush.Goals as goal
 
 pub returns : goal.returns
 returns g c =
-    let feed = c.args.self.now in
-    (refl, flush_handled (fixed feed) (spot g.K.Sink feed) c.requires.pending c.requires.told (feed.room c.requires.pending))
+    let feed = c.args.self.now in (
+      served g.K.Sink feed _ _ refl
+          (flush_handled (fixed feed) (spot g.K.Sink feed) c.requires.pending c.requires.asked.told (feed.room c.requires.pending)) c.requires.asked.running,
+      (c.requires.asked.running, refl),
+    )

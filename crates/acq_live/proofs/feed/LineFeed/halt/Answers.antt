@@ -6,6 +6,10 @@ use Rattle.acq_live.proofs.feed.LineFeed.halt.Goals as goal
 pub returns-then-not-self : goal.returns-then-not-self
 returns-then-not-self g c =
     let feed = c.args.self.now in (
-      (refl, none_handled (fixed feed) (spot g.K.Sink feed)),
-      record { halt = c.args.halt; halt_is = refl; cause = c.requires.cause; committed = c.if-not-self.true; told = c.requires.told },
+      record {
+        fixed_is = refl;
+        handled = none_handled (fixed feed) (spot g.K.Sink feed);
+        stops = λ is. record { cause = c.requires.cause; committed = c.if-not-self.true; told = c.requires.asked.told };
+      },
+      record { halt = c.args.halt; halt_is = refl },
     )

@@ -1,55 +1,57 @@
-use Rattle.std.proofs.Common.{refl, ap}
+use Rattle.std.proofs.Common.{◌+◌, ◌-◌, arith, refl, ap}
+use Rattle.std.specs.Prelude.{take}
 use Rattle.mdf_port.specs.State.{source_state}
-use Rattle.acq_lines.specs.Source.{unread}
+use Rattle.acq_lines.specs.Source.{unpassed, unread}
+use Rattle.acq_live.specs.Rules.{rules_of}
 use Rattle.acq_live.specs.Spot.{fixed, spot}
-use Rattle.acq_live.proofs.Goings.{line_passed}
+use Rattle.acq_live.proofs.Goings.{before_step, line_passed, not_long, served}
 use Rattle.acq_live.proofs.feed.LineFeed.pass.Goals as goal
 
 pub returns-in-Nothing : goal.returns-in-Nothing
 returns-in-Nothing g c =
     let feed = c.args.self.now in (
-      (
-        refl,
-        line_passed (fixed feed) (spot g.K.Sink feed) _ _ (unread c.pass.new.self) c.args.said _ c.requires.said c.in-Nothing.is c.requires.may
-            c.pass.ensures.reads (ap (source_state g.S.Source) c.pass.ensures.source) c.requires.running c.requires.told c.requires.room,
-      ),
-      c.requires.told,
+      served g.K.Sink feed _ _ refl
+          (line_passed (fixed feed) (spot g.K.Sink feed) _ _ (unread c.pass.new.self) c.args.said _ c.requires.said c.in-Nothing.is c.requires.may
+          c.pass.ensures.reads (ap (source_state g.S.Source) c.pass.ensures.source) c.requires.running c.requires.asked.told c.requires.room) c.requires.asked.running,
+      record { told = c.requires.asked.told; running = c.requires.asked.running },
     )
 
 pub returns-in-Sampled : goal.returns-in-Sampled
 returns-in-Sampled g c =
     let feed = c.args.self.now in (
-      refl,
-      line_passed (fixed feed) (spot g.K.Sink feed) _ _ (unread c.pass.new.self) c.args.said _ c.requires.said c.in-Sampled.is c.requires.may
-          c.pass.ensures.reads (ap (source_state g.S.Source) c.pass.ensures.source) c.requires.running c.requires.told c.requires.room,
+      served g.K.Sink feed _ _ refl
+          (line_passed (fixed feed) (spot g.K.Sink feed) _ _ (unread c.pass.new.self) c.args.said _ c.requires.said c.in-Sampled.is c.requires.may
+          c.pass.ensures.reads (ap (source_state g.S.Source) c.pass.ensures.source) c.requires.running c.requires.asked.told c.requires.room) c.requires.asked.running,
+      (c.requires.asked.running, c.requires.asked.told),
+      before_step (fixed feed) (spot g.K.Sink feed) _ (unpassed c.pass.new.self) feed.pending (feed.steps + 1 - 1) (feed.count + 1 - 1)
+          (ap (source_state g.S.Source) c.pass.ensures.source)
+          (c.pass.ensures.back (not_long (rules_of feed.rules) feed.number (unread feed.lines).long (take c.args.count (unread feed.lines).bytes) c.args.said c.in-Sampled.sample
+          c.requires.said c.in-Sampled.is)) refl (omega arith) (omega arith),
     )
 
 pub returns-in-Flush : goal.returns-in-Flush
 returns-in-Flush g c =
     let feed = c.args.self.now in (
-      refl,
-      line_passed (fixed feed) (spot g.K.Sink feed) _ _ (unread c.pass.new.self) c.args.said _ c.requires.said c.in-Flush.is c.requires.may
-          c.pass.ensures.reads (ap (source_state g.S.Source) c.pass.ensures.source) c.requires.running c.requires.told c.requires.room,
+      served g.K.Sink feed _ _ refl
+          (line_passed (fixed feed) (spot g.K.Sink feed) _ _ (unread c.pass.new.self) c.args.said _ c.requires.said c.in-Flush.is c.requires.may
+          c.pass.ensures.reads (ap (source_state g.S.Source) c.pass.ensures.source) c.requires.running c.requires.asked.told c.requires.room) c.requires.asked.running,
+      (c.requires.asked.running, refl),
     )
 
 pub returns-in-End : goal.returns-in-End
 returns-in-End g c =
     let feed = c.args.self.now in (
-      (
-        refl,
-        line_passed (fixed feed) (spot g.K.Sink feed) _ _ (unread c.pass.new.self) c.args.said _ c.requires.said c.in-End.is c.requires.may
-            c.pass.ensures.reads (ap (source_state g.S.Source) c.pass.ensures.source) c.requires.running c.requires.told c.requires.room,
-      ),
-      c.requires.told,
+      served g.K.Sink feed _ _ refl
+          (line_passed (fixed feed) (spot g.K.Sink feed) _ _ (unread c.pass.new.self) c.args.said _ c.requires.said c.in-End.is c.requires.may
+          c.pass.ensures.reads (ap (source_state g.S.Source) c.pass.ensures.source) c.requires.running c.requires.asked.told c.requires.room) c.requires.asked.running,
+      record { told = c.requires.asked.told; running = c.requires.asked.running },
     )
 
 pub returns-in-Bad : goal.returns-in-Bad
 returns-in-Bad g c =
     let feed = c.args.self.now in (
-      (
-        refl,
-        line_passed (fixed feed) (spot g.K.Sink feed) _ _ (unread c.pass.new.self) c.args.said _ c.requires.said c.in-Bad.is c.requires.may
-            c.pass.ensures.reads (ap (source_state g.S.Source) c.pass.ensures.source) c.requires.running c.requires.told c.requires.room,
-      ),
-      c.requires.told,
+      served g.K.Sink feed _ _ refl
+          (line_passed (fixed feed) (spot g.K.Sink feed) _ _ (unread c.pass.new.self) c.args.said _ c.requires.said c.in-Bad.is c.requires.may
+          c.pass.ensures.reads (ap (source_state g.S.Source) c.pass.ensures.source) c.requires.running c.requires.asked.told c.requires.room) c.requires.asked.running,
+      record { told = c.requires.asked.told; running = c.requires.asked.running },
     )

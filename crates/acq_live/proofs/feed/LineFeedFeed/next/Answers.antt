@@ -1,5 +1,12 @@
-use Rattle.acq_live.proofs.Goings.{feeds_on, goes_on}
+use Rattle.acq_live.specs.Steps.{hands_none}
+use Rattle.acq_live.proofs.Goings.{feeds_on, found, goes_on}
 use Rattle.acq_live.proofs.feed.LineFeedFeed.next.Goals as goal
+
+pub returns-then-is_some : goal.returns-then-is_some
+returns-then-is_some g c =
+    let feed = c.args.self.now in
+    let there = found feed.halt c.is_some.result c.is_some.ensures c.if-is_some.true in
+    (hands_none g.K.Sink feed, record { halt = there.0; halt_is = there.1 })
 
 pub returns-in-Some-step : goal.returns-in-Some-step
 returns-in-Some-step g c = feeds_on g.K.Sink c.args.self.now c.loop.self c.step.new.self c.in-Some-step.task c.loop.invariant.none c.in-Some-step.ensures
@@ -7,4 +14,4 @@ returns-in-Some-step g c = feeds_on g.K.Sink c.args.self.now c.loop.self c.step.
 pub loop-preserved : goal.loop-preserved
 loop-preserved g c =
     let on = goes_on g.K.Sink c.args.self.now c.loop.self c.step.new.self c.step.result c.in_default.is c.loop.invariant.none c.step.ensures in
-    record { none = on.0; told = on.1 }
+    record { none = on.0; asked = on.1 }
