@@ -11,7 +11,7 @@ use Rattle.acq_script.specs.declared.script.Script.{Script}
 use Rattle.acq_script.specs.declared.script.Task.{Task}
 use Rattle.mdf_command.specs.declared.fault.Fault.{Fault}
 use Rattle.mdf_command.specs.declared.fault.Fault.TheVariants as fault
-use Rattle.log_setup.specs.Setup.{END, IsBusy, IsNoSetup, IsSetup, SETUP_LIMIT, SaysSetup, SetupFaultComes, idle_script}
+use Rattle.log_setup.specs.Setup.{END, IsNoSetup, IsSetup, SETUP_LIMIT, SaysSetup, SetupFaultComes, idle_script}
 
 -- what holds of a text that was taken whole holds of what the source had, where that is told
 whole : (old new : Option (List ℕ)) (text : List ℕ) (P : List ℕ → Type 0) → Consumes old new text → IsAtEnd new → P text → IfSome old P
