@@ -3,6 +3,7 @@ use Rattle.std.proofs.Common.{◌≡◌, ℕ, suc, List, [], Bool, Option, Some,
 use Rattle.std.specs.Option.{ForSome}
 use Rattle.std.proofs.lemmas.List.Elements.{All-weaker}
 use Rattle.mdf_layout.specs.Written.{AreApart}
+use Rattle.mdf_layout.specs.Layout.{Layout}
 use Rattle.mdf_layout.specs.Stored.{IsStored}
 use Rattle.mdf_layout.specs.declared.sample.Sample.{Sample}
 use Rattle.book_owned.specs.Begun.{IsAdmissible}
@@ -14,7 +15,7 @@ use Rattle.acq_script.specs.declared.script.Plan.{Plan}
 use Rattle.mdf_command.specs.declared.fault.Fault.{Fault}
 use Rattle.mdf_record.specs.Finish.{NoteComes}
 
-pub admissible : (plan : Plan) → IsPlan plan → IsAdmissible plan.shapes plan.block plan.session
+admissible : (plan : Plan) → IsPlan plan → IsAdmissible plan.shapes plan.block plan.session
 admissible plan is = record {
   groups = is.few_groups;
   fields = is.fields;
@@ -25,6 +26,11 @@ admissible plan is = record {
   block = is.limits.block_high;
   session = is.limits.session_high;
 }
+
+-- so it is of what was taken of it
+pub admissible_for : (plan : Plan) → IsPlan plan → (shapes : List Layout) (block session : ℕ) → shapes ≡ plan.shapes → block ≡ plan.block → session ≡ plan.session
+    → IsAdmissible shapes block session
+admissible_for plan is shapes block session shapes_are block_is session_is = rw (shapes_are, block_is, session_is) (admissible plan is)
 
 -- watchers of a view that is of this number
 pub are_watched : (watchers : List Watcher) (which which' : ℕ) → which' ≡ which → All (λ watcher. Watches watcher which []) watchers

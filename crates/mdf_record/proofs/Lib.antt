@@ -10,3 +10,6 @@ mod Idle
 pub mod Recovering
 mod Texts
 mod Ending
+mod Tasking
+mod Taking
+mod Fed

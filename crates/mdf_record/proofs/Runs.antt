@@ -12,6 +12,7 @@ use Rattle.book_owned.specs.declared.mark.Mark.{Mark}
 use Rattle.acq_feed.specs.Feeds.{samples_of as samples_fed}
 use Rattle.acq_run.specs.Works.{AreMarked}
 use Rattle.acq_run.specs.Ran.{AllRan, EndsIn, Ran}
+use Rattle.acq_feed.specs.declared.feed.Fed.{Fed}
 use Rattle.acq_run.specs.declared.work.Driven.{Driven}
 use Rattle.acq_run.specs.declared.work.Ended.{Ended}
 use Rattle.acq_run.specs.declared.work.Ended.TheVariants as ended
@@ -19,7 +20,7 @@ use Rattle.acq_run.proofs.Doing.{marked_later}
 use Rattle.acq_script.specs.Tasks.{samples_of}
 use Rattle.acq_script.specs.declared.script.Task.{Task}
 use Rattle.acq_script.specs.declared.script.Task.TheVariants as task
-use Rattle.mdf_record.specs.Sources.{AreOwnMarked, HadRoom, RanAll, counts_of, ends_of, feds_of, told_of, worse, worst}
+use Rattle.mdf_record.specs.Sources.{AreOwnMarked, HadRoom, counts_of, ends_of, feds_of, told_of, worse, worst}
 use Rattle.mdf_record.specs.declared.sources.End.{End}
 use Rattle.mdf_record.specs.declared.sources.End.TheVariants.{SessionFull, Stopped, Memory}
 use Rattle.mdf_record.proofs.Feeding.{cut, none_fed, own_marked, same_samples, samples_of-append}
@@ -101,22 +102,14 @@ module _ {D V : Type 0} (owners : List ℕ) (book : Account D V) (seen : List (L
       let same : 0 + s ≡ s = omega arith in
       subst (λ k. RanAt owners book seen k tasks all s) same (ran_at 0 lists all ran s tasks there)
 
-  -- of each end there is a source that ended so
-  pub has_list : (source : ℕ) (lists : List (List Task)) (all : List Driven) → AllRan owners book seen source (map feds_of lists) all
-      → (s : ℕ) (how : Result Unit End) → slice_get (ends_of all) s ≡ Some how → (tasks : List Task) × (slice_get lists s ≡ Some tasks)
-  has_list source lists [] ran s how there = absurd (nothing_there s how there) where
-    nothing_there : (s : ℕ) (how : Result Unit End) → slice_get {X = Result Unit End} [] s ≡ Some how → ⊥
-    nothing_there zero how is = cc
-    nothing_there (suc s) how is = cc
-  has_list source (tasks ∷ lists) (driven ∷ all) ran zero how there = (tasks, refl)
-  has_list source (tasks ∷ lists) (driven ∷ all) ran (suc s) how there = has_list (suc source) lists all ran.1 s how there
-  has_list source [] (driven ∷ all) ran s how there = absurd ran
+  pub ran_count : (source : ℕ) (handed : List (List Fed)) (all : List Driven) → AllRan owners book seen source handed all → length all ≡ length handed
+  ran_count source [] [] ran = refl
+  ran_count source (feds ∷ handed) (driven ∷ all) ran = omega (arith, ran_count (suc source) handed all ran.1)
+  ran_count source [] (driven ∷ all) ran = absurd ran
+  ran_count source (feds ∷ handed) [] ran = absurd ran
 
-  pub all-length : (source : ℕ) (lists : List (List Task)) (all : List Driven) → AllRan owners book seen source (map feds_of lists) all → length all ≡ length lists
-  all-length source [] [] ran = refl
-  all-length source (tasks ∷ lists) (driven ∷ all) ran = omega (arith, all-length (suc source) lists all ran.1)
-  all-length source [] (driven ∷ all) ran = absurd ran
-  all-length source (tasks ∷ lists) [] ran = absurd ran
+  all-length : (source : ℕ) (lists : List (List Task)) (all : List Driven) → AllRan owners book seen source (map feds_of lists) all → length all ≡ length lists
+  all-length source lists all ran = ran_count source (map feds_of lists) all ran ∙ length-map lists feds_of
 
   pub accepted-length : (lists : List (List Task)) (all : List Driven) → AllRan owners book seen 0 (map feds_of lists) all → length (counts_of all) ≡ length lists
   accepted-length lists all ran = length-map all (λ (driven : Driven). driven.accepted) ∙ all-length 0 lists all ran
@@ -331,7 +324,7 @@ IsStop (Err (SessionFull held size limit)) = ⊥
 IsStop (Err Stopped) = Unit {0}
 IsStop (Err Memory) = ⊥
 
-was_stopped : {D V : Type 0} (book : Account D V) (before : List Sample) (rest : List Task) (how : Ended) → IsStop (told_of how) → EndsIn book before (feds_of rest) how → book.stopped ≡ true
+was_stopped : {D V : Type 0} (book : Account D V) (before : List Sample) (rest : List Fed) (how : Ended) → IsStop (told_of how) → EndsIn book before rest how → book.stopped ≡ true
 was_stopped book before rest ended.Running stop ends = absurd stop
 was_stopped book before rest ended.Done stop ends = absurd stop
 was_stopped book before rest (ended.SessionFull held size limit) stop ends = absurd stop
@@ -339,18 +332,22 @@ was_stopped book before rest (ended.Stopped mark) stop ends = ends.0
 was_stopped book before rest (ended.DiskFault less more) stop ends = ends.0
 was_stopped book before rest ended.Memory stop ends = absurd stop
 
-pub stopped_told : {D V : Type 0} (owners : List ℕ) (book : Account D V) (seen : List (List Sample)) (lists : List (List Task)) (accepted : List ℕ) (result : Result Unit End)
-    → RanAll owners book seen lists accepted result
-    → IfErr result (λ e. e ≡ Stopped → book.stopped ≡ true)
-stopped_told owners book seen lists accepted (Ok u) ran = tt
-stopped_told owners book seen lists accepted (Err e) ran = λ is.
-    let found = worst_err (ends_of ran.all) e (sym ran.told) in
-    let there = has_list owners book seen 0 lists ran.all ran.each found.0 (Err e) found.1 in
-    let at = ran_of owners book seen lists ran.all ran.each found.0 there.0 there.1 in
-    let how_is : told_of at.driven.ended ≡ Err Stopped = same_Some (told_of at.driven.ended) (Err e) (sym at.how_is ∙ found.1) ∙ ap Err is in
-    was_stopped book (get_or seen found.0 []) at.ran.rest at.driven.ended (subst IsStop (sym how_is) tt) at.ran.ends
+module _ {D V : Type 0} (owners : List ℕ) (book : Account D V) (seen : List (List Sample)) where
+  stopped_at : (source : ℕ) (handed : List (List Fed)) (all : List Driven) → AllRan owners book seen source handed all → (s : ℕ) (how : Result Unit End)
+      → slice_get (ends_of all) s ≡ Some how → IsStop how → book.stopped ≡ true
+  stopped_at source [] [] ran s how there stop = absurd (nothing_there s there) where
+    nothing_there : (s : ℕ) → slice_get {X = Result Unit End} [] s ≡ Some how → ⊥
+    nothing_there zero is = cc
+    nothing_there (suc s) is = cc
+  stopped_at source [] (driven ∷ all) ran s how there stop = absurd ran
+  stopped_at source (feds ∷ handed) [] ran s how there stop = absurd ran
+  stopped_at source (feds ∷ handed) (driven ∷ all) ran zero how there stop =
+      was_stopped book (get_or seen source []) ran.0.rest driven.ended (subst IsStop (sym (same_Some (told_of driven.ended) how there)) stop) ran.0.ends
+  stopped_at source (feds ∷ handed) (driven ∷ all) ran (suc s) how there stop = stopped_at (suc source) handed all ran.1 s how there stop
 
--- what all did, as it is told of them
-pub ran_all : {D V : Type 0} (owners : List ℕ) (book : Account D V) (seen : List (List Sample)) (lists : List (List Task)) (accepted : List ℕ) (result : Result Unit End) (all : List Driven)
-    → AllRan owners book seen 0 (map feds_of lists) all → accepted ≡ counts_of all → result ≡ worst (ends_of all) → RanAll owners book seen lists accepted result
-ran_all owners book seen lists accepted result all ran counts told = record { all = all; each = ran; accepted_is = counts; told = told }
+  pub stopped_told : (handed : List (List Fed)) (all : List Driven) (result : Result Unit End) → AllRan owners book seen 0 handed all → result ≡ worst (ends_of all)
+      → IfErr result (λ e. e ≡ Stopped → book.stopped ≡ true)
+  stopped_told handed all (Ok u) ran told = tt
+  stopped_told handed all (Err e) ran told = λ is.
+      let found = worst_err (ends_of all) e (sym told) in
+      stopped_at 0 handed all ran found.0 (Err e) found.1 (subst IsStop (ap Err (sym is)) tt)

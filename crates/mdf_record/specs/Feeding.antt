@@ -1,6 +1,6 @@
 -- What the feed of a source's tasks hands in.
-use Rattle.std.specs.Prelude.{◌≡◌, List, [], ◌++◌}
-use Rattle.acq_feed.specs.Listed.{IsBehind, IsEmpty, behind_more, behind_none}
+use Rattle.std.specs.Prelude.{List, [], ◌++◌, map}
+use Rattle.acq_feed.specs.Listed.{IsAny, IsBehind, IsEmpty, behind_more, behind_none}
 use Rattle.acq_feed.specs.declared.feed.Fed.{Fed}
 use Rattle.mdf_record.specs.Sources.{feds_of}
 use Rattle.mdf_record.specs.declared.sources.TaskFeed.{TaskFeed}
@@ -9,9 +9,17 @@ use Rattle.mdf_record.specs.declared.sources.TaskFeed.{TaskFeed}
 abbrev pub left_in : {G : Type 0} → TaskFeed G → List Fed
 left_in feed = feds_of feed.tasks.rest.items
 
+-- what each of these feeds has left
+abbrev pub fed_by : {G : Type 0} → List (TaskFeed G) → List (List Fed)
+fed_by {G} feeds = map (λ (feed : TaskFeed G). left_in feed) feeds
+
 -- from the one to the other it handed in the front of what it had
 abbrev pub HandsTasks : {G : Type 0} → TaskFeed G → List Fed → TaskFeed G → Type 0
 HandsTasks feed feds later = IsBehind (left_in feed) feds (left_in later)
+
+-- of what it handed in last it says nothing
+abbrev pub IsAnyTask : {G : Type 0} → TaskFeed G → Fed → Type 0
+IsAnyTask feed task = IsAny (left_in feed) task
 
 abbrev pub HasNone : {G : Type 0} → TaskFeed G → Type 0
 HasNone feed = IsEmpty (left_in feed)

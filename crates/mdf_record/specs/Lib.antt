@@ -10,3 +10,4 @@ pub mod Recoverable
 pub mod Created
 pub mod Recorded
 pub mod Work
+pub mod Feeds

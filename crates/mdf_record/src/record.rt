@@ -1,6 +1,6 @@
-ghost use Rattle.std.specs.Prelude.{◌≡◌, ◌≤◌, ◌++◌, List, [], true, None, Ok, Err, length, IfOk, IfErr};
+ghost use Rattle.std.specs.Prelude.{◌≡◌, ◌≤◌, ◌++◌, [], true, None, Ok, Err, IfOk, IfErr};
 ghost use Rattle.mdf_disk.specs.State.{state_of};
-ghost use Rattle.book_owned.specs.Begun.{HasBegun, IsAdmissible, IsNewFile};
+ghost use Rattle.book_owned.specs.Begun.{IsNewFile};
 ghost use Rattle.acq_script.specs.Script.{script_of};
 ghost use Rattle.acq_script.specs.Stage.{IsScript};
 ghost use Rattle.acq_script.specs.Generated.{generated_script};
@@ -14,16 +14,14 @@ ghost use Rattle.mdf_command.specs.Texts.{Gives, Prints, numbered};
 ghost use Rattle.mdf_record.specs.Record.{fault_text, live_text, outcome, record_status, record_text, source_line, summary_text};
 ghost use Rattle.mdf_record.specs.Recorded.{RecordComes, Closes, HasRun};
 ghost use Rattle.mdf_record.specs.Recovers.{AreRecovered};
-ghost use Rattle.mdf_record.specs.Work.{HasNotWorked, IsPrepared, MayWork, Works, fed_by};
-ghost use Rattle.acq_run.specs.Audience.{count_in, hands_in, shows_in};
-ghost use Rattle.mdf_layout.specs.declared.sample.Sample.{Sample};
 
+use crate::feeds::{RecordedFeeds, Setting, record_feeds};
 use crate::gate::Gate;
 use crate::head::head_for;
-use crate::sources::{Accepted, End, TaskFeed, add_none, feeds_of, told_all};
-use acq_run::{Audience, Gathered, Seen, Watcher, last_look, record_live};
-use acq_script::{Script, Task, generated, read_script};
-use book_owned::{Book, Flush, Marks, Shown};
+use crate::sources::{Accepted, End, feeds_of};
+use acq_run::{Audience, Seen};
+use acq_script::{Script, generated, read_script};
+use book_owned::{Book, Flush, Marks};
 use book_view::Told;
 use mdf_carried::what_is_carried_is_recovered;
 use mdf_command::Piece::{Number, Text};
@@ -32,8 +30,8 @@ use mdf_disk::{Disk, Role};
 use mdf_form::Form;
 use mdf_gate::GatedFile;
 use mdf_group::GroupRow;
-use mdf_layout::{Samples, Shapes};
-use mdf_num::{Bytes, Failed, Memory, Rows};
+use mdf_layout::Samples;
+use mdf_num::{Bytes, Failed, Rows};
 use mdf_port::{Sink, Source, take_all};
 use std::alloc::Global;
 use std::sync::Wait;
@@ -70,7 +68,7 @@ pub struct Recorded<C> {
 }
 
 /// A recording that was not begun.
-fn refused<C>(alloc: Global, fault: Fault, out: C) -> Recorded<C>
+pub fn refused<C>(alloc: Global, fault: Fault, out: C) -> Recorded<C>
     ensures end { result.end ≡ RecordEnd.Refused fault }
     ensures out { result.out ≡ out }
     ensures history { result.history.items ≡ [] }
@@ -104,7 +102,10 @@ pub fn read_source<S: Source>(alloc: Global, source: &mut S) -> Result<Script, F
 }
 
 /// Makes the file, with the head of a recording of these groups in this form and no sample.
-fn create<C: Disk>(
+///
+/// # Errors
+/// The fault, with the disk: that of the disk, or want of memory.
+pub fn create<C: Disk>(
     alloc: Global,
     name: &Bytes,
     now_ns: u64,
@@ -135,16 +136,6 @@ fn create<C: Disk>(
     }
 }
 
-/// Room for the numbers of so many sources.
-fn room_for(alloc: Global, sources: u64) -> Result<Accepted, Memory>
-    ensures none { IfOk result (λ accepted. accepted.items ≡ []) }
-    ensures room { IfOk result (λ accepted. sources ≤ accepted.spare) }
-{
-    let mut accepted = Accepted::empty(alloc);
-    accepted.reserve(sources)?;
-    Ok(accepted)
-}
-
 /// What went wrong where the disk did not fail: what the tasks ended with, or want of memory where not all that is marked is
 /// shown to those who look at it live.
 fn problem_of(driven: Result<(), End>, live: bool, shown: u64, through: u64) -> Option<Fault>
@@ -163,7 +154,7 @@ fn problem_of(driven: Result<(), End>, live: bool, shown: u64, through: u64) -> 
 
 /// Flushes the book a last time, unless it is stopped, and says what went wrong: a fault of the disk before all else, and want
 /// of memory also where not all is shown to those who look at it live. Hands out the note of the flush where nothing did.
-fn finish<R: Threads + Wait + Sync, C: Disk>(
+pub(crate) fn finish<R: Threads + Wait + Sync, C: Disk>(
     rt: &R,
     book: &mut Book<C, Audience>,
     live: bool,
@@ -186,121 +177,6 @@ fn finish<R: Threads + Wait + Sync, C: Disk>(
     }
 }
 
-/// What the sources of a recording work with: room for the numbers of each, and a feed and a watcher for each.
-#[derive(Drop)]
-struct Prepared<'a, G> {
-    accepted: Accepted,
-    feeds: Vec<TaskFeed<'a, G>>,
-    watchers: Vec<Watcher>,
-}
-
-/// Prepares the sources that have these lists, and a view, with a reader for each source where the recording is looked at live.
-fn prepare<'a, R: Wait, G: Gate>(
-    rt: &R,
-    alloc: Global,
-    lists: Rows<Rows<Task>>,
-    live: bool,
-    sources: u8,
-    gate: &'a G,
-) -> Result<(Prepared<'a, G>, Audience), Memory>
-    requires few { length lists ≤ 255 }
-    requires sources { (1 ≤ sources) × (sources ≤ 16) }
-    ensures prepared { IfOk result (λ made. IsPrepared lists live sources made.0 made.1) }
-{
-    let accepted = room_for(alloc, lists.len())?;
-    let feeds = feeds_of(alloc, lists.into_vec(), gate)?;
-    let (view, watchers) = Audience::begin(rt, alloc, live, sources)?;
-    Ok((
-        Prepared {
-            accepted,
-            feeds,
-            watchers,
-        },
-        view,
-    ))
-}
-
-/// Begins a book over the file, with this view. Where memory is wanted the view is ended, and the disk handed back.
-fn begin<R: Wait, C: Disk>(
-    rt: &R,
-    alloc: Global,
-    file: GatedFile<C>,
-    shapes: Shapes,
-    block: u32,
-    session: u64,
-    view: Audience,
-) -> Result<Book<C, Audience>, C>
-    requires created { IsNewFile C.Disk file }
-    requires admissible { IsAdmissible shapes block session }
-    requires shown { shows_in view [] × (count_in view ≡ 0) }
-    requires handed { (handed : List Sample) → hands_in view handed → handed ≡ [] }
-    ensures begun { IfOk result (λ book. HasBegun C.Disk ⟦<Audience as Shown>⟧ file shapes block session view book) }
-    ensures back { IfErr result (λ out. out ≡ file.disk) }
-{
-    match Book::begin(alloc, file, shapes, block, session, view) {
-        Ok(book) => Ok(book),
-        Err((_, file, view)) => {
-            view.end(rt);
-            Err(file.into_disk())
-        }
-    }
-}
-
-/// Closes a book that none of so many sources could work at, for want of memory.
-fn give_up<R: Wait, C: Disk>(
-    rt: &R,
-    alloc: Global,
-    book: Book<C, Audience>,
-    mut accepted: Accepted,
-    sources: usize,
-) -> Recorded<C>
-    requires none { accepted.items ≡ [] }
-    requires room { sources ≤ accepted.spare }
-    ensures gives_up { HasNotWorked C.Disk sources book result }
-{
-    add_none(&mut accepted, sources);
-    let none = Vec::new(alloc);
-    let seen = Seen::by(&none);
-    close(rt, book, accepted, None, Some(Fault::Memory), seen)
-}
-
-/// Lets the sources record into a book with no sample, each in a thread of its own, and closes the book. Each watcher that has
-/// a reader looks at what is shown after each flush of its source.
-fn work<'a, R: Threads + Wait + Sync, C: Disk + Send, G: Gate + Sync>(
-    rt: &R,
-    alloc: Global,
-    book: Book<C, Audience>,
-    owners: &[u8],
-    live: bool,
-    prepared: Prepared<'a, G>,
-) -> Recorded<C>
-    requires may { MayWork owners.now book prepared }
-    ensures works { Works C.Disk owners.now book (fed_by prepared.entry.feeds.items) live result }
-{
-    let Prepared {
-        mut accepted,
-        feeds,
-        watchers,
-    } = prepared;
-    let sources = feeds.len();
-    match record_live(rt, alloc, book, owners, feeds, watchers) {
-        Ok(gathered) => {
-            let Gathered {
-                mut book,
-                all,
-                seen,
-                feeds: _feeds,
-                watchers,
-            } = gathered;
-            let driven = told_all(all, &mut accepted);
-            let (fault, note) = finish(rt, &mut book, live, driven);
-            let live = last_look(watchers, note);
-            close(rt, book, accepted, live, fault, seen)
-        }
-        Err((_, book)) => give_up(rt, alloc, book, accepted, sources),
-    }
-}
-
 /// Records the tasks of a script into a file that was just created, and closes the book.
 fn record_into<R: Threads + Wait + Sync, C: Disk + Send, G: Gate + Sync>(
     rt: &R,
@@ -314,17 +190,26 @@ fn record_into<R: Threads + Wait + Sync, C: Disk + Send, G: Gate + Sync>(
     ensures recorded { HasRun C.Disk script file (outcome C.Disk result.out result.history.items result.marks.items) result.end }
 {
     let Script { plan, lists } = script;
-    let Ok((prepared, view)) = prepare(rt, alloc, lists, plan.live, plan.sources, gate) else {
+    let Ok(feeds) = feeds_of(alloc, lists.into_vec(), gate) else {
         return refused(alloc, Fault::Memory, file.into_disk());
     };
-    match begin(rt, alloc, file, plan.shapes, plan.block, plan.session, view) {
-        Ok(book) => work(rt, alloc, book, plan.owners.as_slice(), plan.live, prepared),
-        Err(out) => refused(alloc, Fault::Memory, out),
-    }
+    let setting = Setting {
+        shapes: plan.shapes,
+        owners: plan.owners.as_slice(),
+        block: plan.block,
+        session: plan.session,
+        live: plan.live,
+    };
+    let RecordedFeeds {
+        recorded,
+        feeds: _feeds,
+        all: _all,
+    } = record_feeds(rt, alloc, setting, file, feeds);
+    recorded
 }
 
 /// Closes the book, and ends its view.
-fn close<R: Wait, C: Disk>(
+pub(crate) fn close<R: Wait, C: Disk>(
     rt: &R,
     book: Book<C, Audience>,
     accepted: Accepted,
@@ -448,7 +333,11 @@ fn give_fault<K: Sink>(sink: &mut K, fault: &Option<Fault>) -> Result<(), Failed
 }
 
 /// Gives the line on what a reader finds shown, if there is one, and then that of a fault.
-fn give_rest<K: Sink>(sink: &mut K, live: &Option<u64>, fault: &Option<Fault>) -> Result<(), Failed>
+pub fn give_rest<K: Sink>(
+    sink: &mut K,
+    live: &Option<u64>,
+    fault: &Option<Fault>,
+) -> Result<(), Failed>
     ensures { Gives (live_text live.now ++ fault_text fault.now) (sink_state K.Sink sink.old) (sink_state K.Sink sink.new) result }
 {
     give_live(sink, live)?;

@@ -1,7 +1,7 @@
 // The sources of a recording, each in a thread of its own.
 ghost use Rattle.std.specs.Prelude.{◌≡◌, ◌≤◌, ◌<◌, [], length, map, replicate, vec_len, IfOk};
 ghost use Rattle.mdf_record.specs.Sources.{counts_of, ends_of, feds_of, told_of, worse, worst};
-ghost use Rattle.mdf_record.specs.Work.{fed_by};
+ghost use Rattle.mdf_record.specs.Feeding.{fed_by};
 
 use crate::gate::Gate;
 use acq_feed::{Fed, Feed};
@@ -37,9 +37,11 @@ pub(crate) struct TaskFeed<'a, G> {
 }
 
 impl<'a, G: Gate> Feed for TaskFeed<'a, G> {
-    ghost use Rattle.mdf_record.specs.Feeding.{HandsTasks, HasNone, tasks_none, tasks_more};
+    ghost use Rattle.mdf_record.specs.Feeding.{HandsTasks, HasNone, IsAnyTask, tasks_none, tasks_more};
 
     ghost hands = { HandsTasks };
+
+    ghost waits = { IsAnyTask };
 
     ghost ends = { HasNone };
 
@@ -122,11 +124,11 @@ pub(crate) fn add_none(accepted: &mut Accepted, sources: usize)
 
 /// The end that is told of all sources. How many samples each accepted is added to the list, for which the room was found
 /// beforehand.
-pub(crate) fn told_all(all: Vec<Driven>, accepted: &mut Accepted) -> Result<(), End>
+pub(crate) fn told_all(all: &[Driven], accepted: &mut Accepted) -> Result<(), End>
     requires none { accepted.old.items ≡ [] }
-    requires room { length all.items ≤ accepted.old.spare }
-    ensures accepted { accepted.new.items ≡ counts_of all.items }
-    ensures told { result ≡ worst (ends_of all.items) }
+    requires room { length all.now ≤ accepted.old.spare }
+    ensures accepted { accepted.new.items ≡ counts_of all.now }
+    ensures told { result ≡ worst (ends_of all.now) }
 {
     let mut end = Ok(());
     for driven in all {
