@@ -8,7 +8,7 @@ use crate::books::{TestDisk, fits, listed, recording, sample};
 use crate::gates::{Gate, LOOKS, Step, wait_for};
 use crate::told::is_told;
 use acq_feed::{Fed, Feed, ScriptFeed};
-use acq_run::{Audience, Driven, Gathered, Watcher, record_live};
+use acq_run::{Audience, Driven, Gathered, Unshared, Watcher, record_live};
 use book_owned::Book;
 use mdf_layout::{Samples, Shapes};
 use mdf_num::{Memory, Rows};
@@ -69,9 +69,11 @@ pub struct Meets {
 }
 
 impl Feed for Meets {
-    ghost use Rattle.acq_feed.specs.Listed.{IsBehind, IsEmpty, behind_none, behind_more};
+    ghost use Rattle.acq_feed.specs.Listed.{IsAny, IsBehind, IsEmpty, behind_none, behind_more};
 
     ghost hands = { λ feed feds later. IsBehind feed.list feds later.list };
+
+    ghost waits = { λ feed task. IsAny feed.list task };
 
     ghost ends = { λ feed. IsEmpty feed.list };
 
@@ -240,9 +242,15 @@ where
             let in_vain = meeting.in_vain.load(SeqCst);
             Ok(told(rt.alloc(), all.as_slice(), &history, in_vain)?)
         }
-        Err((memory, book)) => {
+        Err(
+            Unshared {
+                book,
+                feeds: _feeds,
+                watchers: _watchers,
+            },
+        ) => {
             drop(close(rt, book));
-            Err(memory.into())
+            Err(Memory.into())
         }
     }
 }
