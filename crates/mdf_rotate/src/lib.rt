@@ -11,4 +11,6 @@ mod words;
 
 pub use course::RotateEnd;
 pub use part::Part;
+pub use report::give_part;
 pub use rotate::{Rotated, run_rotate};
+pub use words::part_name;

@@ -21,7 +21,7 @@ fn durable_of<C>(part: &Part<C>) -> Option<u64>
 }
 
 /// Gives the line of a part, if it was begun.
-fn give_part<K: Sink, C>(sink: &mut K, number: u64, part: &Part<C>) -> Result<(), Failed>
+pub fn give_part<K: Sink, C>(sink: &mut K, number: u64, part: &Part<C>) -> Result<(), Failed>
     ensures { Gives (part_line number (record_of part.now)) (sink_state K.Sink sink.old) (sink_state K.Sink sink.new) result }
 {
     match durable_of(part) {

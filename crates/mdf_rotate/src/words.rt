@@ -24,7 +24,7 @@ pub(crate) fn output_in(words: &Rows<Bytes>) -> Option<&Bytes>
 }
 
 /// The name of a part.
-pub(crate) fn part_name(alloc: Global, output: &Bytes, number: u64) -> Result<Bytes, Memory>
+pub fn part_name(alloc: Global, output: &Bytes, number: u64) -> Result<Bytes, Memory>
     ensures { IfOk result (λ name. name ≡ part_name output.now number) }
 {
     let mut name = Vec::from_slice(alloc, output.as_slice())?;
