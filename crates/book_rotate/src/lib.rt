@@ -11,4 +11,5 @@ mod plan;
 mod rotation;
 
 pub use fault::RotateFault;
+pub use plan::shapes_like;
 pub use rotation::Rotation;

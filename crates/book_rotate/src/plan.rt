@@ -114,8 +114,8 @@ fn shape_like(alloc: Global, shape: &Shape) -> Result<Shape, Memory>
     }
 }
 
-/// Equal layouts.
-fn shapes_like(alloc: Global, shapes: &Shapes) -> Result<Shapes, Memory>
+/// Equal layouts, for another book over the same plan.
+pub fn shapes_like(alloc: Global, shapes: &Shapes) -> Result<Shapes, Memory>
     ensures { IfOk result (λ copies. copies ≡ shapes.now) }
 {
     let mut copies = Shapes::empty(alloc);
