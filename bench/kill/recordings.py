@@ -49,15 +49,15 @@ def finished_data(data):
     return data[at + 24 : at + number(data, at + 8)]
 
 
-def samples_of(data):
+def samples_of(data, sources):
     """The numbers of each source: a record is its group's id, counted from 1, and 8 bytes."""
-    found = [[] for _ in range(SOURCES)]
+    found = [[] for _ in range(sources)]
     for at in range(0, len(data), 9):
         found[data[at] - 1].append(number(data, at + 1))
     return found
 
 
-def finished(path, done):
+def finished(path, done, sources=SOURCES):
     """What the samples of each source are that `finalize` makes of a file, or None where it is none or no MDF file."""
     data = open(path, "rb").read() if os.path.exists(path) else b""
     if not data.startswith(b"UnFinMF "):
@@ -67,7 +67,7 @@ def finished(path, done):
     made = finished_data(open(done, "rb").read())
     os.remove(done)
     assert made == opened_data(data), "other records than the opened blocks have"
-    return samples_of(made)
+    return samples_of(made, sources)
 
 
 def timed(command, path, text):
