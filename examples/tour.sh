@@ -8,7 +8,9 @@ folder=$(mktemp -d) || exit 1
 trap 'rm -rf "$folder"' EXIT
 cd "$folder" || exit 1
 cp -r "$top/examples" . || exit 1
-printf '#!/bin/sh\nexec "%s/mdf4rec" "$@"\n' "$top" >mdf4rec && chmod +x mdf4rec || exit 1
+for program in mdf4rec mdf4log; do
+  printf '#!/bin/sh\nexec "%s/%s" "$@"\n' "$top" "$program" >"$program" && chmod +x "$program" || exit 1
+done
 
 # Shows a line, and runs it.
 show() {
@@ -85,3 +87,16 @@ show '(ulimit -f 1; ./mdf4rec record killed.mf4 < hundred.txt) 2> /dev/null || e
 show './mdf4rec opened killed.mf4'
 show './mdf4rec finalize killed.mf4 saved.mf4'
 show './mdf4rec check saved.mf4'
+
+# A drive that is recorded while two FIFOs say it: what was acknowledged is in the file, though the program is killed.
+show 'mkfifo engine door'
+show './mdf4log live examples/live_setup.txt engine door > told &'
+show "exec 3> engine 4> door; echo '0 1000 800 90.5' >&3; until grep 'source 0' told; do sleep 0.1; done"
+show "echo '1 1500 1' >&4; until grep 'source 1' told; do sleep 0.1; done"
+show '{ kill -9 $!; wait $!; } 2> /dev/null; exec 3>&- 4>&-'
+show './mdf4rec finalize live.0 lived.mf4'
+show './mdf4rec export lived.mf4 0 | examples/floats.py oil:f32'
+show './mdf4rec export lived.mf4 1'
+
+# Its inputs may be files too. A bad line is counted, and all others are recorded.
+show './mdf4log filed examples/live_setup.txt examples/live_engine.txt examples/live_door.txt | grep -v durable..$; echo ${PIPESTATUS[0]}'
