@@ -67,7 +67,8 @@ def main():
         acknowledged, there, most = acknowledged + sum(log.told), there + sum(found), max(most, sum(found))
         seen["no file or no MDF" if sum(found) == 0 and count <= 1 else "killed" if was_killed else "at their end"] += 1
     print(f"{runs} logs: " + ", ".join(f"{name} {count}" for name, count in seen.items()))
-    print("parts: " + ", ".join(f"{count} of them had {k}" for k, count in sorted(parts.items())))
+    several = {k: count for k, count in parts.items() if k > 1}
+    print(f"parts: {runs - sum(several.values())} of them had one or none, {sum(several.values())} had {min(several, default=0)} to {max(several, default=0)}")
     print(f"acknowledged {acknowledged} samples, found {there}, of one log at most {most}")
     print("each acknowledged sample was there, each once and in order, and none that was not sent")
 
