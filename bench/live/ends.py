@@ -7,12 +7,9 @@ a limit on the length of a file)
 Of each: the status, the lines at the end, what standard error is told where a device failed, and that of each source the files have just
 what was accepted, in order, and at least what was acknowledged. It ends with 1 where one is otherwise."""
 import os
-import resource
-import signal
 import subprocess
 import sys
 import tempfile
-import threading
 import time
 
 from logs import COST, LOGGER, Log, checked, ended, setup

@@ -8,14 +8,15 @@ The device sends a hundredth of a second's lines at a time, and waits where the 
 are parts: at least three, with so many lines. Each line must be there, in order, each once, over the parts. It prints how long the device
 sent and the log ran, how often it was told, and the memory of the program at its end and at its peak. It ends with 1 where a line is missing."""
 import os
+import resource
+import struct
 import sys
 import tempfile
 import threading
 import time
 
 from logs import Log, ended
-from recordings import finished_data, opened_data
-import struct
+from recordings import opened_data
 
 # Numbers of one length: a line is `0 10000001`.
 FIRST = 10_000_000
@@ -76,7 +77,7 @@ def main():
                 by_part[parts - 1] = max(by_part[parts - 1], now)
             time.sleep(0.01)
         status, rest, told = log.end()
-        ended_at = time.monotonic()
+        ended_at, used = time.monotonic(), resource.getrusage(resource.RUSAGE_CHILDREN)
         device.join(10)
         assert (status, told) == (0, ""), f"status {status}, {told}, {rest}"
         assert rest[-2:] == [f"source 0 accepted {count}", f"samples {count} durable {count}"], rest[-2:]
@@ -96,6 +97,7 @@ def main():
     ran = ended_at - device.began
     print(f"{count} lines in {len(parts)} parts: all there, each once and in order")
     print(f"sent in {device.ended - device.began:.2f} s, {device.late:.2f} s behind at most; recorded in {ran:.2f} s: {count / ran:,.0f} lines a second")
+    print(f"processor {used.ru_utime:.2f} s of its own and {used.ru_stime:.2f} s of the system; {count / (used.ru_utime + used.ru_stime):,.0f} lines a second of these")
     print(f"told {len(log.when[0])} times; memory {last:.0f} million bytes at its end, {most:.0f} at its peak; most in each part {[round(part) for part in by_part]}")
 
 
