@@ -81,6 +81,10 @@ show './mdf4rec check drive.mf4 2> /dev/null; echo $?'
 show './mdf4rec concat done.mf4 drive.mf4 joined.mf4; echo $?'
 show 'echo word | ./mdf4rec record none.mf4 2> /dev/null; echo $?'
 
+# Where standard output is closed nothing is printed into the recording.
+show './mdf4rec record closed.mf4 < examples/drive.txt 2> /dev/null >&-; echo $?'
+show './mdf4rec finalize closed.mf4 open.mf4'
+
 # A recording that the system kills when its file would grow past 1,024 bytes: what was flushed is all there.
 show "(printf 'group 0 g\\nchannel t u64 master\\nbegin\\n'; seq 100 | sed 's/.*/0 &\\n! 0/'; echo end) > hundred.txt"
 show '(ulimit -f 1; ./mdf4rec record killed.mf4 < hundred.txt) 2> /dev/null || echo killed'
