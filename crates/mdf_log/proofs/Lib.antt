@@ -1,0 +1,11 @@
+mod Behind
+mod Coming
+mod Durable
+mod Ending
+mod Going
+mod Letting
+mod Moving
+mod Serving
+mod Starting
+mod Totals
+mod Whole

@@ -1,0 +1,214 @@
+// The parts of a log, one behind the other.
+ghost use Rattle.std.specs.Prelude.{ℕ, ◌≡◌, ◌<◌, ◌+◌, ◌^◌, ◌↔◌, ◌++◌, List, true, length};
+ghost use Rattle.std.specs.List.{slice_index_or};
+ghost use Rattle.mdf_disk.specs.State.{DiskState};
+ghost use Rattle.mdf_port.specs.State.{SinkState, sink_state};
+ghost use Rattle.acq_live.specs.Handled.{Resumes};
+ghost use Rattle.acq_script.specs.Plan.{IsPlan};
+ghost use Rattle.mdf_command.specs.Texts.{Gives};
+ghost use Rattle.mdf_rotate.specs.Text.{part_line, record_of};
+ghost use Rattle.mdf_log.specs.Course.{AreRuled, HasGone, HasRun, IsNextPart};
+ghost use Rattle.mdf_log.specs.Parts.{durable_of, fault_of, is_full, live_of};
+
+use crate::part::log_part;
+use crate::tally::Tally;
+use acq_live::LineFeed;
+use acq_script::Plan;
+use log_disks::Disks;
+use mdf_command::Fault;
+use mdf_input::Input;
+use mdf_num::{Bytes, Failed};
+use mdf_port::{Sink, Source};
+use mdf_record::{RecordEnd, Recorded, RecordedFeeds};
+use mdf_rotate::{Part, give_part};
+use std::alloc::Global;
+use std::sync::Wait;
+use std::sync::atomic::{AtomicBool, Ordering};
+use std::thread::Threads;
+
+/// A log behind its parts so far: the feeds wherever they stand, what the parts come to, how many samples a reader finds shown of the last
+/// one, where it is looked at live and nothing went wrong, what went wrong in it, if anything did, and whether each line was printed.
+pub(crate) struct Course<'a, S: Source, K> {
+    pub(crate) feeds: Vec<LineFeed<'a, S, K>>,
+    pub(crate) tally: Tally,
+    pub(crate) live: Option<u64>,
+    pub(crate) fault: Option<Fault>,
+    pub(crate) given: Result<(), Failed>,
+}
+
+/// What went wrong in a part that ended so, if anything did.
+fn fault_of(end: &RecordEnd) -> Option<Fault>
+    ensures { result ≡ fault_of end.now }
+{
+    match end {
+        RecordEnd::Refused(fault) => Some(*fault),
+        RecordEnd::Closed { fault, .. } => *fault,
+    }
+}
+
+/// How many samples a reader finds shown of a part that ended so, where it is looked at live and nothing went wrong.
+fn live_of(end: &RecordEnd) -> Option<u64>
+    ensures { result ≡ live_of end.now }
+{
+    match end {
+        RecordEnd::Refused(_) => None,
+        RecordEnd::Closed { live, .. } => *live,
+    }
+}
+
+/// How many samples of a part that ended so are durable.
+fn durable_of(end: &RecordEnd) -> u64
+    ensures { result ≡ durable_of end.now }
+{
+    match end {
+        RecordEnd::Refused(_) => 0,
+        RecordEnd::Closed { durable, .. } => *durable,
+    }
+}
+
+/// Whether a session was full.
+fn is_full(fault: Option<Fault>) -> bool
+    ensures { result ≡ is_full fault }
+{
+    matches!(fault, Some(Fault::SessionFull { .. }))
+}
+
+/// Whether the next part begins behind one of so many samples.
+fn goes_on(fault: Option<Fault>, samples: u64) -> bool
+    ensures { (result ≡ true) ↔ ((is_full fault ≡ true) × (0 < samples)) }
+{
+    samples > 0 && is_full(fault)
+}
+
+/// Gives the line of the part of a number behind what was given, unless that failed.
+fn give_next<E: Sink, C>(
+    sink: &mut E,
+    given: Result<(), Failed>,
+    number: u64,
+    part: &Part<C>,
+) -> Result<(), Failed>
+    ensures { (before : List ℕ) (first : SinkState) → Gives before first (sink_state E.Sink sink.old) given
+        → Gives (before ++ part_line number (record_of part.now)) first (sink_state E.Sink sink.new) result }
+{
+    given?;
+    give_part(sink, number, part)
+}
+
+/// Records the next part onto the next disk, prints its line, and gives the disk back. Answers how the log stands then, and whether
+/// it goes on.
+fn next_part<'a, R, S, K, E, D>(
+    rt: &R,
+    alloc: Global,
+    output: &Bytes,
+    now_ns: u64,
+    plan: &Plan,
+    course: Course<'a, S, K>,
+    sink: &mut E,
+    disks: &mut D,
+) -> (Course<'a, S, K>, bool)
+where
+    R: Threads + Wait + Sync,
+    S: Input + Send + Drop,
+    K: Sink + Send + Drop,
+    E: Sink,
+    D: Disks,
+    requires plan { IsPlan plan.now }
+    requires sources { length course.feeds.items ≡ plan.now.sources }
+    requires totals { length course.tally.accepted.items ≡ plan.now.sources }
+    requires ruled { AreRuled plan.now course.feeds.items }
+    requires room { course.tally.parts + 1 < 2 ^ 64 }
+    ensures { IsNextPart K.Sink plan.now output.now now_ns (λ begun ended. D.serves disks.old begun ended disks.new)
+        (sink_state E.Sink sink.old) (sink_state E.Sink sink.new) course.entry result.0 result.1 }
+{
+    let Course {
+        feeds,
+        mut tally,
+        live: _,
+        fault: _,
+        given,
+    } = course;
+    let number = tally.parts;
+    let out = disks.next();
+    let RecordedFeeds {
+        recorded,
+        feeds,
+        all,
+    } = log_part(rt, alloc, output, now_ns, number, plan, out, feeds);
+    let Recorded {
+        end,
+        out,
+        history,
+        marks,
+    } = recorded;
+    let part = Part {
+        out,
+        history,
+        marks,
+    };
+    let given = give_next(sink, given, number, &part);
+    let samples = part.history.len();
+    tally.add(samples, durable_of(&end), all.as_slice());
+    disks.keep(part.out);
+    let fault = fault_of(&end);
+    (
+        Course {
+            feeds,
+            tally,
+            live: live_of(&end),
+            fault,
+            given,
+        },
+        goes_on(fault, samples),
+    )
+}
+
+/// Takes up all feeds in a next part.
+fn resume_all<'a, S: Input + Drop, K: Sink + Drop>(feeds: &mut Vec<LineFeed<'a, S, K>>)
+    ensures count { length feeds.new.items ≡ length feeds.old.items }
+    ensures resumed { (source : ℕ) (d : _) → source < length feeds.old.items
+        → Resumes K.Sink (slice_index_or feeds.old.items source d) (slice_index_or feeds.new.items source d) }
+{
+    for source in 0..feeds.len() {
+        feeds[source].resume();
+    }
+}
+
+/// Records part after part, each behind one whose session was full.
+pub(crate) fn log_parts<'a, R, S, K, E, D>(
+    rt: &R,
+    alloc: Global,
+    output: &Bytes,
+    now_ns: u64,
+    plan: &Plan,
+    called: &AtomicBool,
+    first: Course<'a, S, K>,
+    sink: &mut E,
+    disks: &mut D,
+) -> Course<'a, S, K>
+where
+    R: Threads + Wait + Sync,
+    S: Input + Send + Drop,
+    K: Sink + Send + Drop,
+    E: Sink,
+    D: Disks,
+    requires plan { IsPlan plan.now }
+    requires sources { length first.feeds.items ≡ plan.now.sources }
+    requires ruled { AreRuled plan.now first.feeds.items }
+    requires none { first.tally.parts ≡ 0 }
+    requires begins { HasGone K.Sink plan.now output.now now_ns (λ begun ended. D.serves disks.old begun ended disks.old)
+        (sink_state E.Sink sink.old) (sink_state E.Sink sink.old) first.feeds.items first }
+    ensures { HasRun K.Sink plan.now output.now now_ns (λ begun ended. D.serves disks.old begun ended disks.new)
+        (sink_state E.Sink sink.old) (sink_state E.Sink sink.new) first.entry.feeds.items result }
+{
+    let mut course = first;
+    for _ in rt.forever() {
+        let (next, goes_on) = next_part(rt, alloc, output, now_ns, plan, course, sink, disks);
+        course = next;
+        if !goes_on || course.tally.parts == u64::MAX {
+            return course;
+        }
+        called.store(false, Ordering::SeqCst);
+        resume_all(&mut course.feeds);
+    }
+    unreachable!()
+}
