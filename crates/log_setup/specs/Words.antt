@@ -18,16 +18,16 @@ words_of request = request.output ∷ request.setup ∷ request.inputs
 abbrev pub is_standard : List ℕ → Bool
 is_standard word = bytes_eq word (codes "-")
 
--- 1 to 16 inputs, of which at most one is the standard input
-pub record AreInputs (inputs : List (List ℕ)) : Type 0 where
-  pub some : 1 ≤ length inputs
-  pub few : length inputs ≤ 16
-  pub once : length (filter is_standard inputs) ≤ 1
+-- a setup and 1 to 16 inputs, of which at most one is the standard input
+pub record AreRead (names : List (List ℕ)) : Type 0 where
+  pub some : 2 ≤ length names
+  pub few : length names ≤ 17
+  pub once : length (filter is_standard names) ≤ 1
 
 -- the words that ask for it
 pub record AsksToLog (words : List (List ℕ)) (request : Request) : Type 0 where
   pub words_are : words ≡ words_of request
-  pub inputs : AreInputs request.inputs
+  pub read : AreRead (request.setup ∷ request.inputs)
 
 -- other words
 abbrev pub AsksNoLog : List (List ℕ) → Type 0

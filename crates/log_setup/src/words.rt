@@ -2,15 +2,15 @@
 ghost use Rattle.std.specs.Prelude.{◌≡◌, ◌↔◌, true, MatchOption};
 ghost use Rattle.mdf_port.specs.State.{sink_state};
 ghost use Rattle.mdf_command.specs.Texts.{Prints};
-ghost use Rattle.log_setup.specs.Words.{AreInputs, AsksNoLog, AsksToLog, is_standard, log_usage_line, request_of};
+ghost use Rattle.log_setup.specs.Words.{AreRead, AsksNoLog, AsksToLog, is_standard, log_usage_line, request_of};
 
 use mdf_command::Piece::Text;
 use mdf_command::{give_line, status_after};
 use mdf_num::{Bytes, Rows};
 use mdf_port::Sink;
 
-/// How many inputs a log has at most.
-const MOST_INPUTS: usize = 16;
+/// How many names a log reads at most: that of its setup, and 16 inputs.
+const MOST_NAMES: usize = 17;
 
 /// What the words ask for: a log of these inputs, with this setup, into the parts of this output.
 #[derive(Clone, Copy)]
@@ -27,30 +27,33 @@ pub fn is_standard(word: &[u8]) -> bool
     word == b"-".as_slice()
 }
 
-/// Whether these are 1 to 16 inputs, of which at most one is the standard input.
-fn are_inputs(inputs: &[Bytes]) -> bool
-    ensures { (result ≡ true) ↔ AreInputs inputs.now }
+/// Whether these are a setup and 1 to 16 inputs, of which at most one is the standard input.
+fn are_read(names: &[Bytes]) -> bool
+    ensures { (result ≡ true) ↔ AreRead names.now }
 {
-    if inputs.is_empty() || inputs.len() > MOST_INPUTS {
+    if names.len() < 2 || names.len() > MOST_NAMES {
         return false;
     }
-    let standard = inputs
+    let standard = names
         .iter()
         .filter(|word| is_standard(word.as_slice()))
         .count();
     standard <= 1
 }
 
-/// The log that the words ask for, if they do: `OUT SETUP IN..`, with 1 to 16 inputs, of which at most one is `-`.
+/// The log that the words ask for, if they do: `OUT SETUP IN..`, with 1 to 16 inputs; at most one of them and the setup is `-`.
 pub fn log_words(words: &Rows<Bytes>) -> Option<LogWords<'_>>
     ensures { MatchOption result (AsksNoLog words.now) (λ log. AsksToLog words.now (request_of log)) }
 {
-    let [output, setup, inputs @ ..] = words.as_slice() else {
+    let [output, names @ ..] = words.as_slice() else {
         return None;
     };
-    if !are_inputs(inputs) {
+    if !are_read(names) {
         return None;
     }
+    let [setup, inputs @ ..] = names else {
+        return None;
+    };
     Some(LogWords {
         output,
         setup,

@@ -10,7 +10,10 @@ use std::test::Fail;
 const WORDS: &[(&[&str], &str)] = &[
     (&["out", "setup", "a"], "out of setup: a"),
     (&["out", "setup", "-"], "out of setup: standard"),
-    (&["-", "-", "-"], "- of -: standard"),
+    (&["-", "setup", "-"], "- of setup: standard"),
+    (&["out", "-", "a"], "out of -: a"),
+    (&["out", "-", "-"], "none"),
+    (&["out", "-", "a", "-"], "none"),
     (
         &["out", "setup", "a", "-", "b"],
         "out of setup: a standard b",
