@@ -2,8 +2,9 @@
 use Rattle.std.proofs.Common.{◌≡◌, ◌∙◌, sym, ap, refl, subst, inl, inr, ℕ, ◌+◌, ◌^◌, ◌≤◌, ◌<◌, Bool, true, false, List, [], ◌∷◌, ◌++◌, length, map, All, Option, Some, None, arith, append-nil, length-append}
 use Rattle.std.specs.Prelude.{◌||◌, ◌==◌, ◌-◌}
 use Rattle.std.specs.Option.{option_to_list}
-use Rattle.std.specs.Io.KnownBytes.{Appends, Consumes, IsAtEnd}
+use Rattle.std.specs.Io.KnownBytes.{Appends, Consumes, IsAtEnd, Keeps}
 use Rattle.std.specs.Prelude.{IfSome, Result, Ok, Err, is_err, is_some}
+use Rattle.mdf_format.specs.Cause.{Rose}
 use Rattle.mdf_port.specs.Sink.{AppendsFront}
 use Rattle.mdf_port.specs.declared.source.Source as source
 use Rattle.mdf_port.specs.declared.sink.Sink as sink
@@ -56,8 +57,9 @@ flush_handled at spot pending none room = record {
   committed = tt;
   pending_is = refl;
   lines = [];
+  most = omega arith;
   reads = record { each = λ later. refl };
-  none_over = λ is. refl;
+  none_over = λ is. (refl, refl);
   ends_last = tt;
   over_is = or_none spot.over;
   says = inr (pending, refl);
@@ -171,6 +173,7 @@ line_handled at spot line unread may reads running none room =
       committed = hand_committed spot.pending feds;
       pending_is = refl;
       lines = line ∷ [];
+      most = omega arith;
       reads = subst (λ (bytes : List ℕ). Reads spot.unread bytes (line ∷ []) unread) (sym (hand_none feds)) reads;
       none_over = λ is. absurd (cc (sym running ∙ is));
       ends_last = (λ is. refl, tt);
@@ -204,7 +207,7 @@ passed_not false not = refl
 none_in : (bytes : List ℕ) → FindsLf bytes None → All (λ x. lf x ≡ false) bytes
 none_in bytes none k d below = ap lf (get_or_default_zero bytes k d below) ∙ passed_not _ (none k (omega arith) below)
 
-none_closed : (unread : Unread) → FindsLf unread.bytes None → lines_behind unread [] ≡ []
+pub none_closed : (unread : Unread) → FindsLf unread.bytes None → lines_behind unread [] ≡ []
 none_closed unread none =
     ap (λ (bytes : List ℕ). closed unread.long (slice_split lf bytes)) (append-nil unread.bytes)
     ∙ ap (closed unread.long) (slice_split_none lf unread.bytes (none_in unread.bytes none))
@@ -215,9 +218,9 @@ none_left old new (byte ∷ bytes) none is reads = absurd (omega (arith, is))
 
 -- more was read
 pub read_handled : (at : Fixed) (spot : Spot) (input : SourceState) (unread : Unread) (bytes : List ℕ)
-    → spot.pending ≡ false → spot.input.faults ≤ input.faults → Consumes spot.input.left input.left bytes → Reads spot.unread bytes [] unread
+    → spot.pending ≡ false → spot.over ≡ false → spot.input.faults ≤ input.faults → Consumes spot.input.left input.left bytes → Reads spot.unread bytes [] unread
     → Handled at spot [] (record spot { input = input; unread = unread })
-read_handled at spot input unread bytes calm later taken reads = record {
+read_handled at spot input unread bytes calm running later taken reads = record {
   later = later;
   may = λ k d below. absurd (omega (arith, below));
   steps = omega arith;
@@ -228,8 +231,9 @@ read_handled at spot input unread bytes calm later taken reads = record {
   committed = (calm, tt);
   pending_is = refl;
   lines = [];
+  most = omega arith;
   reads = subst (λ (all : List ℕ). Reads spot.unread all [] unread) (sym (append-nil bytes)) reads;
-  none_over = λ is. refl;
+  none_over = λ is. absurd (cc (sym running ∙ is));
   ends_last = tt;
   over_is = or_none spot.over;
   says = refl;
@@ -242,8 +246,8 @@ read_handled at spot input unread bytes calm later taken reads = record {
 
 -- nothing was read
 pub same_handled : (at : Fixed) (spot : Spot) (input : SourceState) (unread : Unread)
-    → spot.input.faults ≤ input.faults → input.left ≡ spot.input.left → unread ≡ spot.unread → Handled at spot [] (record spot { input = input; unread = unread })
-same_handled at spot input unread later left same = record {
+    → spot.over ≡ false → spot.input.faults ≤ input.faults → input.left ≡ spot.input.left → unread ≡ spot.unread → Handled at spot [] (record spot { input = input; unread = unread })
+same_handled at spot input unread running later left same = record {
   later = later;
   may = λ k d below. absurd (omega (arith, below));
   steps = omega arith;
@@ -254,8 +258,9 @@ same_handled at spot input unread later left same = record {
   committed = tt;
   pending_is = refl;
   lines = [];
+  most = omega arith;
   reads = subst (λ (unread : Unread). Reads spot.unread [] [] unread) (sym same) (record { each = λ later. refl });
-  none_over = λ is. refl;
+  none_over = λ is. absurd (cc (sym running ∙ is));
   ends_last = tt;
   over_is = or_none spot.over;
   says = refl;
@@ -265,6 +270,16 @@ same_handled at spot input unread later left same = record {
   told = tells_none at.number spot.deaf spot.told;
   told_are = sym (append-nil (option_to_list spot.flushed));
 }
+
+-- what was kept was not taken
+pub kept_none : (left left' : Option (List ℕ)) → Keeps left left' → Consumes left left' []
+kept_none None left' keeps = tt
+kept_none (Some bytes) None keeps = absurd keeps
+kept_none (Some bytes) (Some bytes') keeps = sym keeps
+
+-- it failed since, by its last failure
+pub rose_since : (first before after : ℕ) → first ≤ before → Rose before after → Rose first after
+rose_since first before after since rose = omega (arith, since, rose)
 
 -- no more was read, and no whole line is left of what was
 pub read_ended : (left left' : Option (List ℕ)) (old new : Unread) (count : ℕ) → Fills left left' old new count → count ≡ 0 → FindsLf old.bytes None
@@ -286,8 +301,9 @@ told_handled at spot count deaf told is tells = record {
   committed = tt;
   pending_is = refl;
   lines = [];
+  most = omega arith;
   reads = record { each = λ later. refl };
-  none_over = λ is. refl;
+  none_over = λ is. (refl, refl);
   ends_last = tt;
   over_is = or_none spot.over;
   says = refl;
@@ -348,8 +364,9 @@ same_step at spot unread pending steps count reads was stepped counted = record 
   committed = tt;
   pending_is = was;
   lines = [];
+  most = omega (arith, stepped);
   reads = subst (λ (unread : Unread). Reads spot.unread [] [] unread) (sym reads) (record { each = λ later. refl });
-  none_over = λ is. refl;
+  none_over = λ is. (refl, refl);
   ends_last = tt;
   over_is = or_none spot.over;
   says = refl;
@@ -398,6 +415,18 @@ before_told : (spot : Spot) (was : Option Bool) (unread : Unread) → (before wa
 before_told spot None unread = refl
 before_told spot (Some pending) unread = refl
 
+before_calm : (spot : Spot) (was : Option Bool) (unread : Unread) → (before was unread spot).input.faults ≡ spot.input.faults
+before_calm spot None unread = refl
+before_calm spot (Some pending) unread = refl
+
+none_behind : (some : List Fed) (sample : Sample) → some ++ fed.Sample sample ∷ [] ≡ [] → ⊥
+none_behind some sample is = omega (arith, ap length is, length-append some (fed.Sample sample ∷ []))
+
+-- it is not there
+pub missed : (halt : Option Halt) (there : Bool) → there ≡ is_some halt → there ≡ false → halt ≡ None
+missed None there is so = refl
+missed (Some why) there is so = absurd (cc (is, so))
+
 -- it is there
 pub found : (halt : Option Halt) (there : Bool) → there ≡ is_some halt → there ≡ true → (why : Halt) × (halt ≡ Some why)
 found None there is so = absurd (cc (is, so))
@@ -407,16 +436,41 @@ module _ {S K : Type 0} {tells : source.Ghosts S} (holds : sink.Ghosts K) where
   running : (feed : LineFeed S K tells) → feed.halt ≡ None → StopsWell holds feed
   running feed is = subst (λ (halt : Option Halt). IfSome halt (Stops holds feed)) (sym is) tt
 
-  -- it goes on behind what was handed in
-  pub served : (old new : LineFeed S K tells) (feds : List Fed) → fixed new ≡ fixed old → Handled (fixed old) (spot holds old) feds (spot holds new) → new.halt ≡ None
-      → Serves holds old feds new
-  served old new feds same handled run = record { fixed_is = same; handled = handled; stops = λ is. running new run }
+  -- one that goes on has not ended
+  going : {A : Type 0} (feed : LineFeed S K tells) → feed.halt ≡ None → (halt : Halt) → feed.halt ≡ Some halt → A
+  going feed run halt is = absurd (cc (run, is))
 
-  ended_back : (old new : LineFeed S K tells) (feds : List Fed) → Halts new → CanGoBack holds old feds new
-  ended_back old new feds halts = record {
-    last = λ some sample is run. absurd (cc (run, halts.halt_is));
-    none = λ is run. absurd (cc (run, halts.halt_is));
+  -- it goes on behind what was handed in, and its input did not fail
+  pub served : (old new : LineFeed S K tells) (feds : List Fed) → fixed new ≡ fixed old → Handled (fixed old) (spot holds old) feds (spot holds new) → new.halt ≡ None → old.halt ≡ None
+      → (spot holds new).input.faults ≡ (spot holds old).input.faults → Serves holds old feds new
+  served old new feds same handled run ran calm = record {
+    fixed_is = same;
+    handled = handled;
+    stops = λ is. running new run;
+    calm = λ well. calm;
+    ended = λ halt other is. going old ran halt is;
   }
+
+  ended_back : (old new : LineFeed S K tells) (feds : List Fed) → Halts new → ((halt : Halt) → old.halt ≡ Some halt → (feds ≡ []) × (new.halt ≡ Some halt)) → CanGoBack holds old feds new
+  ended_back old new feds halts stays = record {
+    last = λ some sample is run. going new run halts.halt halts.halt_is;
+    none = λ is run. going new run halts.halt halts.halt_is;
+    stays = stays;
+  }
+
+  -- its input failed, and no line is left: nothing more comes
+  pub failed : (old new : LineFeed S K tells) → fixed new ≡ fixed old → Handled (fixed old) (spot holds old) [] (spot holds new) → old.halt ≡ None → new.halt ≡ Some Failed
+      → HaltsAt (fixed new) (spot holds new) Failed → new.pending ≡ false → new.flushed ≡ None → Goes holds old (Some fed.End) new
+  failed old new same handled ran is cause committed told = (
+    record {
+      fixed_is = same;
+      handled = handled;
+      stops = λ before. subst (λ (halt : Option Halt). IfSome halt (Stops holds new)) (sym is) (record { cause = cause; committed = committed; told = told });
+      calm = λ well. absurd (well is);
+      ended = λ why other was. going old ran why was;
+    },
+    record { halt = Failed; halt_is = is },
+  )
 
   -- what came behind what was read before
   pub goes_behind : (first second third : LineFeed S K tells) (task : Fed) → Serves holds first [] second → Goes holds second (Some task) third → Goes holds first (Some task) third
@@ -425,34 +479,36 @@ module _ {S K : Type 0} {tells : source.Ghosts S} (holds : sink.Ghosts K) where
   goes_behind first second third fed.Flush one two = (serves_more holds first second third [] (fed.Flush ∷ []) one two.0, two.1)
   goes_behind first second third fed.End one two = (serves_more holds first second third [] [] one two.0, two.1)
 
-  fed_by : (first third : LineFeed S K tells) (task : Fed) → Goes holds first (Some task) third → Feeds (Hands holds) Waits Halts first task third
-  fed_by first third (fed.Sample sample) goes = (
+  fed_by : (first third : LineFeed S K tells) (task : Fed) → first.halt ≡ None → Goes holds first (Some task) third → Feeds (Hands holds) Waits Halts first task third
+  fed_by first third (fed.Sample sample) ran goes = (
     (
       goes.0,
       record {
         last = λ front other is run. subst (λ (feds : List Fed). Handled (fixed first) (spot holds first) feds (spot_before holds third))
             (sym (alone front (fed.Sample sample) (fed.Sample other) is)) goes.2;
         none = λ is run. absurd (cc is);
+        stays = λ why is. going first ran why is;
       },
     ),
     goes.1,
   )
-  fed_by first third fed.Flush goes = (
+  fed_by first third fed.Flush ran goes = (
     (
       goes.0,
       record {
         last = λ front other is run. absurd (cc (alone_is front fed.Flush (fed.Sample other) is));
         none = λ is run. absurd (cc is);
+        stays = λ why is. going first ran why is;
       },
     ),
     goes.1,
   )
-  fed_by first third fed.End goes = ((goes.0, ended_back first third [] goes.1), goes.1)
+  fed_by first third fed.End ran goes = ((goes.0, ended_back first third [] goes.1 (λ why is. going first ran why is)), goes.1)
 
   -- what came behind what was handed in before
-  pub feeds_on : (first second third : LineFeed S K tells) (task : Fed) → Serves holds first [] second → Goes holds second (Some task) third
+  pub feeds_on : (first second third : LineFeed S K tells) (task : Fed) → first.halt ≡ None → Serves holds first [] second → Goes holds second (Some task) third
       → Feeds (Hands holds) Waits Halts first task third
-  feeds_on first second third task one two = fed_by first third task (goes_behind first second third task one two)
+  feeds_on first second third task ran one two = fed_by first third task ran (goes_behind first second third task one two)
 
   -- nothing came
   pub goes_on : (first second third : LineFeed S K tells) (result : Option Fed) → result ≡ None → Serves holds first [] second → Goes holds second result third
@@ -479,8 +535,10 @@ module _ {S K : Type 0} {tells : source.Ghosts S} (holds : sink.Ghosts K) where
       fixed_is = same;
       handled = subst (Handled (fixed old) (spot holds old) []) (sym at) (none_handled (fixed old) (spot holds old));
       stops = λ is. stops_same old new new.halt same at (subst (λ (halt : Option Halt). IfSome halt (Stops holds old)) (sym halt) is);
+      calm = λ well. ap (λ (spot : Spot). spot.input.faults) at;
+      ended = λ why other is. (refl, halt ∙ is);
     },
-    ended_back old new [] halts,
+    ended_back old new [] halts (λ why is. (refl, halt ∙ is)),
   )
 
   -- it goes on in a next part: behind a sample that was put back; called off; or not, since it has ended
@@ -489,8 +547,16 @@ module _ {S K : Type 0} {tells : source.Ghosts S} (holds : sink.Ghosts K) where
       subst (λ (halt : Option Halt). ResumesFrom holds halt old new) (sym run) (
         halt ∙ run,
         ap (λ (spot : Spot). spot.flushed) at ∙ before_told (spot holds old) old.pending_before (unpassed old.lines),
-        λ first some sample hands. served first new some (same ∙ hands.0.fixed_is)
-            (subst (Handled (fixed first) (spot holds first) some) (sym at) (hands.1.last some sample refl run)) (halt ∙ run),
+        λ first some sample hands. record {
+          fixed_is = same ∙ hands.0.fixed_is;
+          handled = subst (Handled (fixed first) (spot holds first) some) (sym at) (hands.1.last some sample refl run);
+          stops = λ is. running new (halt ∙ run);
+          calm = λ well. ap (λ (spot : Spot). spot.input.faults) at ∙ before_calm (spot holds old) old.pending_before (unpassed old.lines)
+              ∙ hands.0.calm (λ failed. going old run Failed failed);
+          ended = λ why other is. let before = hands.0.ended why other is in absurd (none_behind some sample before.0);
+        },
+        same,
+        at,
       )
 
   pub resumed_called : (old new : LineFeed S K tells) → old.halt ≡ Some Called → new.halt ≡ None → fixed new ≡ fixed old → spot holds new ≡ spot holds old → Resumes holds old new
@@ -498,7 +564,13 @@ module _ {S K : Type 0} {tells : source.Ghosts S} (holds : sink.Ghosts K) where
       subst (λ (halt : Option Halt). ResumesFrom holds halt old new) (sym called) (
         run,
         ap (λ (spot : Spot). spot.flushed) at,
-        λ first feds serves. served first new feds (same ∙ serves.fixed_is) (subst (Handled (fixed first) (spot holds first) feds) (sym at) serves.handled) run,
+        λ first feds serves. record {
+          fixed_is = same ∙ serves.fixed_is;
+          handled = subst (Handled (fixed first) (spot holds first) feds) (sym at) serves.handled;
+          stops = λ is. running new run;
+          calm = λ well. ap (λ (spot : Spot). spot.input.faults) at ∙ serves.calm (λ failed. absurd (cc (called, failed)));
+          ended = λ why other is. absurd (other (cc (called, (serves.ended why other is).1)));
+        },
       )
 
   ended_stays : (old : LineFeed S K tells) (halt : Halt) → (halt ≡ Called → ⊥) → ResumesFrom holds (Some halt) old old

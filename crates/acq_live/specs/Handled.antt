@@ -22,7 +22,7 @@ use Rattle.acq_live.specs.declared.feed.Halt.TheVariants.{Input, Line, Failed, M
 use Rattle.acq_live.specs.declared.feed.LineFeed.{LineFeed}
 
 -- Just this was read, just these lines of it were handled, in order, and just what they say was handed in, with more flushes among it: none is
--- left out where more is read. So many lines were bad. Nothing is handled behind a line that ends it. Of each flush that was handed in its source
+-- left out where more is read. So many lines were bad. Nothing is handled and nothing is read behind a line that ends it. Of each flush that was handed in its source
 -- was told how many of its samples stand before it, when the next was asked for and no sooner: then it was done.
 pub record Handled (at : Fixed) (old : Spot) (feds : List Fed) (new : Spot) : Type 0 where
   pub later : old.input.faults ≤ new.input.faults
@@ -35,8 +35,9 @@ pub record Handled (at : Fixed) (old : Spot) (feds : List Fed) (new : Spot) : Ty
   pub committed : AreCommitted old.pending acts
   pub pending_is : new.pending ≡ pending_behind old.pending feds
   pub lines : List (Option (List ℕ))
+  pub most : new.steps ≤ old.steps + length lines + length feds
   pub reads : Reads old.unread (read_in acts) lines new.unread
-  pub none_over : old.over ≡ true → lines ≡ []
+  pub none_over : old.over ≡ true → (lines ≡ []) × (new.input ≡ old.input)
   pub ends_last : EndsLast (said_in at.rules at.number lines)
   pub over_is : new.over ≡ (old.over || is_ended (said_in at.rules at.number lines))
   pub says : AreFlushedMore old.pending feds (feds_in (said_in at.rules at.number lines))
@@ -52,15 +53,15 @@ pub record WantsMemory (rules : Rules) (unread : Unread) : Type 0 where
   pub found : FindsLf unread.bytes (Some count)
   pub says : IsSampleLine rules (limited unread.long (take count unread.bytes))
 
--- Why nothing more comes: the input is at its end, and no line is left of what was read; a line ended it; the input failed; memory was wanted
--- for a line; as much was handed in as can be counted; it was called off.
+-- Why nothing more comes: the input is at its end, and no line is left of what was read; a line ended it; the input failed, and no line is left;
+-- memory was wanted for a line; as much was handled and handed in as can be counted; it was called off, and no line is left.
 abbrev pub HaltsAt : Fixed → Spot → Halt → Type 0
 HaltsAt at spot Input = IsAtEnd spot.input.left × (lines_behind spot.unread [] ≡ [])
 HaltsAt at spot Line = spot.over ≡ true
-HaltsAt at spot Failed = Rose at.first_faults spot.input.faults
+HaltsAt at spot Failed = Rose at.first_faults spot.input.faults × (lines_behind spot.unread [] ≡ [])
 HaltsAt at spot Memory = WantsMemory at.rules spot.unread
 HaltsAt at spot Count = 2 ^ 64 ≤ spot.steps + 2
-HaltsAt at spot Called = Unit {0}
+HaltsAt at spot Called = lines_behind spot.unread [] ≡ []
 
 -- So it is with this cause, all that was handed in has a flush behind it, and its source was told of each.
 pub record Stops {S K : Type 0} {tells : source.Ghosts S} (holds : sink.Ghosts K) (feed : LineFeed S K tells) (halt : Halt) : Type 0 where
@@ -72,18 +73,21 @@ pub record Stops {S K : Type 0} {tells : source.Ghosts S} (holds : sink.Ghosts K
 abbrev pub StopsWell : {S K : Type 0} {tells : source.Ghosts S} → sink.Ghosts K → LineFeed S K tells → Type 0
 StopsWell holds feed = IfSome feed.halt (Stops holds feed)
 
--- From the one feed to the other, in one part or over several, these were handed in and none of them was put back. In an impl generic in
--- K: Sink it is `Serves K.Sink`
+-- From the one feed to the other, in one part or over several, these were handed in and none of them was put back. An input that failed ends it;
+-- and of one that has ended, but was not called off, nothing more comes, for the same reason. In an impl generic in K: Sink it is `Serves K.Sink`
 pub record Serves {S K : Type 0} {tells : source.Ghosts S} (holds : sink.Ghosts K) (old : LineFeed S K tells) (feds : List Fed) (new : LineFeed S K tells) : Type 0 where
   pub fixed_is : fixed new ≡ fixed old
   pub handled : Handled (fixed old) (spot holds old) feds (spot holds new)
   pub stops : StopsWell holds old → StopsWell holds new
+  pub calm : (new.halt ≡ Some Failed → ⊥) → (spot holds new).input.faults ≡ (spot holds old).input.faults
+  pub ended : (halt : Halt) → (halt ≡ Called → ⊥) → old.halt ≡ Some halt → (feds ≡ []) × (new.halt ≡ Some halt)
 
 -- As long as it goes on it can go back behind all of these but the last, where that is a sample; and where none was handed in it went on before,
--- and goes back to where it could then.
+-- and goes back to where it could then. Of one that has ended, or was called off, nothing more comes, for the same reason.
 pub record CanGoBack {S K : Type 0} {tells : source.Ghosts S} (holds : sink.Ghosts K) (old : LineFeed S K tells) (feds : List Fed) (new : LineFeed S K tells) : Type 0 where
   pub last : (some : List Fed) (sample : Sample) → feds ≡ some ++ fed.Sample sample ∷ [] → new.halt ≡ None → Handled (fixed old) (spot holds old) some (spot_before holds new)
   pub none : feds ≡ [] → new.halt ≡ None → (old.halt ≡ None) × (spot_before holds new ≡ spot_before holds old)
+  pub stays : (halt : Halt) → old.halt ≡ Some halt → (feds ≡ []) × (new.halt ≡ Some halt)
 
 -- From the one feed to the other, in one part, these were handed in, and the last may be put back where it is a sample.
 abbrev pub Hands : {S K : Type 0} {tells : source.Ghosts S} → sink.Ghosts K → LineFeed S K tells → List Fed → LineFeed S K tells → Type 0
@@ -105,6 +109,7 @@ pub record Halts {S K : Type 0} {tells : source.Ghosts S} (feed : LineFeed S K t
 abbrev pub ResumesFrom : {S K : Type 0} {tells : source.Ghosts S} → sink.Ghosts K → Option Halt → LineFeed S K tells → LineFeed S K tells → Type 0
 ResumesFrom {S} {K} {tells} holds None old new =
     (new.halt ≡ None) × (new.flushed ≡ old.flushed) × ((first : LineFeed S K tells) (some : List Fed) (sample : Sample) → Hands holds first (some ++ fed.Sample sample ∷ []) old → Serves holds first some new)
+    × (fixed new ≡ fixed old) × (spot holds new ≡ spot_before holds old)
 ResumesFrom {S} {K} {tells} holds (Some Called) old new =
     (new.halt ≡ None) × (new.flushed ≡ old.flushed) × ((first : LineFeed S K tells) (feds : List Fed) → Serves holds first feds old → Serves holds first feds new)
 ResumesFrom holds (Some halt) old new = new ≡ old

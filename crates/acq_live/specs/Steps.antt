@@ -22,6 +22,8 @@ use Rattle.acq_live.specs.Rules.{MayCome, Rules}
 use Rattle.acq_live.specs.Said.{AreFlushedMore, EndsLast, bad_in, feds_in, is_end, is_ended, said_by, said_in}
 use Rattle.acq_live.specs.Spot.{Fixed, Spot, fixed, spot, spot_before}
 use Rattle.acq_live.specs.Told.{TellsOn, durable_line, durable_lines}
+use Rattle.acq_live.specs.declared.feed.Halt.{Halt}
+use Rattle.acq_live.specs.declared.feed.Halt.TheVariants.{Failed, Called}
 use Rattle.acq_live.specs.declared.feed.LineFeed.{LineFeed}
 use Rattle.acq_live.specs.declared.said.Said.{Said}
 use Rattle.acq_live.specs.declared.said.Said.TheVariants.{Nothing, Sampled, Flush, End, Bad}
@@ -175,8 +177,9 @@ none_handled at spot = record {
   committed = tt;
   pending_is = refl;
   lines = [];
+  most = omega arith;
   reads = record { each = λ later. refl };
-  none_over = λ is. refl;
+  none_over = λ is. (refl, refl);
   ends_last = tt;
   over_is = or_none spot.over;
   says = refl;
@@ -218,13 +221,15 @@ more_handled at first second third some more one two =
           (subst (λ (pending : Bool). AreCommitted pending two.acts) (one.pending_is ∙ ap (pending_behind first.pending) (sym one.handed)) two.committed);
       pending_is = two.pending_is ∙ ap (λ (pending : Bool). pending_behind pending more) one.pending_is ∙ sym (pending_more first.pending some more);
       lines = one.lines ++ two.lines;
+      most = omega (arith, one.most, two.most, length-append some more, length-append one.lines two.lines);
       reads = subst (λ (bytes : List ℕ). Reads first.unread bytes (one.lines ++ two.lines) third.unread) (sym (read_more one.acts two.acts))
           (reads_more first.unread second.unread third.unread (read_in one.acts) (read_in two.acts) one.lines two.lines one.reads two.reads);
       none_over = λ is.
-          ap (λ (front : List (Option (List ℕ))). front ++ two.lines) (one.none_over is)
-          ∙ two.none_over (one.over_is ∙ or_first first.over (is_ended told_first) is);
+          let before = one.none_over is in
+          let behind = two.none_over (one.over_is ∙ or_first first.over (is_ended told_first) is) in
+          (ap (λ (front : List (Option (List ℕ))). front ++ two.lines) before.0 ∙ behind.0, behind.1 ∙ before.1);
       ends_last = subst EndsLast (sym both) (last_more told_first told_second one.ends_last two.ends_last
-          (λ is. ap (said_in at.rules at.number) (two.none_over (one.over_is ∙ or_second first.over (is_ended told_first) is))));
+          (λ is. ap (said_in at.rules at.number) (two.none_over (one.over_is ∙ or_second first.over (is_ended told_first) is)).0));
       over_is = two.over_is ∙ ap (λ (over : Bool). over || is_ended told_second) one.over_is ∙ sym (or_assoc first.over (is_ended told_first) (is_ended told_second))
           ∙ ap (λ (ended : Bool). first.over || ended) (sym (ended_more told_first told_second) ∙ ap is_ended (sym both));
       says = subst (AreFlushedMore first.pending (some ++ more)) (sym (feds_more told_first told_second) ∙ ap feds_in (sym both))
@@ -251,7 +256,13 @@ none_last some last is = omega (arith, ap length is, length-append some (last �
 
 module _ {S K : Type 0} {tells : source.Ghosts S} (holds : sink.Ghosts K) where
   pub serves_none : (feed : LineFeed S K tells) → Serves holds feed [] feed
-  serves_none feed = record { fixed_is = refl; handled = none_handled (fixed feed) (spot holds feed); stops = λ is. is }
+  serves_none feed = record {
+    fixed_is = refl;
+    handled = none_handled (fixed feed) (spot holds feed);
+    stops = λ is. is;
+    calm = λ well. refl;
+    ended = λ halt other is. (refl, is);
+  }
 
   -- what came behind it, of the same source
   pub on_with : (first second : LineFeed S K tells) (third : Spot) (some more : List Fed) → Serves holds first some second → Handled (fixed second) (spot holds second) more third
@@ -265,6 +276,13 @@ module _ {S K : Type 0} {tells : source.Ghosts S} (holds : sink.Ghosts K) where
     fixed_is = two.fixed_is ∙ one.fixed_is;
     handled = on_with first second (spot holds third) some more one two.handled;
     stops = λ is. two.stops (one.stops is);
+    calm = λ well.
+        let going : second.halt ≡ Some Failed → ⊥ = λ failed. let after = two.ended Failed (λ called. absurd (cc called)) failed in well after.1 in
+        two.calm well ∙ one.calm going;
+    ended = λ halt other is.
+        let before = one.ended halt other is in
+        let behind = two.ended halt other before.1 in
+        (ap (λ (front : List Fed). front ++ more) before.0 ∙ behind.0, behind.1);
   }
 
   pub hands_none : (feed : LineFeed S K tells) → Hands holds feed [] feed
@@ -273,6 +291,7 @@ module _ {S K : Type 0} {tells : source.Ghosts S} (holds : sink.Ghosts K) where
     record {
       last = λ some sample is run. absurd (none_last some (fed.Sample sample) is);
       none = λ is run. (run, refl);
+      stays = λ halt is. (refl, is);
     },
   )
 
@@ -285,6 +304,10 @@ module _ {S K : Type 0} {tells : source.Ghosts S} (holds : sink.Ghosts K) where
         let kept = two.1.none refl run in
         let was = one.1.none (sym (append-nil some) ∙ is) kept.0 in
         (was.0, kept.1 ∙ was.1);
+    stays = λ halt is.
+        let before = one.1.stays halt is in
+        let behind = two.1.stays halt before.1 in
+        (append-nil some ∙ before.0, behind.1);
   }
   back_more first second third some (task ∷ more) one two = record {
     last = λ front sample is run.
@@ -292,6 +315,10 @@ module _ {S K : Type 0} {tells : source.Ghosts S} (holds : sink.Ghosts K) where
         subst (λ (feds : List Fed). Handled (fixed first) (spot holds first) feds (spot_before holds third)) (sym rest)
         (on_with first second (spot_before holds third) some before one.0 (two.1.last before sample ends run));
     none = λ is run. absurd (omega (arith, ap length is, length-append some (task ∷ more)));
+    stays = λ halt is.
+        let before = one.1.stays halt is in
+        let behind = two.1.stays halt before.1 in
+        (ap (λ (front : List Fed). front ++ task ∷ more) before.0 ∙ behind.0, behind.1);
   }
 
   pub hands_more : (first second third : LineFeed S K tells) (some more : List Fed) → Hands holds first some second → Hands holds second more third → Hands holds first (some ++ more) third

@@ -203,6 +203,7 @@ impl<'a, S: Input + Drop, K: Sink + Drop> LineFeed<'a, S, K> {
     /// Reads more, where the input need not be waited for.
     fn fill(&mut self) -> Option<Fed>
         requires asked { IsAsked self.old }
+        requires running { self.old.over ≡ false }
         requires committed { self.old.pending ≡ false }
         requires none { FindsLf (unread self.old.lines).bytes None }
         ensures { Goes K.Sink self.old result self.new }
@@ -210,13 +211,17 @@ impl<'a, S: Input + Drop, K: Sink + Drop> LineFeed<'a, S, K> {
         match self.lines.fill() {
             Ok(0) => Some(self.halt(Halt::Input)),
             Ok(_) => None,
-            Err(_) => Some(self.halt(Halt::Failed)),
+            Err(_) => {
+                self.halt = Some(Halt::Failed);
+                Some(Fed::End)
+            }
         }
     }
 
     /// Waits for the input a while, and reads more where something came. What does not come holds up nobody who calls it off.
     fn read(&mut self) -> Option<Fed>
         requires asked { IsAsked self.old }
+        requires running { self.old.over ≡ false }
         requires committed { self.old.pending ≡ false }
         requires none { FindsLf (unread self.old.lines).bytes None }
         ensures { Goes K.Sink self.old result self.new }
@@ -227,7 +232,10 @@ impl<'a, S: Input + Drop, K: Sink + Drop> LineFeed<'a, S, K> {
         match self.lines.wait() {
             Ok(true) => self.fill(),
             Ok(false) => None,
-            Err(_) => Some(self.halt(Halt::Failed)),
+            Err(_) => {
+                self.halt = Some(Halt::Failed);
+                Some(Fed::End)
+            }
         }
     }
 

@@ -309,6 +309,7 @@ module _ {F L : Type 0} (hands : F → List Fed → F → Type 0) (waits : F →
           driven = all_done old mid handed n has.done;
           one = omega arith;
           waiting = λ task is. absurd (omega (arith, ap length is));
+          finished = λ none. refl;
           ended = λ is. stays over.1;
           shown = has.shown;
           count = has.count;
@@ -352,6 +353,7 @@ module _ {F L : Type 0} (hands : F → List Fed → F → Type 0) (waits : F →
           driven = stopped_at old mid has.handed n has.done new seat task turn due how does stop;
           one = omega arith;
           waiting = λ other is. subst (waits left) (ap (λ fs. get_or fs 0 task) is) waiting;
+          finished = λ none. absurd (omega (arith, ap length none));
           ended = λ is. absurd (not_done new.know new.number task [] how (stop []) is);
           shown = has.shown;
           count = has.count ∙ ap flushes_of (sym (append-nil has.handed));

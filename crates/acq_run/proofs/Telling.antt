@@ -13,6 +13,7 @@ use Rattle.acq_run.specs.Workers.{driven_of}
 use Rattle.acq_run.specs.Ran.{AllHeard, Ran, seen_by}
 use Rattle.acq_feed.specs.declared.feed.Fed.{Fed}
 use Rattle.acq_run.specs.declared.work.Driven.{Driven}
+use Rattle.acq_run.specs.declared.work.Ended.TheVariants.{Done}
 use Rattle.acq_run.specs.declared.work.Worker.{Worker}
 use Rattle.acq_run.proofs.Gathering.{AllDriven, AllSaw, HaveWorked, all_saw, done_of, feeds_of, followers_of, handed_in, handed_of, ran_of, rest_of, seats_of}
 use Rattle.acq_run.proofs.Owning.{done_same, ran_same, rest_same}
@@ -23,7 +24,7 @@ module _ {F L : Type 0} (hands : F → List Fed → F → Type 0) (waits : F →
     abbrev Told : ℕ → List Sample → List Fed → Driven → F → L → L → Type 0
     Told number seen feds driven feed first last =
         (ran : Ran owners book number seen feds driven) × (length ran.rest ≤ 1) × ((task : Fed) → ran.rest ≡ task ∷ [] → waits feed task)
-        × (shown : List ℕ) × (length shown ≡ flushes_of ran.done) × hears first shown last
+        × (ran.rest ≡ [] → driven.ended ≡ Done) × (shown : List ℕ) × (length shown ≡ flushes_of ran.done) × hears first shown last
 
     one_heard : (number : ℕ) (old new : Worker F L) → Closed basis book new.seat
         → (worked : HasWorked hands waits ends hears (new_seat table basis number) new.seat new.accepted new.ended old.feed new.feed old.follower new.follower)
@@ -35,6 +36,7 @@ module _ {F L : Type 0} (hands : F → List Fed → F → Type 0) (waits : F →
           ran_same basis.owners owners alike number book new.seat.know.seen worked.handed (driven_of new) ran,
           omega (arith, worked.one, ap length rest_is),
           (λ task is. worked.waiting task (sym rest_is ∙ is)),
+          (λ none. worked.finished (sym rest_is ∙ none)),
           worked.shown,
           worked.count ∙ sym (ap flushes_of (done_same basis.owners owners alike number book new.seat.know.seen worked.handed (driven_of new) ran
               ∙ done_of basis book terms table number new.seat closed worked.handed new.accepted new.ended worked.driven)),

@@ -57,14 +57,14 @@ AllRan owners book seen source (feds ∷ feeds) (driven ∷ all) =
     Ran owners book source (slice_index_or seen source []) feds driven × AllRan owners book seen (suc source) feeds all
 AllRan owners book seen source _ _ = ⊥
 
--- So have they: of what each feed handed in all was done but the last at most, for which the feed waits that is left; and from each
--- follower to what came of it it was told of each flush that was done of its source, and how many samples were shown at it.
+-- So have they: of what each feed handed in all was done but the last at most, for which the feed waits that is left, and where all was it has done all
+-- that there is; and from each follower to what came of it it was told of each flush that was done of its source, and how many samples were shown at it.
 abbrev pub AllHeard : {D V F L : Type 0} → (F → Fed → Type 0) → (L → List ℕ → L → Type 0) → List ℕ → Account D V → List (List Sample) → ℕ → List (List Fed) → List Driven → List F
     → List L → List L → Type 0
 AllHeard waits hears owners book seen source [] [] [] [] [] = Unit {0}
 AllHeard waits hears owners book seen source (feds ∷ handed) (driven ∷ all) (feed ∷ feeds) (first ∷ followers) (last ∷ followers') =
     ((ran : Ran owners book source (slice_index_or seen source []) feds driven) × (length ran.rest ≤ 1) × ((task : Fed) → ran.rest ≡ task ∷ [] → waits feed task)
-    × (shown : List ℕ) × (length shown ≡ flushes_of ran.done) × hears first shown last)
+    × (ran.rest ≡ [] → driven.ended ≡ Done) × (shown : List ℕ) × (length shown ≡ flushes_of ran.done) × hears first shown last)
     × AllHeard waits hears owners book seen (suc source) handed all feeds followers followers'
 AllHeard waits hears owners book seen source _ _ _ _ _ = ⊥
 

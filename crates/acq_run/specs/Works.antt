@@ -176,6 +176,7 @@ pub record HasWorked {F L : Type 0} (hands : F → List Fed → F → Type 0) (w
   pub driven : HasDriven old new handed accepted how
   pub one : length driven.drives.rest ≤ 1
   pub waiting : (task : Fed) → driven.drives.rest ≡ task ∷ [] → waits feed' task
+  pub finished : driven.drives.rest ≡ [] → how ≡ Done
   pub ended : how ≡ Done → ends feed'
   pub shown : List ℕ
   pub count : length shown ≡ flushes_of driven.drives.done

@@ -2,7 +2,5 @@
 #![tactic(auto)]
 
 mod disks;
-mod memory;
 
 pub use disks::Disks;
-pub use memory::MemoryDisks;

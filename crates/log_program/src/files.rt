@@ -22,11 +22,11 @@ impl<'a, R> FileDisks<'a, R> {
 impl<'a, R: Files<File = File> + Eprint + Sync> Disks for FileDisks<'a, R> {
     type Disk = FileDisk<SystemFile<'a, R>>;
 
-    ghost serves = { λ _ _ _ _. Unit {0} };
+    ghost serves = { λ _ _ _. Unit {0} };
 
     ghost serves_none = { λ _. tt };
 
-    ghost serves_more = { λ _ _ _ _ _ _ _ _ _. tt };
+    ghost serves_more = { λ _ _ _ _ _ _ _. tt };
 
     fn next(&mut self) -> FileDisk<SystemFile<'a, R>> {
         FileDisk::new(self.rt)

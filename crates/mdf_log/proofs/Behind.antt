@@ -6,9 +6,10 @@ use Rattle.std.proofs.lemmas.List.Elements.{All-append}
 use Rattle.book_owned.specs.Marks.{durable}
 use Rattle.acq_script.specs.declared.script.Plan.{Plan}
 use Rattle.mdf_command.specs.Texts.{numbered}
+use Rattle.log_disks.specs.Served.{Served, handed_out, taken_back}
 use Rattle.mdf_rotate.specs.Rotate.{recorded_in}
 use Rattle.mdf_rotate.specs.Text.{Recording, part_line}
-use Rattle.mdf_log.specs.Parts.{AreParts, IsPart, Part, durable_count, recordings_of, sample_count}
+use Rattle.mdf_log.specs.Parts.{AreParts, IsPart, Part, durable_count, recordings_of, sample_count, served_by, served_of}
 
 -- what stands at a place of a list with one more at its end
 at_end : {A : Type 0} (xs : List A) (x : A) (k : ℕ) (y : A) → slice_get (xs ++ x ∷ []) k ≡ Some y → (slice_get xs k ≡ Some y) ⊎ ((k ≡ length xs) × (x ≡ y))
@@ -23,6 +24,11 @@ parts_behind plan output now parts part number place each one k other is = ⊎_e
     (λ there. each k other there)
     (λ last. subst (λ (p : Part). IsPart plan output now k p) last.1 (subst (λ (n : ℕ). IsPart plan output now n part) (place ∙ sym last.0) one))
     (at_end parts part k other is)
+
+-- what was done with the disks
+pub served_behind : (parts : List Part) (part : Part) → served_by (parts ++ part ∷ []) ≡ served_by parts ++ served_of part
+served_behind [] part = refl
+served_behind (first ∷ parts) part = ap (λ (rest : List Served). handed_out first.disk ∷ taken_back first.left.disk ∷ rest) (served_behind parts part)
 
 pub map_behind : {A B : Type 0} (f : A → B) (xs : List A) (x : A) → map f (xs ++ x ∷ []) ≡ map f xs ++ f x ∷ []
 map_behind f xs x = map-append f xs (x ∷ [])

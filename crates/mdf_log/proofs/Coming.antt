@@ -50,6 +50,7 @@ module _ (plan : Plan) (earlier faults : ℕ) (later : earlier ≤ faults) (left
     parts = taken.parts;
     one = taken.one;
     waiting = taken.waiting;
+    finished = taken.finished;
     own = taken.own;
     counted = taken.counted;
     marked = taken.marked;

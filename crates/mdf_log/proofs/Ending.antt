@@ -1,5 +1,5 @@
 -- How a source ends behind the last part of a log.
-use Rattle.std.proofs.Common.{◌≡◌, ◌≢◌, ◌≤◌, ◌+◌, ◌∙◌, ℕ, zero, suc, Bool, true, false, List, [], ◌∷◌, ◌++◌, length, All, Option, Some, None, refl, sym, ap, subst, inl, inr, ⊎_elim, arith, append-nil}
+use Rattle.std.proofs.Common.{◌≡◌, ◌≢◌, ◌≤◌, ◌+◌, ◌-◌, ◌^◌, ◌∙◌, ℕ, zero, suc, Bool, true, false, List, [], ◌∷◌, ◌++◌, length, All, Option, Some, None, refl, sym, ap, subst, inl, inr, ⊎_elim, arith, append-nil, length-append}
 use Rattle.std.specs.Prelude.{◌⊎◌, IfSome}
 use Rattle.std.specs.Option.{option_to_list}
 use Rattle.std.specs.Io.KnownBytes.{Consumes, IsAtEnd}
@@ -14,10 +14,11 @@ use Rattle.acq_feed.specs.declared.feed.Fed.{Fed}
 use Rattle.acq_feed.specs.declared.feed.Fed.TheVariants as fed
 use Rattle.acq_live.specs.Act.{pending_behind, read_in}
 use Rattle.acq_live.specs.Handled.{Handled, HaltsAt, IsFresh, Stops, Waits}
-use Rattle.acq_live.specs.Rules.{rules_of}
+use Rattle.acq_live.specs.Rules.{Rules, rules_of}
 use Rattle.acq_live.specs.Said.{said_in}
 use Rattle.acq_live.specs.Spot.{Fixed, Spot, fixed, spot}
 use Rattle.acq_live.specs.Steps.{tells_more}
+use Rattle.acq_live.specs.Told.{TellsOn}
 use Rattle.acq_live.specs.declared.feed.Halt.{Halt}
 use Rattle.acq_live.specs.declared.feed.Halt.TheVariants as halts
 use Rattle.acq_live.specs.declared.feed.LineFeed.{LineFeed}
@@ -27,6 +28,7 @@ use Rattle.mdf_command.specs.declared.fault.Fault.{Fault}
 use Rattle.mdf_command.specs.declared.fault.Fault.TheVariants as fault_
 use Rattle.log_setup.specs.Setup.{rules_in}
 use Rattle.log_report.specs.declared.end.SourceEnd.{SourceEnd}
+use Rattle.log_report.specs.declared.end.Stop.TheVariants as stops
 use Rattle.mdf_log.specs.Course.{HasEnded, HasLeft, is_calm, last_of, stop_of}
 use Rattle.mdf_log.specs.Logged.{EndsWith, HaltsBy, IsDurableAmong, IsLogged, StopsBy, in_order}
 use Rattle.mdf_log.specs.Parts.{Part}
@@ -54,41 +56,25 @@ flushes_more n (fed.Sample sample ∷ some) more =
 flushes_more n (fed.Flush ∷ some) more = ap (λ (rest : List ℕ). n ∷ rest) (flushes_more n some more)
 flushes_more n (fed.End ∷ some) more = flushes_more n some more
 
--- how many of these flushes it was told of
-record HasHeard (done : List Fed) (numbers : List ℕ) (all : Bool) : Type 0 where
-  pub untold : List ℕ
-  pub flushes : numbers ++ untold ≡ flushes_behind 0 done
-  pub few : length untold ≤ 1
-  pub none : all ≡ true → untold ≡ []
-
-heard_all : (done : List Fed) (numbers : List ℕ) (all : Bool) → numbers ≡ flushes_behind 0 done → HasHeard done numbers all
-heard_all done numbers all is = record { untold = []; flushes = append-nil numbers ∙ is; few = omega arith; none = λ whole. refl }
-
--- It was told of each flush that was done: of none that was refused, and where the disk did not fail none that was done is left to be told.
-told_numbers : (done rest : List Fed) (numbers : List ℕ) (flushed : Option ℕ) (all : Bool) → length rest ≤ 1
-    → (all ≡ true → rest ≡ [] → flushed ≡ None)
+-- It was told of each flush that was done, and of none that was not.
+told_numbers : (done rest : List Fed) (numbers : List ℕ) (flushed : Option ℕ) → length rest ≤ 1
+    → (rest ≡ [] → flushed ≡ None)
     → ((sample : _) → rest ≡ fed.Sample sample ∷ [] → flushed ≡ None)
     → (rest ≡ fed.Flush ∷ [] → (n : ℕ) × (flushed ≡ Some n))
     → (rest ≡ fed.End ∷ [] → ⊥)
     → numbers ++ option_to_list flushed ≡ flushes_behind 0 (done ++ rest)
-    → HasHeard done numbers all
-told_numbers done [] numbers None all one none sample flush end told =
-    heard_all done numbers all (sym (append-nil numbers) ∙ told ∙ ap (flushes_behind 0) (append-nil done))
-told_numbers done [] numbers (Some n) all one none sample flush end told = record {
-  untold = n ∷ [];
-  flushes = told ∙ ap (flushes_behind 0) (append-nil done);
-  few = omega arith;
-  none = λ whole. let no : Some n ≡ None = none whole refl in absurd (cc no);
-}
-told_numbers done (fed.Sample s ∷ []) numbers flushed all one none sample flush end told =
-    heard_all done numbers all (sym (append-nil numbers) ∙ ap (λ (f : Option ℕ). numbers ++ option_to_list f) (sym (sample s refl)) ∙ told
-    ∙ flushes_more 0 done (fed.Sample s ∷ []) ∙ append-nil (flushes_behind 0 done))
-told_numbers done (fed.Flush ∷ []) numbers flushed all one none sample flush end told =
+    → numbers ≡ flushes_behind 0 done
+told_numbers done [] numbers flushed one none sample flush end told =
+    sym (append-nil numbers) ∙ ap (λ (f : Option ℕ). numbers ++ option_to_list f) (sym (none refl)) ∙ told ∙ ap (flushes_behind 0) (append-nil done)
+told_numbers done (fed.Sample s ∷ []) numbers flushed one none sample flush end told =
+    sym (append-nil numbers) ∙ ap (λ (f : Option ℕ). numbers ++ option_to_list f) (sym (sample s refl)) ∙ told
+    ∙ flushes_more 0 done (fed.Sample s ∷ []) ∙ append-nil (flushes_behind 0 done)
+told_numbers done (fed.Flush ∷ []) numbers flushed one none sample flush end told =
     let some = flush refl in
-    heard_all done numbers all (last_off numbers (flushes_behind 0 done) some.0 (0 + length (samples_of done))
-    (ap (λ (f : Option ℕ). numbers ++ option_to_list f) (sym some.1) ∙ told ∙ flushes_more 0 done (fed.Flush ∷ [])))
-told_numbers done (fed.End ∷ []) numbers flushed all one none sample flush end told = absurd (end refl)
-told_numbers done (a ∷ b ∷ rest) numbers flushed all one none sample flush end told = absurd (omega (arith, one))
+    last_off numbers (flushes_behind 0 done) some.0 (0 + length (samples_of done))
+    (ap (λ (f : Option ℕ). numbers ++ option_to_list f) (sym some.1) ∙ told ∙ flushes_more 0 done (fed.Flush ∷ []))
+told_numbers done (fed.End ∷ []) numbers flushed one none sample flush end told = absurd (end refl)
+told_numbers done (a ∷ b ∷ rest) numbers flushed one none sample flush end told = absurd (omega (arith, one))
 
 -- Where no sample is left that no flush stands behind, the last flush stands behind all of them, or there is none of either.
 ends_from : (n : ℕ) (pending : Bool) (feds : List Fed) → pending_behind pending feds ≡ false
@@ -122,6 +108,22 @@ last_all P None true (suc n) is (suc k) d within = absurd (omega (arith, within)
 last_all P None false n is k d within = absurd (omega (arith, within))
 last_all P (Some halt) calm n is k d within = absurd (omega (arith, within))
 
+last_so : (halt : Option Halt) (calm : Bool) (n : ℕ) → (last_of halt calm n ≡ []) ⊎ ((halt ≡ None) × (last_of halt calm n ≡ n ∷ []))
+last_so None true zero = inl refl
+last_so None true (suc n) = inr (refl, refl)
+last_so None false n = inl refl
+last_so (Some halt) calm n = inl refl
+
+-- why a feed halted that stopped so
+stopped_by : (halt : Option Halt) (why : Halt) → stop_of halt ≡ stops.Halted why → halt ≡ Some why
+stopped_by None why is = absurd (cc is)
+stopped_by (Some halt) why is = cc
+
+-- each line says one thing
+said_length : (rules : Rules) (number : ℕ) (lines : List (Option (List ℕ))) → length (said_in rules number lines) ≡ length lines
+said_length rules number [] = refl
+said_length rules number (line ∷ lines) = ap suc (said_length rules number lines)
+
 last_some : (n : ℕ) → n ≢ 0 → last_of None true n ≡ n ∷ []
 last_some zero some = absurd (some refl)
 last_some (suc n) some = refl
@@ -136,7 +138,8 @@ module _ {S K : Type 0} {tells : source.Ghosts S} (holds : sink.Ghosts K) (plan 
     (rules : LineRules) (ruled : rules_of rules ≡ rules_in plan) (input : S) (told : K) (first feed : LineFeed S K tells) (fresh : IsFresh holds rules source input told first)
     (accepted : ℕ) (ended : HasEnded holds plan now parts problem source first feed accepted) (end : SourceEnd) (tap : Tap S K)
     (left : HasLeft holds source feed accepted (is_calm problem) end tap)
-    (whole : is_calm problem ≡ true → accepted ≢ 0 → IsDurableAmong plan now parts source accepted) where
+    (whole : is_calm problem ≡ true → accepted ≢ 0 → IsDurableAmong plan now parts source accepted)
+    (called : feed.halt ≡ Some halts.Called → (problem ≢ None) ⊎ (length parts ≡ 2 ^ 64 - 1)) where
   abbrev pub old : TapState
   old = record { input = source_state tells input; told = sink_state holds told }
 
@@ -176,9 +179,8 @@ module _ {S K : Type 0} {tells : source.Ghosts S} (holds : sink.Ghosts K) (plan 
   stops_at : (halt : Halt) → feed.halt ≡ Some halt → Stops holds feed halt
   stops_at halt is = subst (λ (h : Option Halt). IfSome h (Stops holds feed)) is (ended.served.stops (subst (λ (h : Option Halt). IfSome h (Stops holds first)) (sym fresh.running) tt))
 
-  heard : HasHeard done handled.numbers (is_calm problem)
-  heard = told_numbers done ended.rest handled.numbers feed.flushed (is_calm problem) ended.one
-      (λ calm. ended.told (λ failed. let no : is_calm problem ≡ false = ap is_calm failed in absurd (cc (no, calm))))
+  heard : handled.numbers ≡ flushes_behind 0 done
+  heard = told_numbers done ended.rest handled.numbers feed.flushed ended.one ended.told
       (λ sample is. (ended.waiting (fed.Sample sample) is).1)
       (λ is. (feed.count, (ended.waiting fed.Flush is).1))
       (λ is. ended.waiting fed.End is)
@@ -193,19 +195,20 @@ module _ {S K : Type 0} {tells : source.Ghosts S} (holds : sink.Ghosts K) (plan 
     go (fed.End ∷ []) one waits = absurd (waits fed.End refl)
     go (a ∷ b ∷ rest) one waits = absurd (omega (arith, one))
 
-  halts_by : (halt : Halt) → HaltsAt at here halt → HaltsBy plan old new (said_in (rules_in plan) source handled.lines) here.unread halt
-  halts_by halts.Input cause = (subst (λ (s : SourceState). IsAtEnd s.left) (sym left.input_is) cause.0, cause.1)
-  halts_by halts.Line cause = sym handled.over_is ∙ cause
-  halts_by halts.Failed cause = subst (λ (s : SourceState). Rose (tells.faults input) s.faults) (sym left.input_is) cause
-  halts_by halts.Memory cause = cause
-  halts_by halts.Count cause = tt
-  halts_by halts.Called cause = tt
+  halts_by : (halt : Halt) → ended.rest ≡ [] → HaltsAt at here halt → HaltsBy plan old new (said_in (rules_in plan) source handled.lines) (length done) here.unread halt
+  halts_by halts.Input none cause = (subst (λ (s : SourceState). IsAtEnd s.left) (sym left.input_is) cause.0, cause.1)
+  halts_by halts.Line none cause = sym handled.over_is ∙ cause
+  halts_by halts.Failed none cause = (subst (λ (s : SourceState). Rose (tells.faults input) s.faults) (sym left.input_is) cause.0, cause.1)
+  halts_by halts.Memory none cause = cause
+  halts_by halts.Count none cause =
+      omega (arith, cause, handled.most, said_length (rules_in plan) source handled.lines, length-append done ended.rest, ap length none)
+  halts_by halts.Called none cause = cause
 
-  stops_by : (halt : Option Halt) → feed.halt ≡ halt → StopsBy plan old new (said_in (rules_in plan) source handled.lines) here.unread ended.rest problem (stop_of halt)
+  stops_by : (halt : Option Halt) → feed.halt ≡ halt → StopsBy plan old new (said_in (rules_in plan) source handled.lines) (length done) here.unread ended.rest problem (stop_of halt)
   stops_by None is = (ended.one, λ none. let well = ended.well none in let some : feed.halt ≡ Some well.halt = well.halt_is in absurd (cc (some, is)))
   stops_by (Some halt) is = (
     none_left halt is,
-    halts_by halt (subst (λ (f : Fixed). HaltsAt f here halt) (ended.served.fixed_is ∙ first_at) (stops_at halt is).cause),
+    halts_by halt (none_left halt is) (subst (λ (f : Fixed). HaltsAt f here halt) (ended.served.fixed_is ∙ first_at) (stops_at halt is).cause),
   )
 
   ends_at : (halt : Option Halt) → feed.halt ≡ halt → is_calm problem ≡ true → accepted ≢ 0 → EndsWith (handled.numbers ++ last_of halt true accepted) accepted
@@ -214,19 +217,21 @@ module _ {S K : Type 0} {tells : source.Ghosts S} (holds : sink.Ghosts K) (plan 
       let committed : pending_behind false done ≡ false =
       ap (pending_behind false) (sym (append-nil done) ∙ ap (λ (rest : List Fed). done ++ rest) (sym (none_left halt is))) ∙ sym handled.pending_is ∙ (stops_at halt is).committed in
       let ends = ends_with done committed (λ none. some (ended.accepted_is ∙ none)) in
-      let all : handled.numbers ≡ flushes_behind 0 done = sym (append-nil handled.numbers) ∙ ap (λ (rest : List ℕ). handled.numbers ++ rest) (sym (heard.none calm)) ∙ heard.flushes in
-      (ends.0, append-nil handled.numbers ∙ all ∙ ends.1 ∙ ap (λ (n : ℕ). ends.0 ++ n ∷ []) (sym ended.accepted_is))
+      (ends.0, append-nil handled.numbers ∙ heard ∙ ends.1 ∙ ap (λ (n : ℕ). ends.0 ++ n ∷ []) (sym ended.accepted_is))
 
-  told_all : problem ≢ Some fault_.Device → end.accepted ≢ 0 → EndsWith (handled.numbers ++ last_of feed.halt (is_calm problem) accepted) end.accepted
+  told_all : problem ≢ Some fault_.Device → end.accepted ≢ 0 → EndsWith (flushes_behind 0 done ++ last_of feed.halt (is_calm problem) accepted) end.accepted
   told_all other some =
-      subst (λ (n : ℕ). EndsWith (handled.numbers ++ last_of feed.halt (is_calm problem) accepted) n) (sym left.accepted_is)
+      subst (λ (numbers : List ℕ). EndsWith (numbers ++ last_of feed.halt (is_calm problem) accepted) end.accepted) heard
+      (subst (λ (n : ℕ). EndsWith (handled.numbers ++ last_of feed.halt (is_calm problem) accepted) n) (sym left.accepted_is)
       (subst (λ (calm : Bool). EndsWith (handled.numbers ++ last_of feed.halt calm accepted) accepted) (sym (calm_of problem other))
-      (ends_at feed.halt refl (calm_of problem other) (λ none. some (left.accepted_is ∙ none))))
+      (ends_at feed.halt refl (calm_of problem other) (λ none. some (left.accepted_is ∙ none)))))
 
   pub logged : IsLogged plan now parts problem source old new end
   logged = record {
-    acts = handled.acts;
+    bytes = read_in handled.acts;
     taken = subst (λ (s : SourceState). Consumes (tells.left input) s.left (read_in handled.acts)) (sym left.input_is) handled.taken;
+    calm = λ other. ap (λ (s : SourceState). s.faults) left.input_is ∙ ended.served.calm (λ failed. other (left.stop_is ∙ ap stop_of failed))
+        ∙ ap (λ (s : Spot). s.input.faults) fresh.spot_is;
     lines = handled.lines;
     rest = here.unread;
     reads = handled.reads;
@@ -234,20 +239,17 @@ module _ {S K : Type 0} {tells : source.Ghosts S} (holds : sink.Ghosts K) (plan 
     dones = ended.dones;
     did = ended.did;
     refused = ended.rest;
-    handed = handled.handed;
-    committed = handled.committed;
     says = handled.says;
     bad_is = omega (arith, left.bad_is, handled.bad_is);
     cut_is = left.cut_is;
     accepted_is = left.accepted_is ∙ ended.accepted_is;
-    stopped = subst (StopsBy plan old new (said_in (rules_in plan) source handled.lines) here.unread ended.rest problem) (sym left.stop_is) (stops_by feed.halt refl);
-    numbers = handled.numbers;
-    untold = heard.untold;
-    flushes = heard.flushes;
-    few = heard.few;
-    none = λ other. heard.none (calm_of problem other);
+    stopped = subst (StopsBy plan old new (said_in (rules_in plan) source handled.lines) (length done) here.unread ended.rest problem) (sym left.stop_is) (stops_by feed.halt refl);
+    called = λ is. called (stopped_by feed.halt halts.Called (sym left.stop_is ∙ is));
     last = last_of feed.halt (is_calm problem) accepted;
-    told = tells_more source false here.deaf end.deaf old.told here.told new.told handled.numbers (last_of feed.halt (is_calm problem) accepted) handled.told left.told;
+    last_is = ⊎_elim (λ is. inl is) (λ is. inr (left.stop_is ∙ ap stop_of is.0, is.1 ∙ ap (λ (n : ℕ). n ∷ []) (sym left.accepted_is)))
+        (last_so feed.halt (is_calm problem) accepted);
+    told = subst (λ (numbers : List ℕ). TellsOn false end.deaf old.told new.told source (numbers ++ last_of feed.halt (is_calm problem) accepted)) heard
+        (tells_more source false here.deaf end.deaf old.told here.told new.told handled.numbers (last_of feed.halt (is_calm problem) accepted) handled.told left.told);
     durable = All-append (IsDurableAmong plan now parts source) (flushes_behind 0 done) (last_of feed.halt (is_calm problem) accepted) ended.durable
         (last_all (IsDurableAmong plan now parts source) feed.halt (is_calm problem) accepted whole);
     told_all = told_all;

@@ -1,5 +1,7 @@
 -- How a log goes on by one part.
-use Rattle.std.proofs.Common.{◌≡◌, ◌≤◌, ◌<◌, ◌+◌, ◌-◌, ◌^◌, ◌∙◌, ℕ, suc, Bool, true, List, [], ◌∷◌, ◌++◌, length, map, get_or, All, Option, refl, sym, ap, subst, ⊎_elim, arith, length-append}
+use Rattle.std.proofs.Common.{◌≡◌, ◌≢◌, ◌≤◌, ◌<◌, ◌+◌, ◌-◌, ◌^◌, ◌∙◌, ℕ, zero, suc, Bool, true, false, List, [], ◌∷◌, ◌++◌, length, map, get_or, All, Option, Some, None, refl, sym, ap, subst, inl, inr, ⊎_elim, arith, length-append}
+use Rattle.std.specs.Prelude.{◌⊎◌, ◌||◌}
+use Rattle.std.specs.List.{list_any}
 use Rattle.std.proofs.lemmas.Bool.Decides.{leb_tells}
 use Rattle.mdf_disk.specs.State.{DiskState}
 use Rattle.mdf_port.specs.State.{SinkState}
@@ -14,6 +16,7 @@ use Rattle.acq_feed.specs.declared.feed.Fed.TheVariants as fed
 use Rattle.acq_live.specs.Handled.{Halts, Hands, Resumes, Serves, Waits}
 use Rattle.acq_live.specs.Rules.{MayCome, Rules}
 use Rattle.acq_live.specs.Spot.{Fixed, fixed, spot}
+use Rattle.acq_live.specs.declared.feed.Halt.TheVariants.{Called}
 use Rattle.acq_live.specs.declared.feed.LineFeed.{LineFeed}
 use Rattle.acq_run.specs.Ran.{AllEnded}
 use Rattle.acq_run.specs.Workers.{CanHand}
@@ -32,14 +35,15 @@ use Rattle.mdf_record.specs.declared.record.RecordEnd.{RecordEnd}
 use Rattle.mdf_record.specs.declared.record.RecordEnd.TheVariants.{Refused, Closed}
 use Rattle.mdf_rotate.specs.Text.{part_line}
 use Rattle.log_setup.specs.Setup.{rules_in}
-use Rattle.mdf_log.specs.Course.{AreRuled, ComeTo, HasEnded, HasGone, HasMoved, HasRun, HasServed, IsNextPart, IsRuled}
+use Rattle.log_disks.specs.Served.{Served}
+use Rattle.mdf_log.specs.Course.{AreRuled, ComeTo, HasEnded, HasGone, HasMoved, HasRun, HasServed, IsNextPart, IsRuled, is_called, is_called_off}
 use Rattle.mdf_log.specs.Durable.{IsDurableWhole}
 use Rattle.mdf_log.specs.Logged.{in_order}
 use Rattle.mdf_log.specs.Part.{PartComes}
-use Rattle.mdf_log.specs.Parts.{GoesOn, Part, durable_of, fault_of, lefts_of, recordings_of}
+use Rattle.mdf_log.specs.Parts.{Part, Precedes, durable_of, fault_of, lefts_of, recordings_of, served_by, served_of}
 use Rattle.mdf_log.specs.declared.parts.Course.{Course}
 use Rattle.mdf_log.specs.declared.tally.Tally.{Tally}
-use Rattle.mdf_log.proofs.Behind.{all_behind, durable_behind, lines_behind, map_behind, parts_behind, samples_behind}
+use Rattle.mdf_log.proofs.Behind.{all_behind, durable_behind, lines_behind, map_behind, parts_behind, samples_behind, served_behind}
 use Rattle.mdf_log.proofs.Moving.{Moves, handed_count}
 use Rattle.mdf_log.proofs.Serving.{has_ended, has_served}
 use Rattle.mdf_log.proofs.Totals.{hold_of, whole_of}
@@ -56,6 +60,15 @@ ended_count ends [] [] ended = refl
 ended_count ends [] (feed ∷ feeds) ended = absurd ended
 ended_count ends (driven ∷ all) [] ended = absurd ended
 ended_count ends (driven ∷ all) (feed ∷ feeds) ended = ap suc (ended_count ends all feeds ended.1)
+
+-- one of these is, by its place
+any_at : {A : Type 0} (test : A → Bool) (xs : List A) (k : ℕ) (d : A) → k < length xs → test (get_or xs k d) ≡ true → list_any test xs ≡ true
+any_at test [] k d less is = absurd (omega (arith, less))
+any_at test (x ∷ xs) zero d less is = ap (λ (one : Bool). one || list_any test xs) is
+any_at test (x ∷ xs) (suc k) d less is = or_second (test x) (list_any test xs) (any_at test xs k d (omega (arith, less)) is) where
+  or_second : (a b : Bool) → b ≡ true → (a || b) ≡ true
+  or_second true b is = refl
+  or_second false b is = is
 
 pub all_few : {F : Type 0} (hands : F → List Fed → F → Type 0) (waits : F → Fed → Type 0) (ends : F → Type 0) (plan : Plan) (name : List ℕ) (now : ℕ) (disk : DiskState) (left : Outcome) (feeds feeds' : List F)
     (all : List Driven) (end : RecordEnd) → PartComes hands waits ends plan name now disk left feeds feeds' all end → length all ≤ length feeds
@@ -129,22 +142,19 @@ module _ {S K : Type 0} {tells : source.Ghosts S} (holds : sink.Ghosts K) where
         waiting = moves.waiting;
         still = moves.still;
         well = moves.well;
-        left = λ on. moves.left_is on.full on.some;
+        left = λ on. ⊎_elim (λ full. moves.left_is full.full full.some) (λ well. inl (moves.all_done well, moves.well well)) on;
       }
 
   -- a log that went on by one part
-  module _ (plan : Plan) (output : List ℕ) (now : ℕ) (S0 S1 S2 : List DiskState → List DiskState → Type 0)
-      (serves_more : (begun more ended later : List DiskState) → S0 begun ended → S1 more later → S2 (begun ++ more) (ended ++ later))
+  module _ (plan : Plan) (output : List ℕ) (now : ℕ) (S0 S1 S2 : List Served → Type 0)
+      (serves_more : (some more : List Served) → S0 some → S1 more → S2 (some ++ more))
       (sink sink' sink'' : SinkState) (firsts : List (LineFeed S K tells)) (before behind : Course S K tells) (on : Bool)
       (gone : HasGone holds plan output now S0 sink sink' firsts before) (next : IsNextPart holds plan output now S1 sink' sink'' before behind on) where
     abbrev parts : List Part
     parts = gone.parts ++ next.part ∷ []
 
-    served_disks : S2 (map (λ part. part.disk) parts) (map (λ part. part.left.disk) parts)
-    served_disks =
-        subst (λ (begun : List DiskState). S2 begun (map (λ part. part.left.disk) parts)) (sym (map_behind (λ (part : Part). part.disk) gone.parts next.part))
-        (subst (λ (ended : List DiskState). S2 (map (λ part. part.disk) gone.parts ++ next.part.disk ∷ []) ended) (sym (map_behind (λ (part : Part). part.left.disk) gone.parts next.part))
-        (serves_more (map (λ part. part.disk) gone.parts) (next.part.disk ∷ []) (map (λ part. part.left.disk) gone.parts) (next.part.left.disk ∷ []) gone.come.serves next.serves))
+    served_disks : S2 (served_by parts)
+    served_disks = subst S2 (sym (served_behind gone.parts next.part)) (serves_more (served_by gone.parts) (served_of next.part) gone.come.serves next.serves)
 
     parts_count : behind.tally.parts ≡ length parts
     parts_count = omega (arith, next.parts, gone.come.parts_are, length-append gone.parts (next.part ∷ []))
@@ -171,16 +181,24 @@ module _ {S K : Type 0} {tells : source.Ghosts S} (holds : sink.Ghosts K) where
     less_before : (source : ℕ) → source < length firsts → source < length before.feeds.items
     less_before source less = omega (arith, less, gone.come.count)
 
+    -- where nothing went wrong in the last part no source was called off, but behind as many as can be numbered
+    called : (on ≡ true → behind.tally.parts ≡ 2 ^ 64 - 1) → (source : ℕ) (d : LineFeed S K tells) → source < length behind.feeds.items → (get_or behind.feeds.items source d).halt ≡ Some Called
+        → (problem : Option Fault) → behind.fault ≡ problem → (behind.fault ≢ None) ⊎ (length parts ≡ 2 ^ 64 - 1)
+    called stops source d less is (Some problem) has = inl (λ none. absurd (cc (has, none)))
+    called stops source d less is None has =
+        inr (sym parts_count ∙ stops (next.on_is.1 (inr (sym next.problem ∙ has, any_at is_called behind.feeds.items source d less (ap is_called_off is)))))
+
     -- behind the last part
     pub run : (on ≡ true → behind.tally.parts ≡ 2 ^ 64 - 1) → HasRun holds plan output now S2 sink sink'' firsts behind
     run stops = record {
       parts = parts;
       come = come behind refl refl refl;
       final = next.part;
-      follow = record { before = gone.parts; are = refl; full = gone.full; over = λ goes. sym parts_count ∙ stops (next.on_is.1 goes) };
+      follow = record { before = gone.parts; are = refl; full = gone.full; over = λ goes. sym parts_count ∙ stops (next.on_is.1 (inl goes)) };
       whole = gone.whole;
       problem = next.problem;
       live = next.live;
+      called = λ source d less is. called stops source d (omega (arith, less, next.count, gone.come.count)) is behind.fault refl;
       sources = λ source d n less.
           subst (λ (problem : Option Fault). HasEnded holds plan now parts problem source (get_or firsts source d) (get_or behind.feeds.items source d) (get_or behind.tally.accepted.items source n)) (sym next.problem)
           (has_ended plan now gone.parts next.part source gone.whole hold holds (get_or firsts source d) (get_or before.feeds.items source d) (get_or behind.feeds.items source d) (gone.running source d less)
@@ -192,11 +210,11 @@ module _ {S K : Type 0} {tells : source.Ghosts S} (holds : sink.Ghosts K) where
         → ((source : ℕ) (d : LineFeed S K tells) → source < length behind.feeds.items → Resumes holds (get_or behind.feeds.items source d) (get_or later.feeds.items source d))
         → HasGone holds plan output now S2 sink sink'' firsts later
     gone_on goes later tally given count resumes =
-        let full : GoesOn next.part = next.on_is.0 goes in
+        let full : Precedes next.part = ⊎_elim (λ on. inl on) (λ well. inr well.0) (next.on_is.0 goes) in
         record {
           parts = parts;
           come = come later tally given count;
-          full = all_behind GoesOn gone.parts next.part gone.full full;
+          full = all_behind Precedes gone.parts next.part gone.full full;
           whole = subst (All (IsDurableWhole plan (head_file plan.form now plan.rows))) (sym (map_behind (λ (part : Part). part.left) gone.parts next.part))
               (all_behind (IsDurableWhole plan (head_file plan.form now plan.rows)) (lefts_of gone.parts) next.part.left gone.whole
               (whole_of plan output now before.tally.parts next.part next.is_part full));
@@ -209,7 +227,7 @@ module _ {S K : Type 0} {tells : source.Ghosts S} (holds : sink.Ghosts K) where
         }
 
   -- the feeds of a log that goes on are of its plan as the first were
-  pub still_ruled : (plan : Plan) (output : List ℕ) (now : ℕ) (S0 : List DiskState → List DiskState → Type 0) (sink sink' : SinkState) (firsts : List (LineFeed S K tells)) (course : Course S K tells)
+  pub still_ruled : (plan : Plan) (output : List ℕ) (now : ℕ) (S0 : List Served → Type 0) (sink sink' : SinkState) (firsts : List (LineFeed S K tells)) (course : Course S K tells)
       → AreRuled plan firsts → HasGone holds plan output now S0 sink sink' firsts course → AreRuled plan course.feeds.items
   still_ruled plan output now S0 sink sink' firsts course ruled gone source d less =
       let at : source < length firsts = omega (arith, less, gone.come.count) in

@@ -37,8 +37,9 @@ pub record Moves {F : Type 0} (hands : F → List Fed → F → Type 0) (waits :
   pub counted : source < length all → (get_or all source driven).accepted ≡ length (samples_of done)
   pub uncounted : length all ≤ source → done ≡ []
   pub waiting : (task : Fed) → rest ≡ task ∷ [] → waits new task
-  pub still : fault_of end ≢ Some fault.Device → rest ≡ [] → ends new ⊎ (new ≡ old)
+  pub still : rest ≡ [] → ends new ⊎ (new ≡ old)
   pub well : fault_of end ≡ None → ends new
+  pub all_done : fault_of end ≡ None → rest ≡ []
   pub left_is : is_full (fault_of end) ≡ true → 0 < length left.history → ((rest ≡ []) × ends new) ⊎ ((sample : Sample) × (rest ≡ fed.Sample sample ∷ []))
 
 some_is : (list feds : List Fed) → Some list ≡ Some feds → list ≡ feds
@@ -108,6 +109,10 @@ closed_well (Refused problem) well = absurd (some_none well) where
   some_none is = cc
 closed_well (Closed accepted samples last live problem seen) well = well
 
+closed_other : (end : RecordEnd) → fault_of end ≡ None → IsClosedWith (λ problem. problem ≡ Some fault.Memory → ⊥) end
+closed_other (Refused problem) well = absurd (cc well)
+closed_other (Closed accepted samples last live problem seen) well = λ memory. absurd (cc (well, memory))
+
 pub full_calm : (problem : Option Fault) → is_full problem ≡ true → problem ≡ Some fault.Device → ⊥
 full_calm problem full is = false_true (subst (λ p. is_full p ≡ true) is full) where
   false_true : false ≡ true → ⊥
@@ -126,16 +131,6 @@ left_of ends plan faults left seen rest new (work.SessionFull held size limit) o
 left_of ends plan faults left seen rest new (work.Stopped mark) one ended had at = absurd had
 left_of ends plan faults left seen rest new (work.DiskFault before after) one ended had at = absurd had
 left_of ends plan faults left seen rest new work.Memory one ended had at = inr (at.sample, alone rest at.next.later at.sample one at.next.rest_is)
-
--- nothing more comes of one of which nothing is left
-ended_of : {F : Type 0} (ends : F → Type 0) (plan : Plan) (faults : ℕ) (left : Outcome) (seen : List Sample) (rest : List Fed) (new : F) (how : Ended) → rest ≡ []
-    → (how ≡ work.Done → ends new) → HadDisk how → EndsAt plan faults left seen rest how → ends new
-ended_of ends plan faults left seen rest new work.Running none ended had at = absurd at
-ended_of ends plan faults left seen rest new work.Done none ended had at = ended refl
-ended_of ends plan faults left seen rest new (work.SessionFull held size limit) none ended had at = absurd (not_some (fed.Sample at.sample) at.next.later (sym none ∙ at.next.rest_is))
-ended_of ends plan faults left seen rest new (work.Stopped mark) none ended had at = absurd had
-ended_of ends plan faults left seen rest new (work.DiskFault before after) none ended had at = absurd had
-ended_of ends plan faults left seen rest new work.Memory none ended had at = absurd (not_some (fed.Sample at.sample) at.next.later (sym none ∙ at.next.rest_is))
 
 module _ {F : Type 0} (hands : F → List Fed → F → Type 0) (waits : F → Fed → Type 0) (ends : F → Type 0) (plan : Plan) (name : List ℕ) (now : ℕ) (disk : DiskState) (left : Outcome) (feeds feeds' : List F)
     (all : List Driven) (end : RecordEnd) (part : PartComes hands waits ends plan name now disk left feeds feeds' all end) where
@@ -163,8 +158,9 @@ module _ {F : Type 0} (hands : F → List Fed → F → Type 0) (waits : F → F
         counted = λ within. absurd (omega (arith, within, ap length idle.none));
         uncounted = λ past. refl;
         waiting = λ task is. absurd (not_some task [] is);
-        still = λ calm none. inr (ap (λ fs. get_or fs k d) idle.same);
-        well = λ well. absurd (idle.short (closed_well end well));
+        still = λ none. inr (ap (λ fs. get_or fs k d) idle.same);
+        well = λ well. absurd (idle.short (closed_other end well));
+        all_done = λ well. refl;
         left_is = λ full some. absurd (omega (arith, some, ap length idle.empty));
       }
 
@@ -188,9 +184,9 @@ module _ {F : Type 0} (hands : F → List Fed → F → Type 0) (waits : F → F
         counted = λ there. taken.counted;
         uncounted = λ past. absurd (omega (arith, past, worked.0));
         waiting = taken.waiting;
-        still = λ calm none. inl (ended_of ends plan disk.faults left taken.seen taken.rest (get_or feeds' k d) (get_or all k driven).ended none done
-            (have.calm (closed_calm end calm have.begun) k driven worked.0) taken.ends);
+        still = λ none. inl (done (taken.finished none));
         well = λ well. done (have.well (closed_well end well) k driven worked.0);
+        all_done = λ well. subst (λ (how : Ended). EndsAt plan disk.faults left taken.seen taken.rest how) (have.well (closed_well end well) k driven worked.0) taken.ends;
         left_is = λ full some. left_of ends plan disk.faults left taken.seen taken.rest (get_or feeds' k d) (get_or all k driven).ended taken.one done
             (have.calm (closed_calm end (full_calm (fault_of end) full) have.begun) k driven worked.0) taken.ends;
       }

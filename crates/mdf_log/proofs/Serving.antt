@@ -23,7 +23,7 @@ use Rattle.mdf_command.specs.declared.fault.Fault.{Fault}
 use Rattle.mdf_log.specs.Course.{HasEnded, HasMoved, HasServed}
 use Rattle.mdf_log.specs.Durable.{IsDurableWhole, history_of}
 use Rattle.mdf_log.specs.Logged.{DidIn, IsDurableAmong, in_order}
-use Rattle.mdf_log.specs.Parts.{GoesOn, Part, fault_of, lefts_of}
+use Rattle.mdf_log.specs.Parts.{Part, Precedes, fault_of, lefts_of}
 use Rattle.mdf_log.proofs.Durable.{told_durable}
 
 -- the samples of what was handed in in two steps
@@ -129,7 +129,7 @@ module _ (plan : Plan) (now : ℕ) (parts : List Part) (part : Part) (number : �
       served = subst (λ feds. Serves holds first feds new)
           (sym (append_assoc (in_order so_far.dones) moved.done moved.did.rest) ∙ ap (λ (feds : List Fed). feds ++ moved.did.rest) (sym (in_order_behind so_far.dones moved.done))) serves_all;
       waiting = moved.waiting;
-      told = λ calm none. ⊎_elim halted_told (λ same. ap (λ (f : LineFeed S K tells). f.flushed) same ∙ so_far.told) (moved.still (λ failed. calm (is ∙ failed)) none);
+      told = λ none. ⊎_elim halted_told (λ same. ap (λ (f : LineFeed S K tells). f.flushed) same ∙ so_far.told) (moved.still none);
       well = λ well. moved.well (sym is ∙ well);
       accepted_is = accepted_is;
       durable = durable;
@@ -165,7 +165,7 @@ module _ (plan : Plan) (now : ℕ) (parts : List Part) (part : Part) (number : �
           back.1 ∙ waits.1,
         )
 
-    pub has_served : (next : LineFeed S K tells) → GoesOn part → Resumes holds new next → HasServed holds plan now (parts ++ part ∷ []) number first next behind
+    pub has_served : (next : LineFeed S K tells) → Precedes part → Resumes holds new next → HasServed holds plan now (parts ++ part ∷ []) number first next behind
     has_served next goes resumes =
         let both = ⊎_elim (λ (whole : (moved.did.rest ≡ []) × Halts new). resumed_whole next resumes whole.0 whole.1)
         (λ (back : (sample : Sample) × (moved.did.rest ≡ fed.Sample sample ∷ [])). resumed_back next resumes back.0 back.1) (moved.left goes) in

@@ -2,7 +2,6 @@
 use Rattle.std.proofs.Common.{◌≡◌, ◌<◌, ◌∙◌, ℕ, zero, suc, List, [], ◌∷◌, length, get_or, slice_get, Some, Ok, refl, sym, ap, inl, inr, ⊎_elim, arith}
 use Rattle.std.specs.Prelude.{replicate}
 use Rattle.std.proofs.lemmas.List.Elements.{All-nil}
-use Rattle.mdf_disk.specs.State.{DiskState}
 use Rattle.mdf_port.specs.State.{SinkState}
 use Rattle.mdf_port.proofs.Streams.{appends_none}
 use Rattle.mdf_port.specs.declared.source.Source as source
@@ -19,10 +18,11 @@ use Rattle.mdf_command.specs.declared.fault.Fault.{Fault}
 use Rattle.log_setup.specs.Setup.{rules_in}
 use Rattle.log_report.specs.declared.end.LogEnd.{LogEnd}
 use Rattle.log_report.specs.declared.end.LogEnd.TheVariants.{Closed, Inputs, Refused}
+use Rattle.log_disks.specs.Served.{Served}
 use Rattle.mdf_log.specs.Course.{AreFresh, AreRuled, HasGone}
 use Rattle.mdf_log.specs.Durable.{IsDurableWhole}
 use Rattle.mdf_log.specs.Logged.{IsDurableAmong, LogComes, LogRuns}
-use Rattle.mdf_log.specs.Parts.{GoesOn, Part}
+use Rattle.mdf_log.specs.Parts.{Part, Precedes}
 use Rattle.mdf_log.specs.Tally.{IsNone}
 use Rattle.mdf_log.specs.Tap.{TapState, tap_states}
 use Rattle.mdf_log.specs.declared.parts.Course.{Course}
@@ -62,7 +62,7 @@ module _ {S K : Type 0} {tells : source.Ghosts S} (holds : sink.Ghosts K) (plan 
   }
 
   -- no part was recorded yet
-  pub gone_none : (output : List ℕ) (now : ℕ) (Serves : List DiskState → List DiskState → Type 0) → Serves [] [] → (told : SinkState) (course : Course S K tells) → course.feeds.items ≡ feeds
+  pub gone_none : (output : List ℕ) (now : ℕ) (Serves : List Served → Type 0) → Serves [] → (told : SinkState) (course : Course S K tells) → course.feeds.items ≡ feeds
       → IsNone (length taps) course.tally → course.given ≡ Ok tt → HasGone holds plan output now Serves told told feeds course
   gone_none output now Serves serves told course same none given = record {
     parts = [];
@@ -76,7 +76,7 @@ module _ {S K : Type 0} {tells : source.Ghosts S} (holds : sink.Ghosts K) (plan 
       count = ap length same;
       counts = ap length none.accepted ∙ long (length taps) ∙ sym count;
     };
-    full = All-nil GoesOn;
+    full = All-nil Precedes;
     whole = All-nil (IsDurableWhole plan (head_file plan.form now plan.rows));
     running = λ number d less. (fresh_at number d less).1.running;
     sources = λ number d n less.
@@ -108,7 +108,7 @@ comes_as Says Says' Refuses Refuses' says refuses output now parts olds news (In
   same = comes.same;
 }
 comes_as Says Says' Refuses Refuses' says refuses output now parts olds news (Refused problem) comes = record {
-  comes = ⊎_elim (λ refused. inl (refuses problem refused)) (λ memory. inr memory) comes.comes;
+  comes = ⊎_elim (λ refused. inl (refuses problem refused)) (λ memory. inr (memory.0, memory.1, says memory.1 memory.2, memory.3)) comes.comes;
   none = comes.none;
   same = comes.same;
 }
@@ -127,7 +127,7 @@ comes_as Says Says' Refuses Refuses' says refuses output now parts olds news (Cl
 }
 
 pub runs_as : (Says Says' : Plan → Type 0) (Refuses Refuses' : Fault → Type 0) → ((plan : Plan) → Says plan → Says' plan) → ((problem : Fault) → Refuses problem → Refuses' problem)
-    → (output : List ℕ) (now : ℕ) (Serves : List DiskState → List DiskState → Type 0) (olds news : List TapState) (told told' : SinkState) (end : LogEnd) (status : ℕ)
+    → (output : List ℕ) (now : ℕ) (Serves : List Served → Type 0) (olds news : List TapState) (told told' : SinkState) (end : LogEnd) (status : ℕ)
     → LogRuns Says Refuses output now Serves olds news told told' end status → LogRuns Says' Refuses' output now Serves olds news told told' end status
 runs_as Says Says' Refuses Refuses' says refuses output now Serves olds news told told' end status runs = record {
   parts = runs.parts;

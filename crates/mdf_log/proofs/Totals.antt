@@ -1,5 +1,5 @@
 -- What the parts of a log keep, and how many samples of a source are durable in all.
-use Rattle.std.proofs.Common.{◌≡◌, ◌≢◌, ◌<◌, ◌⊎◌, ◌∙◌, ℕ, List, [], ◌∷◌, ◌++◌, length, All, Some, refl, sym, ap, subst, inl, inr, ⊎_elim, arith, append-nil, append_assoc}
+use Rattle.std.proofs.Common.{◌≡◌, ◌≢◌, ◌<◌, ◌⊎◌, ◌∙◌, ℕ, List, [], ◌∷◌, ◌++◌, length, All, Some, None, refl, sym, ap, subst, inl, inr, ⊎_elim, arith, append-nil, append_assoc}
 use Rattle.std.specs.List.{AllZip}
 use Rattle.std.proofs.lemmas.List.{take_all}
 use Rattle.std.proofs.lemmas.List.Elements.{All-cons, All-head, All-nil, All-tail}
@@ -19,7 +19,7 @@ use Rattle.mdf_record.specs.declared.record.RecordEnd.{RecordEnd}
 use Rattle.mdf_record.specs.declared.record.RecordEnd.TheVariants.{Refused, Closed}
 use Rattle.mdf_log.specs.Durable.{IsDurableWhole, history_of}
 use Rattle.mdf_log.specs.Logged.{DidIn, IsDurableAmong, in_order}
-use Rattle.mdf_log.specs.Parts.{GoesOn, IsPart, Part, fault_of, lefts_of}
+use Rattle.mdf_log.specs.Parts.{IsPart, Part, Precedes, fault_of, lefts_of}
 use Rattle.mdf_log.proofs.Durable.{closed_whole}
 use Rattle.mdf_log.proofs.Moving.{full_calm}
 use Rattle.mdf_log.proofs.Serving.{own_all}
@@ -37,6 +37,13 @@ module _ (plan : Plan) (script : Script) (plan_is : script.plan ≡ plan) (name 
       subst (λ (p : Plan). MarksHold p.shapes (head_file p.form now p.rows) left.disk.story left.disk.moment left.history left.marks)
       (ap (λ (s : Script). s.plan) comes.says ∙ plan_is) comes.recorded.marks_hold
 
+  -- a part in which nothing went wrong is durable whole, and so is one with samples whose disk did not fail
+  whole_well : (end : RecordEnd) → Comes end → fault_of end ≡ None → IsDurableWhole plan (head_file plan.form now plan.rows) left
+  whole_well (Refused problem) comes well = absurd (cc well)
+  whole_well (Closed accepted samples last live problem seen) comes well =
+      subst (λ (p : Plan). IsDurableWhole p (head_file p.form now p.rows) left) (ap (λ (s : Script). s.plan) comes.says ∙ plan_is)
+      (closed_whole comes.script now disk.moment disk.faults left seen problem comes.recorded comes.comes (λ failed. absurd (cc (well, failed))))
+
   whole_for : (end : RecordEnd) → Comes end → 0 < length left.history → fault_of end ≢ Some fault.Device → IsDurableWhole plan (head_file plan.form now plan.rows) left
   whole_for (Refused problem) comes some calm = absurd (omega (arith, some, ap length comes.history))
   whole_for (Closed accepted samples last live problem seen) comes some calm =
@@ -50,8 +57,9 @@ module _ (plan : Plan) (output : List ℕ) (now number : ℕ) (part : Part) (is 
   calm_whole : 0 < length part.left.history → fault_of part.end ≢ Some fault.Device → IsDurableWhole plan (head_file plan.form now plan.rows) part.left
   calm_whole some calm = whole_for plan part.script is.plan_is _ now part.disk part.left part.end is.comes some calm
 
-  pub whole_of : GoesOn part → IsDurableWhole plan (head_file plan.form now plan.rows) part.left
-  whole_of goes = calm_whole goes.some (full_calm (fault_of part.end) goes.full)
+  pub whole_of : Precedes part → IsDurableWhole plan (head_file plan.form now plan.rows) part.left
+  whole_of goes = ⊎_elim (λ on. calm_whole on.some (full_calm (fault_of part.end) on.full))
+      (λ well. whole_well plan part.script is.plan_is _ now part.disk part.left part.end is.comes well) goes
 
 -- the samples of parts behind others
 history_more : (some more : List Part) → history_of (lefts_of (some ++ more)) ≡ history_of (lefts_of some) ++ history_of (lefts_of more)

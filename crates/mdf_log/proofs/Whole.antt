@@ -3,7 +3,6 @@ use Rattle.std.proofs.Common.{◌≡◌, ◌≢◌, ◌<◌, ◌∙◌, ◌++◌
 use Rattle.std.specs.Prelude.{slice_get}
 use Rattle.std.specs.List.{AllZip}
 use Rattle.std.proofs.lemmas.Option.{get_or_from_slice_get, slice_get_within}
-use Rattle.mdf_disk.specs.State.{DiskState}
 use Rattle.mdf_port.specs.State.{SinkState, sink_state, source_state}
 use Rattle.mdf_port.specs.declared.source.Source as source
 use Rattle.mdf_port.specs.declared.sink.Sink as sink
@@ -23,6 +22,7 @@ use Rattle.log_report.specs.Report.{log_status, log_text}
 use Rattle.log_report.specs.declared.end.LogEnd.{LogEnd}
 use Rattle.log_report.specs.declared.end.LogEnd.TheVariants.{Closed, Inputs, Refused}
 use Rattle.log_report.specs.declared.end.SourceEnd.{SourceEnd}
+use Rattle.log_disks.specs.Served.{Served}
 use Rattle.mdf_log.specs.Course.{AreFresh, ClosesAs, Finishes, HasLeft, HasRun, is_calm}
 use Rattle.mdf_log.specs.Logged.{DidIn, IsDurableAmong, IsLogged, LogComes, LogRuns, in_order}
 use Rattle.mdf_log.specs.Parts.{IsPart, Part, fault_of, recordings_of}
@@ -34,8 +34,8 @@ use Rattle.mdf_log.proofs.Ending.{logged}
 use Rattle.mdf_log.proofs.Totals.{total_durable}
 
 -- a log of which no part was begun
-pub unbegun_runs : (Says : Plan → Type 0) (Refuses : Fault → Type 0) (output : List ℕ) (now : ℕ) (Serves : List DiskState → List DiskState → Type 0) (olds news : List TapState)
-    (sink sink' : SinkState) (end is : LogEnd) (status : ℕ) → end ≡ is → LogComes Says Refuses output now [] olds news is → Serves [] []
+pub unbegun_runs : (Says : Plan → Type 0) (Refuses : Fault → Type 0) (output : List ℕ) (now : ℕ) (Serves : List Served → Type 0) (olds news : List TapState)
+    (sink sink' : SinkState) (end is : LogEnd) (status : ℕ) → end ≡ is → LogComes Says Refuses output now [] olds news is → Serves []
     → Prints (log_text is) (log_status is) sink sink' status → LogRuns Says Refuses output now Serves olds news sink sink' end status
 unbegun_runs Says Refuses output now Serves olds news sink sink' end is status same comes serves printed =
     subst (λ (e : LogEnd). LogRuns Says Refuses output now Serves olds news sink sink' e status) (sym same)
@@ -62,7 +62,7 @@ last_at (y ∷ xs) x = last_at xs x
 not_device : (problem : Option Fault) → is_calm problem ≡ true → problem ≢ Some fault_.Device
 not_device problem calm failed = let no : is_calm problem ≡ false = ap is_calm failed in absurd (cc (no, calm))
 
-module _ {S K : Type 0} {tells : source.Ghosts S} (holds : sink.Ghosts K) (plan : Plan) (output : List ℕ) (now : ℕ) (Serves : List DiskState → List DiskState → Type 0)
+module _ {S K : Type 0} {tells : source.Ghosts S} (holds : sink.Ghosts K) (plan : Plan) (output : List ℕ) (now : ℕ) (Serves : List Served → Type 0)
     (sink sink' sink'' : SinkState) (rules : LineRules) (ruled : rules_of rules ≡ rules_in plan) (taps : List (Tap S K)) (firsts : List (LineFeed S K tells)) (fresh : AreFresh holds rules taps firsts)
     (count : length firsts ≡ length taps) (sources : length taps ≡ plan.sources) (course : Course S K tells) (has : HasRun holds plan output now Serves sink sink' firsts course)
     (left : Logged S K) (finishes : Finishes holds course sink' sink'' left) where
@@ -102,7 +102,7 @@ module _ {S K : Type 0} {tells : source.Ghosts S} (holds : sink.Ghosts K) (plan 
       (finishes.left source d 0 end last_tap.0 less_left)) in
       let is = logged holds plan now has.parts course.fault source rules ruled first_tap.0.input first_tap.0.told (get_or firsts source d) (get_or course.feeds.items source d) begun
       (get_or course.tally.accepted.items source 0) ended end last_tap.0 gone
-      (whole source ended.dones ended.did (get_or course.tally.accepted.items source 0) ended.accepted_is) in
+      (whole source ended.dones ended.did (get_or course.tally.accepted.items source 0) ended.accepted_is) (has.called source d less) in
       subst (λ (o : TapState). IsLogged plan now has.parts course.fault source o new end) first_tap.2
       (subst (λ (n : TapState). IsLogged plan now has.parts course.fault source (record { input = source_state tells first_tap.0.input; told = sink_state holds first_tap.0.told }) n end) last_tap.2 is)
 

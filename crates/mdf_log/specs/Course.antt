@@ -1,8 +1,7 @@
 -- How a log goes on from one part to the next.
-use Rattle.std.specs.Prelude.{ℕ, ◌≡◌, ◌≢◌, ◌+◌, ◌≤◌, ◌<◌, ◌↔◌, ◌⊎◌, ◌^◌, Bool, true, false, List, [], ◌∷◌, ◌++◌, length, map, All, zero, suc, Option, Some, None}
-use Rattle.std.specs.List.{AllZip, slice_index_or}
+use Rattle.std.specs.Prelude.{ℕ, ◌≡◌, ◌≢◌, ◌+◌, ◌-◌, ◌≤◌, ◌<◌, ◌↔◌, ◌⊎◌, ◌^◌, Bool, true, false, List, [], ◌∷◌, ◌++◌, length, map, All, zero, suc, Option, Some, None}
+use Rattle.std.specs.List.{AllZip, list_any, slice_index_or}
 use Rattle.book_owned.specs.Marks.{durable}
-use Rattle.mdf_disk.specs.State.{DiskState}
 use Rattle.mdf_port.specs.State.{SinkState, sink_state, source_state}
 use Rattle.mdf_port.specs.declared.source.Source as source
 use Rattle.mdf_port.specs.declared.sink.Sink as sink
@@ -15,6 +14,7 @@ use Rattle.acq_live.specs.Handled.{Halts, Hands, IsFresh, Serves, Waits}
 use Rattle.acq_live.specs.Spot.{fixed, spot}
 use Rattle.acq_live.specs.Told.{TellsOn}
 use Rattle.acq_live.specs.declared.feed.Halt.{Halt}
+use Rattle.acq_live.specs.declared.feed.Halt.TheVariants.{Called}
 use Rattle.acq_live.specs.declared.feed.LineFeed.{LineFeed}
 use Rattle.acq_live.specs.declared.rules.LineRules.{LineRules}
 use Rattle.acq_run.specs.Works.{AreMarked}
@@ -31,9 +31,10 @@ use Rattle.log_report.specs.declared.end.LogEnd.TheVariants.{Closed, Inputs, Ref
 use Rattle.log_report.specs.declared.end.SourceEnd.{SourceEnd}
 use Rattle.log_report.specs.declared.end.Stop.{Stop}
 use Rattle.log_report.specs.declared.end.Stop.TheVariants as stops
+use Rattle.log_disks.specs.Served.{Served}
 use Rattle.mdf_log.specs.Durable.{IsDurableWhole}
 use Rattle.mdf_log.specs.Logged.{DidIn, IsDurableAmong, in_order}
-use Rattle.mdf_log.specs.Parts.{AreParts, Follow, GoesOn, IsPart, Part, durable_count, fault_of, lefts_of, live_of, recordings_of, sample_count}
+use Rattle.mdf_log.specs.Parts.{AreParts, Follow, GoesOn, IsPart, Part, Precedes, durable_count, fault_of, lefts_of, live_of, recordings_of, sample_count, served_by, served_of}
 use Rattle.mdf_log.specs.declared.log.Logged.{Logged}
 use Rattle.mdf_log.specs.declared.parts.Course.{Course}
 use Rattle.mdf_log.specs.declared.tap.Tap.{Tap}
@@ -61,9 +62,9 @@ pub record HasMoved {S K : Type 0} {tells : source.Ghosts S} (holds : sink.Ghost
   pub marked : AreMarked plan.owners source part.left.history part.left.marks [] done
   pub counted : behind ≡ before + length (samples_of done)
   pub waiting : (task : Fed) → did.rest ≡ task ∷ [] → Waits new task
-  pub still : fault_of part.end ≢ Some fault_.Device → did.rest ≡ [] → Halts new ⊎ (new ≡ old)
+  pub still : did.rest ≡ [] → Halts new ⊎ (new ≡ old)
   pub well : fault_of part.end ≡ None → Halts new
-  pub left : GoesOn part → IsLeft new did.rest
+  pub left : Precedes part → IsLeft new did.rest
 
 -- Over these parts a source served this from its first feed on, each flush of it is durable, and so many samples were accepted.
 pub record HasServed {S K : Type 0} {tells : source.Ghosts S} (holds : sink.Ghosts K) (plan : Plan) (now : ℕ) (parts : List Part) (source : ℕ) (first feed : LineFeed S K tells) (accepted : ℕ) : Type 0 where
@@ -82,24 +83,32 @@ pub record HasEnded {S K : Type 0} {tells : source.Ghosts S} (holds : sink.Ghost
   pub one : length rest ≤ 1
   pub served : Serves holds first (in_order dones ++ rest) feed
   pub waiting : (task : Fed) → rest ≡ task ∷ [] → Waits feed task
-  pub told : problem ≢ Some fault_.Device → rest ≡ [] → feed.flushed ≡ None
+  pub told : rest ≡ [] → feed.flushed ≡ None
   pub well : problem ≡ None → Halts feed
   pub accepted_is : accepted ≡ length (samples_of (in_order dones))
   pub durable : All (IsDurableAmong plan now parts source) (flushes_behind 0 (in_order dones))
 
+-- a feed was called off
+abbrev pub is_called_off : Option Halt → Bool
+is_called_off (Some Called) = true
+is_called_off _ = false
+
+abbrev pub is_called : {S K : Type 0} {tells : source.Ghosts S} → LineFeed S K tells → Bool
+is_called feed = is_called_off feed.halt
+
 -- From the one state of a log to the other the next part was recorded.
-pub record IsNextPart {S K : Type 0} {tells : source.Ghosts S} (holds : sink.Ghosts K) (plan : Plan) (output : List ℕ) (now : ℕ) (Serves : List DiskState → List DiskState → Type 0)
+pub record IsNextPart {S K : Type 0} {tells : source.Ghosts S} (holds : sink.Ghosts K) (plan : Plan) (output : List ℕ) (now : ℕ) (Serves : List Served → Type 0)
     (sink sink' : SinkState) (old new : Course S K tells) (on : Bool) : Type 0 where
   pub part : Part
   pub is_part : IsPart plan output now old.tally.parts part
-  pub serves : Serves (part.disk ∷ []) (part.left.disk ∷ [])
+  pub serves : Serves (served_of part)
   pub gives : (before : List ℕ) (first : SinkState) → Gives before first sink old.given → Gives (before ++ part_line old.tally.parts (recorded_in part.left)) first sink' new.given
   pub parts : new.tally.parts ≡ old.tally.parts + 1
   pub samples : new.tally.samples ≡ old.tally.samples + length part.left.history
   pub durable_is : new.tally.durable ≡ old.tally.durable + durable part.left.marks
   pub problem : new.fault ≡ fault_of part.end
   pub live : new.live ≡ live_of part.end
-  pub on_is : on ≡ true ↔ GoesOn part
+  pub on_is : on ≡ true ↔ (GoesOn part ⊎ ((fault_of part.end ≡ None) × (list_any is_called new.feeds.items ≡ true)))
   pub count : length new.feeds.items ≡ length old.feeds.items
   pub counts : length new.tally.accepted.items ≡ length old.tally.accepted.items
   pub sources : (source : ℕ) (d : LineFeed S K tells) (n : ℕ) → source < length old.feeds.items
@@ -107,10 +116,10 @@ pub record IsNextPart {S K : Type 0} {tells : source.Ghosts S} (holds : sink.Gho
       (slice_index_or old.tally.accepted.items source n) (slice_index_or new.tally.accepted.items source n)
 
 -- what parts come to: they are on just these disks, and a line for each was printed
-pub record ComeTo {S K : Type 0} {tells : source.Ghosts S} (plan : Plan) (output : List ℕ) (now : ℕ) (Serves : List DiskState → List DiskState → Type 0) (sink sink' : SinkState)
+pub record ComeTo {S K : Type 0} {tells : source.Ghosts S} (plan : Plan) (output : List ℕ) (now : ℕ) (Serves : List Served → Type 0) (sink sink' : SinkState)
     (parts : List Part) (firsts : List (LineFeed S K tells)) (course : Course S K tells) : Type 0 where
   pub each : AreParts plan output now parts
-  pub serves : Serves (map (λ part. part.disk) parts) (map (λ part. part.left.disk) parts)
+  pub serves : Serves (served_by parts)
   pub gives : Gives (numbered part_line 0 (recordings_of parts)) sink sink' course.given
   pub parts_are : course.tally.parts ≡ length parts
   pub samples_are : course.tally.samples ≡ sample_count parts
@@ -118,19 +127,19 @@ pub record ComeTo {S K : Type 0} {tells : source.Ghosts S} (plan : Plan) (output
   pub count : length course.feeds.items ≡ length firsts
   pub counts : length course.tally.accepted.items ≡ length firsts
 
--- A log between two parts: each so far was full, and is durable whole.
-pub record HasGone {S K : Type 0} {tells : source.Ghosts S} (holds : sink.Ghosts K) (plan : Plan) (output : List ℕ) (now : ℕ) (Serves : List DiskState → List DiskState → Type 0)
+-- A log between two parts: behind each so far another one begins, and it is durable whole.
+pub record HasGone {S K : Type 0} {tells : source.Ghosts S} (holds : sink.Ghosts K) (plan : Plan) (output : List ℕ) (now : ℕ) (Serves : List Served → Type 0)
     (sink sink' : SinkState) (firsts : List (LineFeed S K tells)) (course : Course S K tells) : Type 0 where
   pub parts : List Part
   pub come : ComeTo plan output now Serves sink sink' parts firsts course
-  pub full : All GoesOn parts
+  pub full : All Precedes parts
   pub whole : All (IsDurableWhole plan (head_file plan.form now plan.rows)) (lefts_of parts)
   pub running : (source : ℕ) (d : LineFeed S K tells) → source < length firsts → (slice_index_or firsts source d).halt ≡ None
   pub sources : (source : ℕ) (d : LineFeed S K tells) (n : ℕ) → source < length firsts
       → HasServed holds plan now parts source (slice_index_or firsts source d) (slice_index_or course.feeds.items source d) (slice_index_or course.tally.accepted.items source n)
 
--- A log behind its last part.
-pub record HasRun {S K : Type 0} {tells : source.Ghosts S} (holds : sink.Ghosts K) (plan : Plan) (output : List ℕ) (now : ℕ) (Serves : List DiskState → List DiskState → Type 0)
+-- A log behind its last part: a source that was called off had to be, unless as many parts were made as can be numbered.
+pub record HasRun {S K : Type 0} {tells : source.Ghosts S} (holds : sink.Ghosts K) (plan : Plan) (output : List ℕ) (now : ℕ) (Serves : List Served → Type 0)
     (sink sink' : SinkState) (firsts : List (LineFeed S K tells)) (course : Course S K tells) : Type 0 where
   pub parts : List Part
   pub come : ComeTo plan output now Serves sink sink' parts firsts course
@@ -139,6 +148,8 @@ pub record HasRun {S K : Type 0} {tells : source.Ghosts S} (holds : sink.Ghosts 
   pub whole : All (IsDurableWhole plan (head_file plan.form now plan.rows)) (lefts_of follow.before)
   pub problem : course.fault ≡ fault_of final.end
   pub live : course.live ≡ live_of final.end
+  pub called : (source : ℕ) (d : LineFeed S K tells) → source < length firsts → (slice_index_or course.feeds.items source d).halt ≡ Some Called
+      → (course.fault ≢ None) ⊎ (length parts ≡ 2 ^ 64 - 1)
   pub sources : (source : ℕ) (d : LineFeed S K tells) (n : ℕ) → source < length firsts
       → HasEnded holds plan now parts course.fault source (slice_index_or firsts source d) (slice_index_or course.feeds.items source d) (slice_index_or course.tally.accepted.items source n)
 

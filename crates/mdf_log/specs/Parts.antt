@@ -1,5 +1,6 @@
 -- The parts of a log, one behind the other.
-use Rattle.std.specs.Prelude.{ℕ, ◌≡◌, ◌+◌, ◌-◌, ◌^◌, ◌<◌, Bool, true, false, List, [], ◌∷◌, ◌++◌, length, map, slice_get, All, Option, Some, None}
+use Rattle.std.specs.Prelude.{ℕ, ◌≡◌, ◌+◌, ◌-◌, ◌^◌, ◌<◌, ◌⊎◌, Bool, true, false, List, [], ◌∷◌, ◌++◌, length, map, slice_get, All, Option, Some, None}
+use Rattle.std.specs.List.{flat_map}
 use Rattle.book_owned.specs.Marks.{durable}
 use Rattle.mdf_disk.specs.State.{DiskState}
 use Rattle.acq_script.specs.declared.script.Plan.{Plan}
@@ -12,6 +13,7 @@ use Rattle.mdf_record.specs.Recovers.{AreRecovered}
 use Rattle.mdf_record.specs.declared.record.RecordEnd.{RecordEnd}
 use Rattle.mdf_record.specs.declared.record.RecordEnd.TheVariants.{Refused, Closed}
 use Rattle.mdf_rotate.specs.Rotate.{recorded_in}
+use Rattle.log_disks.specs.Served.{Served, handed_out, taken_back}
 use Rattle.mdf_rotate.specs.Text.{Recording}
 use Rattle.mdf_rotate.specs.Words.{part_name}
 
@@ -25,6 +27,13 @@ pub record Part : Type 0 where
 
 abbrev pub lefts_of : List Part → List Outcome
 lefts_of parts = map (λ part. part.left) parts
+
+-- what was done with the disk of a part, and with those of parts, one behind the other
+abbrev pub served_of : Part → List Served
+served_of part = handed_out part.disk ∷ taken_back part.left.disk ∷ []
+
+abbrev pub served_by : List Part → List Served
+served_by parts = flat_map served_of parts
 
 abbrev pub recordings_of : List Part → List Recording
 recordings_of parts = map recorded_in (lefts_of parts)
@@ -66,11 +75,15 @@ pub record GoesOn (part : Part) : Type 0 where
   pub full : is_full (fault_of part.end) ≡ true
   pub some : 0 < length part.left.history
 
+-- So a part is behind which another one stands: the log goes on behind it, or nothing went wrong in it, and a source was called off all the same.
+abbrev pub Precedes : Part → Type 0
+Precedes part = GoesOn part ⊎ (fault_of part.end ≡ None)
+
 -- behind each part but the last the next begins, and behind the last none does, unless as many as can be numbered have been
 pub record Follow (parts : List Part) (last : Part) : Type 0 where
   pub before : List Part
   pub are : parts ≡ before ++ last ∷ []
-  pub full : All GoesOn before
+  pub full : All Precedes before
   pub over : GoesOn last → length parts ≡ 2 ^ 64 - 1
 
 -- how many samples are in all parts, and how many of them are durable

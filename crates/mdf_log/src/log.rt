@@ -237,7 +237,7 @@ where
     D: Disks,
     requires plan { IsPlan plan.now }
     ensures { LogRuns (λ said. said ≡ plan.now) (λ fault. ⊥) output.now now_ns
-        (λ begun ended. D.serves disks.old begun ended disks.new)
+        (λ served. D.serves disks.old served disks.new)
         (tap_states S.Source K.Sink taps.items) (tap_states S.Source K.Sink result.taps.items)
         (sink_state E.Sink sink.old) (sink_state E.Sink sink.new) result.end result.status }
 {
@@ -293,7 +293,7 @@ where
     D: Disks,
     ensures { LogRuns (SaysSetup (source_state P.Source setup.old) (source_state P.Source setup.new))
         (SetupFaultComes (source_state P.Source setup.old) (source_state P.Source setup.new)) output.now now_ns
-        (λ begun ended. D.serves disks.old begun ended disks.new)
+        (λ served. D.serves disks.old served disks.new)
         (tap_states S.Source K.Sink taps.items) (tap_states S.Source K.Sink result.taps.items)
         (sink_state E.Sink sink.old) (sink_state E.Sink sink.new) result.end result.status }
 {

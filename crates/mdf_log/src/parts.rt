@@ -1,18 +1,17 @@
 // The parts of a log, one behind the other.
-ghost use Rattle.std.specs.Prelude.{ℕ, ◌≡◌, ◌<◌, ◌+◌, ◌^◌, ◌↔◌, ◌++◌, List, true, length};
-ghost use Rattle.std.specs.List.{slice_index_or};
-ghost use Rattle.mdf_disk.specs.State.{DiskState};
+ghost use Rattle.std.specs.Prelude.{ℕ, ◌≡◌, ◌<◌, ◌+◌, ◌^◌, ◌↔◌, ◌++◌, ◌⊎◌, List, None, true, length};
+ghost use Rattle.std.specs.List.{list_any, slice_index_or};
 ghost use Rattle.mdf_port.specs.State.{SinkState, sink_state};
 ghost use Rattle.acq_live.specs.Handled.{Resumes};
 ghost use Rattle.acq_script.specs.Plan.{IsPlan};
 ghost use Rattle.mdf_command.specs.Texts.{Gives};
 ghost use Rattle.mdf_rotate.specs.Text.{part_line, record_of};
-ghost use Rattle.mdf_log.specs.Course.{AreRuled, HasGone, HasRun, IsNextPart};
+ghost use Rattle.mdf_log.specs.Course.{AreRuled, HasGone, HasRun, IsNextPart, is_called};
 ghost use Rattle.mdf_log.specs.Parts.{durable_of, fault_of, is_full, live_of};
 
 use crate::part::log_part;
 use crate::tally::Tally;
-use acq_live::LineFeed;
+use acq_live::{Halt, LineFeed};
 use acq_script::Plan;
 use log_disks::Disks;
 use mdf_command::Fault;
@@ -73,11 +72,29 @@ fn is_full(fault: Option<Fault>) -> bool
     matches!(fault, Some(Fault::SessionFull { .. }))
 }
 
-/// Whether the next part begins behind one of so many samples.
-fn goes_on(fault: Option<Fault>, samples: u64) -> bool
-    ensures { (result ≡ true) ↔ ((is_full fault ≡ true) × (0 < samples)) }
+/// Whether a feed was called off.
+fn is_called<'a, S: Input + Drop, K: Sink + Drop>(feed: &LineFeed<'a, S, K>) -> bool
+    ensures { result ≡ is_called feed.now }
 {
-    samples > 0 && is_full(fault)
+    matches!(feed.halted(), Some(Halt::Called))
+}
+
+/// Whether one of these feeds was called off.
+fn any_called<'a, S: Input + Drop, K: Sink + Drop>(feeds: &Vec<LineFeed<'a, S, K>>) -> bool
+    ensures { result ≡ list_any is_called feeds.now.items }
+{
+    feeds.as_slice().iter().any(|feed| is_called(feed))
+}
+
+/// Whether the next part begins behind one of so many samples, by what went wrong in it, and whether one of its sources was called off: that has
+/// to go on where nothing went wrong.
+fn goes_on(fault: Option<Fault>, samples: u64, called: bool) -> bool
+    ensures { (result ≡ true) ↔ (((is_full fault ≡ true) × (0 < samples)) ⊎ ((fault ≡ None) × (called ≡ true))) }
+{
+    match fault {
+        None => called,
+        Some(_) => samples > 0 && is_full(fault),
+    }
 }
 
 /// Gives the line of the part of a number behind what was given, unless that failed.
@@ -117,7 +134,7 @@ where
     requires totals { length course.tally.accepted.items ≡ plan.now.sources }
     requires ruled { AreRuled plan.now course.feeds.items }
     requires room { course.tally.parts + 1 < 2 ^ 64 }
-    ensures { IsNextPart K.Sink plan.now output.now now_ns (λ begun ended. D.serves disks.old begun ended disks.new)
+    ensures { IsNextPart K.Sink plan.now output.now now_ns (λ served. D.serves disks.old served disks.new)
         (sink_state E.Sink sink.old) (sink_state E.Sink sink.new) course.entry result.0 result.1 }
 {
     let Course {
@@ -150,6 +167,7 @@ where
     tally.add(samples, durable_of(&end), all.as_slice());
     disks.keep(part.out);
     let fault = fault_of(&end);
+    let on = goes_on(fault, samples, any_called(&feeds));
     (
         Course {
             feeds,
@@ -158,7 +176,7 @@ where
             fault,
             given,
         },
-        goes_on(fault, samples),
+        on,
     )
 }
 
@@ -173,7 +191,7 @@ fn resume_all<'a, S: Input + Drop, K: Sink + Drop>(feeds: &mut Vec<LineFeed<'a, 
     }
 }
 
-/// Records part after part, each behind one whose session was full.
+/// Records part after part, each behind one whose session was full, or in which a source was called off though nothing went wrong.
 pub(crate) fn log_parts<'a, R, S, K, E, D>(
     rt: &R,
     alloc: Global,
@@ -195,9 +213,9 @@ where
     requires sources { length first.feeds.items ≡ plan.now.sources }
     requires ruled { AreRuled plan.now first.feeds.items }
     requires none { first.tally.parts ≡ 0 }
-    requires begins { HasGone K.Sink plan.now output.now now_ns (λ begun ended. D.serves disks.old begun ended disks.old)
+    requires begins { HasGone K.Sink plan.now output.now now_ns (λ served. D.serves disks.old served disks.old)
         (sink_state E.Sink sink.old) (sink_state E.Sink sink.old) first.feeds.items first }
-    ensures { HasRun K.Sink plan.now output.now now_ns (λ begun ended. D.serves disks.old begun ended disks.new)
+    ensures { HasRun K.Sink plan.now output.now now_ns (λ served. D.serves disks.old served disks.new)
         (sink_state E.Sink sink.old) (sink_state E.Sink sink.new) first.entry.feeds.items result }
 {
     let mut course = first;

@@ -45,11 +45,11 @@ impl FailingDisks {
 impl Disks for FailingDisks {
     type Disk = MemoryDisk;
 
-    ghost serves = { λ _ _ _ _. Unit {0} };
+    ghost serves = { λ _ _ _. Unit {0} };
 
     ghost serves_none = { λ _. tt };
 
-    ghost serves_more = { λ _ _ _ _ _ _ _ _ _. tt };
+    ghost serves_more = { λ _ _ _ _ _ _ _. tt };
 
     fn next(&mut self) -> MemoryDisk {
         let mut disk = MemoryDisk::new(self.alloc);

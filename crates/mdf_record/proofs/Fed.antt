@@ -1,5 +1,5 @@
 -- A recording of feeds is one of the script of what they handed in.
-use Rattle.std.proofs.Common.{◌≡◌, ◌⊎◌, ⊎_elim, inl, inr, ℕ, suc, List, [], ◌∷◌, length, map, replicate, None, refl, sym, ◌∙◌, ap, subst}
+use Rattle.std.proofs.Common.{◌≡◌, ◌⊎◌, ⊎_elim, inl, inr, ℕ, suc, List, [], ◌∷◌, length, map, replicate, Some, None, refl, sym, ◌∙◌, ap, subst}
 use Rattle.std.specs.Prelude.{◌<◌, Bool, MatchBool, is_some}
 use Rattle.mdf_gate.specs.Gated.{Gated}
 use Rattle.mdf_disk.specs.State.{state_of}
@@ -16,6 +16,7 @@ use Rattle.acq_script.specs.Stage.{IsScript}
 use Rattle.acq_script.specs.declared.script.Plan.{Plan}
 use Rattle.acq_script.specs.declared.script.Script.{Script}
 use Rattle.acq_script.specs.declared.script.Task.{Task}
+use Rattle.mdf_command.specs.declared.fault.Fault.TheVariants as fault
 use Rattle.mdf_record.specs.Feeding.{HandsTasks, HasNone, IsAnyTask, fed_by}
 use Rattle.mdf_record.specs.Feeds.{AreIdle, GoOn, HaveFed, HaveTaken, IsClosedWith, IsReadyFor}
 use Rattle.mdf_record.specs.Record.{Outcome, outcome}
@@ -76,7 +77,7 @@ module _ {D F : Type 0} (tells : DiskOf D) (hands : F → List Fed → F → Typ
 
   -- where no source worked
   idle_fed : (left : Outcome) (end : RecordEnd) (feeds' : List F) (all : List Driven) → feeds' ≡ feeds → all ≡ [] → left.history ≡ []
-      → (IsClosedWith (λ problem. problem ≡ None) end → ⊥)
+      → (IsClosedWith (λ problem. problem ≡ Some fault.Memory → ⊥) end → ⊥)
       → ((lists : List (List Task)) → length lists ≡ plan.sources → HasRun tells (record { plan = plan; lists = lists }) file left end)
       → HaveFed tells hands waits ends plan file left end feeds feeds' all
   idle_fed left end feeds' all same none empty short runs =
@@ -91,7 +92,7 @@ module _ {D F : Type 0} (tells : DiskOf D) (hands : F → List Fed → F → Typ
       → HaveFed tells hands waits ends plan file (outcome tells result.recorded.out result.recorded.history.items result.recorded.marks.items) result.recorded.end feeds result.feeds.items result.all.items
   unrecorded_fed result is =
       idle_fed (outcome tells result.recorded.out result.recorded.history.items result.recorded.marks.items) result.recorded.end result.feeds.items result.all.items is.same is.none is.history
-      (subst (IsClosedWith (λ problem. problem ≡ None)) is.end_is)
+      (subst (IsClosedWith (λ problem. problem ≡ Some fault.Memory → ⊥)) is.end_is)
       (λ lists count. record {
         comes = rw (is.end_is) (refl, ap (state_of tells) is.out_is, is.history, is.marks);
         asked_is = ap tells.asked is.out_is;
@@ -105,7 +106,7 @@ module _ {D F : Type 0} (tells : DiskOf D) (hands : F → List Fed → F → Typ
       → HaveFed tells hands waits ends plan file (outcome tells result.recorded.out result.recorded.history.items result.recorded.marks.items) result.recorded.end feeds result.feeds.items result.all.items
   works_fed shows view begun result which_is begins (inl none) =
       idle_fed (outcome tells result.recorded.out result.recorded.history.items result.recorded.marks.items) result.recorded.end result.feeds.items result.all.items none.same none.none
-      (none.closes.history ∙ begins.history) (λ well. absurd (cc (subst (IsClosedWith (λ problem. problem ≡ None)) none.closes.end_is well)))
+      (none.closes.history ∙ begins.history) (λ other. subst (IsClosedWith (λ problem. problem ≡ Some fault.Memory → ⊥)) none.closes.end_is other refl)
       (λ lists count. idle_run tells shows (record { plan = plan; lists = lists }) file view begun none.accepted result.recorded begins
       (none.zero ∙ ap (λ (n : ℕ). replicate n 0) (ready.count ∙ sym count)) none.closes)
   works_fed shows view begun result which_is begins (inr worked) =

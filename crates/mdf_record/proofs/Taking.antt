@@ -158,8 +158,8 @@ module _ {D N F : Type 0} (tells : DiskOf D) (shows : ViewOf Audience N) (hands 
   history_is = worked.closes.history ∙ worked.finishes.steps.history ∙ append-nil worked.driven.history
 
   taken : (source : ℕ) (saw : List Sample) (feds : List Fed) (driven : Driven) (feed' : F) (did : Ran plan.owners worked.driven source saw feds driven) → length did.rest ≤ 1
-      → ((task : Fed) → did.rest ≡ task ∷ [] → waits feed' task) → HasTaken waits plan file.faults left source feds driven feed'
-  taken source saw feds driven feed' did one waiting =
+      → ((task : Fed) → did.rest ≡ task ∷ [] → waits feed' task) → (did.rest ≡ [] → driven.ended ≡ work.Done) → HasTaken waits plan file.faults left source feds driven feed'
+  taken source saw feds driven feed' did one waiting finished =
       let begins_now : IsPrefix saw left.history = subst (IsPrefix saw) (sym history_is) did.begins in
       record {
         done = did.done;
@@ -167,6 +167,7 @@ module _ {D N F : Type 0} (tells : DiskOf D) (shows : ViewOf Audience N) (hands 
         parts = did.parts;
         one = one;
         waiting = waiting;
+        finished = finished;
         own = ap (λ (h : List Sample). source_samples plan.owners h source) history_is ∙ did.own;
         counted = did.counted;
         marked = marked_later plan.owners source saw left.history worked.driven.marks left.marks [] did.done begins_now
@@ -186,7 +187,7 @@ module _ {D N F : Type 0} (tells : DiskOf D) (shows : ViewOf Audience N) (hands 
   all_taken source (feds ∷ lists) (driven ∷ drivens) (feed ∷ feeds') [] last heard = absurd heard
   all_taken source (feds ∷ lists) (driven ∷ drivens) (feed ∷ feeds') (watcher ∷ first) [] heard = absurd heard
   all_taken source (feds ∷ lists) (driven ∷ drivens) (feed ∷ feeds') (watcher ∷ first) (one ∷ last) heard = (
-    taken source (slice_index_or worked.seen source []) feds driven feed heard.0.0 heard.0.1 heard.0.2,
+    taken source (slice_index_or worked.seen source []) feds driven feed heard.0.0 heard.0.1 heard.0.2 heard.0.3,
     all_taken (suc source) lists drivens feeds' first last heard.1,
   )
 

@@ -20,7 +20,7 @@ use Rattle.acq_script.specs.declared.script.Plan.{Plan}
 use Rattle.acq_script.specs.declared.script.Script.{Script}
 use Rattle.acq_script.specs.declared.script.Task.{Task}
 use Rattle.mdf_command.specs.declared.fault.Fault.{Fault}
-use Rattle.mdf_command.specs.declared.fault.Fault.TheVariants.{Device}
+use Rattle.mdf_command.specs.declared.fault.Fault.TheVariants as fault_
 use Rattle.mdf_record.specs.Record.{Outcome}
 use Rattle.mdf_record.specs.Recorded.{HasRun}
 use Rattle.mdf_record.specs.Sources.{fed_of, feds_of}
@@ -62,15 +62,16 @@ EndsAt plan faults left seen rest (Stopped mark) = Rose faults left.disk.faults 
 EndsAt plan faults left seen rest (DiskFault before after) = Rose faults left.disk.faults × Rose before after
 EndsAt plan faults left seen rest Memory = HasRoomNext plan.shapes plan.session seen rest
 
--- A source has worked over what its feed handed in: all of it was done but the last at most, for which the feed waits that is left. Just the
--- samples of what was done are its own in the history that is left, and each flush that was done has a mark with just the source's
--- samples before it.
+-- A source has worked over what its feed handed in: all of it was done but the last at most, for which the feed waits that is left; where all was, it
+-- has done all that there is. Just the samples of what was done are its own in the history that is left, and each flush that was done has a mark
+-- with just the source's samples before it.
 pub record HasTaken {F : Type 0} (waits : F → Fed → Type 0) (plan : Plan) (faults : ℕ) (left : Outcome) (source : ℕ) (handed : List Fed) (driven : Driven) (feed' : F) : Type 0 where
   pub done : List Fed
   pub rest : List Fed
   pub parts : done ++ rest ≡ handed
   pub one : length rest ≤ 1
   pub waiting : (task : Fed) → rest ≡ task ∷ [] → waits feed' task
+  pub finished : rest ≡ [] → driven.ended ≡ Done
   pub own : source_samples plan.owners left.history source ≡ samples_of done
   pub counted : driven.accepted ≡ length (samples_of done)
   pub marked : AreMarked plan.owners source left.history left.marks [] done
@@ -107,7 +108,7 @@ pub record HaveTaken {F : Type 0} (waits : F → Fed → Type 0) (ends : F → T
   pub ended : AllEnded ends all feeds'
   pub each : AllTaken waits plan faults left 0 lists all feeds'
   pub well : IsClosedWith (λ fault. fault ≡ None) end → All (λ driven. driven.ended ≡ Done) all
-  pub calm : IsClosedWith (λ fault. fault ≡ Some Device → ⊥) end → All (λ driven. HadDisk driven.ended) all
+  pub calm : IsClosedWith (λ fault. fault ≡ Some fault_.Device → ⊥) end → All (λ driven. HadDisk driven.ended) all
 
 -- or none has, for want of memory: of no feed anything was taken
 pub record AreIdle {F : Type 0} (left : Outcome) (end : RecordEnd) (feeds feeds' : List F) (lists : List (List Fed)) (all : List Driven) : Type 0 where
@@ -115,7 +116,7 @@ pub record AreIdle {F : Type 0} (left : Outcome) (end : RecordEnd) (feeds feeds'
   pub nothing : lists ≡ replicate (length feeds) []
   pub none : all ≡ []
   pub empty : left.history ≡ []
-  pub short : IsClosedWith (λ fault. fault ≡ None) end → ⊥
+  pub short : IsClosedWith (λ fault. fault ≡ Some fault_.Memory → ⊥) end → ⊥
 
 -- Each of these lists goes on from what a source handed in; where it has done all nothing more stands behind.
 abbrev pub GoOn : List (List Fed) → List Driven → List (List Fed) → Type 0

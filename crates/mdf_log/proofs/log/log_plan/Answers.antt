@@ -21,18 +21,21 @@ returns-then-sources-from g c =
 pub returns-in_default : goal.returns-in_default
 returns-in_default g c =
     let k = c.unbegun-in_default.ensures in
-    unbegun_runs _ _ _ _ _ _ _ _ _ _ _ _ k.end (record { comes = inr refl; none = refl; same = inl (ap (λ taps. tap_states g.S.Source g.K.Sink taps.items) k.taps) }) (g.met.D.Disks.serves_none _) k.printed
+    let count : length c.args.taps.items ≡ c.args.plan.now.sources = grind (arith, nat_tests, c.if-sources-from.false, c.len-sources.ensures, c.from.ensures) in
+    unbegun_runs _ _ _ _ _ _ _ _ _ _ _ _ k.end (record { comes = inr (refl, c.args.plan.now, refl, taps_count g.S.Source g.K.Sink c.args.taps.items ∙ count); none = refl; same = inl (ap (λ taps. tap_states g.S.Source g.K.Sink taps.items) k.taps) }) (g.met.D.Disks.serves_none _) k.printed
 
 pub returns-in_default-room_for : goal.returns-in_default-room_for
 returns-in_default-room_for g c =
     let k = c.unbegun-in_default-room_for.ensures in
-    unbegun_runs _ _ _ _ _ _ _ _ _ _ _ _ k.end (record { comes = inr refl; none = refl; same = inl (ap (λ taps. tap_states g.S.Source g.K.Sink taps.items) k.taps) }) (g.met.D.Disks.serves_none _) k.printed
+    let count : length c.args.taps.items ≡ c.args.plan.now.sources = grind (arith, nat_tests, c.if-sources-from.false, c.len-sources.ensures, c.from.ensures) in
+    unbegun_runs _ _ _ _ _ _ _ _ _ _ _ _ k.end (record { comes = inr (refl, c.args.plan.now, refl, taps_count g.S.Source g.K.Sink c.args.taps.items ∙ count); none = refl; same = inl (ap (λ taps. tap_states g.S.Source g.K.Sink taps.items) k.taps) }) (g.met.D.Disks.serves_none _) k.printed
 
 pub returns-in_default-feeds_for : goal.returns-in_default-feeds_for
 returns-in_default-feeds_for g c =
     let k = c.unbegun-in_default-feeds_for.ensures in
+    let count : length c.args.taps.items ≡ c.args.plan.now.sources = grind (arith, nat_tests, c.if-sources-from.false, c.len-sources.ensures, c.from.ensures) in
     unbegun_runs _ _ _ _ _ _ _ _ _ _ _ _ k.end (record {
-      comes = inr refl;
+      comes = inr (refl, c.args.plan.now, refl, taps_count g.S.Source g.K.Sink c.args.taps.items ∙ count);
       none = refl;
       same = inr (refl, ap (λ taps. tap_states g.S.Source g.K.Sink taps.items) k.taps ∙ ap (tap_states g.S.Source g.K.Sink) c.in-Ok-room_for.ensures.empty.1);
     }) (g.met.D.Disks.serves_none _) k.printed

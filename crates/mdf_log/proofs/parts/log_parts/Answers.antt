@@ -23,10 +23,10 @@ returns-then-not-goes_on g c =
       | then-not-goes_on-via-else-not-goes_on+then-course w ↦ λ on. omega (arith, w.if-course.true)
     ] in
     run g.K.Sink c.args.plan.now c.args.output.now c.args.now_ns
-    (λ begun ended. g.D.Disks.serves c.args.disks.now begun ended c.loop.disks)
-    (λ begun ended. g.D.Disks.serves c.loop.disks begun ended next.new.disks)
-    (λ begun ended. g.D.Disks.serves c.args.disks.now begun ended next.new.disks)
-    (λ begun more ended later. g.met.D.Disks.serves_more c.args.disks.now c.loop.disks next.new.disks begun more ended later)
+    (λ served. g.D.Disks.serves c.args.disks.now served c.loop.disks)
+    (λ served. g.D.Disks.serves c.loop.disks served next.new.disks)
+    (λ served. g.D.Disks.serves c.args.disks.now served next.new.disks)
+    (λ some more. g.met.D.Disks.serves_more c.args.disks.now c.loop.disks next.new.disks some more)
     _ _ _ c.args.first.feeds.items c.loop.course next.result.0 next.result.1 c.loop.invariant.gone next.ensures stops
 
 pub loop-preserved : goal.loop-preserved
@@ -34,10 +34,10 @@ loop-preserved g c =
     let next = c.next_part-next in
     record {
       gone = gone_on g.K.Sink c.args.plan.now c.args.output.now c.args.now_ns
-          (λ begun ended. g.D.Disks.serves c.args.disks.now begun ended c.loop.disks)
-          (λ begun ended. g.D.Disks.serves c.loop.disks begun ended next.new.disks)
-          (λ begun ended. g.D.Disks.serves c.args.disks.now begun ended next.new.disks)
-          (λ begun more ended later. g.met.D.Disks.serves_more c.args.disks.now c.loop.disks next.new.disks begun more ended later)
+          (λ served. g.D.Disks.serves c.args.disks.now served c.loop.disks)
+          (λ served. g.D.Disks.serves c.loop.disks served next.new.disks)
+          (λ served. g.D.Disks.serves c.args.disks.now served next.new.disks)
+          (λ some more. g.met.D.Disks.serves_more c.args.disks.now c.loop.disks next.new.disks some more)
           _ _ _ c.args.first.feeds.items c.loop.course next.result.0 next.result.1 c.loop.invariant.gone next.ensures
           c.if-not-goes_on.false _ refl refl c.resume_all.ensures.count c.resume_all.ensures.resumed;
       room = omega (arith, next.ensures.parts, c.loop.invariant.room, c.if-course.false);

@@ -1,9 +1,10 @@
-use Rattle.std.proofs.Common.{◌≡◌, ◌∙◌, ◌+◌, List, [], ◌∷◌, length, get_or, Option, true, sym, ap, subst, arith}
+use Rattle.std.proofs.Common.{◌≡◌, ◌∙◌, ◌+◌, List, [], ◌∷◌, length, get_or, Option, true, sym, ap, subst, inl, inr, ⊎_elim, arith}
 use Rattle.mdf_disk.specs.State.{state_of}
 use Rattle.acq_run.specs.declared.work.Driven.{Driven}
 use Rattle.acq_live.specs.Handled.{Halts, Hands, Waits}
 use Rattle.mdf_command.specs.declared.fault.Fault.{Fault}
 use Rattle.mdf_record.specs.Record.{outcome}
+use Rattle.log_disks.specs.Served.{handed_out, taken_back}
 use Rattle.mdf_log.specs.Parts.{is_full}
 use Rattle.mdf_log.proofs.Going.{all_few, durable_is, idle, may_record, moved}
 use Rattle.mdf_log.proofs.Moving.{handed_count, moves}
@@ -37,7 +38,7 @@ returns g c =
         untouched = λ none. ap (state_of tells) (c.log_part-recorded.ensures.untouched none);
         recovered = c.log_part-recorded.ensures.recovered;
       };
-      serves = g.met.D.Disks.serves_more _ _ _ (state_of tells c.next-out.result ∷ []) [] [] (state_of tells recorded.out ∷ []) c.next-out.ensures.serves c.keep.ensures;
+      serves = g.met.D.Disks.serves_more _ _ _ (handed_out (state_of tells c.next-out.result) ∷ []) (taken_back (state_of tells recorded.out) ∷ []) c.next-out.ensures.serves c.keep.ensures;
       gives = c.give_next-given.ensures;
       parts = c.add.ensures.parts;
       samples = omega (arith, c.add.ensures.samples, c.len-samples.ensures);
@@ -45,8 +46,14 @@ returns g c =
       problem = c.fault_of-fault.ensures;
       live = c.live_of.ensures;
       on_is = (
-        λ on. let both = c.goes_on.ensures.0 on in record { full = subst (λ (f : Option Fault). is_full f ≡ true) c.fault_of-fault.ensures both.0; some = omega (arith, both.1, c.len-samples.ensures) },
-        λ goes. c.goes_on.ensures.1 (subst (λ (f : Option Fault). is_full f ≡ true) (sym c.fault_of-fault.ensures) goes.full, omega (arith, goes.some, c.len-samples.ensures)),
+        λ on. ⊎_elim
+            (λ both. inl (record { full = subst (λ (f : Option Fault). is_full f ≡ true) c.fault_of-fault.ensures both.0; some = omega (arith, both.1, c.len-samples.ensures) }))
+            (λ well. inr (sym c.fault_of-fault.ensures ∙ well.0, sym c.any_called.ensures ∙ well.1))
+            (c.goes_on-on.ensures.0 on),
+        λ goes. c.goes_on-on.ensures.1 (⊎_elim
+            (λ full. inl (subst (λ (f : Option Fault). is_full f ≡ true) (sym c.fault_of-fault.ensures) full.full, omega (arith, full.some, c.len-samples.ensures)))
+            (λ well. inr (c.fault_of-fault.ensures ∙ well.0, c.any_called.ensures ∙ well.1))
+            goes),
       );
       count = handed_count (Hands g.K.Sink) _ _ _ comes.handed;
       counts = c.add.ensures.count;

@@ -7,6 +7,6 @@ pub returns : goal.returns
 returns g c =
     let feed = c.args.self.now in (
       served g.K.Sink feed _ _ refl
-          (flush_handled (fixed feed) (spot g.K.Sink feed) c.requires.pending c.requires.asked.told (feed.room c.requires.pending)) c.requires.asked.running,
+          (flush_handled (fixed feed) (spot g.K.Sink feed) c.requires.pending c.requires.asked.told (feed.room c.requires.pending)) c.requires.asked.running c.requires.asked.running refl,
       (c.requires.asked.running, refl),
     )

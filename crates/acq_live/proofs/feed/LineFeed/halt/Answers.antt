@@ -10,6 +10,8 @@ returns-then-not-self g c =
         fixed_is = refl;
         handled = none_handled (fixed feed) (spot g.K.Sink feed);
         stops = λ is. record { cause = c.requires.cause; committed = c.if-not-self.true; told = c.requires.asked.told };
+        calm = λ well. refl;
+        ended = λ halt other is. absurd (cc (c.requires.asked.running, is));
       },
       record { halt = c.args.halt; halt_is = refl },
     )

@@ -12,7 +12,7 @@ returns-in-Nothing g c =
     let feed = c.args.self.now in (
       served g.K.Sink feed _ _ refl
           (line_passed (fixed feed) (spot g.K.Sink feed) _ _ (unread c.pass.new.self) c.args.said _ c.requires.said c.in-Nothing.is c.requires.may
-          c.pass.ensures.reads (ap (source_state g.S.Source) c.pass.ensures.source) c.requires.running c.requires.asked.told c.requires.room) c.requires.asked.running,
+          c.pass.ensures.reads (ap (source_state g.S.Source) c.pass.ensures.source) c.requires.running c.requires.asked.told c.requires.room) c.requires.asked.running c.requires.asked.running (ap g.S.Source.faults c.pass.ensures.source),
       record { told = c.requires.asked.told; running = c.requires.asked.running },
     )
 
@@ -21,7 +21,7 @@ returns-in-Sampled g c =
     let feed = c.args.self.now in (
       served g.K.Sink feed _ _ refl
           (line_passed (fixed feed) (spot g.K.Sink feed) _ _ (unread c.pass.new.self) c.args.said _ c.requires.said c.in-Sampled.is c.requires.may
-          c.pass.ensures.reads (ap (source_state g.S.Source) c.pass.ensures.source) c.requires.running c.requires.asked.told c.requires.room) c.requires.asked.running,
+          c.pass.ensures.reads (ap (source_state g.S.Source) c.pass.ensures.source) c.requires.running c.requires.asked.told c.requires.room) c.requires.asked.running c.requires.asked.running (ap g.S.Source.faults c.pass.ensures.source),
       (c.requires.asked.running, c.requires.asked.told),
       before_step (fixed feed) (spot g.K.Sink feed) _ (unpassed c.pass.new.self) feed.pending (feed.steps + 1 - 1) (feed.count + 1 - 1)
           (ap (source_state g.S.Source) c.pass.ensures.source)
@@ -34,7 +34,7 @@ returns-in-Flush g c =
     let feed = c.args.self.now in (
       served g.K.Sink feed _ _ refl
           (line_passed (fixed feed) (spot g.K.Sink feed) _ _ (unread c.pass.new.self) c.args.said _ c.requires.said c.in-Flush.is c.requires.may
-          c.pass.ensures.reads (ap (source_state g.S.Source) c.pass.ensures.source) c.requires.running c.requires.asked.told c.requires.room) c.requires.asked.running,
+          c.pass.ensures.reads (ap (source_state g.S.Source) c.pass.ensures.source) c.requires.running c.requires.asked.told c.requires.room) c.requires.asked.running c.requires.asked.running (ap g.S.Source.faults c.pass.ensures.source),
       (c.requires.asked.running, refl),
     )
 
@@ -43,7 +43,7 @@ returns-in-End g c =
     let feed = c.args.self.now in (
       served g.K.Sink feed _ _ refl
           (line_passed (fixed feed) (spot g.K.Sink feed) _ _ (unread c.pass.new.self) c.args.said _ c.requires.said c.in-End.is c.requires.may
-          c.pass.ensures.reads (ap (source_state g.S.Source) c.pass.ensures.source) c.requires.running c.requires.asked.told c.requires.room) c.requires.asked.running,
+          c.pass.ensures.reads (ap (source_state g.S.Source) c.pass.ensures.source) c.requires.running c.requires.asked.told c.requires.room) c.requires.asked.running c.requires.asked.running (ap g.S.Source.faults c.pass.ensures.source),
       record { told = c.requires.asked.told; running = c.requires.asked.running },
     )
 
@@ -52,6 +52,6 @@ returns-in-Bad g c =
     let feed = c.args.self.now in (
       served g.K.Sink feed _ _ refl
           (line_passed (fixed feed) (spot g.K.Sink feed) _ _ (unread c.pass.new.self) c.args.said _ c.requires.said c.in-Bad.is c.requires.may
-          c.pass.ensures.reads (ap (source_state g.S.Source) c.pass.ensures.source) c.requires.running c.requires.asked.told c.requires.room) c.requires.asked.running,
+          c.pass.ensures.reads (ap (source_state g.S.Source) c.pass.ensures.source) c.requires.running c.requires.asked.told c.requires.room) c.requires.asked.running c.requires.asked.running (ap g.S.Source.faults c.pass.ensures.source),
       record { told = c.requires.asked.told; running = c.requires.asked.running },
     )

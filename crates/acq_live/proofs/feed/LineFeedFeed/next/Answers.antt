@@ -1,5 +1,5 @@
 use Rattle.acq_live.specs.Steps.{hands_none}
-use Rattle.acq_live.proofs.Goings.{feeds_on, found, goes_on}
+use Rattle.acq_live.proofs.Goings.{feeds_on, found, goes_on, missed}
 use Rattle.acq_live.proofs.feed.LineFeedFeed.next.Goals as goal
 
 pub returns-then-is_some : goal.returns-then-is_some
@@ -9,7 +9,9 @@ returns-then-is_some g c =
     (hands_none g.K.Sink feed, record { halt = there.0; halt_is = there.1 })
 
 pub returns-in-Some-step : goal.returns-in-Some-step
-returns-in-Some-step g c = feeds_on g.K.Sink c.args.self.now c.loop.self c.step.new.self c.in-Some-step.task c.loop.invariant.none c.in-Some-step.ensures
+returns-in-Some-step g c =
+    feeds_on g.K.Sink c.args.self.now c.loop.self c.step.new.self c.in-Some-step.task (missed c.args.self.now.halt c.is_some.result c.is_some.ensures c.if-is_some.false)
+    c.loop.invariant.none c.in-Some-step.ensures
 
 pub loop-preserved : goal.loop-preserved
 loop-preserved g c =
