@@ -75,7 +75,7 @@ pub record GoesOn (part : Part) : Type 0 where
   pub full : is_full (fault_of part.end) ≡ true
   pub some : 0 < length part.left.history
 
--- So a part is behind which another one stands: the log goes on behind it, or nothing went wrong in it, and a source was called off all the same.
+-- So a part is behind which another one stands: the log goes on behind it, or nothing went wrong in it.
 abbrev pub Precedes : Part → Type 0
 Precedes part = GoesOn part ⊎ (fault_of part.end ≡ None)
 
