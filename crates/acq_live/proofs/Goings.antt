@@ -1,6 +1,6 @@
 -- The single steps of a feed of lines.
-use Rattle.std.proofs.Common.{◌≡◌, ◌∙◌, sym, ap, refl, subst, inl, inr, ℕ, ◌+◌, ◌^◌, ◌≤◌, ◌<◌, Bool, true, false, List, [], ◌∷◌, ◌++◌, length, map, All, Option, Some, None, arith, append-nil, length-append}
-use Rattle.std.specs.Prelude.{◌||◌, ◌==◌, ◌-◌}
+use Rattle.std.proofs.Common.{◌≡◌, ◌∙◌, sym, ap, refl, subst, inl, inr, ℕ, suc, ◌+◌, ◌^◌, ◌≤◌, ◌<◌, Bool, true, false, List, [], ◌∷◌, ◌++◌, length, map, All, Option, Some, None, arith, append-nil, length-append}
+use Rattle.std.specs.Prelude.{◌||◌, ◌==◌, ◌-◌, ◌⊎◌, take}
 use Rattle.std.specs.Option.{option_to_list}
 use Rattle.std.specs.Io.KnownBytes.{Appends, Consumes, IsAtEnd, Keeps}
 use Rattle.std.specs.Prelude.{IfSome, Result, Ok, Err, is_err, is_some}
@@ -10,6 +10,7 @@ use Rattle.mdf_port.specs.declared.source.Source as source
 use Rattle.mdf_port.specs.declared.sink.Sink as sink
 use Rattle.mdf_command.specs.Texts.{Gives}
 use Rattle.std.specs.List.{slice_split}
+use Rattle.std.proofs.lemmas.Bool.{le-leb}
 use Rattle.std.proofs.lemmas.Grind.{get_or_default_zero}
 use Rattle.std.proofs.lemmas.List.Elements.{All-cons, All-nil}
 use Rattle.std.proofs.lemmas.List.Splits.{slice_split_none}
@@ -20,14 +21,16 @@ use Rattle.acq_feed.specs.declared.feed.Fed.{Fed}
 use Rattle.acq_feed.specs.declared.feed.Fed.TheVariants as fed
 use Rattle.acq_lines.specs.Lines.{FindsLf, Reads, Unread, closed, limited, lines_behind}
 use Rattle.acq_lines.specs.Source.{Fills, unpassed}
+use Rattle.acq_lines.proofs.Parts.{passed as line_passed_by, reads_more}
 use Rattle.acq_live.specs.Act.{Act, AreCommitted, handed_in, pending_behind, pending_with, read_in}
 use Rattle.acq_live.specs.Act as act
-use Rattle.acq_live.specs.Handled.{CanGoBack, Goes, Halts, HaltsAt, Handled, Hands, IsAsked, Resumes, ResumesFrom, Serves, Stops, StopsWell, Waits}
+use Rattle.acq_live.specs.Handled.{ComesNext, EndsWanted, Goes, Halts, HaltsAt, Handled, Hands, InOnePart, IsDue, MayRead, Resumes, ResumesFrom, SaysJust, Serves, Stops, StopsWell, Waits}
 use Rattle.acq_live.specs.Rules.{MayCome, Rules}
-use Rattle.acq_live.specs.Said.{AreFlushedMore, bad_in, feds_for, feds_in, is_end, said_by}
+use Rattle.acq_live.specs.Said.{AreFlushedMore, IsSampleLine, bad_in, feds_for, feds_in, is_end, said_by, said_in}
 use Rattle.acq_live.specs.Spot.{Fixed, Spot, before, fixed, spot, spot_before}
-use Rattle.acq_live.specs.Steps.{consumes_none, none_handled, on_with, or_none, serves_more, tells_none}
+use Rattle.acq_live.specs.Steps.{consumes_none, ends_more, feds_more, none_handled, on_with, or_none, said_more, serves_more, tells_none}
 use Rattle.acq_live.specs.Told.{TellsOn, durable_line}
+use Rattle.acq_live.specs.Wants.{begins_with_sample, is_sample_line, names_group, wants_memory}
 use Rattle.acq_live.specs.declared.feed.Halt.{Halt}
 use Rattle.acq_live.specs.declared.feed.Halt.TheVariants.{Input, Line, Failed, Memory, Count, Called}
 use Rattle.acq_live.specs.declared.feed.LineFeed.{LineFeed}
@@ -69,6 +72,34 @@ flush_handled at spot pending none room = record {
   told = tells_none at.number spot.deaf spot.told;
   told_are = flush_told spot.flushed spot.count none;
 }
+
+-- nothing was said
+pub none_said : (at : Fixed) (old new : Spot) → new.input ≡ old.input → new.unread ≡ old.unread → SaysJust at old [] new
+none_said at old new same reads = record {
+  same = same;
+  lines = [];
+  reads = subst (λ (unread : Unread). Reads old.unread [] [] unread) (sym reads) (record { each = λ later. refl });
+  says = refl;
+}
+
+-- a flush that is due comes next
+due_flushed : (at : Fixed) (wanted : Bool) (spot : Spot) → IsDue at wanted spot → IsDue at wanted (flushed spot)
+due_flushed at wanted spot (inl none) = inl none
+due_flushed at wanted spot (inr (inl over)) = inr (inl over)
+due_flushed at wanted spot (inr (inr (inl wants))) = inr (inr (inl wants))
+due_flushed at wanted spot (inr (inr (inr count))) = inr (inr (inr (omega (arith, count))))
+
+pub flush_next : (at : Fixed) (wanted : Bool) (spot : Spot) → IsDue at wanted spot → ComesNext at spot fed.Flush wanted (flushed spot)
+flush_next at wanted spot due = inr (inl (refl, none_said at spot (flushed spot) refl refl, due_flushed at wanted spot due))
+
+-- before it says why nothing more comes
+pub due_by : (at : Fixed) (wanted : Bool) (spot : Spot) (halt : Halt) → HaltsAt at spot halt → (halt ≡ Memory → wanted ≡ true) → IsDue at wanted spot
+due_by at wanted spot Input cause wants = inl cause.1
+due_by at wanted spot Line cause wants = inr (inl cause)
+due_by at wanted spot Failed cause wants = inl cause.1
+due_by at wanted spot Memory cause wants = inr (inr (inl (wants refl, cause)))
+due_by at wanted spot Count cause wants = inr (inr (inr cause))
+due_by at wanted spot Called cause wants = inl cause
 
 -- what stands behind a line that says this
 abbrev pub flush_with : Said → ℕ → Option ℕ → Option ℕ
@@ -196,6 +227,23 @@ line_passed at spot line input unread said kind says is may reads same running n
     (subst (λ (said : Said). Handled at spot (feds_for said) (passed spot said spot.input unread)) (sym says ∙ is)
     (line_handled at spot line unread (subst (λ (said : Said). All (MayCome at.rules at.number) (feds_for said)) says may) reads running none room))
 
+says_alone : (said : Said) → feds_in (said ∷ []) ≡ feds_for said
+says_alone Nothing = refl
+says_alone (Sampled sample) = refl
+says_alone Flush = refl
+says_alone End = refl
+says_alone Bad = refl
+
+-- it says just that
+pub line_says : (at : Fixed) (old new : Spot) (line : Option (List ℕ)) (said kind : Said)
+    → said ≡ said_by at.rules at.number line → said ≡ kind → Reads old.unread [] (line ∷ []) new.unread → new.input ≡ old.input → SaysJust at old (feds_for kind) new
+line_says at old new line said kind says is reads same = record {
+  same = same;
+  lines = line ∷ [];
+  reads = reads;
+  says = says_alone (said_by at.rules at.number line) ∙ ap feds_for (sym says ∙ is);
+}
+
 -- no whole line is left of what was read
 abbrev lf : ℕ → Bool
 lf b = b == 10
@@ -212,9 +260,57 @@ none_closed unread none =
     ap (λ (bytes : List ℕ). closed unread.long (slice_split lf bytes)) (append-nil unread.bytes)
     ∙ ap (closed unread.long) (slice_split_none lf unread.bytes (none_in unread.bytes none))
 
+-- memory may be wanted for a line of a sample
+sample_line : (rules : Rules) (text : Option (List ℕ)) → IsSampleLine rules text → is_sample_line rules text ≡ true
+sample_line rules None is = absurd is
+sample_line rules (Some text) (group, words, is, there) = ap (names_group rules) is ∙ le-leb (suc group) (length rules.shapes) (omega (arith, there))
+
+pub wanted_here : (rules : Rules) (unread : Unread) (count : ℕ) → FindsLf unread.bytes (Some count) → IsSampleLine rules (limited unread.long (take count unread.bytes))
+    → wants_memory rules unread ≡ true
+wanted_here rules unread count found says =
+    ap (begins_with_sample rules) ((line_passed_by unread count _ found refl).each []) ∙ sample_line rules (limited unread.long (take count unread.bytes)) says
+
+-- and each sample has its flush, so more may be read
+pub may_read : (at : Fixed) (spot : Spot) → spot.pending ≡ false → FindsLf spot.unread.bytes None → MayRead at spot
+may_read at spot committed none = (committed, ap (λ (lines : List (Option (List ℕ))). feds_in (said_in at.rules at.number lines)) (none_closed spot.unread none))
+
 pub none_left : (old new : Unread) (bytes : List ℕ) → FindsLf old.bytes None → length bytes ≡ 0 → Reads old bytes [] new → lines_behind new [] ≡ []
 none_left old new [] none is reads = sym (reads.each []) ∙ none_closed old none
 none_left old new (byte ∷ bytes) none is reads = absurd (omega (arith, is))
+
+-- what was said in two steps, of what was read before
+says_more : (at : Fixed) (first second third : Spot) (some more : List Fed) → SaysJust at first some second → SaysJust at second more third → SaysJust at first (some ++ more) third
+says_more at first second third some more one two = record {
+  same = two.same ∙ one.same;
+  lines = one.lines ++ two.lines;
+  reads = reads_more first.unread second.unread third.unread [] [] one.lines two.lines one.reads two.reads;
+  says = ap feds_in (said_more at.rules at.number one.lines two.lines) ∙ feds_more (said_in at.rules at.number one.lines) (said_in at.rules at.number two.lines)
+      ∙ ap (λ (front : List Fed). front ++ feds_in (said_in at.rules at.number two.lines)) one.says ∙ ap (λ (rest : List Fed). some ++ rest) two.says;
+}
+
+-- more may be read from where nothing was said before
+may_before : (at : Fixed) (first second : Spot) → SaysJust at first [] second → second.pending ≡ first.pending → MayRead at second → MayRead at first
+may_before at first second one pending may = (
+  sym pending ∙ may.0,
+  ap (λ (lines : List (Option (List ℕ))). feds_in (said_in at.rules at.number lines)) (one.reads.each [])
+      ∙ ap feds_in (said_more at.rules at.number one.lines (lines_behind second.unread []))
+      ∙ feds_more (said_in at.rules at.number one.lines) (said_in at.rules at.number (lines_behind second.unread []))
+      ∙ ap (λ (front : List Fed). front ++ feds_in (said_in at.rules at.number (lines_behind second.unread []))) one.says
+      ∙ may.1,
+)
+
+pub quiet_more : (at : Fixed) (first second third : Spot) → second.pending ≡ first.pending → SaysJust at first [] second ⊎ MayRead at first → SaysJust at second [] third ⊎ MayRead at second
+    → SaysJust at first [] third ⊎ MayRead at first
+quiet_more at first second third pending (inl one) (inl two) = inl (says_more at first second third [] [] one two)
+quiet_more at first second third pending (inl one) (inr may) = inr (may_before at first second one pending may)
+quiet_more at first second third pending (inr may) two = inr may
+
+pub next_more : (at : Fixed) (first second third : Spot) (wanted : Bool) (task : Fed) → second.pending ≡ first.pending → SaysJust at first [] second ⊎ MayRead at first
+    → ComesNext at second task wanted third → ComesNext at first task wanted third
+next_more at first second third wanted task pending (inl one) (inl two) = inl (says_more at first second third [] (task ∷ []) one two)
+next_more at first second third wanted task pending (inl one) (inr (inl (is, two, due))) = inr (inl (is, says_more at first second third [] [] one two, due))
+next_more at first second third wanted task pending (inl one) (inr (inr may)) = inr (inr (may_before at first second one pending may))
+next_more at first second third wanted task pending (inr may) two = inr (inr may)
 
 -- more was read
 pub read_handled : (at : Fixed) (spot : Spot) (input : SourceState) (unread : Unread) (bytes : List ℕ)
@@ -451,8 +547,11 @@ module _ {S K : Type 0} {tells : source.Ghosts S} (holds : sink.Ghosts K) where
     ended = λ halt other is. going old ran halt is;
   }
 
-  ended_back : (old new : LineFeed S K tells) (feds : List Fed) → Halts new → ((halt : Halt) → old.halt ≡ Some halt → (feds ≡ []) × (new.halt ≡ Some halt)) → CanGoBack holds old feds new
-  ended_back old new feds halts stays = record {
+  ended_back : (old new : LineFeed S K tells) (feds : List Fed) → Halts new → EndsWanted old.wanted old.pending feds new.wanted
+      → ((halt : Halt) → old.halt ≡ Some halt → (feds ≡ []) × (new.halt ≡ Some halt)) → InOnePart holds old feds new
+  ended_back old new feds halts wanted stays = record {
+    next = λ task is run. going new run halts.halt halts.halt_is;
+    wanted = wanted;
     last = λ some sample is run. going new run halts.halt halts.halt_is;
     none = λ is run. going new run halts.halt halts.halt_is;
     stays = stays;
@@ -460,8 +559,8 @@ module _ {S K : Type 0} {tells : source.Ghosts S} (holds : sink.Ghosts K) where
 
   -- its input failed, and no line is left: nothing more comes
   pub failed : (old new : LineFeed S K tells) → fixed new ≡ fixed old → Handled (fixed old) (spot holds old) [] (spot holds new) → old.halt ≡ None → new.halt ≡ Some Failed
-      → HaltsAt (fixed new) (spot holds new) Failed → new.pending ≡ false → new.flushed ≡ None → Goes holds old (Some fed.End) new
-  failed old new same handled ran is cause committed told = (
+      → HaltsAt (fixed new) (spot holds new) Failed → new.pending ≡ false → new.flushed ≡ None → old.wanted ≡ false → Goes holds old (Some fed.End) new
+  failed old new same handled ran is cause committed told calm = (
     record {
       fixed_is = same;
       handled = handled;
@@ -470,20 +569,49 @@ module _ {S K : Type 0} {tells : source.Ghosts S} (holds : sink.Ghosts K) where
       ended = λ why other was. going old ran why was;
     },
     record { halt = Failed; halt_is = is },
+    λ wants was. absurd (cc (calm, wants)),
   )
 
-  -- what came behind what was read before
-  pub goes_behind : (first second third : LineFeed S K tells) (task : Fed) → Serves holds first [] second → Goes holds second (Some task) third → Goes holds first (Some task) third
-  goes_behind first second third (fed.Sample sample) one two =
-      (serves_more holds first second third [] (fed.Sample sample ∷ []) one two.0, two.1, on_with holds first second (spot_before holds third) [] [] one two.2)
-  goes_behind first second third fed.Flush one two = (serves_more holds first second third [] (fed.Flush ∷ []) one two.0, two.1)
-  goes_behind first second third fed.End one two = (serves_more holds first second third [] [] one two.0, two.1)
+  -- what came behind what was read before, where nothing came
+  on_quiet : (first second third : LineFeed S K tells) (task : Fed) → Goes holds first None second → ComesNext (fixed second) (spot holds second) task third.wanted (spot holds third)
+      → ComesNext (fixed first) (spot holds first) task third.wanted (spot holds third)
+  on_quiet first second third task one two = next_more (fixed first) (spot holds first) (spot holds second) (spot holds third) third.wanted task one.0.handled.pending_is one.2
+      (subst (λ (at : Fixed). ComesNext at (spot holds second) task third.wanted (spot holds third)) one.0.fixed_is two)
+
+  on_wanted : (first second third : LineFeed S K tells) (feds : List Fed) → Goes holds first None second → EndsWanted second.wanted second.pending feds third.wanted
+      → EndsWanted first.wanted first.pending feds third.wanted
+  on_wanted first second third feds one two =
+      ends_more first.wanted second.wanted third.wanted first.pending second.pending [] feds one.0.handled.pending_is one.3 two
+
+  pub goes_behind : (first second third : LineFeed S K tells) (task : Fed) → Goes holds first None second → Goes holds second (Some task) third → Goes holds first (Some task) third
+  goes_behind first second third (fed.Sample sample) one two = (
+    serves_more holds first second third [] (fed.Sample sample ∷ []) one.0 two.0,
+    two.1,
+    on_with holds first second (spot_before holds third) [] [] one.0 two.2,
+    on_quiet first second third (fed.Sample sample) one two.3,
+    on_wanted first second third (fed.Sample sample ∷ []) one two.4,
+  )
+  goes_behind first second third fed.Flush one two = (
+    serves_more holds first second third [] (fed.Flush ∷ []) one.0 two.0,
+    two.1,
+    on_quiet first second third fed.Flush one two.2,
+    on_wanted first second third (fed.Flush ∷ []) one two.3,
+  )
+  goes_behind first second third fed.End one two =
+      (serves_more holds first second third [] [] one.0 two.0, two.1, on_wanted first second third [] one two.2)
+
+  -- what comes is what comes next
+  next_is : (first third : LineFeed S K tells) (task other : Fed) → ComesNext (fixed first) (spot holds first) task third.wanted (spot holds third) → task ∷ [] ≡ other ∷ []
+      → ComesNext (fixed first) (spot holds first) other third.wanted (spot holds third)
+  next_is first third task other comes is = subst (λ (task : Fed). ComesNext (fixed first) (spot holds first) task third.wanted (spot holds third)) (cc is) comes
 
   fed_by : (first third : LineFeed S K tells) (task : Fed) → first.halt ≡ None → Goes holds first (Some task) third → Feeds (Hands holds) Waits Halts first task third
   fed_by first third (fed.Sample sample) ran goes = (
     (
       goes.0,
       record {
+        next = λ other is run. next_is first third (fed.Sample sample) other goes.3 is;
+        wanted = goes.4;
         last = λ front other is run. subst (λ (feds : List Fed). Handled (fixed first) (spot holds first) feds (spot_before holds third))
             (sym (alone front (fed.Sample sample) (fed.Sample other) is)) goes.2;
         none = λ is run. absurd (cc is);
@@ -496,6 +624,8 @@ module _ {S K : Type 0} {tells : source.Ghosts S} (holds : sink.Ghosts K) where
     (
       goes.0,
       record {
+        next = λ other is run. next_is first third fed.Flush other goes.2 is;
+        wanted = goes.3;
         last = λ front other is run. absurd (cc (alone_is front fed.Flush (fed.Sample other) is));
         none = λ is run. absurd (cc is);
         stays = λ why is. going first ran why is;
@@ -503,17 +633,23 @@ module _ {S K : Type 0} {tells : source.Ghosts S} (holds : sink.Ghosts K) where
     ),
     goes.1,
   )
-  fed_by first third fed.End ran goes = ((goes.0, ended_back first third [] goes.1 (λ why is. going first ran why is)), goes.1)
+  fed_by first third fed.End ran goes = ((goes.0, ended_back first third [] goes.1 goes.2 (λ why is. going first ran why is)), goes.1)
 
   -- what came behind what was handed in before
-  pub feeds_on : (first second third : LineFeed S K tells) (task : Fed) → first.halt ≡ None → Serves holds first [] second → Goes holds second (Some task) third
+  pub feeds_on : (first second third : LineFeed S K tells) (task : Fed) → first.halt ≡ None → Goes holds first None second → Goes holds second (Some task) third
       → Feeds (Hands holds) Waits Halts first task third
   feeds_on first second third task ran one two = fed_by first third task ran (goes_behind first second third task one two)
 
   -- nothing came
-  pub goes_on : (first second third : LineFeed S K tells) (result : Option Fed) → result ≡ None → Serves holds first [] second → Goes holds second result third
-      → Serves holds first [] third × IsAsked third
-  goes_on first second third None is one two = (serves_more holds first second third [] [] one two.0, two.1)
+  pub goes_on : (first second third : LineFeed S K tells) (result : Option Fed) → result ≡ None → Goes holds first None second → Goes holds second result third
+      → Goes holds first None third
+  goes_on first second third None is one two = (
+    serves_more holds first second third [] [] one.0 two.0,
+    two.1,
+    quiet_more (fixed first) (spot holds first) (spot holds second) (spot holds third) one.0.handled.pending_is one.2
+        (subst (λ (at : Fixed). SaysJust at (spot holds second) [] (spot holds third) ⊎ MayRead at (spot holds second)) one.0.fixed_is two.2),
+    on_wanted first second third [] one two.3,
+  )
   goes_on first second third (Some task) is one two = absurd (cc is)
 
   -- the same spot
@@ -528,9 +664,41 @@ module _ {S K : Type 0} {tells : source.Ghosts S} (holds : sink.Ghosts K) where
   stops_same old new None same at is = tt
   stops_same old new (Some halt) same at is = stop_same old new halt same at is
 
+  -- so it is from the same spot
+  from_there : (old old' : LineFeed S K tells) (P : Fixed → Spot → Type 0) → fixed old' ≡ fixed old → spot holds old' ≡ spot holds old → P (fixed old') (spot holds old') → P (fixed old) (spot holds old)
+  from_there old old' P same at is = subst (λ (at : Fixed). P at (spot holds old)) same (subst (P (fixed old')) at is)
+
+  same_serves : (old old' new : LineFeed S K tells) (feds : List Fed) → fixed old' ≡ fixed old → spot holds old' ≡ spot holds old → old'.halt ≡ old.halt → Serves holds old' feds new → Serves holds old feds new
+  same_serves old old' new feds same at halt serves = record {
+    fixed_is = serves.fixed_is ∙ same;
+    handled = from_there old old' (λ at spot_is. Handled at spot_is feds (spot holds new)) same at serves.handled;
+    stops = λ is. serves.stops (stops_same old old' old'.halt same at (subst (λ (halt : Option Halt). IfSome halt (Stops holds old)) (sym halt) is));
+    calm = λ well. serves.calm well ∙ ap (λ (spot : Spot). spot.input.faults) at;
+    ended = λ why other is. serves.ended why other (halt ∙ is);
+  }
+
+  -- so it is where memory was found wanting first
+  pub unwanted : (old old' new : LineFeed S K tells) (task : Fed) → old.wanted ≡ false → fixed old' ≡ fixed old → spot holds old' ≡ spot holds old → old'.halt ≡ old.halt
+      → Goes holds old' (Some task) new → Goes holds old (Some task) new
+  unwanted old old' new (fed.Sample sample) is same at halt goes = (
+    same_serves old old' new (fed.Sample sample ∷ []) same at halt goes.0,
+    goes.1,
+    from_there old old' (λ at spot_is. Handled at spot_is [] (spot_before holds new)) same at goes.2,
+    from_there old old' (λ at spot_is. ComesNext at spot_is (fed.Sample sample) new.wanted (spot holds new)) same at goes.3,
+    λ wanted calm. absurd (cc (is, wanted)),
+  )
+  unwanted old old' new fed.Flush is same at halt goes = (
+    same_serves old old' new (fed.Flush ∷ []) same at halt goes.0,
+    goes.1,
+    from_there old old' (λ at spot_is. ComesNext at spot_is fed.Flush new.wanted (spot holds new)) same at goes.2,
+    λ wanted calm. absurd (cc (is, wanted)),
+  )
+  unwanted old old' new fed.End is same at halt goes =
+      (same_serves old old' new [] same at halt goes.0, goes.1, λ wanted calm. absurd (cc (is, wanted)))
+
   -- nothing came of one that has ended
-  pub ended_on : (old new : LineFeed S K tells) → fixed new ≡ fixed old → spot holds new ≡ spot holds old → new.halt ≡ old.halt → Halts new → Hands holds old [] new
-  ended_on old new same at halt halts = (
+  pub ended_on : (old new : LineFeed S K tells) → fixed new ≡ fixed old → spot holds new ≡ spot holds old → new.halt ≡ old.halt → new.wanted ≡ old.wanted → Halts new → Hands holds old [] new
+  ended_on old new same at halt wanted halts = (
     record {
       fixed_is = same;
       handled = subst (Handled (fixed old) (spot holds old) []) (sym at) (none_handled (fixed old) (spot holds old));
@@ -538,7 +706,7 @@ module _ {S K : Type 0} {tells : source.Ghosts S} (holds : sink.Ghosts K) where
       calm = λ well. ap (λ (spot : Spot). spot.input.faults) at;
       ended = λ why other is. (refl, halt ∙ is);
     },
-    ended_back old new [] halts (λ why is. (refl, halt ∙ is)),
+    ended_back old new [] halts (λ wants calm. (refl, wanted ∙ wants)) (λ why is. (refl, halt ∙ is)),
   )
 
   -- it goes on in a next part: behind a sample that was put back; called off; or not, since it has ended

@@ -1,21 +1,22 @@
 -- What a feed of lines did from one spot to another, and why nothing more comes of it.
-use Rattle.std.specs.Prelude.{ℕ, ◌≡◌, ◌+◌, ◌^◌, ◌≤◌, ◌<◌, true, false, ◌||◌, List, [], ◌∷◌, ◌++◌, length, take, All, Option, Some, None, IfSome}
+use Rattle.std.specs.Prelude.{ℕ, ◌≡◌, ◌+◌, ◌^◌, ◌≤◌, ◌<◌, ◌⊎◌, Bool, true, false, ◌||◌, List, [], ◌∷◌, ◌++◌, length, All, Option, Some, None, IfSome}
 use Rattle.std.specs.Io.KnownBytes.{Consumes, IsAtEnd}
 use Rattle.std.specs.Option.{option_to_list}
 use Rattle.mdf_format.specs.Cause.{Rose}
 use Rattle.mdf_port.specs.State.{sink_state, source_state}
 use Rattle.mdf_port.specs.declared.source.Source as source
 use Rattle.mdf_port.specs.declared.sink.Sink as sink
-use Rattle.acq_lines.specs.Lines.{FindsLf, Reads, Unread, limited, lines_behind, nothing}
+use Rattle.acq_lines.specs.Lines.{Reads, lines_behind, nothing}
 use Rattle.mdf_layout.specs.declared.sample.Sample.{Sample}
 use Rattle.acq_feed.specs.Feeds.{flushes_behind, samples_of}
 use Rattle.acq_feed.specs.declared.feed.Fed.{Fed}
 use Rattle.acq_feed.specs.declared.feed.Fed.TheVariants as fed
 use Rattle.acq_live.specs.Act.{Act, AreCommitted, handed_in, pending_behind, read_in}
-use Rattle.acq_live.specs.Rules.{MayCome, Rules, rules_of}
+use Rattle.acq_live.specs.Rules.{MayCome, rules_of}
 use Rattle.acq_live.specs.Told.{TellsOn}
-use Rattle.acq_live.specs.Said.{AreFlushedMore, EndsLast, IsSampleLine, bad_in, feds_in, is_ended, said_in}
+use Rattle.acq_live.specs.Said.{AreFlushedMore, EndsLast, bad_in, feds_in, is_ended, said_in}
 use Rattle.acq_live.specs.Spot.{Fixed, Spot, fixed, spot, spot_before}
+use Rattle.acq_live.specs.Wants.{wants_memory}
 use Rattle.acq_live.specs.declared.rules.LineRules.{LineRules}
 use Rattle.acq_live.specs.declared.feed.Halt.{Halt}
 use Rattle.acq_live.specs.declared.feed.Halt.TheVariants.{Input, Line, Failed, Memory, Count, Called}
@@ -47,19 +48,13 @@ pub record Handled (at : Fixed) (old : Spot) (feds : List Fed) (new : Spot) : Ty
   pub told : TellsOn old.deaf new.deaf old.told new.told at.number numbers
   pub told_are : numbers ++ option_to_list new.flushed ≡ option_to_list old.flushed ++ flushes_behind old.count feds
 
--- the next line of what was read says a sample of a group that there is
-pub record WantsMemory (rules : Rules) (unread : Unread) : Type 0 where
-  pub count : ℕ
-  pub found : FindsLf unread.bytes (Some count)
-  pub says : IsSampleLine rules (limited unread.long (take count unread.bytes))
-
 -- Why nothing more comes: the input is at its end, and no line is left of what was read; a line ended it; the input failed, and no line is left;
 -- memory was wanted for a line; as much was handled and handed in as can be counted; it was called off, and no line is left.
 abbrev pub HaltsAt : Fixed → Spot → Halt → Type 0
 HaltsAt at spot Input = IsAtEnd spot.input.left × (lines_behind spot.unread [] ≡ [])
 HaltsAt at spot Line = spot.over ≡ true
 HaltsAt at spot Failed = Rose at.first_faults spot.input.faults × (lines_behind spot.unread [] ≡ [])
-HaltsAt at spot Memory = WantsMemory at.rules spot.unread
+HaltsAt at spot Memory = wants_memory at.rules spot.unread ≡ true
 HaltsAt at spot Count = 2 ^ 64 ≤ spot.steps + 2
 HaltsAt at spot Called = lines_behind spot.unread [] ≡ []
 
@@ -82,16 +77,44 @@ pub record Serves {S K : Type 0} {tells : source.Ghosts S} (holds : sink.Ghosts 
   pub calm : (new.halt ≡ Some Failed → ⊥) → (spot holds new).input.faults ≡ (spot holds old).input.faults
   pub ended : (halt : Halt) → (halt ≡ Called → ⊥) → old.halt ≡ Some halt → (feds ≡ []) × (new.halt ≡ Some halt)
 
--- As long as it goes on it can go back behind all of these but the last, where that is a sample; and where none was handed in it went on before,
--- and goes back to where it could then. Of one that has ended, or was called off, nothing more comes, for the same reason.
-pub record CanGoBack {S K : Type 0} {tells : source.Ghosts S} (holds : sink.Ghosts K) (old : LineFeed S K tells) (feds : List Fed) (new : LineFeed S K tells) : Type 0 where
+-- From the one spot to the other nothing was read, and the lines that were handled say just this.
+pub record SaysJust (at : Fixed) (old : Spot) (feds : List Fed) (new : Spot) : Type 0 where
+  pub same : new.input ≡ old.input
+  pub lines : List (Option (List ℕ))
+  pub reads : Reads old.unread [] lines new.unread
+  pub says : feds_in (said_in at.rules at.number lines) ≡ feds
+
+-- Why a flush comes that no line says: no line is left of what was read; a line ended it; memory was wanted for the next line; as much was handled
+-- and handed in as can be counted.
+abbrev pub IsDue : Fixed → Bool → Spot → Type 0
+IsDue at wanted spot =
+    (lines_behind spot.unread [] ≡ []) ⊎ ((spot.over ≡ true) ⊎ (((wanted ≡ true) × (wants_memory at.rules spot.unread ≡ true)) ⊎ (2 ^ 64 ≤ spot.steps + 2)))
+
+-- each sample has a flush behind it, and no line that is left of what was read says anything to be handed in: more may be read
+abbrev pub MayRead : Fixed → Spot → Type 0
+MayRead at spot = (spot.pending ≡ false) × (feds_in (said_in at.rules at.number (lines_behind spot.unread [])) ≡ [])
+
+-- What comes next is what the next line says that says anything; or, where none does, the flush that is due. Before that more is read only where
+-- it may be.
+abbrev pub ComesNext : Fixed → Spot → Fed → Bool → Spot → Type 0
+ComesNext at old task wanted new = SaysJust at old (task ∷ []) new ⊎ (((task ≡ fed.Flush) × SaysJust at old [] new × IsDue at wanted new) ⊎ MayRead at old)
+
+-- where memory was wanted for a line, and each sample has its flush, nothing more comes
+abbrev pub EndsWanted : Bool → Bool → List Fed → Bool → Type 0
+EndsWanted wanted pending feds wanted' = wanted ≡ true → pending ≡ false → (feds ≡ []) × (wanted' ≡ true)
+
+-- What holds besides within one part. As long as it goes on, this is what comes next. It can go back behind all of these but the last, where that is a sample; and where none was
+-- handed in it is the same. Of one that has ended, or was called off, nothing more comes, for the same reason.
+pub record InOnePart {S K : Type 0} {tells : source.Ghosts S} (holds : sink.Ghosts K) (old : LineFeed S K tells) (feds : List Fed) (new : LineFeed S K tells) : Type 0 where
+  pub next : (task : Fed) → feds ≡ task ∷ [] → new.halt ≡ None → ComesNext (fixed old) (spot holds old) task new.wanted (spot holds new)
+  pub wanted : EndsWanted old.wanted old.pending feds new.wanted
   pub last : (some : List Fed) (sample : Sample) → feds ≡ some ++ fed.Sample sample ∷ [] → new.halt ≡ None → Handled (fixed old) (spot holds old) some (spot_before holds new)
-  pub none : feds ≡ [] → new.halt ≡ None → (old.halt ≡ None) × (spot_before holds new ≡ spot_before holds old)
+  pub none : feds ≡ [] → new.halt ≡ None → new ≡ old
   pub stays : (halt : Halt) → old.halt ≡ Some halt → (feds ≡ []) × (new.halt ≡ Some halt)
 
 -- From the one feed to the other, in one part, these were handed in, and the last may be put back where it is a sample.
 abbrev pub Hands : {S K : Type 0} {tells : source.Ghosts S} → sink.Ghosts K → LineFeed S K tells → List Fed → LineFeed S K tells → Type 0
-Hands holds old feds new = Serves holds old feds new × CanGoBack holds old feds new
+Hands holds old feds new = Serves holds old feds new × InOnePart holds old feds new
 
 -- This was handed in last, and it was not asked since: of a flush its source was not told.
 abbrev pub Waits : {S K : Type 0} {tells : source.Ghosts S} → LineFeed S K tells → Fed → Type 0
@@ -122,13 +145,18 @@ pub record IsAsked {S K : Type 0} {tells : source.Ghosts S} (feed : LineFeed S K
   pub told : feed.flushed ≡ None
   pub running : feed.halt ≡ None
 
--- It went on by one step, and this was handed in, or nothing. Behind a sample it can go back to where it stood.
+-- It went on by one step, and this was handed in, or nothing: as what comes next. Behind a sample it can go back to where it stood.
 abbrev pub Goes : {S K : Type 0} {tells : source.Ghosts S} → sink.Ghosts K → LineFeed S K tells → Option Fed → LineFeed S K tells → Type 0
-Goes holds old None new = Serves holds old [] new × IsAsked new
+Goes holds old None new =
+    Serves holds old [] new × IsAsked new × (SaysJust (fixed old) (spot holds old) [] (spot holds new) ⊎ MayRead (fixed old) (spot holds old))
+    × EndsWanted old.wanted old.pending [] new.wanted
 Goes holds old (Some (fed.Sample sample)) new =
     Serves holds old (fed.Sample sample ∷ []) new × Waits new (fed.Sample sample) × Handled (fixed old) (spot holds old) [] (spot_before holds new)
-Goes holds old (Some fed.Flush) new = Serves holds old (fed.Flush ∷ []) new × Waits new fed.Flush
-Goes holds old (Some fed.End) new = Serves holds old [] new × Halts new
+    × ComesNext (fixed old) (spot holds old) (fed.Sample sample) new.wanted (spot holds new) × EndsWanted old.wanted old.pending (fed.Sample sample ∷ []) new.wanted
+Goes holds old (Some fed.Flush) new =
+    Serves holds old (fed.Flush ∷ []) new × Waits new fed.Flush × ComesNext (fixed old) (spot holds old) fed.Flush new.wanted (spot holds new)
+    × EndsWanted old.wanted old.pending (fed.Flush ∷ []) new.wanted
+Goes holds old (Some fed.End) new = Serves holds old [] new × Halts new × EndsWanted old.wanted old.pending [] new.wanted
 
 -- a feed of this source over this input, of which nothing was taken
 pub record IsFresh {S K : Type 0} {tells : source.Ghosts S} (holds : sink.Ghosts K) (rules : LineRules) (number : ℕ) (input : S) (told : K) (feed : LineFeed S K tells) : Type 0 where
@@ -146,3 +174,4 @@ pub record IsFresh {S K : Type 0} {tells : source.Ghosts S} (holds : sink.Ghosts
     told = sink_state holds told;
   }
   pub running : feed.halt ≡ None
+  pub calm : feed.wanted ≡ false

@@ -3,5 +3,6 @@ pub mod Said
 pub mod Act
 pub mod Told
 pub mod Spot
+pub mod Wants
 pub mod Handled
 pub mod Steps

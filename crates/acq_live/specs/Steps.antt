@@ -17,13 +17,13 @@ use Rattle.acq_lines.specs.Lines.{Reads}
 use Rattle.acq_lines.proofs.Parts.{reads_more}
 use Rattle.acq_live.specs.Act.{Act, AreCommitted, handed_in, pending_behind, pending_with, read_in}
 use Rattle.acq_live.specs.Act as act
-use Rattle.acq_live.specs.Handled.{CanGoBack, Handled, Hands, Serves}
+use Rattle.acq_live.specs.Handled.{ComesNext, EndsWanted, Handled, Hands, InOnePart, Serves}
 use Rattle.acq_live.specs.Rules.{MayCome, Rules}
 use Rattle.acq_live.specs.Said.{AreFlushedMore, EndsLast, bad_in, feds_in, is_end, is_ended, said_by, said_in}
 use Rattle.acq_live.specs.Spot.{Fixed, Spot, fixed, spot, spot_before}
 use Rattle.acq_live.specs.Told.{TellsOn, durable_line, durable_lines}
 use Rattle.acq_live.specs.declared.feed.Halt.{Halt}
-use Rattle.acq_live.specs.declared.feed.Halt.TheVariants.{Failed, Called}
+use Rattle.acq_live.specs.declared.feed.Halt.TheVariants.{Failed}
 use Rattle.acq_live.specs.declared.feed.LineFeed.{LineFeed}
 use Rattle.acq_live.specs.declared.said.Said.{Said}
 use Rattle.acq_live.specs.declared.said.Said.TheVariants.{Nothing, Sampled, Flush, End, Bad}
@@ -49,11 +49,11 @@ committed_more pending (act.Read bytes ∷ some) more first second = (first.0, c
 committed_more pending (act.Hand task ∷ some) more first second = committed_more (pending_with pending task) some more first second
 
 -- what was said behind what was said
-said_more : (rules : Rules) (number : ℕ) (some more : List (Option (List ℕ))) → said_in rules number (some ++ more) ≡ said_in rules number some ++ said_in rules number more
+pub said_more : (rules : Rules) (number : ℕ) (some more : List (Option (List ℕ))) → said_in rules number (some ++ more) ≡ said_in rules number some ++ said_in rules number more
 said_more rules number [] more = refl
 said_more rules number (line ∷ some) more = ap (λ (rest : List Said). said_by rules number line ∷ rest) (said_more rules number some more)
 
-feds_more : (some more : List Said) → feds_in (some ++ more) ≡ feds_in some ++ feds_in more
+pub feds_more : (some more : List Said) → feds_in (some ++ more) ≡ feds_in some ++ feds_in more
 feds_more [] more = refl
 feds_more (Sampled sample ∷ some) more = ap (λ (rest : List Fed). fed.Sample sample ∷ rest) (feds_more some more)
 feds_more (Flush ∷ some) more = ap (λ (rest : List Fed). fed.Flush ∷ rest) (feds_more some more)
@@ -254,6 +254,23 @@ last_of (first ∷ some) task more (other ∷ front) last is =
 none_last : (some : List Fed) (last : Fed) → [] ≡ some ++ last ∷ [] → ⊥
 none_last some last is = omega (arith, ap length is, length-append some (last ∷ []))
 
+-- what is alone has nothing before it
+alone_behind : (some : List Fed) (task : Fed) (more : List Fed) (last : Fed) → some ++ task ∷ more ≡ last ∷ [] → (some ≡ []) × (task ∷ more ≡ last ∷ [])
+alone_behind [] task more last is = (refl, is)
+alone_behind (first ∷ some) task more last is = absurd (omega (arith, ap length is, length-append some (task ∷ more)))
+
+-- nothing comes in two steps
+pub ends_more : (first second third pending pending' : Bool) (some more : List Fed) → pending' ≡ pending_behind pending some → EndsWanted first pending some second
+    → EndsWanted second pending' more third → EndsWanted first pending (some ++ more) third
+ends_more first second third pending pending' some more is one two = λ wants calm.
+    let before = one wants calm in
+    let behind = two before.1 (is ∙ ap (pending_behind pending) before.0 ∙ calm) in
+    (ap (λ (front : List Fed). front ++ more) before.0 ∙ behind.0, behind.1)
+
+running_if : (halt : Option Halt) → ((why : Halt) → halt ≡ Some why → ⊥) → halt ≡ None
+running_if None not = refl
+running_if (Some why) not = absurd (not why refl)
+
 module _ {S K : Type 0} {tells : source.Ghosts S} (holds : sink.Ghosts K) where
   pub serves_none : (feed : LineFeed S K tells) → Serves holds feed [] feed
   serves_none feed = record {
@@ -289,27 +306,49 @@ module _ {S K : Type 0} {tells : source.Ghosts S} (holds : sink.Ghosts K) where
   hands_none feed = (
     serves_none feed,
     record {
+      next = λ task is run. absurd (cc is);
+      wanted = λ wants calm. (refl, wants);
       last = λ some sample is run. absurd (none_last some (fed.Sample sample) is);
-      none = λ is run. (run, refl);
+      none = λ is run. refl;
       stays = λ halt is. (refl, is);
     },
   )
 
-  back_more : (first second third : LineFeed S K tells) (some more : List Fed) → Hands holds first some second → Hands holds second more third → CanGoBack holds first (some ++ more) third
+  -- it goes on, since it goes on where it is the same
+  run_behind : (old new : LineFeed S K tells) → new ≡ old → new.halt ≡ None → old.halt ≡ None
+  run_behind old new same run = ap (λ (feed : LineFeed S K tells). feed.halt) (sym same) ∙ run
+
+  -- what comes next behind nothing
+  next_behind : (first second third : LineFeed S K tells) (some more : List Fed) (task : Fed) → Hands holds first some second → Hands holds second more third → some ≡ [] → more ≡ task ∷ []
+      → third.halt ≡ None → ComesNext (fixed first) (spot holds first) task third.wanted (spot holds third)
+  next_behind first second third some more task one two none alone run =
+      let ran = running_if second.halt (λ halt is. absurd (cc (sym alone ∙ (two.1.stays halt is).0))) in
+      subst (λ (feed : LineFeed S K tells). ComesNext (fixed feed) (spot holds feed) task third.wanted (spot holds third)) (one.1.none none ran) (two.1.next task alone run)
+
+  back_more : (first second third : LineFeed S K tells) (some more : List Fed) → Hands holds first some second → Hands holds second more third → InOnePart holds first (some ++ more) third
   back_more first second third some [] one two = record {
+    next = λ task is run.
+        let kept = two.1.none refl run in
+        subst (λ (feed : LineFeed S K tells). ComesNext (fixed first) (spot holds first) task feed.wanted (spot holds feed)) (sym kept)
+        (one.1.next task (sym (append-nil some) ∙ is) (run_behind second third kept run));
+    wanted = ends_more first.wanted second.wanted third.wanted first.pending second.pending some [] one.0.handled.pending_is one.1.wanted two.1.wanted;
     last = λ front sample is run.
         let kept = two.1.none refl run in
-        subst (Handled (fixed first) (spot holds first) front) (sym kept.1) (one.1.last front sample (sym (append-nil some) ∙ is) kept.0);
+        subst (λ (feed : LineFeed S K tells). Handled (fixed first) (spot holds first) front (spot_before holds feed)) (sym kept)
+        (one.1.last front sample (sym (append-nil some) ∙ is) (run_behind second third kept run));
     none = λ is run.
         let kept = two.1.none refl run in
-        let was = one.1.none (sym (append-nil some) ∙ is) kept.0 in
-        (was.0, kept.1 ∙ was.1);
+        kept ∙ one.1.none (sym (append-nil some) ∙ is) (run_behind second third kept run);
     stays = λ halt is.
         let before = one.1.stays halt is in
         let behind = two.1.stays halt before.1 in
         (append-nil some ∙ before.0, behind.1);
   }
   back_more first second third some (task ∷ more) one two = record {
+    next = λ last is run.
+        let (none, alone) = alone_behind some task more last is in
+        next_behind first second third some (task ∷ more) last one two none alone run;
+    wanted = ends_more first.wanted second.wanted third.wanted first.pending second.pending some (task ∷ more) one.0.handled.pending_is one.1.wanted two.1.wanted;
     last = λ front sample is run.
         let (before, ends, rest) = last_of some task more front (fed.Sample sample) is in
         subst (λ (feds : List Fed). Handled (fixed first) (spot holds first) feds (spot_before holds third)) (sym rest)

@@ -1,4 +1,7 @@
 ghost use Rattle.std.specs.Prelude.{◌≡◌, ◌≤◌, ◌<◌, ◌+◌, ◌^◌, Bool, true, Some};
+ghost use Rattle.acq_lines.specs.Source.{unread};
+ghost use Rattle.acq_live.specs.Rules.{rules_of};
+ghost use Rattle.acq_live.specs.Wants.{wants_memory};
 
 use crate::told::give_durable;
 use crate::{LineRules, Said, said_by};
@@ -46,11 +49,13 @@ pub struct LineFeed<'a, S: Source, K> {
     flushed: Option<u64>,
     told: K,
     deaf: bool,
+    wanted: bool,
     halt: Option<Halt>,
     ghost since: { first_faults ≤ S.faults lines.source },
     ghost counted: { bad + count ≤ steps },
     ghost sampled: { (pending : Bool) → pending_before ≡ Some pending → 0 < count },
     ghost room: { pending ≡ true → steps + 1 < 2 ^ 64 },
+    ghost wants: { wanted ≡ true → wants_memory (rules_of rules) (unread lines) ≡ true },
 }
 
 impl<'a, S: Input + Drop, K: Sink + Drop> LineFeed<'a, S, K> {
@@ -62,7 +67,8 @@ impl<'a, S: Input + Drop, K: Sink + Drop> LineFeed<'a, S, K> {
     ghost use Rattle.acq_live.specs.Rules.{MayCome, rules_of};
     ghost use Rattle.acq_live.specs.Said.{IsSampleLine, feds_for, said_by};
     ghost use Rattle.acq_live.specs.Spot.{fixed, spot, spot_before};
-    ghost use Rattle.acq_live.specs.Handled.{Goes, HaltsAt, IsAsked, IsFresh, Resumes, Serves};
+    ghost use Rattle.acq_live.specs.declared.feed.Halt.TheVariants.{Memory as MemoryHalt};
+    ghost use Rattle.acq_live.specs.Handled.{Goes, HaltsAt, IsAsked, IsDue, IsFresh, Resumes};
 
     /// Of the source of this number. It finds the memory for its lines here, and takes nothing of its input yet. Feeds that are
     /// called off together share the flag.
@@ -93,6 +99,7 @@ impl<'a, S: Input + Drop, K: Sink + Drop> LineFeed<'a, S, K> {
             flushed: None,
             told,
             deaf: false,
+            wanted: false,
             halt: None,
         })
     }
@@ -101,6 +108,7 @@ impl<'a, S: Input + Drop, K: Sink + Drop> LineFeed<'a, S, K> {
     fn flush(&mut self)
         requires asked { IsAsked self.old }
         requires pending { self.old.pending ≡ true }
+        requires due { IsDue (fixed self.old) self.old.wanted (spot K.Sink self.old) }
         ensures { Goes K.Sink self.old (Some FlushFed) self.new }
     {
         self.pending = false;
@@ -112,6 +120,7 @@ impl<'a, S: Input + Drop, K: Sink + Drop> LineFeed<'a, S, K> {
     fn halt(&mut self, halt: Halt) -> Fed
         requires asked { IsAsked self.old }
         requires cause { HaltsAt (fixed self.old) (spot K.Sink self.old) halt }
+        requires wanted { halt ≡ MemoryHalt → self.old.wanted ≡ true }
         ensures { Goes K.Sink self.old (Some result) self.new }
     {
         if !self.pending {
@@ -125,8 +134,7 @@ impl<'a, S: Input + Drop, K: Sink + Drop> LineFeed<'a, S, K> {
     /// Goes on behind what was handed in last, which was done, since more is asked for: of a flush it tells. A sink that failed is told no more.
     fn tell(&mut self)
         requires running { self.old.halt ≡ None }
-        ensures serves { Serves K.Sink self.old [] self.new }
-        ensures asked { IsAsked self.new }
+        ensures { Goes K.Sink self.old None self.new }
     {
         self.pending_before = None;
         let Some(count) = self.flushed.take() else {
@@ -153,6 +161,7 @@ impl<'a, S: Input + Drop, K: Sink + Drop> LineFeed<'a, S, K> {
     fn pass(&mut self, count: usize, said: Said) -> Option<Fed>
         requires asked { IsAsked self.old }
         requires running { self.old.over ≡ false }
+        requires calm { self.old.wanted ≡ false }
         requires room { self.old.steps + 2 < 2 ^ 64 }
         requires found { FindsLf (unread self.old.lines).bytes (Some count) }
         requires said { said ≡ said_by (rules_of self.old.rules) self.old.number
@@ -190,13 +199,17 @@ impl<'a, S: Input + Drop, K: Sink + Drop> LineFeed<'a, S, K> {
     fn handle(&mut self, count: usize) -> Option<Fed>
         requires asked { IsAsked self.old }
         requires running { self.old.over ≡ false }
+        requires calm { self.old.wanted ≡ false }
         requires room { self.old.steps + 2 < 2 ^ 64 }
         requires found { FindsLf (unread self.old.lines).bytes (Some count) }
         ensures { Goes K.Sink self.old result self.new }
     {
         match self.said(count) {
             Ok(said) => self.pass(count, said),
-            Err(_) => Some(self.halt(Halt::Memory)),
+            Err(_) => {
+                self.wanted = true;
+                Some(self.halt(Halt::Memory))
+            }
         }
     }
 
@@ -204,6 +217,7 @@ impl<'a, S: Input + Drop, K: Sink + Drop> LineFeed<'a, S, K> {
     fn fill(&mut self) -> Option<Fed>
         requires asked { IsAsked self.old }
         requires running { self.old.over ≡ false }
+        requires calm { self.old.wanted ≡ false }
         requires committed { self.old.pending ≡ false }
         requires none { FindsLf (unread self.old.lines).bytes None }
         ensures { Goes K.Sink self.old result self.new }
@@ -222,6 +236,7 @@ impl<'a, S: Input + Drop, K: Sink + Drop> LineFeed<'a, S, K> {
     fn read(&mut self) -> Option<Fed>
         requires asked { IsAsked self.old }
         requires running { self.old.over ≡ false }
+        requires calm { self.old.wanted ≡ false }
         requires committed { self.old.pending ≡ false }
         requires none { FindsLf (unread self.old.lines).bytes None }
         ensures { Goes K.Sink self.old result self.new }
@@ -248,6 +263,9 @@ impl<'a, S: Input + Drop, K: Sink + Drop> LineFeed<'a, S, K> {
         if self.over {
             return Some(self.halt(Halt::Line));
         }
+        if self.wanted {
+            return Some(self.halt(Halt::Memory));
+        }
         if self.steps >= u64::MAX - 1 {
             return Some(self.halt(Halt::Count));
         }
@@ -271,6 +289,7 @@ impl<'a, S: Input + Drop, K: Sink + Drop> LineFeed<'a, S, K> {
             return;
         };
         self.lines.put_back();
+        self.wanted = false;
         self.pending = pending;
         self.steps -= 1;
         self.count -= 1;

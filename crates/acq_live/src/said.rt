@@ -1,16 +1,16 @@
-ghost use Rattle.std.specs.Prelude.{◌≡◌, ◌≤◌, ◌<◌, length, All, Some, IfOk, IfSome, OnErr};
+ghost use Rattle.std.specs.Prelude.{◌≡◌, ◌<◌, length, All, Some, IfOk, IfSome, OnErr};
 ghost use Rattle.std.specs.Option.{option_map};
 ghost use Rattle.mdf_layout.specs.Record.{SampleFits};
 ghost use Rattle.script_line.specs.Text.{words_left};
-ghost use Rattle.acq_script.specs.Stage.{sample_of};
 ghost use Rattle.acq_live.specs.Rules.{MayCome, rules_of};
 ghost use Rattle.acq_live.specs.Said.{IsSampleLine, feds_for, logged_sample, said_by, sample_said};
 
 use crate::LineRules;
+use acq_script::sample_of;
 use log_float::script_words;
-use mdf_layout::{Sample, Shapes};
+use mdf_layout::Sample;
 use mdf_num::Memory;
-use script_line::{Line, entries_of, line_of};
+use script_line::{Line, line_of};
 use std::alloc::Global;
 
 /// What a line says to its source.
@@ -26,30 +26,6 @@ pub enum Said {
     End,
     /// No rule admits it.
     Bad,
-}
-
-/// The sample of this group of these values, if they are admitted.
-fn sample_of(
-    alloc: Global,
-    shapes: &Shapes,
-    group: u64,
-    values: Option<&[u8]>,
-) -> Result<Option<Sample>, Memory>
-    requires { length shapes.now ≤ 64 }
-    ensures found { IfOk result (λ found. found ≡ sample_of shapes.now group (words_left values.entry)) }
-    ensures fits { IfOk result (λ found. IfSome found (SampleFits shapes.now)) }
-    ensures wanted { OnErr result (group < length shapes.now) }
-{
-    let Some(shape) = shapes.get(group) else {
-        return Ok(None);
-    };
-    match entries_of(alloc, shape.fields().as_slice(), values)? {
-        Some(values) => Ok(Some(Sample {
-            group: group as u16,
-            values,
-        })),
-        None => Ok(None),
-    }
 }
 
 /// The sample of this group of these values as a log has them, if they are admitted: where a channel has floats, the word is the

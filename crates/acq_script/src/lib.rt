@@ -21,3 +21,4 @@ pub use generate::generated;
 pub use law::spelled_is_read;
 pub use read::read_script;
 pub use script::{Plan, Script, Task};
+pub use task::sample_of;

@@ -12,8 +12,12 @@ use script_line::entries_of;
 use std::alloc::Global;
 use std::mem::replace;
 
-/// The sample of this group of these values, if they are admitted.
-fn sample_of(
+/// The sample of a group of these values, if they are admitted: one for each channel of the group, which it can hold. There are at most 64
+/// groups.
+///
+/// # Errors
+/// `Memory`, and only for a group that there is.
+pub fn sample_of(
     alloc: Global,
     shapes: &Shapes,
     group: u64,

@@ -22,7 +22,7 @@ use Rattle.mdf_record.specs.Sources.{feds_of}
 use Rattle.mdf_record.specs.declared.record.RecordEnd.{RecordEnd}
 use Rattle.mdf_record.specs.declared.record.RecordEnd.TheVariants.{Refused, Closed}
 use Rattle.mdf_log.specs.Part.{PartComes}
-use Rattle.mdf_log.specs.Parts.{fault_of, is_full}
+use Rattle.mdf_log.specs.Parts.{fault_of, fits_anew}
 
 -- the lists are those of a part, in which a source worked from the one feed to the other, or none did
 pub record Moves {F : Type 0} (hands : F → List Fed → F → Type 0) (waits : F → Fed → Type 0) (ends : F → Type 0) (plan : Plan) (left : Outcome) (end : RecordEnd) (lists : List (List Fed))
@@ -40,7 +40,7 @@ pub record Moves {F : Type 0} (hands : F → List Fed → F → Type 0) (waits :
   pub still : rest ≡ [] → ends new ⊎ (new ≡ old)
   pub well : fault_of end ≡ None → ends new
   pub all_done : fault_of end ≡ None → rest ≡ []
-  pub left_is : is_full (fault_of end) ≡ true → 0 < length left.history → ((rest ≡ []) × ends new) ⊎ ((sample : Sample) × (rest ≡ fed.Sample sample ∷ []))
+  pub left_is : fits_anew (fault_of end) ≡ true → 0 < length left.history → ((rest ≡ []) × ends new) ⊎ ((sample : Sample) × (rest ≡ fed.Sample sample ∷ []))
 
 some_is : (list feds : List Fed) → Some list ≡ Some feds → list ≡ feds
 some_is list feds is = cc
@@ -113,8 +113,8 @@ closed_other : (end : RecordEnd) → fault_of end ≡ None → IsClosedWith (λ 
 closed_other (Refused problem) well = absurd (cc well)
 closed_other (Closed accepted samples last live problem seen) well = λ memory. absurd (cc (well, memory))
 
-pub full_calm : (problem : Option Fault) → is_full problem ≡ true → problem ≡ Some fault.Device → ⊥
-full_calm problem full is = false_true (subst (λ p. is_full p ≡ true) is full) where
+pub full_calm : (problem : Option Fault) → fits_anew problem ≡ true → problem ≡ Some fault.Device → ⊥
+full_calm problem full is = false_true (subst (λ p. fits_anew p ≡ true) is full) where
   false_true : false ≡ true → ⊥
   false_true is = cc
 

@@ -1,5 +1,5 @@
 -- How a log begins, and what is said of it in other words.
-use Rattle.std.proofs.Common.{◌≡◌, ◌<◌, ◌∙◌, ℕ, zero, suc, List, [], ◌∷◌, length, get_or, slice_get, Some, Ok, refl, sym, ap, inl, inr, ⊎_elim, arith}
+use Rattle.std.proofs.Common.{◌≡◌, ◌≤◌, ◌<◌, ◌∙◌, ℕ, zero, suc, List, [], ◌∷◌, length, get_or, slice_get, Some, Ok, refl, sym, ap, subst, inl, inr, ⊎_elim, arith}
 use Rattle.std.specs.Prelude.{replicate}
 use Rattle.std.proofs.lemmas.List.Elements.{All-nil}
 use Rattle.mdf_port.specs.State.{SinkState}
@@ -27,6 +27,10 @@ use Rattle.mdf_log.specs.Tally.{IsNone}
 use Rattle.mdf_log.specs.Tap.{TapState, tap_states}
 use Rattle.mdf_log.specs.declared.parts.Course.{Course}
 use Rattle.mdf_log.specs.declared.tap.Tap.{Tap}
+
+-- there is room for as many
+pub wide_for : (count sources room : ℕ) → count ≡ sources → sources ≤ room → count ≤ room
+wide_for count sources room is wide = subst (λ n. n ≤ room) (sym is) wide
 
 -- what as many taps tell
 pub taps_count : {S K : Type 0} (inputs : source.Ghosts S) (sinks : sink.Ghosts K) (taps : List (Tap S K)) → length (tap_states inputs sinks taps) ≡ length taps

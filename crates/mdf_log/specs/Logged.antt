@@ -10,9 +10,9 @@ use Rattle.mdf_spell.specs.Recording.{head_file}
 use Rattle.acq_lines.specs.Lines.{IsCut, Reads, Unread, lines_behind, nothing}
 use Rattle.acq_feed.specs.Feeds.{flushes_behind, samples_of}
 use Rattle.acq_feed.specs.declared.feed.Fed.{Fed}
-use Rattle.acq_live.specs.Handled.{WantsMemory}
 use Rattle.acq_live.specs.Said.{AreFlushedMore, EndsLast, bad_in, feds_in, is_ended, said_in}
 use Rattle.acq_live.specs.Told.{TellsOn}
+use Rattle.acq_live.specs.Wants.{wants_memory}
 use Rattle.acq_live.specs.declared.feed.Halt.{Halt}
 use Rattle.acq_live.specs.declared.feed.Halt.TheVariants as halts
 use Rattle.acq_live.specs.declared.said.Said.{Said}
@@ -53,7 +53,7 @@ abbrev pub HaltsBy : Plan → TapState → TapState → List Said → ℕ → Un
 HaltsBy plan old new said done rest halts.Input = IsAtEnd new.input.left × (lines_behind rest [] ≡ [])
 HaltsBy plan old new said done rest halts.Line = is_ended said ≡ true
 HaltsBy plan old new said done rest halts.Failed = Rose old.input.faults new.input.faults × (lines_behind rest [] ≡ [])
-HaltsBy plan old new said done rest halts.Memory = WantsMemory (rules_in plan) rest
+HaltsBy plan old new said done rest halts.Memory = wants_memory (rules_in plan) rest ≡ true
 HaltsBy plan old new said done rest halts.Count = 2 ^ 64 ≤ length said + done + 2
 HaltsBy plan old new said done rest halts.Called = lines_behind rest [] ≡ []
 

@@ -1,5 +1,5 @@
 -- The parts of a log, one behind the other.
-use Rattle.std.specs.Prelude.{ℕ, ◌≡◌, ◌+◌, ◌-◌, ◌^◌, ◌<◌, ◌⊎◌, Bool, true, false, List, [], ◌∷◌, ◌++◌, length, map, slice_get, All, Option, Some, None}
+use Rattle.std.specs.Prelude.{ℕ, ◌≡◌, ◌+◌, ◌-◌, ◌^◌, ◌<◌, ◌⊎◌, Bool, true, false, List, [], ◌∷◌, ◌++◌, length, map, slice_get, All, Option, Some, None, nat_le}
 use Rattle.std.specs.List.{flat_map}
 use Rattle.book_owned.specs.Marks.{durable}
 use Rattle.mdf_disk.specs.State.{DiskState}
@@ -64,15 +64,15 @@ abbrev pub durable_of : RecordEnd → ℕ
 durable_of (Refused problem) = 0
 durable_of (Closed accepted samples last live problem seen) = last
 
--- a session was full
-abbrev pub is_full : Option Fault → Bool
-is_full (Some (fault_.SessionFull held size limit)) = true
-is_full _ = false
+-- a session was full, for a sample that has room in an empty one
+abbrev pub fits_anew : Option Fault → Bool
+fits_anew (Some (fault_.SessionFull held size limit)) = nat_le size limit
+fits_anew _ = false
 
--- The session of a part was full, and there are samples in it: then the next part begins. One that is full without a sample has no room
--- for the next in any part.
+-- The session of a part was full, there are samples in it, and the one that had no room has it in an empty session: then the next part
+-- begins. A sample that costs more than a session has no room in any part.
 pub record GoesOn (part : Part) : Type 0 where
-  pub full : is_full (fault_of part.end) ≡ true
+  pub full : fits_anew (fault_of part.end) ≡ true
   pub some : 0 < length part.left.history
 
 -- So a part is behind which another one stands: the log goes on behind it, or nothing went wrong in it.

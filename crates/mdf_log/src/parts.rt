@@ -7,7 +7,7 @@ ghost use Rattle.acq_script.specs.Plan.{IsPlan};
 ghost use Rattle.mdf_command.specs.Texts.{Gives};
 ghost use Rattle.mdf_rotate.specs.Text.{part_line, record_of};
 ghost use Rattle.mdf_log.specs.Course.{AreRuled, HasGone, HasRun, IsNextPart, is_called};
-ghost use Rattle.mdf_log.specs.Parts.{durable_of, fault_of, is_full, live_of};
+ghost use Rattle.mdf_log.specs.Parts.{durable_of, fault_of, fits_anew, live_of};
 
 use crate::part::log_part;
 use crate::tally::Tally;
@@ -65,11 +65,14 @@ fn durable_of(end: &RecordEnd) -> u64
     }
 }
 
-/// Whether a session was full.
-fn is_full(fault: Option<Fault>) -> bool
-    ensures { result ≡ is_full fault }
+/// Whether a session was full, for a sample that has room in an empty one.
+fn fits_anew(fault: Option<Fault>) -> bool
+    ensures { result ≡ fits_anew fault }
 {
-    matches!(fault, Some(Fault::SessionFull { .. }))
+    match fault {
+        Some(Fault::SessionFull { size, limit, .. }) => size <= limit,
+        _ => false,
+    }
 }
 
 /// Whether a feed was called off.
@@ -89,11 +92,11 @@ fn any_called<'a, S: Input + Drop, K: Sink + Drop>(feeds: &Vec<LineFeed<'a, S, K
 /// Whether the next part begins behind one of so many samples, by what went wrong in it, and whether one of its sources was called off: that has
 /// to go on where nothing went wrong.
 fn goes_on(fault: Option<Fault>, samples: u64, called: bool) -> bool
-    ensures { (result ≡ true) ↔ (((is_full fault ≡ true) × (0 < samples)) ⊎ ((fault ≡ None) × (called ≡ true))) }
+    ensures { (result ≡ true) ↔ (((fits_anew fault ≡ true) × (0 < samples)) ⊎ ((fault ≡ None) × (called ≡ true))) }
 {
     match fault {
         None => called,
-        Some(_) => samples > 0 && is_full(fault),
+        Some(_) => samples > 0 && fits_anew(fault),
     }
 }
 

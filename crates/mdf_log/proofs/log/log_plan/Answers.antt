@@ -1,8 +1,8 @@
-use Rattle.std.proofs.Common.{◌≡◌, ◌∙◌, ap, arith, inl, inr, length, refl, subst}
+use Rattle.std.proofs.Common.{◌≡◌, ◌∙◌, ap, arith, inl, inr, length, refl, subst, sym}
 use Rattle.std.proofs.lemmas.Bool.Decides.{nat_tests}
 use Rattle.mdf_log.specs.Tally.{IsNone}
 use Rattle.mdf_log.specs.Tap.{tap_states}
-use Rattle.mdf_log.proofs.Starting.{gone_none, ruled_first, taps_count}
+use Rattle.mdf_log.proofs.Starting.{gone_none, ruled_first, taps_count, wide_for}
 use Rattle.mdf_log.proofs.Whole.{runs, unbegun_runs}
 use Rattle.mdf_log.proofs.log.log_plan.Goals as goal
 
@@ -60,9 +60,9 @@ finish-requires-clause-few g c =
 pub finish-requires-clause-room : goal.finish-requires-clause-room
 finish-requires-clause-room g c =
     let wide = c.in-Ok-room_for.ensures.wide in
-    let count = c.log_parts-course.ensures.come.count in
-    let feeds = c.in-Ok-feeds_for.ensures.count in
-    (omega (arith, wide.0, count, feeds, c.len-sources.ensures), omega (arith, wide.1, count, feeds, c.len-sources.ensures))
+    let sources_is : c.len-sources.result ≡ length c.args.taps.items = omega (arith, c.len-sources.ensures, c.args.taps.ok.0) in
+    let count = c.log_parts-course.ensures.come.count ∙ c.in-Ok-feeds_for.ensures.count ∙ sym sources_is in
+    (wide_for _ _ _ count wide.0, wide_for _ _ _ count wide.1)
 
 pub returns : goal.returns
 returns g c =

@@ -5,7 +5,7 @@ use Rattle.acq_live.specs.Handled.{Halts, Hands, Waits}
 use Rattle.mdf_command.specs.declared.fault.Fault.{Fault}
 use Rattle.mdf_record.specs.Record.{outcome}
 use Rattle.log_disks.specs.Served.{handed_out, taken_back}
-use Rattle.mdf_log.specs.Parts.{is_full}
+use Rattle.mdf_log.specs.Parts.{fits_anew}
 use Rattle.mdf_log.proofs.Going.{all_few, durable_is, idle, may_record, moved}
 use Rattle.mdf_log.proofs.Moving.{handed_count, moves}
 use Rattle.mdf_log.proofs.parts.next_part.Goals as goal
@@ -47,11 +47,11 @@ returns g c =
       live = c.live_of.ensures;
       on_is = (
         λ on. ⊎_elim
-            (λ both. inl (record { full = subst (λ (f : Option Fault). is_full f ≡ true) c.fault_of-fault.ensures both.0; some = omega (arith, both.1, c.len-samples.ensures) }))
+            (λ both. inl (record { full = subst (λ (f : Option Fault). fits_anew f ≡ true) c.fault_of-fault.ensures both.0; some = omega (arith, both.1, c.len-samples.ensures) }))
             (λ well. inr (sym c.fault_of-fault.ensures ∙ well.0, sym c.any_called.ensures ∙ well.1))
             (c.goes_on-on.ensures.0 on),
         λ goes. c.goes_on-on.ensures.1 (⊎_elim
-            (λ full. inl (subst (λ (f : Option Fault). is_full f ≡ true) (sym c.fault_of-fault.ensures) full.full, omega (arith, full.some, c.len-samples.ensures)))
+            (λ full. inl (subst (λ (f : Option Fault). fits_anew f ≡ true) (sym c.fault_of-fault.ensures) full.full, omega (arith, full.some, c.len-samples.ensures)))
             (λ well. inr (c.fault_of-fault.ensures ∙ well.0, c.any_called.ensures ∙ well.1))
             goes),
       );

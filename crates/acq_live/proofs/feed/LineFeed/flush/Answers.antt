@@ -1,6 +1,6 @@
 use Rattle.std.proofs.Common.{refl}
 use Rattle.acq_live.specs.Spot.{fixed, spot}
-use Rattle.acq_live.proofs.Goings.{flush_handled, served}
+use Rattle.acq_live.proofs.Goings.{flush_handled, flush_next, served}
 use Rattle.acq_live.proofs.feed.LineFeed.flush.Goals as goal
 
 pub returns : goal.returns
@@ -9,4 +9,6 @@ returns g c =
       served g.K.Sink feed _ _ refl
           (flush_handled (fixed feed) (spot g.K.Sink feed) c.requires.pending c.requires.asked.told (feed.room c.requires.pending)) c.requires.asked.running c.requires.asked.running refl,
       (c.requires.asked.running, refl),
+      flush_next (fixed feed) feed.wanted (spot g.K.Sink feed) c.requires.due,
+      λ wants calm. absurd (cc (c.requires.pending, calm)),
     )

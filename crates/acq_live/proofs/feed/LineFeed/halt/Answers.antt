@@ -1,7 +1,11 @@
 use Rattle.std.proofs.Common.{refl}
 use Rattle.acq_live.specs.Spot.{fixed, spot}
 use Rattle.acq_live.specs.Steps.{none_handled}
+use Rattle.acq_live.proofs.Goings.{due_by}
 use Rattle.acq_live.proofs.feed.LineFeed.halt.Goals as goal
+
+pub flush-requires-clause-due : goal.flush-requires-clause-due
+flush-requires-clause-due g c = due_by (fixed c.args.self.now) c.args.self.now.wanted (spot g.K.Sink c.args.self.now) c.args.halt c.requires.cause c.requires.wanted
 
 pub returns-then-not-self : goal.returns-then-not-self
 returns-then-not-self g c =
@@ -14,4 +18,5 @@ returns-then-not-self g c =
         ended = λ halt other is. absurd (cc (c.requires.asked.running, is));
       },
       record { halt = c.args.halt; halt_is = refl },
+      λ wants calm. (refl, wants),
     )

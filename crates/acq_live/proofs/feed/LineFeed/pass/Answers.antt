@@ -1,10 +1,10 @@
-use Rattle.std.proofs.Common.{◌+◌, ◌-◌, arith, refl, ap}
+use Rattle.std.proofs.Common.{◌+◌, ◌-◌, arith, inl, refl, ap}
 use Rattle.std.specs.Prelude.{take}
 use Rattle.mdf_port.specs.State.{source_state}
 use Rattle.acq_lines.specs.Source.{unpassed, unread}
 use Rattle.acq_live.specs.Rules.{rules_of}
 use Rattle.acq_live.specs.Spot.{fixed, spot}
-use Rattle.acq_live.proofs.Goings.{before_step, line_passed, not_long, served}
+use Rattle.acq_live.proofs.Goings.{before_step, line_passed, line_says, not_long, served}
 use Rattle.acq_live.proofs.feed.LineFeed.pass.Goals as goal
 
 pub returns-in-Nothing : goal.returns-in-Nothing
@@ -14,6 +14,8 @@ returns-in-Nothing g c =
           (line_passed (fixed feed) (spot g.K.Sink feed) _ _ (unread c.pass.new.self) c.args.said _ c.requires.said c.in-Nothing.is c.requires.may
           c.pass.ensures.reads (ap (source_state g.S.Source) c.pass.ensures.source) c.requires.running c.requires.asked.told c.requires.room) c.requires.asked.running c.requires.asked.running (ap g.S.Source.faults c.pass.ensures.source),
       record { told = c.requires.asked.told; running = c.requires.asked.running },
+      inl (line_says (fixed feed) (spot g.K.Sink feed) _ _ c.args.said _ c.requires.said c.in-Nothing.is c.pass.ensures.reads (ap (source_state g.S.Source) c.pass.ensures.source)),
+      λ wants calm. absurd (cc (c.requires.calm, wants)),
     )
 
 pub returns-in-Sampled : goal.returns-in-Sampled
@@ -27,6 +29,8 @@ returns-in-Sampled g c =
           (ap (source_state g.S.Source) c.pass.ensures.source)
           (c.pass.ensures.back (not_long (rules_of feed.rules) feed.number (unread feed.lines).long (take c.args.count (unread feed.lines).bytes) c.args.said c.in-Sampled.sample
           c.requires.said c.in-Sampled.is)) refl (omega arith) (omega arith),
+      inl (line_says (fixed feed) (spot g.K.Sink feed) _ _ c.args.said _ c.requires.said c.in-Sampled.is c.pass.ensures.reads (ap (source_state g.S.Source) c.pass.ensures.source)),
+      λ wants calm. absurd (cc (c.requires.calm, wants)),
     )
 
 pub returns-in-Flush : goal.returns-in-Flush
@@ -36,6 +40,8 @@ returns-in-Flush g c =
           (line_passed (fixed feed) (spot g.K.Sink feed) _ _ (unread c.pass.new.self) c.args.said _ c.requires.said c.in-Flush.is c.requires.may
           c.pass.ensures.reads (ap (source_state g.S.Source) c.pass.ensures.source) c.requires.running c.requires.asked.told c.requires.room) c.requires.asked.running c.requires.asked.running (ap g.S.Source.faults c.pass.ensures.source),
       (c.requires.asked.running, refl),
+      inl (line_says (fixed feed) (spot g.K.Sink feed) _ _ c.args.said _ c.requires.said c.in-Flush.is c.pass.ensures.reads (ap (source_state g.S.Source) c.pass.ensures.source)),
+      λ wants calm. absurd (cc (c.requires.calm, wants)),
     )
 
 pub returns-in-End : goal.returns-in-End
@@ -45,6 +51,8 @@ returns-in-End g c =
           (line_passed (fixed feed) (spot g.K.Sink feed) _ _ (unread c.pass.new.self) c.args.said _ c.requires.said c.in-End.is c.requires.may
           c.pass.ensures.reads (ap (source_state g.S.Source) c.pass.ensures.source) c.requires.running c.requires.asked.told c.requires.room) c.requires.asked.running c.requires.asked.running (ap g.S.Source.faults c.pass.ensures.source),
       record { told = c.requires.asked.told; running = c.requires.asked.running },
+      inl (line_says (fixed feed) (spot g.K.Sink feed) _ _ c.args.said _ c.requires.said c.in-End.is c.pass.ensures.reads (ap (source_state g.S.Source) c.pass.ensures.source)),
+      λ wants calm. absurd (cc (c.requires.calm, wants)),
     )
 
 pub returns-in-Bad : goal.returns-in-Bad
@@ -54,4 +62,6 @@ returns-in-Bad g c =
           (line_passed (fixed feed) (spot g.K.Sink feed) _ _ (unread c.pass.new.self) c.args.said _ c.requires.said c.in-Bad.is c.requires.may
           c.pass.ensures.reads (ap (source_state g.S.Source) c.pass.ensures.source) c.requires.running c.requires.asked.told c.requires.room) c.requires.asked.running c.requires.asked.running (ap g.S.Source.faults c.pass.ensures.source),
       record { told = c.requires.asked.told; running = c.requires.asked.running },
+      inl (line_says (fixed feed) (spot g.K.Sink feed) _ _ c.args.said _ c.requires.said c.in-Bad.is c.pass.ensures.reads (ap (source_state g.S.Source) c.pass.ensures.source)),
+      λ wants calm. absurd (cc (c.requires.calm, wants)),
     )

@@ -1,9 +1,9 @@
-use Rattle.std.proofs.Common.{◌≡◌, [], arith, refl, subst, sym}
+use Rattle.std.proofs.Common.{◌≡◌, [], arith, inr, refl, subst, sym}
 use Rattle.mdf_port.specs.State.{source_state}
 use Rattle.acq_lines.specs.Lines.{Unread, lines_behind}
 use Rattle.acq_lines.specs.Source.{unread}
 use Rattle.acq_live.specs.Spot.{fixed, spot}
-use Rattle.acq_live.proofs.Goings.{failed, none_closed, rose_since, same_handled, served}
+use Rattle.acq_live.proofs.Goings.{failed, may_read, none_closed, rose_since, same_handled, served}
 use Rattle.acq_live.proofs.feed.LineFeed.read.Goals as goal
 
 pub returns-in-Ok-false : goal.returns-in-Ok-false
@@ -14,6 +14,8 @@ returns-in-Ok-false g c =
           (same_handled (fixed feed) (spot g.K.Sink feed) (source_state g.S.Source lines.source) (unread lines)
           c.requires.running (omega (arith, c.in-Ok-false.ensures.calm)) c.wait.ensures.left c.wait.ensures.unread) c.requires.asked.running c.requires.asked.running c.in-Ok-false.ensures.calm,
       record { told = c.requires.asked.told; running = c.requires.asked.running },
+      inr (may_read (fixed feed) (spot g.K.Sink feed) c.requires.committed c.requires.none),
+      λ wants calm. absurd (cc (c.requires.calm, wants)),
     )
 
 pub halt-requires-clause-cause : goal.halt-requires-clause-cause
@@ -29,4 +31,4 @@ returns-in-Err g c =
       rose_since feed.first_faults _ _ feed.since c.in-Err.ensures.cause.failed,
       subst (λ (u : Unread). lines_behind u [] ≡ []) (sym c.wait.ensures.unread) (none_closed (unread feed.lines) c.requires.none),
     )
-    c.requires.committed c.requires.asked.told
+    c.requires.committed c.requires.asked.told c.requires.calm

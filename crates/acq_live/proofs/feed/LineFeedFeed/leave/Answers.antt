@@ -19,7 +19,7 @@ returns-in-Some-clause-hands g c =
     let lines = c.close.new.self in
     ended_on g.K.Sink feed _ refl
     (same_spot (spot g.K.Sink feed) (source_state g.S.Source lines.source) (unread lines) c.close.ensures.left c.close.ensures.faults c.close.ensures.unread)
-    refl (record { halt = c.in-Some.field-0; halt_is = c.in-Some.is })
+    refl refl (record { halt = c.in-Some.field-0; halt_is = c.in-Some.is })
 
 pub returns-in-Some-clause-waits : goal.returns-in-Some-clause-waits
 returns-in-Some-clause-waits g c (fed.Sample sample) is = is

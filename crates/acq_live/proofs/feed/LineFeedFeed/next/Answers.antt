@@ -11,9 +11,7 @@ returns-then-is_some g c =
 pub returns-in-Some-step : goal.returns-in-Some-step
 returns-in-Some-step g c =
     feeds_on g.K.Sink c.args.self.now c.loop.self c.step.new.self c.in-Some-step.task (missed c.args.self.now.halt c.is_some.result c.is_some.ensures c.if-is_some.false)
-    c.loop.invariant.none c.in-Some-step.ensures
+    c.loop.invariant c.in-Some-step.ensures
 
 pub loop-preserved : goal.loop-preserved
-loop-preserved g c =
-    let on = goes_on g.K.Sink c.args.self.now c.loop.self c.step.new.self c.step.result c.in_default.is c.loop.invariant.none c.step.ensures in
-    record { none = on.0; asked = on.1 }
+loop-preserved g c = goes_on g.K.Sink c.args.self.now c.loop.self c.step.new.self c.step.result c.in_default.is c.loop.invariant c.step.ensures
