@@ -29,6 +29,7 @@ pub(crate) fn group_of(known: &[Known], id: u64) -> Option<Group>
 }
 
 /// The id in the bytes of the stream from `at` on. The search for them begins at part `near` of the stream.
+#[inline(always)]
 fn id_in<P: Span>(
     span: &mut P,
     view: &DataView,
@@ -46,6 +47,7 @@ fn id_in<P: Span>(
 
 /// How long the body of a record of a group is, where it is whole. The body begins at `at`, and `rest` bytes are there. The
 /// search for them begins at part `near` of the stream.
+#[inline(always)]
 fn body_size_in<P: Span>(
     span: &mut P,
     view: &DataView,
