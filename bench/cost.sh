@@ -45,7 +45,7 @@ peak() {
     "$work/peak" "$@"
 }
 
-# Times the program and a plain copy of a file with one sync, in turn, once that file lies on the disk: with the setting of mdf4rec, but
+# Times the program and a plain copy of a file with one sync, in turn, once that file lies on the disk: with the `setting` of mdf4rec, but
 # without its look at the sources. Prints of both the best time and the median in microseconds, and the ratio of the medians.
 #
 # usage: beside_copy FILE NAME PROGRAM WORD...
@@ -53,7 +53,7 @@ beside_copy() {
     local file="$1" name="$2"
     shift 2
     sync
-    GLIBC_TUNABLES=glibc.malloc.hugetlb=1 python3 "$here/../paired.py" "$runs" "$work/made.mf4" \
+    GLIBC_TUNABLES="$setting" python3 "$here/../paired.py" "$runs" "$work/made.mf4" \
         'copy' "dd if='$file' of='$work/made.mf4' bs=4M conv=fsync status=none" "$name" "$(printf "'%s' " "$@")"
 }
 

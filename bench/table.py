@@ -9,7 +9,7 @@ has two twins, one that goes over the records once and one that goes over them b
 group). Of the larger input it has the system calls of both (strace, if it is there) and the most memory that both held. The second table
 has the instructions and calls for inputs in which one thing is ten times as many.
 
-The program is the one that was built (MDF4REC_PROVE=1 ./mdf4rec), or the one that the variable PROGRAM names. It is run by hand and is no
+The programs are those that were built (MDF4REC_PROVE=1 ./mdf4rec, and ./mdf4log), or those that the variables PROGRAM and LOGGER name. It is run by hand and is no
 part of the gate. It needs python3, valgrind, a C compiler and 2 GB of memory, and works in a folder of its own under out/. Each twin's lines and
 file are compared with the program's; of four sources and `gen` the lines alone, since the order of their records is any. A twin takes
 the time of the recording, or of the new entry of the history, from the file that the program made."""
@@ -25,13 +25,15 @@ from dataclasses import dataclass, field
 BENCH = os.path.dirname(os.path.abspath(__file__))
 TOP = os.path.dirname(BENCH)
 TWINS = {"record": "record/twin.c", "read": "read.c", "made": "made.c", "export": "export/twin.c", "peak": "peak.c"}
+SETTINGS = {"concat": "glibc.malloc.mmap_threshold=131072"}  # of the C library, as the script mdf4rec makes them, but for pages of 2 MB
 KEPT = ["0", "9223372036854775808"]  # all masters that are not negative
 
 
 @dataclass
 class Row:
-    """A command, its input of a size and of ten times that, and its twins. The first word of a command is a program (OURS, or the name of a
-    twin), and of the others OUT is the file that it makes, IN its input, COUNT the size and FIRST the file that OURS made."""
+    """A command, its input of a size and of ten times that, and its twins. The first word of a command is a program (OURS, LOG, or the name of a
+    twin), and of the others OUT is the file that it makes, IN its input, SETUP that of a log, NOTES a file with an attachment, COUNT the size and
+    FIRST the file that OURS made. A maker writes IN, or prints what is given as `prints` says."""
 
     name: str
     what: str  # the input, in words
@@ -40,7 +42,7 @@ class Row:
     ours: list
     twins: list = field(default_factory=list)  # the words of each
     any_order: bool = False  # whether the records may stand in another order
-    scripted: bool = False  # whether the input is a script on standard input
+    prints: str = ""  # what the maker prints: the script on standard input, IN, or a script that is the setup and the input of a log
 
 
 def made(shape):
@@ -48,7 +50,7 @@ def made(shape):
 
 
 def scripted(name, what, size, maker, any_order=False):
-    return Row(name, what, size, maker, ["OURS", "record", "OUT"], [["record", "FIRST", "OUT"]], any_order, True)
+    return Row(name, what, size, maker, ["OURS", "record", "OUT"], [["record", "FIRST", "OUT"]], any_order, "script")
 
 
 def looking(name, shape, what, size):
@@ -90,6 +92,10 @@ GROWTH = [
     Row("check", "data blocks of 96 bytes", 9_600, made("blocks"), ["OURS", "check", "IN"]),
     Row("opened", "data blocks of 98 bytes", 9_800, made("gates"), ["OURS", "opened", "IN"]),
     Row("finalize", "data blocks of 98 bytes", 9_800, made("gates"), ["OURS", "finalize", "IN", "OUT"]),
+    Row("rotate", "samples of four sources", 20_000, ["record/sources.py", "4", "1", "COUNT"], ["OURS", "rotate", "OUT"], prints="script"),
+    Row("attach", "records with ids behind them", 500_000, made("unsorted"), ["OURS", "attach", "NOTES", "IN", "OUT"]),
+    Row("attachments", "bytes that are embedded", 500_000, ["../examples/attach_text.py", "DATA"], ["OURS", "attachments", "IN"], prints="in"),
+    Row("mdf4log", "samples of one source", 20_000, ["record/bytes.py", "COUNT"], ["LOG", "OUT", "SETUP", "IN"], prints="log"),
 ]
 
 
@@ -101,6 +107,7 @@ class Bench:
         if "PROGRAM" not in os.environ:
             say = [f"{TOP}/mdf4rec", "opened", f"{TOP}/examples/two_blocks.mf4"]  # builds the program where it is stale
             subprocess.run(say, env=os.environ | {"MDF4REC_PROVE": "1"}, stdout=subprocess.DEVNULL, check=True)
+        self.programs["LOG"] = os.path.abspath(os.environ.get("LOGGER", f"{TOP}/crates/log_cli/out/log_cli"))
         for name, source in TWINS.items():
             subprocess.run([os.environ.get("CC", "cc"), "-O2", "-o", self.programs[name], f"{BENCH}/{source}"], check=True)
 
@@ -109,20 +116,35 @@ class Bench:
 
     def input_of(self, row, size):
         """Makes the input of this size."""
-        words = [str(size) if word == "COUNT" else self.path("in") if word == "IN" else word for word in row.maker]
-        with open(self.path("script" if row.scripted else "said"), "wb") as out:
+        words = [str(size) if word == "COUNT" else self.place(word) if word in ("IN", "DATA") else word for word in row.maker]
+        if "DATA" in row.maker:
+            with open(self.path("data"), "wb") as data:
+                data.write(bytes(size))
+        with open(self.path("in" if row.prints == "in" else "script"), "wb") as out:
             if words:
                 subprocess.run([sys.executable, f"{BENCH}/{words[0]}", *words[1:]], stdout=out, check=True)
+        if row.prints == "log":
+            with open(self.path("script"), "rb") as script, open(self.path("setup"), "wb") as setup, open(self.path("in"), "wb") as lines:
+                front, begin, rest = script.read().partition(b"begin\n")
+                setup.write(front + begin)
+                lines.write(rest)
+
+    def place(self, word):
+        """Where the file of this word stands."""
+        if word == "NOTES" and not os.path.exists(self.path("notes")):
+            with open(self.path("notes"), "wb") as out:
+                subprocess.run([sys.executable, f"{TOP}/examples/attach_text.py", f"{TOP}/examples/drive.txt"], stdout=out, check=True)
+        return self.path(word.lower())
 
     def command(self, words, size):
-        places = {"COUNT": str(size), "IN": self.path("in"), "OUT": self.path("out"), "FIRST": self.path("first")}
-        return [self.programs[words[0]], *(places.get(word, word) for word in words[1:])]
+        return [self.programs[words[0]], *(str(size) if word == "COUNT" else self.place(word) if word.isupper() else word for word in words[1:])]
 
     def run(self, row, command, said="said", told="told"):
         """Runs a command, and answers what it printed."""
-        if os.path.exists(self.path("out")):
-            os.remove(self.path("out"))
-        with open(self.path("script") if row.scripted else os.devnull, "rb") as given:
+        for name in os.listdir(self.work):
+            if name == "out" or name.startswith("out."):
+                os.remove(self.path(name))
+        with open(self.path("script") if row.prints == "script" else os.devnull, "rb") as given:
             with open(self.path(said), "wb") as out, open(self.path(told), "wb") as err:
                 subprocess.run(command, stdin=given, stdout=out, stderr=err, check=True)
 
@@ -154,7 +176,8 @@ class Bench:
             return sum(int(count) for count, name in each if name != "total")
 
     def peak(self, row, words, size):
-        self.run(row, [self.programs["peak"], *self.command(words, size)], "held")
+        setting = ["env", f"GLIBC_TUNABLES={SETTINGS[row.name]}"] if words == row.ours and row.name in SETTINGS else []
+        self.run(row, [*setting, self.programs["peak"], *self.command(words, size)], "held")
         with open(self.path("held"), encoding="utf8") as said:
             return int(said.read())
 
@@ -217,7 +240,7 @@ def main():
         if rows and grown:
             print()
         if grown:
-            heading("command", "what grows", "bytes, ten times", "ours, M", "growth", "calls")
+            heading("command", "what grows", "size, ten times", "ours, M", "growth", "calls")
         for row in grown:
             line(f"`{row.name}`", row.what, f"{row.size:,}", *growth(bench, row))
 

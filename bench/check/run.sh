@@ -1,8 +1,9 @@
 #!/usr/bin/env bash
 # Compares `check` of finalized files with a twin in straight C that reads a file whole and goes over its records in a plain
 # loop, by a pointer in the block or byte by byte. Of files of 500 MB, one whose records have no ids and one of three groups with ids, it
-# prints the best time of each in microseconds and the ratios, of which the second is to be at most 3; of files of 5 MB, where valgrind is
-# there, the same of instructions.
+# prints the best time of each in microseconds and the ratios, and the peak memory of `check` in bytes and its ratio to the size of the file; of
+# files of 5 MB, where valgrind is there, the same of instructions, of which that of the groups with ids to the loop by a pointer is to be
+# at most 4.
 # Last it prints the best times for 100,000 and for 10,000 channels of variable length in one group, whose ratio is to be at most 20.
 #
 # usage: bench/check/run.sh [RUNS]
@@ -29,6 +30,7 @@ compare() {
         twin="$("$measure" /dev/null "$work/twin" "$way" check "$file")"
         ratio "$1, $2 bytes, $4: check" "$ours" "C $way" "$twin"
     done
+    ratio "$1, $2 bytes, memory: check" "$(peak "${tuned[@]}" check "$file")" file "$(stat -c %s "$file")"
     rm "$file"
 }
 

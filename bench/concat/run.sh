@@ -3,8 +3,8 @@
 # with record ids and itself, and of a twin in straight C that reads both files whole, goes over their records once, or once for each group,
 # and writes the same file with the same calls. Prints the numbers and the ratio to each way. Of two files of 125 MB, one of three such groups and
 # one of a single group without ids, each joined with itself, it prints the times of `concat` and of a plain copy of what it makes
-# with one sync, run in turn, in microseconds, and their ratio, which is to be at most 2; and the peak memory of `concat` in bytes and its ratio to
-# the size of what it makes.
+# with one sync, run in turn, in microseconds, and their ratio, which is to be at most 2 for those without ids; and the peak memory of `concat` in
+# bytes and its ratio to the size of what it makes.
 #
 # usage: bench/concat/run.sh [RUNS]
 #
@@ -14,6 +14,7 @@
 set -euo pipefail
 
 here="$(cd "$(dirname "$0")" && pwd)"
+setting=glibc.malloc.hugetlb=1:glibc.malloc.mmap_threshold=131072 # that of mdf4rec for concat
 . "$here/../program.sh"
 
 before() { rm -f "$work/made.mf4"; }

@@ -3,8 +3,8 @@
 # with record ids, of whose masters it keeps all, and of a twin in straight C that reads the file whole, goes over its records once, or
 # once for each group, and writes the same file with the same calls. Prints the numbers and the ratio to each way. Of two files of 250 MB,
 # one of three such groups and one of a single group without ids, it prints the times of `cut` and of a plain copy of the file
-# with one sync, run in turn, in microseconds, and their ratio, which is to be at most 2; and the peak memory of `cut` in bytes and
-# its ratio to the size of the file.
+# with one sync, run in turn, in microseconds, and their ratio, which is to be at most 2 for the one without ids; and the peak memory of `cut`
+# in bytes and its ratio to the size of the file.
 #
 # usage: bench/cut/run.sh [RUNS]
 #

@@ -1,7 +1,7 @@
 #!/usr/bin/env bash
 # Counts the instructions, or without valgrind the best time in microseconds, of `export` of a group of a million samples of five
 # channels, and of a twin in straight C that reads the file whole and prints the same table. Prints both numbers and their ratio,
-# which is to be at most 3.
+# which is to be at most 1.4.
 #
 # usage: bench/export/run.sh [RUNS]
 #

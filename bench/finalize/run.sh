@@ -1,6 +1,6 @@
 #!/usr/bin/env bash
 # Compares `finalize` of two recordings of 250 MB, one of small records and one of wide ones, with a plain copy of the file with one
-# sync, run in turn. Prints of each the times in microseconds and their ratio, which is to be at most 1.5, and the peak memory of `finalize`
+# sync, run in turn. Prints of each the times in microseconds and their ratio, which is to be at most 2 for the wide ones, and the peak memory of `finalize`
 # in bytes and its ratio to the size of the file, which is to be at most 2.2.
 #
 # usage: bench/finalize/run.sh [RUNS]

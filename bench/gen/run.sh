@@ -1,7 +1,7 @@
 #!/usr/bin/env bash
 # Counts the instructions, or without valgrind the best time in microseconds, of `gen` of a million samples, and of a twin in
 # straight C (that of bench/record) that makes and keeps the same samples and writes the same file with the same calls. Prints both
-# numbers and their ratio, which is to be at most 1.5, and how many bytes of memory each holds at most, beside what all samples cost
+# numbers and their ratio, which is to be at most 1.3, and how many bytes of memory each holds at most, beside what all samples cost
 # and 16 MiB, which `gen` is to hold at most.
 #
 # usage: bench/gen/run.sh [RUNS]

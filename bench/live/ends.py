@@ -126,6 +126,39 @@ def too_large(folder):
     return "a sample that has no room in an empty session: status 5, in the first part"
 
 
+def dearer_than_a_session(folder):
+    """A sample of the second group costs 17 bytes, 96 and 40 for each value, one of the first COST."""
+    made = f"{folder}/setup.txt"
+    with open(made, "w", encoding="ascii") as text:
+        text.write("session 150\ngroup 0 a\nchannel t u64 master\ngroup 0 b\nchannel t u64 master\nchannel v u64\nbegin\n")
+    run = subprocess.run([LOGGER, f"{folder}/drive", made, "-"], input=b"0 1\n1 2 3\n0 4\n", capture_output=True, check=False, timeout=30)
+    lines = ["source 0 durable 1", "part 0 samples 1 durable 1", "source 0 accepted 1", "samples 1 durable 1", f"session full {COST} {17 + 96 + 80} 150"]
+    said = run.stdout.decode().splitlines()
+    assert run.returncode == 5 and sorted(said) == sorted(lines) and said[-1] == lines[-1] and not os.path.exists(f"{folder}/drive.1"), run
+    return "a sample that costs more than a session, behind others: status 5, in the first part"
+
+
+def behind_the_end(folder):
+    log = Log(folder, 2)
+    with open(log.inputs[0], "wb", buffering=0) as first, open(log.inputs[1], "wb", buffering=0) as second:
+        first.write(b"0 1\nend\n")
+        log.wait_told(0, 1)
+        taken = 0
+        while taken < 50:
+            try:
+                first.write(b"0 2\n")
+            except BrokenPipeError:
+                break
+            taken += 1
+            time.sleep(0.05)
+        second.write(b"1 1\n")
+        log.wait_told(1, 1)
+    got, printed, _ = log.end()
+    assert taken < 50, "its writer is not told"
+    assert got == 0 and printed[-1] == "samples 2 durable 2" and log.samples() == [[1], [1]], f"status {got}, {printed}"
+    return f"who writes on behind `end` is told after {taken} writes, while another input stays open"
+
+
 def no_input(folder):
     os.mkfifo(f"{folder}/in0")
     log = Log(folder, 2, inputs=[f"{folder}/in0", f"{folder}/none"])
@@ -175,7 +208,10 @@ def no_writer(folder):
     return "a FIFO without a writer: the other source is acknowledged meanwhile"
 
 
-CASES = (middle_of_a_line, bad_lines, sixteen, closed_output, reader_that_leaves, full_disk, too_large, no_input, standard_input, refused, no_writer)
+CASES = (
+    middle_of_a_line, bad_lines, sixteen, closed_output, reader_that_leaves, full_disk, too_large, dearer_than_a_session, behind_the_end,
+    no_input, standard_input, refused, no_writer,
+)
 
 
 def main():

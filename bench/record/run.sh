@@ -2,7 +2,7 @@
 # Counts the instructions, or without valgrind the best time in microseconds, of `record` of a script of 100,000 samples of two
 # channels of words, and of one of 60,000 samples with channels of all kinds; and of a twin in straight C that reads the script
 # whole, keeps each sample and writes the same file with the same calls. Prints both numbers for each script and their ratio,
-# which is to be at most 1.5. Then prints the most memory that `record` holds, which is to be at most what all samples cost, the
+# which is to be at most 1.25 for words and 1.3 for all kinds. Then prints the most memory that `record` holds, which is to be at most what all samples cost, the
 # script and 16 MiB.
 #
 # usage: bench/record/run.sh [RUNS]

@@ -1,7 +1,7 @@
 #!/usr/bin/env bash
 # Counts the instructions, or without valgrind the best time in microseconds, of `sort` of a finalized file of 5 MB of three groups
 # with record ids, and of a twin in straight C that reads the file whole, goes over its records once, or once for each group, and
-# writes the same file with the same calls. Prints the numbers and the ratio to each way; and of a file of 250 MB the peak memory of
+# writes the same file with the same calls. Prints the numbers and the ratio to each way, of which that to one pass is to be at most 4; and of a file of 250 MB the peak memory of
 # `sort` in bytes and its ratio to the size of the file, which is to be at most 2.2.
 #
 # usage: bench/sort/run.sh [RUNS]
