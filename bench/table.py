@@ -9,8 +9,8 @@ has two twins, one that goes over the records once and one that goes over them b
 group). Of the larger input it has the system calls of both (strace, if it is there) and the most memory that both held. The second table
 has the instructions and calls for inputs in which one thing is ten times as many.
 
-The programs are those that were built (MDF4REC_PROVE=1 ./mdf4rec, and ./mdf4log), or those that the variables PROGRAM and LOGGER name. It is run by hand and is no
-part of the gate. It needs python3, valgrind, a C compiler and 2 GB of memory, and works in a folder of its own under out/. Each twin's lines and
+The programs are those that were built (MDF4REC_PROVE=1 ./mdf4rec, and ./mdf4log), or those that the variables PROGRAM and LOGGER name. It is
+run by hand and is no part of the gate. It needs python3, valgrind, a C compiler and 2 GB of memory, and works in a folder of its own under out/. Each twin's lines and
 file are compared with the program's; of four sources and `gen` the lines alone, since the order of their records is any. A twin takes
 the time of the recording, or of the new entry of the history, from the file that the program made."""
 import filecmp
