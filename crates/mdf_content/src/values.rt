@@ -119,6 +119,7 @@ pub(crate) fn value_len_in<P: Span>(
 }
 
 /// Adds the parts of a range of a stream at the end of a view. The search for them begins at part `near` of the stream.
+#[inline(always)]
 fn add_range(
     all: &mut DataView,
     view: &DataView,
@@ -289,6 +290,7 @@ fn offset_field(channel: &ChannelRow, data_bytes: u32) -> Field
 
 /// The number of a field in the record at a place, which has so many data bytes. The buffer has as many bytes as the
 /// field touches. The search for them begins at part `near` of the stream.
+#[inline(always)]
 fn number_by<P: Span>(
     span: &mut P,
     view: &DataView,
