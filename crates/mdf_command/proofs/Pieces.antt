@@ -77,9 +77,23 @@ pub bytes_more : (bytes : List ℕ) (i d : ℕ) → i < length bytes
     → flat_map shown (take (i + 1) bytes) ≡ flat_map shown (take i bytes) ++ shown (get_or bytes i d)
 bytes_more bytes i d within = each_more shown bytes i d within
 
-pub bytes_around : (bytes : List ℕ) (i d : ℕ) → i < length bytes
-    → flat_map shown bytes ≡ flat_map shown (take i bytes) ++ (shown (get_or bytes i d) ++ flat_map shown (drop (i + 1) bytes))
-bytes_around bytes i d within = each_around shown bytes i d within
+-- a name of which a front was given, and of the rest a part and what is behind it
+module _ (text done rest part behind : List ℕ) (n : ℕ) (split : text ≡ done ++ rest) (front : part ≡ take n rest) (back : behind ≡ drop n rest) where
+  parted : part ++ behind ≡ rest
+  parted = ap (λ zs. zs ++ behind) front ∙ ap (λ zs. take n rest ++ zs) back ∙ take-append-drop n rest
+
+  pub split_more : text ≡ (done ++ part) ++ behind
+  split_more = split ∙ ap (λ zs. done ++ zs) (sym parted) ∙ sym (append_assoc done part behind)
+
+  pub shown_around : flat_map shown text ≡ flat_map shown done ++ (flat_map shown part ++ flat_map shown behind)
+  shown_around =
+      ap (flat_map shown) (split ∙ ap (λ zs. done ++ zs) (sym parted)) ∙ flat_map-append shown done (part ++ behind)
+      ∙ ap (λ zs. flat_map shown done ++ zs) (flat_map-append shown part behind)
+
+pub shown_more : (done part : List ℕ) (old mid new : Option (List ℕ))
+    → Appends old mid (flat_map shown done) → Appends mid new (flat_map shown part) → Appends old new (flat_map shown (done ++ part))
+shown_more done part old mid new first second =
+    subst (Appends old new) (sym (flat_map-append shown done part)) (appends_more old mid new (flat_map shown done) (flat_map shown part) first second)
 
 -- the same of texts with numbers
 module _ {A : Type 0} (text : ℕ → A → List ℕ) where

@@ -1,9 +1,9 @@
-ghost use Rattle.std.specs.Prelude.{◌≡◌, ◌∷◌, [], map};
+ghost use Rattle.std.specs.Prelude.{◌≡◌, ◌∷◌, ◌≤◌, [], length, map};
 ghost use Rattle.std.specs.List.{flat_map};
 ghost use Rattle.mdf_port.specs.State.{sink_state};
 ghost use Rattle.mdf_command.specs.Texts.{Gives, line, piece_text, pieces_text, shown, shown_text, status_after};
 
-use crate::room::Room;
+use crate::room::{ROOM, Room};
 use itoa::Buffer;
 use mdf_num::Failed;
 use mdf_port::{Sink, give_all};
@@ -31,19 +31,29 @@ fn shown(byte: u8) -> u8
     }
 }
 
-/// Gives a byte of a name.
-fn give_byte<K: Sink>(sink: &mut K, byte: u8) -> Result<(), Failed>
-    ensures { Gives (shown byte) (sink_state K.Sink sink.old) (sink_state K.Sink sink.new) result }
+/// Gives the bytes of a part of a name at once. They are no more than a line that is given at once may have.
+fn give_part<K: Sink>(sink: &mut K, part: &[u8]) -> Result<(), Failed>
+    requires few { length part.now ≤ 256 }
+    ensures { Gives (flat_map shown part.now) (sink_state K.Sink sink.old) (sink_state K.Sink sink.new) result }
 {
-    give_all(sink, &[shown(byte)])
+    let mut bytes = [0u8; ROOM];
+    let mut i = 0;
+    while i < part.len() {
+        bytes[i] = shown(part[i]);
+        i += 1;
+    }
+    give_all(sink, &bytes[..part.len()])
 }
 
-/// Gives the bytes of a name.
+/// Gives the bytes of a name, as many at once as a line may have.
 fn give_shown<K: Sink>(sink: &mut K, text: &[u8]) -> Result<(), Failed>
     ensures { Gives (flat_map shown text.now) (sink_state K.Sink sink.old) (sink_state K.Sink sink.new) result }
 {
-    for byte in text {
-        give_byte(sink, *byte)?;
+    let mut rest = text;
+    while !rest.is_empty() {
+        let (part, behind) = rest.split_at(rest.len().min(ROOM));
+        give_part(sink, part)?;
+        rest = behind;
     }
     Ok(())
 }
@@ -88,7 +98,8 @@ fn give_in_parts<K: Sink>(sink: &mut K, pieces: &[Piece<'_>]) -> Result<(), Fail
     give_all(sink, b"\n")
 }
 
-/// Gives a line of these parts, which ends with LF: at once, or part by part where it is a long one. It takes no memory.
+/// Gives a line of these parts, which ends with LF: at once where it has up to 256 bytes, and else part by part, a name by 256 bytes at a
+/// time. It takes no memory.
 ///
 /// # Errors
 /// `Failed` where the sink failed; then it has a front of the line.

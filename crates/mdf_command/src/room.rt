@@ -4,7 +4,7 @@ use mdf_num::{Failed, FaultCount};
 use mdf_port::Sink;
 
 /// How many bytes a line may have that is given at once.
-const ROOM: usize = 256;
+pub(crate) const ROOM: usize = 256;
 
 /// A sink with room for so many bytes, which fails where it is full.
 #[derive(Drop)]
