@@ -103,7 +103,7 @@ ComesNext at old task wanted new = SaysJust at old (task ∷ []) new ⊎ (((task
 abbrev pub EndsWanted : Bool → Bool → List Fed → Bool → Type 0
 EndsWanted wanted pending feds wanted' = wanted ≡ true → pending ≡ false → (feds ≡ []) × (wanted' ≡ true)
 
--- What holds besides within one part. As long as it goes on, this is what comes next. It can go back behind all of these but the last, where that is a sample; and where none was
+-- What holds besides within one part. As long as it goes on, what it hands in is what comes next. It can go back behind all of these but the last, where that is a sample; and where none was
 -- handed in it is the same. Of one that has ended, or was called off, nothing more comes, for the same reason.
 pub record InOnePart {S K : Type 0} {tells : source.Ghosts S} (holds : sink.Ghosts K) (old : LineFeed S K tells) (feds : List Fed) (new : LineFeed S K tells) : Type 0 where
   pub next : (task : Fed) → feds ≡ task ∷ [] → new.halt ≡ None → ComesNext (fixed old) (spot holds old) task new.wanted (spot holds new)
@@ -145,7 +145,7 @@ pub record IsAsked {S K : Type 0} {tells : source.Ghosts S} (feed : LineFeed S K
   pub told : feed.flushed ≡ None
   pub running : feed.halt ≡ None
 
--- It went on by one step, and this was handed in, or nothing: as what comes next. Behind a sample it can go back to where it stood.
+-- It went on by one step, and handed in this, which is what comes next, or nothing. Behind a sample it can go back to where it stood.
 abbrev pub Goes : {S K : Type 0} {tells : source.Ghosts S} → sink.Ghosts K → LineFeed S K tells → Option Fed → LineFeed S K tells → Type 0
 Goes holds old None new =
     Serves holds old [] new × IsAsked new × (SaysJust (fixed old) (spot holds old) [] (spot holds new) ⊎ MayRead (fixed old) (spot holds old))

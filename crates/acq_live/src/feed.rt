@@ -25,7 +25,7 @@ pub enum Halt {
     Failed,
     /// Want of memory, for a line.
     Memory,
-    /// As much was handed in as can be counted.
+    /// As much was handled and handed in as can be counted.
     Count,
     /// It was called off, since another source of the recording had to stop.
     Called,
@@ -49,6 +49,7 @@ pub struct LineFeed<'a, S: Source, K> {
     flushed: Option<u64>,
     told: K,
     deaf: bool,
+    /// Memory was wanted for the next line: no more is handled, and behind a flush that is due it ends.
     wanted: bool,
     halt: Option<Halt>,
     ghost since: { first_faults ≤ S.faults lines.source },

@@ -17,7 +17,7 @@ abbrev pub failed_by : Stop → Bool
 failed_by (stops.Halted halts.Failed) = true
 failed_by _ = false
 
--- A source stopped before nothing more came: memory was wanted for a line, it handed in all that can be counted, it was called off, or
+-- A source stopped before nothing more came: memory was wanted for a line, as much was handled and handed in as can be counted, it was called off, or
 -- a task of it was not done.
 abbrev pub short_by : Stop → Bool
 short_by (stops.Halted halts.Input) = false

@@ -194,7 +194,7 @@ fn resume_all<'a, S: Input + Drop, K: Sink + Drop>(feeds: &mut Vec<LineFeed<'a, 
     }
 }
 
-/// Records part after part, each behind one whose session was full, or in which a source was called off though nothing went wrong.
+/// Records part after part, each behind one whose session was full for a sample that has room in an empty one, or in which a source was called off though nothing went wrong.
 pub(crate) fn log_parts<'a, R, S, K, E, D>(
     rt: &R,
     alloc: Global,
