@@ -32,8 +32,8 @@ KEPT = ["0", "9223372036854775808"]  # all masters that are not negative
 @dataclass
 class Row:
     """A command, its input of a size and of ten times that, and its twins. The first word of a command is a program (OURS, LOG, or the name of a
-    twin), and of the others OUT is the file that it makes, IN its input, SETUP that of a log, NOTES a file with an attachment, COUNT the size and
-    FIRST the file that OURS made. A maker writes IN, or prints what is given as `prints` says."""
+    twin), and of the others OUT is the file that it makes, IN its input, SETUP that of a log, NOTES a file with an attachment, DATA so many bytes,
+    COUNT the size and FIRST the file that OURS made. A maker writes IN, or prints what is given as `prints` says."""
 
     name: str
     what: str  # the input, in words
@@ -99,15 +99,22 @@ GROWTH = [
 ]
 
 
+def build(script, *words):
+    """Builds the program of this script where it is stale; with these words it makes no file."""
+    say = [f"{TOP}/{script}", *words]
+    subprocess.run(say, env=os.environ | {"MDF4REC_PROVE": "1"}, stdout=subprocess.DEVNULL, check=False)
+
+
 class Bench:
     def __init__(self, work):
         self.work = work
         self.programs = {name: f"{work}/{name}" for name in TWINS}
         self.programs["OURS"] = os.path.abspath(os.environ.get("PROGRAM", f"{TOP}/crates/mdf_cli/out/mdf_cli"))
-        if "PROGRAM" not in os.environ:
-            say = [f"{TOP}/mdf4rec", "opened", f"{TOP}/examples/two_blocks.mf4"]  # builds the program where it is stale
-            subprocess.run(say, env=os.environ | {"MDF4REC_PROVE": "1"}, stdout=subprocess.DEVNULL, check=True)
         self.programs["LOG"] = os.path.abspath(os.environ.get("LOGGER", f"{TOP}/crates/log_cli/out/log_cli"))
+        if "PROGRAM" not in os.environ:
+            build("mdf4rec", "opened", f"{TOP}/examples/two_blocks.mf4")
+        if "LOGGER" not in os.environ:
+            build("mdf4log")
         for name, source in TWINS.items():
             subprocess.run([os.environ.get("CC", "cc"), "-O2", "-o", self.programs[name], f"{BENCH}/{source}"], check=True)
 

@@ -1,7 +1,8 @@
 #!/usr/bin/env bash
 # Counts the instructions, or without valgrind the best time in microseconds, of `cut` of a finalized file of 5 MB of three groups
 # with record ids, of whose masters it keeps all, and of a twin in straight C that reads the file whole, goes over its records once, or
-# once for each group, and writes the same file with the same calls. Prints the numbers and the ratio to each way. Of two files of 250 MB,
+# once for each group, and writes the same file with the same calls. Prints the numbers and the ratio to each way; that to the one that
+# goes over them once is to be at most 4. Of two files of 250 MB,
 # one of three such groups and one of a single group without ids, it prints the times of `cut` and of a plain copy of the file
 # with one sync, run in turn, in microseconds, and their ratio, which is to be at most 2 for the one without ids; and the peak memory of `cut`
 # in bytes and its ratio to the size of the file.
