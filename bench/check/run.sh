@@ -47,4 +47,4 @@ for size in 20000000 2000000; do
     grep -qx valid "$work/ours"
     times+=("$(best /dev/null "$program" check "$work/offsets.mf4")")
 done
-ratio "offsets: check" "100,000 channels" "${times[0]}" "10,000 channels" "${times[1]}"
+ratio "offsets: check of 100,000 channels" "${times[0]}" "10,000 channels" "${times[1]}"
