@@ -99,22 +99,23 @@ GROWTH = [
 ]
 
 
-def build(script, *words):
-    """Builds the program of this script where it is stale; with these words it makes no file."""
-    say = [f"{TOP}/{script}", *words]
-    subprocess.run(say, env=os.environ | {"MDF4REC_PROVE": "1"}, stdout=subprocess.DEVNULL, check=False)
+def build(status, script, *words):
+    """Builds the program of this script where it is stale; with these words it makes no file, and ends with this status."""
+    said = subprocess.run([f"{TOP}/{script}", *words], env=os.environ | {"MDF4REC_PROVE": "1"}, stdout=subprocess.DEVNULL, check=False)
+    if said.returncode != status:
+        sys.exit(f"{script} was not built")
 
 
 class Bench:
-    def __init__(self, work):
+    def __init__(self, work, rows):
         self.work = work
         self.programs = {name: f"{work}/{name}" for name in TWINS}
         self.programs["OURS"] = os.path.abspath(os.environ.get("PROGRAM", f"{TOP}/crates/mdf_cli/out/mdf_cli"))
         self.programs["LOG"] = os.path.abspath(os.environ.get("LOGGER", f"{TOP}/crates/log_cli/out/log_cli"))
         if "PROGRAM" not in os.environ:
-            build("mdf4rec", "opened", f"{TOP}/examples/two_blocks.mf4")
-        if "LOGGER" not in os.environ:
-            build("mdf4log")
+            build(0, "mdf4rec", "opened", f"{TOP}/examples/two_blocks.mf4")
+        if "LOGGER" not in os.environ and any(row.ours[0] == "LOG" for row in rows):
+            build(1, "mdf4log")
         for name, source in TWINS.items():
             subprocess.run([os.environ.get("CC", "cc"), "-O2", "-o", self.programs[name], f"{BENCH}/{source}"], check=True)
 
@@ -239,7 +240,7 @@ def main():
     rows, grown = ([row for row in of if not words or any(word in f"{row.name} {row.what}" for word in words)] for of in (ROWS, GROWTH))
     os.makedirs(f"{TOP}/out", exist_ok=True)
     with tempfile.TemporaryDirectory(prefix="bench.", dir=f"{TOP}/out") as work:
-        bench = Bench(work)
+        bench = Bench(work, rows + grown)
         if rows:
             heading("command", "input", "size, ten times", "ours, M", "growth", "C, M", "ratio", "byte by byte", "calls", "C", "peak, MB", "C")
         for row in rows:

@@ -215,6 +215,9 @@ CASES = (
 
 
 def main():
+    unknown = {*sys.argv[1:]} - {case.__name__ for case in CASES}
+    if unknown:
+        sys.exit(f"no case: {', '.join(unknown)}")
     for case in CASES:
         if len(sys.argv) > 1 and case.__name__ not in sys.argv[1:]:
             continue
