@@ -1,8 +1,8 @@
 #!/usr/bin/env python3
 """Ends logs in each way that a drive may end, and says what came of each.
 
-usage: bench/live/ends.py [CASE]..     (the cases of these names alone, or all; both programs must be built; PROGRAM and LOGGER name others; as root a tmpfs of 1 MiB is the full disk, else
-a limit on the length of a file)
+usage: bench/live/ends.py [CASE]..     (the cases of these names alone, or all; both programs must be built; PROGRAM and LOGGER name others;
+as root a tmpfs of 1 MiB is the full disk, else a limit on the length of a file)
 
 Of each: the status, the lines at the end, what standard error is told where a device failed, and that of each source the files have just
 what was accepted, in order, and at least what was acknowledged. It ends with 1 where one is otherwise."""
