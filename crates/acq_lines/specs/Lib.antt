@@ -1,2 +1,12 @@
 pub mod Lines
 pub mod Source
+pub mod Float
+pub mod Words
+pub mod Rules
+pub mod Said
+pub mod Act
+pub mod Told
+pub mod Spot
+pub mod Wants
+pub mod Handled
+pub mod Steps

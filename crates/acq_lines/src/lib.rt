@@ -1,9 +1,24 @@
-//! The lines of a source that come in pieces: what a read brings ends where it likes.
+//! The lines of an input as the samples and the flushes of a source, while they come.
 //!
-//! A line ends with LF, and has at most 65,536 bytes with it. Of a longer one nothing is handed out, and it counts as one
-//! line. What stands behind the last LF is none.
+//! A read ends anywhere, so lines come in pieces. A line ends with LF, and has at most 65,536 bytes with it. Of a longer one
+//! nothing is handed out, and it counts as one line. What stands after the last LF is no line.
+//!
+//! A line is one that a script has after its `begin`: a sample of one of the source's groups, a flush of the source, a comment, or
+//! `end`. Any other is bad: it is counted, and the next is looked at. When all that a read brought is handled, the source flushes
+//! before it reads again.
 #![tactic(auto)]
 
+mod feed;
+mod float;
+mod rules;
+mod said;
 mod source;
+mod told;
+mod words;
 
+pub use feed::{Halt, LineFeed};
+pub use float::{Width, float_bits};
+pub use rules::LineRules;
+pub use said::{Said, said_by};
 pub use source::{LINE_LIMIT, LineSource};
+pub use words::script_words;

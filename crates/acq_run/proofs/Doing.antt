@@ -13,12 +13,12 @@ use Rattle.book_shared.specs.Place.{Place, own_part}
 use Rattle.book_shared.specs.Told.{HasMark}
 use Rattle.book_shared.specs.Turns.{HasTurnsFor}
 use Rattle.book_shared.specs.declared.view.View.{View}
-use Rattle.acq_feed.specs.Feeds.{flushes_of, samples_of, Feeds, IsTask}
+use Rattle.acq_run.specs.Feeds.{flushes_of, samples_of, Feeds, IsTask}
 use Rattle.acq_run.specs.Tasks.{MayFeed}
 use Rattle.acq_run.specs.Workers.{IsReady}
 use Rattle.acq_run.specs.Works.{AreMarked, IsFlushed, IsMarkedAt, IsLater, turns_for, Does, Ends, HasDriven, HasTurns, HasWorked, IsSameSeat, OnlyDueOf}
-use Rattle.acq_feed.specs.declared.feed.Fed.{Fed}
-use Rattle.acq_feed.specs.declared.feed.Fed.TheVariants as fed
+use Rattle.acq_run.specs.declared.feed.Fed.{Fed}
+use Rattle.acq_run.specs.declared.feed.Fed.TheVariants as fed
 use Rattle.acq_run.specs.declared.work.Ended.{Ended}
 use Rattle.acq_run.specs.declared.work.Ended.TheVariants.{Running, Done, SessionFull, Stopped, DiskFault, Memory}
 

@@ -15,12 +15,12 @@ use Rattle.book_shared.specs.Rule.{asks}
 use Rattle.book_shared.specs.Place.{Place}
 use Rattle.book_shared.specs.Seats.{new_seat, new_seats, AreOf, AskedBy, DueBy, HasNumber, Closed, Closes}
 use Rattle.book_shared.proofs.Beginning.{new_seats-length}
-use Rattle.acq_feed.specs.Feeds.{samples_of}
+use Rattle.acq_run.specs.Feeds.{samples_of}
 use Rattle.acq_run.specs.Tasks.{MayFeed}
 use Rattle.acq_run.specs.Works.{AreMarked, Ends, HasDriven, HasRoomNext, HasWorked, IsFlushed, IsOver}
 use Rattle.acq_run.specs.Workers.{CanHand, HasWorkedOn, IsReady, driven_of}
 use Rattle.acq_run.specs.Ran.{AllEnded, AllHanded, AllMayHand, AllRan, AskedFor, DueFor, EndsIn, Ran, seen_by}
-use Rattle.acq_feed.specs.declared.feed.Fed.{Fed}
+use Rattle.acq_run.specs.declared.feed.Fed.{Fed}
 use Rattle.acq_run.specs.declared.work.Driven.{Driven}
 use Rattle.acq_run.specs.declared.work.Ended.{Ended}
 use Rattle.acq_run.specs.declared.work.Ended.TheVariants.{Running, Done, SessionFull, Stopped, DiskFault, Memory}

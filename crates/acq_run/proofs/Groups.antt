@@ -7,11 +7,11 @@ use Rattle.std.proofs.lemmas.Option.{slice_get_within}
 use Rattle.mdf_layout.specs.History.{source_samples}
 use Rattle.mdf_layout.specs.declared.sample.Sample.{Sample}
 use Rattle.book_owned.specs.Account.{Account, Terms}
-use Rattle.acq_feed.specs.Feeds.{samples_of}
+use Rattle.acq_run.specs.Feeds.{samples_of}
 use Rattle.acq_run.specs.Tasks.{MayAppend, MayFeed}
 use Rattle.acq_run.specs.Ran.{AllHanded, AllMayFeed, AllMayHand, AllRan, AreOwned}
-use Rattle.acq_feed.specs.declared.feed.Fed.{Fed}
-use Rattle.acq_feed.specs.declared.feed.Fed.TheVariants as fed
+use Rattle.acq_run.specs.declared.feed.Fed.{Fed}
+use Rattle.acq_run.specs.declared.feed.Fed.TheVariants as fed
 use Rattle.acq_run.specs.declared.work.Driven.{Driven}
 
 -- each of these is of one of so many groups

@@ -9,8 +9,8 @@ use Rattle.book_owned.specs.declared.mark.Mark.{Mark}
 use Rattle.acq_run.specs.Tasks.{MayFeed}
 use Rattle.acq_run.specs.Works.{AreMarked, IsFlushed, IsMarkedAt}
 use Rattle.acq_run.specs.Ran.{Ran}
-use Rattle.acq_feed.specs.declared.feed.Fed.{Fed}
-use Rattle.acq_feed.specs.declared.feed.Fed.TheVariants as fed
+use Rattle.acq_run.specs.declared.feed.Fed.{Fed}
+use Rattle.acq_run.specs.declared.feed.Fed.TheVariants as fed
 use Rattle.acq_run.specs.declared.work.Driven.{Driven}
 
 module _ (table owners : List ℕ) (alike : (group : ℕ) → slice_index table group ≡ slice_index owners group) (source : ℕ) where

@@ -21,8 +21,8 @@ use Rattle.book_shared.specs.Turns.{OnlyDue, Served}
 use Rattle.book_shared.specs.declared.view.View.{View}
 use Rattle.book_shared.proofs.Causing.{asked_one}
 use Rattle.acq_run.specs.Works.{CountsFaults, Does, Ends, HasSeenOwn, HasTurns, IsFlushed, IsLater, OnlyDueOf, appended}
-use Rattle.acq_feed.specs.declared.feed.Fed.{Fed}
-use Rattle.acq_feed.specs.declared.feed.Fed.TheVariants as fed
+use Rattle.acq_run.specs.declared.feed.Fed.{Fed}
+use Rattle.acq_run.specs.declared.feed.Fed.TheVariants as fed
 use Rattle.acq_run.specs.declared.work.Ended.{Ended}
 use Rattle.acq_run.specs.declared.work.Ended.TheVariants.{DiskFault, Stopped}
 

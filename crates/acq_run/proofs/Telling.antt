@@ -7,11 +7,11 @@ use Rattle.book_owned.specs.Account.{Account}
 use Rattle.book_shared.specs.Basis.{Basis}
 use Rattle.book_shared.specs.Place.{Place}
 use Rattle.book_shared.specs.Seats.{new_seat, Closed, Closes}
-use Rattle.acq_feed.specs.Feeds.{flushes_of}
+use Rattle.acq_run.specs.Feeds.{flushes_of}
 use Rattle.acq_run.specs.Works.{HasWorked}
 use Rattle.acq_run.specs.Workers.{driven_of}
 use Rattle.acq_run.specs.Ran.{AllHeard, Ran, seen_by}
-use Rattle.acq_feed.specs.declared.feed.Fed.{Fed}
+use Rattle.acq_run.specs.declared.feed.Fed.{Fed}
 use Rattle.acq_run.specs.declared.work.Driven.{Driven}
 use Rattle.acq_run.specs.declared.work.Ended.TheVariants.{Done}
 use Rattle.acq_run.specs.declared.work.Worker.{Worker}

@@ -5,3 +5,5 @@ pub mod Ran
 pub mod Audience
 pub mod Watching
 pub mod Stays
+pub mod Feeds
+pub mod Listed

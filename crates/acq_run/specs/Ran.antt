@@ -10,11 +10,11 @@ use Rattle.book_owned.specs.Marks.{last_mark}
 use Rattle.book_owned.specs.declared.mark.Mark.{Mark}
 use Rattle.book_shared.specs.Causes.{AnyOf, IsAmong, MarksCaused}
 use Rattle.book_shared.specs.Place.{Place}
-use Rattle.acq_feed.specs.Feeds.{flushes_of, samples_of}
+use Rattle.acq_run.specs.Feeds.{flushes_of, samples_of}
 use Rattle.acq_run.specs.Tasks.{MayFeed}
 use Rattle.acq_run.specs.Works.{AreMarked, HasRoomNext, IsFlushed, IsOver}
 use Rattle.acq_run.specs.Workers.{CanHand}
-use Rattle.acq_feed.specs.declared.feed.Fed.{Fed}
+use Rattle.acq_run.specs.declared.feed.Fed.{Fed}
 use Rattle.acq_run.specs.declared.work.Driven.{Driven}
 use Rattle.acq_run.specs.declared.work.Ended.{Ended}
 use Rattle.acq_run.specs.declared.work.Ended.TheVariants.{Running, Done, SessionFull, Stopped, DiskFault, Memory}

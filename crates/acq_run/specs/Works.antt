@@ -19,9 +19,9 @@ use Rattle.book_shared.specs.Told.{HasMark, MeetsFault, Turned}
 use Rattle.book_shared.specs.Place.{Place, own_part}
 use Rattle.book_shared.specs.Turns.{HasTurnsFor}
 use Rattle.book_shared.specs.declared.view.View.{View}
-use Rattle.acq_feed.specs.Feeds.{flushes_of, samples_of}
-use Rattle.acq_feed.specs.declared.feed.Fed.{Fed}
-use Rattle.acq_feed.specs.declared.feed.Fed.TheVariants as fed
+use Rattle.acq_run.specs.Feeds.{flushes_of, samples_of}
+use Rattle.acq_run.specs.declared.feed.Fed.{Fed}
+use Rattle.acq_run.specs.declared.feed.Fed.TheVariants as fed
 use Rattle.acq_run.specs.declared.work.Ended.{Ended}
 use Rattle.acq_run.specs.declared.work.Ended.TheVariants.{Running, Done, SessionFull, Stopped, DiskFault, Memory}
 

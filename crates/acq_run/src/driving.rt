@@ -1,14 +1,14 @@
 //! How a source works.
 ghost use Rattle.std.specs.Prelude.{ℕ, ◌≡◌, ◌<◌, length, List, [], ◌∷◌, IfOk, IfErr};
-ghost use Rattle.acq_feed.specs.Feeds.{IsTask, flushes_of};
+ghost use Rattle.acq_run.specs.Feeds.{IsTask, flushes_of};
 ghost use Rattle.acq_run.specs.Tasks.{MayFeed};
 ghost use Rattle.acq_run.specs.Works.{CountsFaults, Does, Ends, HasTurns, HasWorked, IsSameSeat, OnlyDueOf, appended};
 ghost use Rattle.acq_run.specs.Workers.{CanHand, HasWorkedOn, IsReady};
-ghost use Rattle.acq_feed.specs.declared.feed.Fed.{Fed};
+ghost use Rattle.acq_run.specs.declared.feed.Fed.{Fed};
 
 use crate::following::Follower;
 use crate::work::{Driven, Ended, Worker};
-use acq_feed::{Fed, Feed};
+use crate::{Fed, Feed};
 use book_owned::{Append, Flush, Shown};
 use book_shared::{SharedBook, SourceSeat};
 use mdf_disk::Disk;

@@ -9,8 +9,10 @@
 
 mod audience;
 mod driving;
+mod feed;
 mod following;
 mod record;
+mod script;
 mod seen;
 mod watcher;
 mod whole;
@@ -18,8 +20,10 @@ mod work;
 
 pub use audience::Audience;
 pub use driving::{drive, drive_with};
+pub use feed::{Fed, Feed};
 pub use following::Follower;
 pub use record::{Gathered, Unshared, drive_all, record_live};
+pub use script::ScriptFeed;
 pub use seen::Seen;
 pub use watcher::{Watcher, last_look, look};
 pub use whole::{part_all, seat_all};

@@ -5,8 +5,7 @@ ghost use Rattle.acq_run.specs.Ran.{AllMayHand, AreOwned, HaveWorked};
 ghost use Rattle.acq_run.specs.Workers.{CanHand, HasWorkedOn, IsReady};
 ghost use Rattle.acq_run.specs.Watching.{Hears, Watches};
 
-use crate::{Audience, Driven, Seen, Watcher, Worker, drive, part_all, seat_all};
-use acq_feed::Feed;
+use crate::{Audience, Driven, Feed, Seen, Watcher, Worker, drive, part_all, seat_all};
 use book_owned::Book;
 use book_shared::{SharedBook, SourceSeat};
 use mdf_disk::Disk;

@@ -1,6 +1,6 @@
 -- The generated script: four sources with a group each, and samples that follow from their numbers.
 use Rattle.std.specs.Prelude.{ℕ, ◌+◌, ◌*◌, ◌-◌, ◌/◌, ◌%◌, ◌^◌, ◌==◌, zero, suc, true, false, if◌then◌else◌, List, [], ◌∷◌, ◌++◌, map, replicate, codes}
-use Rattle.mdf_form.specs.declared.form.Form.TheVariants.{Bare}
+use Rattle.mdf_format.specs.declared.form.Form.TheVariants.{Bare}
 use Rattle.mdf_group.specs.declared.row.ChannelRow.{ChannelRow}
 use Rattle.mdf_group.specs.declared.row.GroupRow.{GroupRow}
 use Rattle.mdf_layout.specs.declared.sample.Entry.{Entry}

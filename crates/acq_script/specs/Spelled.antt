@@ -1,8 +1,8 @@
 -- How a script is spelled: the lines that say a group with its channels, and what its source does.
 use Rattle.std.specs.Prelude.{ℕ, ◌≡◌, ◌+◌, ◌*◌, ◌≤◌, Bool, true, false, if◌then◌else◌, List, [], ◌∷◌, ◌++◌, length, map, flat_map, count_by, codes, decimal, All, Option, Some, None, IfSome}
 use Rattle.std.specs.List.{join_with_byte}
-use Rattle.mdf_form.specs.Form.{form_number}
-use Rattle.mdf_form.specs.declared.form.Form.{Form}
+use Rattle.mdf_format.specs.Form.{form_number}
+use Rattle.mdf_format.specs.declared.form.Form.{Form}
 use Rattle.mdf_group.specs.declared.row.ChannelRow.{ChannelRow}
 use Rattle.mdf_layout.specs.declared.sample.Value.{Value}
 use Rattle.mdf_layout.specs.declared.sample.Value.TheVariants as value

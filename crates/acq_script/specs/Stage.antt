@@ -5,8 +5,8 @@ use Rattle.std.specs.Option.{option_map, option_and_then}
 use Rattle.mdf_layout.specs.Layout.{Layout}
 use Rattle.mdf_layout.specs.Record.{encoded_size}
 use Rattle.mdf_layout.specs.declared.sample.Sample.{Sample}
-use Rattle.mdf_form.specs.Form.{form_numbered}
-use Rattle.mdf_form.specs.declared.form.Form.{Form}
+use Rattle.mdf_format.specs.Form.{form_numbered}
+use Rattle.mdf_format.specs.declared.form.Form.{Form}
 use Rattle.script_line.specs.Line as said
 use Rattle.script_line.specs.Value.{entries_of}
 use Rattle.acq_script.specs.Plan.{IsPlan, TaskFits, IsTaskOf}

@@ -1,4 +1,4 @@
-use mdf_form::Form;
+use mdf_format::Form;
 use mdf_group::GroupRow;
 use mdf_layout::{Sample, Shapes};
 use mdf_num::{Bytes, Rows};

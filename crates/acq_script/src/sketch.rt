@@ -9,7 +9,7 @@ ghost use Rattle.acq_script.specs.Plan.{layout_of, HasPlace};
 
 use crate::draft::{self, Draft, group_row, new_draft};
 use crate::script::{Plan, Script, Task};
-use mdf_form::Form;
+use mdf_format::Form;
 use mdf_group::{ChannelRow, GroupRow};
 use mdf_layout::{
     ChannelNumbers, FieldRow, Shape, ShapeFault, Shapes, field_row, rules_are_tested, shape_of,

@@ -12,7 +12,7 @@ ghost use Rattle.acq_script.specs.Stage.{HasGroup, MayWant, Sound, with_block, w
 use crate::script::Script;
 use crate::sketch::{Sketch, add_channel, add_group, add_unit, begun, first_sketch, opening_of};
 use crate::task::{add_flush, add_sample};
-use mdf_form::Form;
+use mdf_format::Form;
 use mdf_num::Memory;
 use script_line::{ChannelForm, Line};
 use std::alloc::Global;

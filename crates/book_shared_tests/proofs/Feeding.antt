@@ -6,10 +6,10 @@ use Rattle.mdf_layout.specs.Layout.{Layout}
 use Rattle.book_owned.specs.Account.{Terms}
 use Rattle.acq_run.specs.Tasks.{MayFeed}
 use Rattle.acq_run.specs.Ran.{AllMayHand}
-use Rattle.acq_feed.specs.Feeds.{before_end}
-use Rattle.acq_feed.specs.Listed.{IsBehind}
-use Rattle.acq_feed.specs.declared.feed.Fed.{Fed}
-use Rattle.acq_feed.specs.declared.feed.Fed.TheVariants as fed
+use Rattle.acq_run.specs.Feeds.{before_end}
+use Rattle.acq_run.specs.Listed.{IsBehind}
+use Rattle.acq_run.specs.declared.feed.Fed.{Fed}
+use Rattle.acq_run.specs.declared.feed.Fed.TheVariants as fed
 use Rattle.book_shared_tests.specs.Lists.{IsOf}
 
 -- a list without an End is fed whole

@@ -7,8 +7,7 @@ ghost use Rattle.book_shared_tests.specs.Words.{AreGroups};
 use crate::books::{TestDisk, fits, listed, recording, sample};
 use crate::gates::{Gate, LOOKS, Step, wait_for};
 use crate::told::is_told;
-use acq_feed::{Fed, Feed, ScriptFeed};
-use acq_run::{Audience, Driven, Gathered, Unshared, Watcher, record_live};
+use acq_run::{Audience, Driven, Fed, Feed, Gathered, ScriptFeed, Unshared, Watcher, record_live};
 use book_owned::Book;
 use mdf_layout::{Samples, Shapes};
 use mdf_num::{Memory, Rows};
@@ -69,7 +68,7 @@ pub struct Meets {
 }
 
 impl Feed for Meets {
-    ghost use Rattle.acq_feed.specs.Listed.{IsAny, IsBehind, IsEmpty, behind_none, behind_more};
+    ghost use Rattle.acq_run.specs.Listed.{IsAny, IsBehind, IsEmpty, behind_none, behind_more};
 
     ghost hands = { λ feed feds later. IsBehind feed.list feds later.list };
 

@@ -2,10 +2,9 @@
 #![tactic(auto)]
 
 use log_program::{FileDisks, start};
-use log_setup::is_standard;
 use mdf_hostfile::hold_streams;
 use mdf_input::InputFile;
-use mdf_log::Tap;
+use mdf_log::{Tap, is_standard};
 use mdf_num::{Bytes, Memory};
 use mdf_port::StdSink;
 use std::fs::File;

@@ -1,6 +1,6 @@
 // The files of the machine that a log has.
 use crate::told::tell;
-use log_disks::Disks;
+use mdf_disk::Disks;
 use mdf_hostfile::{FileDisk, SystemFile};
 use std::fs::File;
 use std::rt::Files;

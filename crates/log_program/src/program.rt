@@ -1,11 +1,10 @@
 use crate::told::{Told, tell, tell_input};
 use crate::words::words;
-use log_disks::Disks;
-use log_setup::{LogWords, log_words, run_log_usage};
 use mdf_command::{Fault, status_after};
+use mdf_disk::Disks;
 use mdf_hostfile::now_ns;
 use mdf_input::Input;
-use mdf_log::{Logged, Tap, run_log};
+use mdf_log::{LogWords, Logged, Tap, log_words, run_log, run_log_usage};
 use mdf_num::{Bytes, Memory};
 use mdf_port::Sink;
 use std::alloc::Global;

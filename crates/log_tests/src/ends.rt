@@ -1,8 +1,8 @@
 //! What a log prints at its end.
 use crate::told::{is_told, numbers, printed};
-use acq_live::Halt;
-use log_report::{LogEnd, SourceEnd, Stop, report};
+use acq_lines::Halt;
 use mdf_command::Fault;
+use mdf_log::{LogEnd, SourceEnd, Stop, report};
 use mdf_port::MemorySink;
 use std::alloc::Global;
 use std::test::Fail;

@@ -1,6 +1,6 @@
 //! Which words ask for a log.
 use crate::told::{is_told, numbers, printed};
-use log_setup::{LogWords, is_standard, log_words, run_log_usage};
+use mdf_log::{LogWords, is_standard, log_words, run_log_usage};
 use mdf_num::{Bytes, Rows};
 use mdf_port::MemorySink;
 use std::alloc::Global;

@@ -5,8 +5,8 @@ use Rattle.std.specs.List.{flat_map, enumerate_from, AllByRecursion}
 use Rattle.std.proofs.lemmas.Bool.{eqb-false, cond-true, cond-false}
 use Rattle.std.proofs.lemmas.List.{take_all}
 use Rattle.std.proofs.lemmas.Option.{same_Some, slice_get_within, slice_get-get_or, get_or_from_slice_get}
-use Rattle.mdf_form.specs.Form.{form_of}
-use Rattle.mdf_form.specs.declared.form.Form.{Form}
+use Rattle.mdf_format.specs.Form.{form_of}
+use Rattle.mdf_format.specs.declared.form.Form.{Form}
 use Rattle.mdf_format.specs.Block.{link_at, IsChain}
 use Rattle.mdf_format.specs.Identification.{IsUnfinalized}
 use Rattle.mdf_block.specs.declared.what.What.TheVariants as whats

@@ -7,8 +7,8 @@ use Rattle.std.proofs.lemmas.List.Folds.{flat_map-map}
 use Rattle.std.proofs.lemmas.Slice.Eq.{bytes_eq-Decides}
 use Rattle.mdf_format.specs.Number.{bytes_at}
 use Rattle.mdf_format.specs.Block.{link_at, IsBlock, IsChain}
-use Rattle.mdf_form.specs.Form.{IsInRecordingForm, NamesForm, form_named, names_form}
-use Rattle.mdf_form.specs.declared.form.Form.{Form}
+use Rattle.mdf_format.specs.Form.{IsInRecordingForm, NamesForm, form_named, names_form}
+use Rattle.mdf_format.specs.declared.form.Form.{Form}
 use Rattle.mdf_format.specs.Identification.{IsMdf, HasReadVersion, custom_flags}
 use Rattle.mdf_gate.specs.Unit.{AreUnits}
 use Rattle.mdf_format.specs.declared.kind.Kind.TheVariants.{Dg}

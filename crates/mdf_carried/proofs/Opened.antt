@@ -4,8 +4,8 @@ use Rattle.std.proofs.lemmas.Bool.{eq-eqb, ne_eqb, cond-true, cond-false, false_
 use Rattle.std.proofs.lemmas.List.{get_or-take, get_or-drop}
 use Rattle.std.specs.Prelude.{◌||◌, not, nat_eq}
 use Rattle.std.specs.List.{concat}
-use Rattle.mdf_form.specs.Form.{form_of}
-use Rattle.mdf_form.specs.declared.form.Form.{Form}
+use Rattle.mdf_format.specs.Form.{form_of}
+use Rattle.mdf_format.specs.declared.form.Form.{Form}
 use Rattle.mdf_format.specs.Block.{body_at}
 use Rattle.mdf_format.specs.declared.kind.Kind.TheVariants.{Dt}
 use Rattle.mdf_block.specs.declared.place.BlockAt.{BlockAt}

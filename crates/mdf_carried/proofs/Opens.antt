@@ -4,7 +4,7 @@ use Rattle.std.specs.Prelude.{Bool, true, false, not, nat_eq, ◌||◌, ◌%◌}
 use Rattle.std.specs.List.{concat}
 use Rattle.std.proofs.lemmas.Bool.{eqb-true, eqb-false}
 use Rattle.std.proofs.Math.ListN.{get_or-eq_default}
-use Rattle.mdf_form.specs.declared.form.Form.{Form}
+use Rattle.mdf_format.specs.declared.form.Form.{Form}
 use Rattle.mdf_format.specs.Block.{body_at}
 use Rattle.mdf_format.specs.declared.kind.Kind.TheVariants.{Dt}
 use Rattle.mdf_block.specs.declared.place.BlockAt.{BlockAt}

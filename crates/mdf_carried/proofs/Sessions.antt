@@ -11,8 +11,8 @@ use Rattle.mdf_stream.proofs.Joins.{length-stream}
 use Rattle.mdf_data.specs.Places.{places}
 use Rattle.mdf_data.specs.Split.{Record, IsRecordSplit}
 use Rattle.mdf_data.proofs.Splits.{record_splits_agree}
-use Rattle.mdf_form.specs.Form.{form_named, form_of}
-use Rattle.mdf_form.specs.declared.form.Form.{Form}
+use Rattle.mdf_format.specs.Form.{form_named, form_of}
+use Rattle.mdf_format.specs.declared.form.Form.{Form}
 use Rattle.mdf_format.specs.Block.{link_at}
 use Rattle.mdf_head.specs.declared.identity.Ident.{Ident}
 use Rattle.mdf_head.specs.declared.entry.Head.{Head}

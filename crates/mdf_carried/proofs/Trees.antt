@@ -3,7 +3,7 @@ use Rattle.std.proofs.Common.{◌≡◌, ℕ, true, false, List, [], ◌∷◌, 
 use Rattle.std.proofs.lemmas.Bool.{le-leb, eq-eqb, and_from, or_left, or_right, cond-true, cond-false, false_from_ne_true}
 use Rattle.std.proofs.lemmas.Slice.Eq.{bytes_eq-Decides}
 use Rattle.std.specs.Prelude.{◌||◌, not, nat_eq, nat_le, codes, if◌then◌else◌}
-use Rattle.mdf_form.specs.Form.{NamesForm, names_form}
+use Rattle.mdf_format.specs.Form.{NamesForm, names_form}
 use Rattle.mdf_format.specs.Number.{bytes_at}
 use Rattle.mdf_format.specs.Identification.{version_of, custom_flags}
 use Rattle.mdf_format.specs.declared.kind.Kind.TheVariants.{Hd}

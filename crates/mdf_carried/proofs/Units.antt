@@ -2,8 +2,8 @@
 use Rattle.std.proofs.Common.{◌≡◌, ◌+◌, ◌-◌, ◌≤◌, ℕ, List, get_or, true, false, Ok, Err, refl, sym, ◌∙◌, ap, subst, inl, inr, arith}
 use Rattle.std.proofs.lemmas.Bool.{eq-eqb, eqb-true, cond-true, and_from, and_parts, false_from_ne_true}
 use Rattle.std.specs.Prelude.{◌&&◌, nat_eq}
-use Rattle.mdf_form.specs.declared.form.Form.{Form}
-use Rattle.mdf_form.specs.declared.form.Form.TheVariants.{Bare, Listed}
+use Rattle.mdf_format.specs.declared.form.Form.{Form}
+use Rattle.mdf_format.specs.declared.form.Form.TheVariants.{Bare, Listed}
 use Rattle.mdf_format.specs.Number.{aligned}
 use Rattle.mdf_format.specs.Block.{size_at, link_at, IsBlock}
 use Rattle.mdf_format.specs.declared.kind.Kind.{Kind}

@@ -1,7 +1,7 @@
 -- A file that a reader reads as a recording, and of which a beginning of a history is recovered.
 use Rattle.std.specs.Prelude.{ℕ, ◌≡◌, ◌≤◌, ◌⊎◌, List, ◌++◌, length, Ok}
 use mathlib.Core.List.{IsPrefix}
-use Rattle.mdf_form.specs.declared.form.Form.{Form}
+use Rattle.mdf_format.specs.declared.form.Form.{Form}
 use Rattle.mdf_group.specs.declared.row.GroupRow.{GroupRow}
 use Rattle.mdf_layout.specs.declared.sample.Sample.{Sample}
 use Rattle.mdf_session.specs.Session.{SessionParts, session}

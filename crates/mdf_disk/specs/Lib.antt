@@ -8,3 +8,4 @@ pub mod Load
 pub mod Memory
 pub mod Fuse
 pub mod Asked
+pub mod Served

@@ -2,10 +2,12 @@
 //!
 //! A disk counts its own faults. Where it tells its content, calls say what they do to it; where it tells its story,
 //! one can say of each moment, during a call or between two, what a crash then may leave. A real file tells neither.
+//! The trait `Disks` hands out a disk for each part of a recording, and takes them back.
 #![tactic(auto)]
 
 mod call;
 mod disk;
+mod disks;
 mod fuse;
 mod image;
 mod load;
@@ -14,6 +16,7 @@ mod role;
 mod tape;
 
 pub use disk::Disk;
+pub use disks::Disks;
 pub use fuse::Fuse;
 pub use load::{LoadFault, read_whole};
 pub use memory::MemoryDisk;

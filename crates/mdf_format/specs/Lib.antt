@@ -5,3 +5,4 @@ pub mod Block
 pub mod Field
 pub mod Row
 pub mod Value
+pub mod Form

@@ -9,12 +9,12 @@ use Rattle.mdf_disk.specs.Story.{Moment, Story, MayLeave, Agrees, LeftInOne, Lef
 use Rattle.mdf_disk.specs.Crash.{Adds, HoldsSince}
 use Rattle.mdf_disk.proofs.Crash.{adds_more, now_more, settled_leaves}
 use Rattle.mdf_seal.specs.Seal.{IsKept, synced}
-use Rattle.mdf_form.specs.Form.{form_of}
+use Rattle.mdf_format.specs.Form.{form_of}
 use Rattle.mdf_gate.specs.Unit.{AreUnits}
 use Rattle.mdf_gate.specs.Written.{opened_at, payload_of, room_of}
 use Rattle.mdf_gate.specs.Gated.{Rests, RestsOn}
 use Rattle.mdf_gate.specs.Images.{head_of, Opens, OpensEither, IsStage, IsStaged}
-use Rattle.mdf_form.specs.declared.form.Form.{Form}
+use Rattle.mdf_format.specs.declared.form.Form.{Form}
 use Rattle.mdf_gate.proofs.Resting.{rests_after, rests_opens, stage_opens, still_form, length-head}
 
 -- a file that is kept is at rest where its bytes are

@@ -3,7 +3,7 @@ use Rattle.std.proofs.Common.{◌≡◌, inl, inr, ⊎_elim, ℕ, ◌+◌, ◌�
 use Rattle.std.proofs.lemmas.List.{take_all, take_at, drop_more, get_or-drop, get_or_append_left}
 use Rattle.std.proofs.lemmas.Bool.{cases_eq}
 use Rattle.mdf_seal.specs.Images.{IsClosed, IsWholeButFirst}
-use Rattle.mdf_form.specs.Form.{form_of}
+use Rattle.mdf_format.specs.Form.{form_of}
 use Rattle.mdf_gate.specs.Gated.{IsRecordingHead}
 use Rattle.mdf_disk.specs.Story.{Moment, Story, MayLeave, Agrees, LeftSince, settled}
 use Rattle.mdf_disk.specs.Crash.{Adds, NowHas, HoldsSince}

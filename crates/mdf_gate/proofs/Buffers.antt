@@ -6,10 +6,10 @@ use borrow.Rule.Slice.PartMut.{put_mid, post_of}
 use Rattle.std.specs.Prelude.{codes}
 use Rattle.std.specs.Int.{to_le_bytes, w32, w64}
 use Rattle.mdf_format.specs.Number.{bytes_at, patched, aligned}
-use Rattle.mdf_form.specs.Form.{lead}
+use Rattle.mdf_format.specs.Form.{lead}
 use Rattle.mdf_gate.specs.Written.{block_header, lead_bytes, list_block, payload_of, room_of}
-use Rattle.mdf_form.specs.declared.form.Form.{Form}
-use Rattle.mdf_form.specs.declared.form.Form.TheVariants.{Bare, Listed}
+use Rattle.mdf_format.specs.declared.form.Form.{Form}
+use Rattle.mdf_format.specs.declared.form.Form.TheVariants.{Bare, Listed}
 use Rattle.mdf_gate.proofs.Units.{lead_few, lead_on_eight}
 
 -- bytes put over others leave the length

@@ -1,8 +1,8 @@
 -- Units of form 2 are a chain of list blocks.
 use Rattle.std.proofs.Common.{◌≡◌, ℕ, List, [], ◌∷◌, sym, ◌∙◌, ap, subst}
-use Rattle.mdf_form.specs.Form.{form_of}
-use Rattle.mdf_form.specs.declared.form.Form.{Form}
-use Rattle.mdf_form.specs.declared.form.Form.TheVariants.{Listed}
+use Rattle.mdf_format.specs.Form.{form_of}
+use Rattle.mdf_format.specs.declared.form.Form.{Form}
+use Rattle.mdf_format.specs.declared.form.Form.TheVariants.{Listed}
 use Rattle.mdf_format.specs.Block.{IsBlock, body_at}
 use Rattle.mdf_format.specs.declared.kind.Kind.TheVariants.{Dt}
 use Rattle.mdf_gate.specs.Chain.{IsListChain}

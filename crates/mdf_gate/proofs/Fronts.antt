@@ -6,12 +6,12 @@ use Rattle.mdf_format.specs.Identification.{version_of, custom_flags}
 use Rattle.mdf_format.specs.declared.kind.Kind.{Kind}
 use Rattle.mdf_format.specs.declared.kind.Kind.TheVariants.{Hd, Dg, Dl, Dt}
 use Rattle.mdf_block.proofs.Parts.{bytes_at-bytes_at}
-use Rattle.mdf_form.specs.Form.{NamesForm, form_named, form_of}
-use Rattle.mdf_form.specs.Form.{lead}
+use Rattle.mdf_format.specs.Form.{NamesForm, form_named, form_of}
+use Rattle.mdf_format.specs.Form.{lead}
 use Rattle.mdf_gate.specs.Unit.{block_place, AreUnits, IsLed, IsLinkedOn, IsUnit, next_place, unit_data}
 use Rattle.mdf_gate.specs.Recording.{HEADER, first_group, first_place, IsPlace, IsRecording}
-use Rattle.mdf_form.specs.declared.form.Form.{Form}
-use Rattle.mdf_form.specs.declared.form.Form.TheVariants.{Bare, Listed}
+use Rattle.mdf_format.specs.declared.form.Form.{Form}
+use Rattle.mdf_format.specs.declared.form.Form.TheVariants.{Bare, Listed}
 
 -- the first n bytes of one file are those of another
 pub record AgreeTo (n : ℕ) (one other : List ℕ) : Type 0 where

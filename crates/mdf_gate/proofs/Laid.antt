@@ -7,11 +7,11 @@ use Rattle.mdf_format.specs.Block.{name_of, size_at, links_at, link_at, header_s
 use Rattle.mdf_format.specs.declared.kind.Kind.TheVariants.{Dl, Dt}
 use Rattle.mdf_block.proofs.Laying.{bytes_at-part, le_number-to_le_bytes}
 use Rattle.mdf_block.proofs.Standing.{name_part, size_part, count_part, body_part, before_links, length-header, header}
-use Rattle.mdf_form.specs.Form.{lead}
+use Rattle.mdf_format.specs.Form.{lead}
 use Rattle.mdf_gate.specs.Unit.{block_place, IsLed, IsLinkedOn, IsList, IsUnit, unit_data, next_place}
 use Rattle.mdf_gate.specs.Written.{block_header, lead_bytes, list_block, payload_of, room_of, unit_bytes}
-use Rattle.mdf_form.specs.declared.form.Form.{Form}
-use Rattle.mdf_form.specs.declared.form.Form.TheVariants.{Bare, Listed}
+use Rattle.mdf_format.specs.declared.form.Form.{Form}
+use Rattle.mdf_format.specs.declared.form.Form.TheVariants.{Bare, Listed}
 use Rattle.mdf_gate.proofs.Units.{lead_on_eight}
 
 -- the first byte of a unit is that of a block

@@ -7,12 +7,12 @@ use Rattle.mdf_format.specs.Block.{IsBlock}
 use Rattle.mdf_head.specs.declared.identity.Ident.{Ident}
 use Rattle.mdf_head.specs.Ident.{IsIdent}
 use Rattle.mdf_format.specs.declared.kind.Kind.TheVariants.{Hd, Dg, Dl, Dt}
-use Rattle.mdf_form.specs.Form.{NamesForm, IsInRecordingForm, form_of}
+use Rattle.mdf_format.specs.Form.{NamesForm, IsInRecordingForm, form_of}
 use Rattle.mdf_gate.specs.Unit.{block_place, IsLed, IsLinkedOn}
 use Rattle.mdf_gate.specs.Recording.{HEADER, first_group, first_place, IsPlace, IsRecording}
 use Rattle.mdf_gate.specs.Fault.{IsFormed, HasFault}
 use Rattle.mdf_gate.specs.Scan.{IsNoUnit, IsStuckAt}
-use Rattle.mdf_form.specs.declared.form.Form.{Form}
+use Rattle.mdf_format.specs.declared.form.Form.{Form}
 use Rattle.mdf_gate.specs.declared.answer.GateFault.{GateFault}
 use Rattle.mdf_gate.specs.declared.answer.GateFault.TheVariants.{NotMdf, Version, NotRecording, Bad}
 

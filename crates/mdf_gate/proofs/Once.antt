@@ -9,12 +9,12 @@ use Rattle.mdf_layout.specs.Layout.{Layout}
 use Rattle.mdf_layout.specs.Read.{AreRead}
 use Rattle.mdf_layout.specs.declared.sample.Sample.{Sample}
 use Rattle.mdf_layout.proofs.Pieces.{read_once}
-use Rattle.mdf_form.specs.Form.{form_of}
+use Rattle.mdf_format.specs.Form.{form_of}
 use Rattle.mdf_gate.specs.Unit.{IsOpenPlace, IsUnit, AreUnits, next_place}
 use Rattle.mdf_gate.specs.Recording.{IsOpened, first_place}
 use Rattle.mdf_gate.specs.Carried.{IsCarried}
-use Rattle.mdf_form.specs.declared.form.Form.{Form}
-use Rattle.mdf_form.specs.declared.form.Form.TheVariants.{Bare, Listed}
+use Rattle.mdf_format.specs.declared.form.Form.{Form}
+use Rattle.mdf_format.specs.declared.form.Form.TheVariants.{Bare, Listed}
 
 -- a list of four bytes at a place begins with the byte there
 first_byte : (file : List ℕ) (at : ℕ) (name : List ℕ) → bytes_at 4 file at ≡ name → get_or file at 0 ≡ get_or name 0 0

@@ -3,13 +3,13 @@ use Rattle.std.proofs.Common.{◌≡◌, ◌⊎◌, inl, inr, ℕ, ◌+◌, ◌%
 use Rattle.std.proofs.lemmas.List.{take_all, take_at, take-take, take-append-le, drop_all, drop_more, length-take-le, get_or_at}
 use Rattle.std.proofs.lemmas.Bool.{cases_eq}
 use mathlib.Core.List.{IsPrefix}
-use Rattle.mdf_form.specs.Form.{form_of}
+use Rattle.mdf_format.specs.Form.{form_of}
 use Rattle.mdf_gate.specs.Unit.{IsOpenPlace, AreUnits, unit_data}
 use Rattle.mdf_gate.specs.Written.{payload_of, room_of}
 use Rattle.mdf_gate.specs.Recording.{first_place, IsRecording}
 use Rattle.mdf_gate.specs.Gated.{IsRecordingHead, Rests}
 use Rattle.mdf_gate.specs.Images.{Opens, OpensEither, IsStage}
-use Rattle.mdf_form.specs.declared.form.Form.{Form}
+use Rattle.mdf_format.specs.declared.form.Form.{Form}
 use Rattle.mdf_gate.proofs.Fronts.{AgreeTo, units_rise, units_stay, recording_stays, place_stays, form_stays}
 use Rattle.mdf_gate.proofs.Units.{AreUnits-push}
 use Rattle.mdf_gate.proofs.Laid.{data_is, length-opened, length-payload, next_closed, next_is, unit_stands}

@@ -4,11 +4,11 @@ use Rattle.std.proofs.lemmas.List.{length-take-le}
 use Rattle.std.proofs.lemmas.List.Sums.{sum_by_push}
 use Rattle.mdf_format.specs.Number.{aligned}
 use Rattle.mdf_format.specs.Block.{links_at, header_size, body_size}
-use Rattle.mdf_form.specs.Form.{lead}
+use Rattle.mdf_format.specs.Form.{lead}
 use Rattle.mdf_gate.specs.Unit.{block_place, IsOpenPlace, IsUnit, AreUnits, unit_data, next_place}
 use Rattle.mdf_gate.specs.Scan.{HasOpenEnd}
-use Rattle.mdf_form.specs.declared.form.Form.{Form}
-use Rattle.mdf_form.specs.declared.form.Form.TheVariants.{Bare, Listed}
+use Rattle.mdf_format.specs.declared.form.Form.{Form}
+use Rattle.mdf_format.specs.declared.form.Form.TheVariants.{Bare, Listed}
 
 -- what stands before a data block has a multiple of 8 bytes, and at most 56
 pub lead_on_eight : (form : Form) → lead form % 8 ≡ 0

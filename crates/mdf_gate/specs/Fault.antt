@@ -7,10 +7,10 @@ use Rattle.mdf_format.specs.declared.kind.Kind.{Kind}
 use Rattle.mdf_format.specs.declared.kind.Kind.TheVariants.{Hd, Dg, Dl, Dt}
 use Rattle.mdf_head.specs.declared.fault.IdentFault.{IdentFault}
 use Rattle.mdf_head.specs.declared.fault.IdentFault.TheVariants as ident
-use Rattle.mdf_form.specs.Form.{IsInRecordingForm, form_of}
+use Rattle.mdf_format.specs.Form.{IsInRecordingForm, form_of}
 use Rattle.mdf_gate.specs.Recording.{HEADER, first_group, first_place, IsPlace, IsRecording}
 use Rattle.mdf_gate.specs.Unit.{block_place, AreUnits, IsLed, IsLinkedOn, IsOpenPlace}
-use Rattle.mdf_form.specs.declared.form.Form.{Form}
+use Rattle.mdf_format.specs.declared.form.Form.{Form}
 use Rattle.mdf_gate.specs.declared.answer.GateFault.{GateFault}
 use Rattle.mdf_gate.specs.declared.answer.GateFault.TheVariants.{NotMdf, Version, NotRecording, Bad}
 

@@ -3,10 +3,10 @@ use Rattle.std.specs.Prelude.{ℕ, ◌≡◌, ◌+◌, ◌%◌, ◌^◌, ◌≤�
 use Rattle.mdf_format.specs.Cause.{Rose}
 use Rattle.mdf_disk.specs.Story.{Story, settled}
 use Rattle.mdf_disk.specs.Crash.{NowHas}
-use Rattle.mdf_form.specs.Form.{form_of}
+use Rattle.mdf_format.specs.Form.{form_of}
 use Rattle.mdf_gate.specs.Recording.{IsRecording, first_place}
 use Rattle.mdf_gate.specs.Unit.{AreUnits}
-use Rattle.mdf_form.specs.declared.form.Form.{Form}
+use Rattle.mdf_format.specs.declared.form.Form.{Form}
 
 -- a recording that ends where its first place is to be
 pub record IsRecordingHead (head : List ℕ) : Type 0 where

@@ -3,7 +3,7 @@ use Rattle.std.specs.Prelude.{ℕ, ◌≡◌, ◌≢◌, ◌%◌, List}
 use Rattle.mdf_format.specs.Identification.{IsMdf, HasReadVersion}
 use Rattle.mdf_format.specs.Block.{IsBlock, link_at}
 use Rattle.mdf_format.specs.declared.kind.Kind.TheVariants.{Hd, Dg}
-use Rattle.mdf_form.specs.Form.{IsInRecordingForm, form_of}
+use Rattle.mdf_format.specs.Form.{IsInRecordingForm, form_of}
 use Rattle.mdf_gate.specs.Unit.{AreUnits, IsOpenPlace}
 
 -- the address of the header (HDBLOCK)

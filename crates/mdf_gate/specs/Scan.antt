@@ -2,7 +2,7 @@
 use Rattle.std.specs.Prelude.{ℕ, ◌≡◌, List, length, sum_by}
 use Rattle.mdf_gate.specs.Fault.{HasNoUnit, IsReached}
 use Rattle.mdf_gate.specs.Unit.{AreUnits, IsOpenPlace}
-use Rattle.mdf_form.specs.declared.form.Form.{Form}
+use Rattle.mdf_format.specs.declared.form.Form.{Form}
 use Rattle.mdf_gate.specs.declared.answer.Opened.{Opened}
 use Rattle.mdf_gate.specs.declared.answer.GateFault.{GateFault}
 use Rattle.mdf_gate.specs.declared.answer.GateFault.TheVariants.{Bad}

@@ -5,9 +5,9 @@ use Rattle.std.specs.Prelude.{ℕ, ◌≡◌, ◌+◌, List, [], ◌∷◌, get_
 use Rattle.mdf_format.specs.Number.{aligned}
 use Rattle.mdf_format.specs.Block.{IsBlock, link_at, links_at, size_at, body_at}
 use Rattle.mdf_format.specs.declared.kind.Kind.TheVariants.{Dl, Dt}
-use Rattle.mdf_form.specs.Form.{lead}
-use Rattle.mdf_form.specs.declared.form.Form.{Form}
-use Rattle.mdf_form.specs.declared.form.Form.TheVariants.{Bare, Listed}
+use Rattle.mdf_format.specs.Form.{lead}
+use Rattle.mdf_format.specs.declared.form.Form.{Form}
+use Rattle.mdf_format.specs.declared.form.Form.TheVariants.{Bare, Listed}
 
 -- the byte at the place is `#`; past the end of the file every place is closed
 abbrev pub IsOpenPlace : List ℕ → ℕ → Type 0

@@ -2,10 +2,10 @@
 use Rattle.std.specs.Prelude.{ℕ, ◌+◌, ◌-◌, List, [], ◌∷◌, ◌++◌, length, take, drop, replicate, codes}
 use Rattle.std.specs.Int.{to_le_bytes, w32, w64}
 use Rattle.mdf_format.specs.Number.{aligned}
-use Rattle.mdf_form.specs.Form.{lead}
+use Rattle.mdf_format.specs.Form.{lead}
 use Rattle.mdf_gate.specs.Unit.{block_place}
-use Rattle.mdf_form.specs.declared.form.Form.{Form}
-use Rattle.mdf_form.specs.declared.form.Form.TheVariants.{Bare, Listed}
+use Rattle.mdf_format.specs.declared.form.Form.{Form}
+use Rattle.mdf_format.specs.declared.form.Form.TheVariants.{Bare, Listed}
 
 -- how long the unit with so many bytes of data and its filler is
 abbrev pub room_of : Form → ℕ → ℕ

@@ -10,13 +10,13 @@ ghost use Rattle.mdf_layout.specs.Behind.{first_id, IsEncodingBehind};
 ghost use Rattle.mdf_layout.specs.Next.{AreNext};
 ghost use Rattle.mdf_layout.specs.declared.sample.Sample.{Sample};
 ghost use Rattle.mdf_seal.specs.Seal.{IsKept, synced};
-ghost use Rattle.mdf_form.specs.Form.{lead};
+ghost use Rattle.mdf_format.specs.Form.{lead};
 ghost use Rattle.mdf_gate.specs.Written.{block_header, lead_bytes, list_block, opened_at, payload_of, room_of};
 ghost use Rattle.mdf_gate.specs.Images.{IsStage, IsStaged};
 
 use crate::stage::write_block;
 use mdf_disk::Disk;
-use mdf_form::Form;
+use mdf_format::Form;
 use mdf_layout::{NextValues, Sample, Shapes};
 use mdf_num::{Failed, Memory, align8, put_u64};
 use std::alloc::Global;

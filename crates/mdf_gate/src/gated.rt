@@ -4,7 +4,7 @@ ghost use Rattle.mdf_format.specs.Cause.{Rose, HasCause};
 ghost use Rattle.mdf_disk.specs.Crash.{Adds, NowHas, HoldsSince};
 ghost use Rattle.mdf_seal.specs.Seal.{IsBlank, IsKept, synced};
 ghost use Rattle.mdf_seal.specs.Images.{IsUnopened};
-ghost use Rattle.mdf_form.specs.Form.{form_of};
+ghost use Rattle.mdf_format.specs.Form.{form_of};
 ghost use Rattle.mdf_gate.specs.Written.{opened_at, payload_of, room_of};
 ghost use Rattle.mdf_gate.specs.Gated.{IsRecordingHead, RestsOn, disk_of};
 ghost use Rattle.mdf_gate.specs.Images.{head_of, Opens, OpensEither, IsBegun, IsStaged};
@@ -12,7 +12,7 @@ ghost use Rattle.mdf_gate.specs.Images.{head_of, Opens, OpensEither, IsBegun, Is
 use crate::Block;
 use crate::recording::form_of;
 use mdf_disk::Disk;
-use mdf_form::Form;
+use mdf_format::Form;
 use mdf_num::{Failed, align8};
 use mdf_seal::Sealed;
 use std::marker::Model;

@@ -1,6 +1,6 @@
 ghost use Rattle.std.specs.Prelude.{◌≡◌, List, ℕ};
-ghost use Rattle.mdf_form.specs.Form.{form_of};
-ghost use Rattle.mdf_form.specs.declared.form.Form.TheVariants.{Listed};
+ghost use Rattle.mdf_format.specs.Form.{form_of};
+ghost use Rattle.mdf_format.specs.declared.form.Form.TheVariants.{Listed};
 ghost use Rattle.mdf_layout.specs.Layout.{Layout};
 ghost use Rattle.mdf_layout.specs.declared.sample.Sample.{Sample};
 ghost use Rattle.mdf_gate.specs.Chain.{IsListChain};

@@ -18,5 +18,5 @@ pub use answer::{GateFault, Opened};
 pub use buffer::Block;
 pub use gated::GatedFile;
 pub use law::{carries_one_list, lists_lead_to_each_block};
-pub use mdf_form::Form;
+pub use mdf_format::Form;
 pub use scan::opened;

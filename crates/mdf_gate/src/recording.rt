@@ -2,14 +2,13 @@ ghost use Rattle.std.specs.Prelude.{◌≡◌, ◌≤◌, ◌↔◌, length, IsT
 ghost use Rattle.mdf_gate.specs.declared.answer.GateFault.TheVariants.{Bad};
 ghost use Rattle.mdf_format.specs.Block.{IsBlock};
 ghost use Rattle.mdf_block.specs.Block.{the_block, IsInside, IsFilled};
-ghost use Rattle.mdf_form.specs.Form.{NamesForm, form_of};
+ghost use Rattle.mdf_format.specs.Form.{NamesForm, form_of};
 ghost use Rattle.mdf_gate.specs.Recording.{IsPlace, IsRecording, first_place};
 ghost use Rattle.mdf_gate.specs.Fault.{HasFault};
 
 use crate::GateFault;
 use mdf_block::{BlockAt, block_at, link_of, u16_field};
-use mdf_form::Form;
-use mdf_format::Kind;
+use mdf_format::{Form, Kind};
 use mdf_head::{Ident, ident};
 
 /// The address of the header.

@@ -1,6 +1,6 @@
 ghost use Rattle.std.specs.Prelude.{◌≡◌, ◌+◌, ◌≤◌, ◌<◌, ◌^◌, ◌↔◌, length, IsTrue, IfOk, IfErr, OnErr};
 ghost use Rattle.mdf_format.specs.Number.{aligned};
-ghost use Rattle.mdf_form.specs.Form.{form_of};
+ghost use Rattle.mdf_format.specs.Form.{form_of};
 ghost use Rattle.mdf_gate.specs.Unit.{IsOpenPlace};
 ghost use Rattle.mdf_gate.specs.Recording.{HasNoOpened};
 ghost use Rattle.mdf_gate.specs.Opened.{IsCountOf};
@@ -11,7 +11,7 @@ use crate::recording::{first_place, form_of};
 use crate::unit::unit_at;
 use crate::{GateFault, Opened};
 use mdf_block::BlockAt;
-use mdf_form::Form;
+use mdf_format::Form;
 use mdf_num::align8;
 
 /// Whether the gate at a place is open.

@@ -9,8 +9,7 @@ ghost use Rattle.mdf_gate.specs.Scan.{IsNoUnit};
 use crate::GateFault;
 use crate::recording::wanted_block;
 use mdf_block::{BlockAt, block_at, link_of, u64_field};
-use mdf_form::Form;
-use mdf_format::Kind;
+use mdf_format::{Form, Kind};
 use mdf_num::align8;
 
 /// Whether a list block of 56 bytes with two links stands at a place, and the second of them names the address behind it.

@@ -6,7 +6,7 @@ use Rattle.std.proofs.lemmas.List.Elements.{All-append}
 use Rattle.book_owned.specs.Marks.{durable}
 use Rattle.acq_script.specs.declared.script.Plan.{Plan}
 use Rattle.mdf_command.specs.Texts.{numbered}
-use Rattle.log_disks.specs.Served.{Served, handed_out, taken_back}
+use Rattle.mdf_disk.specs.Served.{Served, handed_out, taken_back}
 use Rattle.mdf_rotate.specs.Rotate.{recorded_in}
 use Rattle.mdf_rotate.specs.Text.{Recording, part_line}
 use Rattle.mdf_log.specs.Parts.{AreParts, IsPart, Part, durable_count, recordings_of, sample_count, served_by, served_of}

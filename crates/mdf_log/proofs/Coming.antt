@@ -6,7 +6,7 @@ use Rattle.mdf_gate.specs.Gated.{Gated}
 use Rattle.mdf_layout.specs.declared.sample.Sample.{Sample}
 use Rattle.mdf_spell.specs.Recording.{head_file}
 use Rattle.book_owned.specs.Members.{DiskOf}
-use Rattle.acq_feed.specs.declared.feed.Fed.{Fed}
+use Rattle.acq_run.specs.declared.feed.Fed.{Fed}
 use Rattle.acq_run.specs.Ran.{AllHanded}
 use Rattle.acq_run.specs.declared.work.Driven.{Driven}
 use Rattle.acq_run.specs.declared.work.Ended.{Ended}

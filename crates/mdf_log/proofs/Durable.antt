@@ -10,9 +10,9 @@ use Rattle.book_owned.specs.Marks.{last_mark}
 use Rattle.book_owned.specs.declared.mark.Mark.{Mark}
 use Rattle.book_owned.proofs.Lasts.{last_mark_at}
 use Rattle.book_shared.specs.Told.{HasMark}
-use Rattle.acq_feed.specs.Feeds.{flushes_behind}
-use Rattle.acq_feed.specs.declared.feed.Fed.{Fed}
-use Rattle.acq_feed.specs.declared.feed.Fed.TheVariants as fed
+use Rattle.acq_run.specs.Feeds.{flushes_behind}
+use Rattle.acq_run.specs.declared.feed.Fed.{Fed}
+use Rattle.acq_run.specs.declared.feed.Fed.TheVariants as fed
 use Rattle.acq_run.specs.Works.{AreMarked, IsMarkedAt}
 use Rattle.acq_script.specs.declared.script.Plan.{Plan}
 use Rattle.acq_script.specs.declared.script.Script.{Script}

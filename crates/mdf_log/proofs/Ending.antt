@@ -9,26 +9,26 @@ use Rattle.mdf_port.specs.State.{SourceState, sink_state, source_state}
 use Rattle.mdf_port.specs.declared.source.Source as source
 use Rattle.mdf_port.specs.declared.sink.Sink as sink
 use Rattle.acq_lines.specs.Lines.{nothing}
-use Rattle.acq_feed.specs.Feeds.{flushes_behind, samples_of}
-use Rattle.acq_feed.specs.declared.feed.Fed.{Fed}
-use Rattle.acq_feed.specs.declared.feed.Fed.TheVariants as fed
-use Rattle.acq_live.specs.Act.{pending_behind, read_in}
-use Rattle.acq_live.specs.Handled.{Handled, HaltsAt, IsFresh, Stops, Waits}
-use Rattle.acq_live.specs.Rules.{Rules, rules_of}
-use Rattle.acq_live.specs.Said.{said_in}
-use Rattle.acq_live.specs.Spot.{Fixed, Spot, fixed, spot}
-use Rattle.acq_live.specs.Steps.{tells_more}
-use Rattle.acq_live.specs.Told.{TellsOn}
-use Rattle.acq_live.specs.declared.feed.Halt.{Halt}
-use Rattle.acq_live.specs.declared.feed.Halt.TheVariants as halts
-use Rattle.acq_live.specs.declared.feed.LineFeed.{LineFeed}
-use Rattle.acq_live.specs.declared.rules.LineRules.{LineRules}
+use Rattle.acq_run.specs.Feeds.{flushes_behind, samples_of}
+use Rattle.acq_run.specs.declared.feed.Fed.{Fed}
+use Rattle.acq_run.specs.declared.feed.Fed.TheVariants as fed
+use Rattle.acq_lines.specs.Act.{pending_behind, read_in}
+use Rattle.acq_lines.specs.Handled.{Handled, HaltsAt, IsFresh, Stops, Waits}
+use Rattle.acq_lines.specs.Rules.{Rules, rules_of}
+use Rattle.acq_lines.specs.Said.{said_in}
+use Rattle.acq_lines.specs.Spot.{Fixed, Spot, fixed, spot}
+use Rattle.acq_lines.specs.Steps.{tells_more}
+use Rattle.acq_lines.specs.Told.{TellsOn}
+use Rattle.acq_lines.specs.declared.feed.Halt.{Halt}
+use Rattle.acq_lines.specs.declared.feed.Halt.TheVariants as halts
+use Rattle.acq_lines.specs.declared.feed.LineFeed.{LineFeed}
+use Rattle.acq_lines.specs.declared.rules.LineRules.{LineRules}
 use Rattle.acq_script.specs.declared.script.Plan.{Plan}
 use Rattle.mdf_command.specs.declared.fault.Fault.{Fault}
 use Rattle.mdf_command.specs.declared.fault.Fault.TheVariants as fault_
-use Rattle.log_setup.specs.Setup.{rules_in}
-use Rattle.log_report.specs.declared.end.SourceEnd.{SourceEnd}
-use Rattle.log_report.specs.declared.end.Stop.TheVariants as stops
+use Rattle.mdf_log.specs.Setup.{rules_in}
+use Rattle.mdf_log.specs.declared.end.SourceEnd.{SourceEnd}
+use Rattle.mdf_log.specs.declared.end.Stop.TheVariants as stops
 use Rattle.mdf_log.specs.Course.{HasEnded, HasLeft, is_calm, last_of, stop_of}
 use Rattle.mdf_log.specs.Logged.{EndsWith, HaltsBy, IsDurableAmong, IsLogged, StopsBy, in_order}
 use Rattle.mdf_log.specs.Parts.{Part}

@@ -10,14 +10,14 @@ use Rattle.mdf_port.specs.declared.sink.Sink as sink
 use Rattle.mdf_spell.specs.Recording.{head_file}
 use Rattle.book_owned.specs.Kept.{MarksHold}
 use Rattle.book_owned.specs.Marks.{durable}
-use Rattle.acq_feed.specs.Feeds.{samples_of}
-use Rattle.acq_feed.specs.declared.feed.Fed.{Fed}
-use Rattle.acq_feed.specs.declared.feed.Fed.TheVariants as fed
-use Rattle.acq_live.specs.Handled.{Halts, Hands, Resumes, Serves, Waits}
-use Rattle.acq_live.specs.Rules.{MayCome, Rules}
-use Rattle.acq_live.specs.Spot.{Fixed, fixed, spot}
-use Rattle.acq_live.specs.declared.feed.Halt.TheVariants.{Called}
-use Rattle.acq_live.specs.declared.feed.LineFeed.{LineFeed}
+use Rattle.acq_run.specs.Feeds.{samples_of}
+use Rattle.acq_run.specs.declared.feed.Fed.{Fed}
+use Rattle.acq_run.specs.declared.feed.Fed.TheVariants as fed
+use Rattle.acq_lines.specs.Handled.{Halts, Hands, Resumes, Serves, Waits}
+use Rattle.acq_lines.specs.Rules.{MayCome, Rules}
+use Rattle.acq_lines.specs.Spot.{Fixed, fixed, spot}
+use Rattle.acq_lines.specs.declared.feed.Halt.TheVariants.{Called}
+use Rattle.acq_lines.specs.declared.feed.LineFeed.{LineFeed}
 use Rattle.acq_run.specs.Ran.{AllEnded}
 use Rattle.acq_run.specs.Workers.{CanHand}
 use Rattle.acq_run.specs.declared.work.Driven.{Driven}
@@ -34,8 +34,8 @@ use Rattle.mdf_record.specs.Sources.{feds_of}
 use Rattle.mdf_record.specs.declared.record.RecordEnd.{RecordEnd}
 use Rattle.mdf_record.specs.declared.record.RecordEnd.TheVariants.{Refused, Closed}
 use Rattle.mdf_rotate.specs.Text.{part_line}
-use Rattle.log_setup.specs.Setup.{rules_in}
-use Rattle.log_disks.specs.Served.{Served}
+use Rattle.mdf_log.specs.Setup.{rules_in}
+use Rattle.mdf_disk.specs.Served.{Served}
 use Rattle.mdf_log.specs.Course.{AreRuled, ComeTo, HasEnded, HasGone, HasMoved, HasRun, HasServed, IsNextPart, IsRuled, is_called, is_called_off}
 use Rattle.mdf_log.specs.Durable.{IsDurableWhole}
 use Rattle.mdf_log.specs.Logged.{in_order}

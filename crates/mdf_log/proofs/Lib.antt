@@ -1,11 +1,14 @@
+mod Bad
 mod Behind
 mod Coming
 mod Durable
 mod Ending
 mod Going
+mod Idle
 mod Letting
 mod Moving
 mod Serving
 mod Starting
+mod Texts
 mod Totals
 mod Whole

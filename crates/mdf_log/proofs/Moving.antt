@@ -4,9 +4,9 @@ use Rattle.std.specs.Prelude.{replicate}
 use Rattle.std.proofs.lemmas.Option.{slice_get_within}
 use Rattle.mdf_layout.specs.History.{source_samples}
 use Rattle.mdf_layout.specs.declared.sample.Sample.{Sample}
-use Rattle.acq_feed.specs.Feeds.{samples_of}
-use Rattle.acq_feed.specs.declared.feed.Fed.{Fed}
-use Rattle.acq_feed.specs.declared.feed.Fed.TheVariants as fed
+use Rattle.acq_run.specs.Feeds.{samples_of}
+use Rattle.acq_run.specs.declared.feed.Fed.{Fed}
+use Rattle.acq_run.specs.declared.feed.Fed.TheVariants as fed
 use Rattle.acq_run.specs.Ran.{AllEnded, AllHanded}
 use Rattle.acq_run.specs.Works.{AreMarked}
 use Rattle.acq_run.specs.declared.work.Driven.{Driven}

@@ -9,14 +9,14 @@ use Rattle.mdf_layout.specs.History.{source_samples}
 use Rattle.mdf_layout.specs.declared.sample.Sample.{Sample}
 use Rattle.mdf_spell.specs.Recording.{head_file}
 use Rattle.book_owned.specs.Kept.{MarksHold}
-use Rattle.acq_feed.specs.Feeds.{flushes_behind, samples_of}
-use Rattle.acq_feed.specs.declared.feed.Fed.{Fed}
-use Rattle.acq_feed.specs.declared.feed.Fed.TheVariants as fed
-use Rattle.acq_live.specs.Handled.{Halts, Hands, Resumes, ResumesFrom, Serves, Stops, StopsWell}
-use Rattle.acq_live.specs.Steps.{behind_more, serves_more}
-use Rattle.acq_live.specs.declared.feed.Halt.{Halt}
-use Rattle.acq_live.specs.declared.feed.Halt.TheVariants as halts
-use Rattle.acq_live.specs.declared.feed.LineFeed.{LineFeed}
+use Rattle.acq_run.specs.Feeds.{flushes_behind, samples_of}
+use Rattle.acq_run.specs.declared.feed.Fed.{Fed}
+use Rattle.acq_run.specs.declared.feed.Fed.TheVariants as fed
+use Rattle.acq_lines.specs.Handled.{Halts, Hands, Resumes, ResumesFrom, Serves, Stops, StopsWell}
+use Rattle.acq_lines.specs.Steps.{behind_more, serves_more}
+use Rattle.acq_lines.specs.declared.feed.Halt.{Halt}
+use Rattle.acq_lines.specs.declared.feed.Halt.TheVariants as halts
+use Rattle.acq_lines.specs.declared.feed.LineFeed.{LineFeed}
 use Rattle.acq_run.specs.Works.{AreMarked}
 use Rattle.acq_script.specs.declared.script.Plan.{Plan}
 use Rattle.mdf_command.specs.declared.fault.Fault.{Fault}

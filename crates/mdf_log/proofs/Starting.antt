@@ -7,18 +7,18 @@ use Rattle.mdf_port.proofs.Streams.{appends_none}
 use Rattle.mdf_port.specs.declared.source.Source as source
 use Rattle.mdf_port.specs.declared.sink.Sink as sink
 use Rattle.mdf_spell.specs.Recording.{head_file}
-use Rattle.acq_live.specs.Handled.{IsFresh}
-use Rattle.acq_live.specs.Rules.{rules_of}
-use Rattle.acq_live.specs.Spot.{Fixed, Spot}
-use Rattle.acq_live.specs.Steps.{hands_none}
-use Rattle.acq_live.specs.declared.feed.LineFeed.{LineFeed}
-use Rattle.acq_live.specs.declared.rules.LineRules.{LineRules}
+use Rattle.acq_lines.specs.Handled.{IsFresh}
+use Rattle.acq_lines.specs.Rules.{rules_of}
+use Rattle.acq_lines.specs.Spot.{Fixed, Spot}
+use Rattle.acq_lines.specs.Steps.{hands_none}
+use Rattle.acq_lines.specs.declared.feed.LineFeed.{LineFeed}
+use Rattle.acq_lines.specs.declared.rules.LineRules.{LineRules}
 use Rattle.acq_script.specs.declared.script.Plan.{Plan}
 use Rattle.mdf_command.specs.declared.fault.Fault.{Fault}
-use Rattle.log_setup.specs.Setup.{rules_in}
-use Rattle.log_report.specs.declared.end.LogEnd.{LogEnd}
-use Rattle.log_report.specs.declared.end.LogEnd.TheVariants.{Closed, Inputs, Refused}
-use Rattle.log_disks.specs.Served.{Served}
+use Rattle.mdf_log.specs.Setup.{rules_in}
+use Rattle.mdf_log.specs.declared.end.LogEnd.{LogEnd}
+use Rattle.mdf_log.specs.declared.end.LogEnd.TheVariants.{Closed, Inputs, Refused}
+use Rattle.mdf_disk.specs.Served.{Served}
 use Rattle.mdf_log.specs.Course.{AreFresh, AreRuled, HasGone}
 use Rattle.mdf_log.specs.Durable.{IsDurableWhole}
 use Rattle.mdf_log.specs.Logged.{IsDurableAmong, LogComes, LogRuns}

@@ -8,8 +8,8 @@ use Rattle.mdf_layout.specs.History.{source_samples}
 use Rattle.mdf_layout.specs.declared.sample.Sample.{Sample}
 use Rattle.mdf_spell.specs.Recording.{head_file}
 use Rattle.book_owned.specs.Kept.{MarkHolds, MarksHold}
-use Rattle.acq_feed.specs.Feeds.{samples_of}
-use Rattle.acq_feed.specs.declared.feed.Fed.{Fed}
+use Rattle.acq_run.specs.Feeds.{samples_of}
+use Rattle.acq_run.specs.declared.feed.Fed.{Fed}
 use Rattle.acq_script.specs.declared.script.Plan.{Plan}
 use Rattle.acq_script.specs.declared.script.Script.{Script}
 use Rattle.mdf_command.specs.declared.fault.Fault.TheVariants as fault

@@ -6,23 +6,23 @@ use Rattle.std.proofs.lemmas.Option.{get_or_from_slice_get, slice_get_within}
 use Rattle.mdf_port.specs.State.{SinkState, sink_state, source_state}
 use Rattle.mdf_port.specs.declared.source.Source as source
 use Rattle.mdf_port.specs.declared.sink.Sink as sink
-use Rattle.acq_feed.specs.Feeds.{samples_of}
-use Rattle.acq_feed.specs.declared.feed.Fed.{Fed}
-use Rattle.acq_live.specs.Handled.{IsFresh}
-use Rattle.acq_live.specs.Rules.{rules_of}
-use Rattle.acq_live.specs.declared.feed.LineFeed.{LineFeed}
-use Rattle.acq_live.specs.declared.rules.LineRules.{LineRules}
+use Rattle.acq_run.specs.Feeds.{samples_of}
+use Rattle.acq_run.specs.declared.feed.Fed.{Fed}
+use Rattle.acq_lines.specs.Handled.{IsFresh}
+use Rattle.acq_lines.specs.Rules.{rules_of}
+use Rattle.acq_lines.specs.declared.feed.LineFeed.{LineFeed}
+use Rattle.acq_lines.specs.declared.rules.LineRules.{LineRules}
 use Rattle.acq_script.specs.declared.script.Plan.{Plan}
 use Rattle.mdf_command.specs.Texts.{Prints, numbered}
 use Rattle.mdf_command.specs.declared.fault.Fault.{Fault}
 use Rattle.mdf_command.specs.declared.fault.Fault.TheVariants as fault_
 use Rattle.mdf_rotate.specs.Text.{part_line}
-use Rattle.log_setup.specs.Setup.{rules_in}
-use Rattle.log_report.specs.Report.{log_status, log_text}
-use Rattle.log_report.specs.declared.end.LogEnd.{LogEnd}
-use Rattle.log_report.specs.declared.end.LogEnd.TheVariants.{Closed, Inputs, Refused}
-use Rattle.log_report.specs.declared.end.SourceEnd.{SourceEnd}
-use Rattle.log_disks.specs.Served.{Served}
+use Rattle.mdf_log.specs.Setup.{rules_in}
+use Rattle.mdf_log.specs.Report.{log_status, log_text}
+use Rattle.mdf_log.specs.declared.end.LogEnd.{LogEnd}
+use Rattle.mdf_log.specs.declared.end.LogEnd.TheVariants.{Closed, Inputs, Refused}
+use Rattle.mdf_log.specs.declared.end.SourceEnd.{SourceEnd}
+use Rattle.mdf_disk.specs.Served.{Served}
 use Rattle.mdf_log.specs.Course.{AreFresh, ClosesAs, Finishes, HasLeft, HasRun, is_calm}
 use Rattle.mdf_log.specs.Logged.{DidIn, IsDurableAmong, IsLogged, LogComes, LogRuns, in_order}
 use Rattle.mdf_log.specs.Parts.{IsPart, Part, fault_of, recordings_of}

@@ -7,16 +7,16 @@ use Rattle.mdf_port.specs.declared.source.Source as source
 use Rattle.mdf_port.specs.declared.sink.Sink as sink
 use Rattle.mdf_spell.specs.Recording.{head_file}
 use Rattle.acq_lines.specs.Lines.{IsCut}
-use Rattle.acq_feed.specs.Feeds.{flushes_behind, samples_of}
-use Rattle.acq_feed.specs.declared.feed.Fed.{Fed}
-use Rattle.acq_feed.specs.declared.feed.Fed.TheVariants as fed
-use Rattle.acq_live.specs.Handled.{Halts, Hands, IsFresh, Serves, Waits}
-use Rattle.acq_live.specs.Spot.{fixed, spot}
-use Rattle.acq_live.specs.Told.{TellsOn}
-use Rattle.acq_live.specs.declared.feed.Halt.{Halt}
-use Rattle.acq_live.specs.declared.feed.Halt.TheVariants.{Called}
-use Rattle.acq_live.specs.declared.feed.LineFeed.{LineFeed}
-use Rattle.acq_live.specs.declared.rules.LineRules.{LineRules}
+use Rattle.acq_run.specs.Feeds.{flushes_behind, samples_of}
+use Rattle.acq_run.specs.declared.feed.Fed.{Fed}
+use Rattle.acq_run.specs.declared.feed.Fed.TheVariants as fed
+use Rattle.acq_lines.specs.Handled.{Halts, Hands, IsFresh, Serves, Waits}
+use Rattle.acq_lines.specs.Spot.{fixed, spot}
+use Rattle.acq_lines.specs.Told.{TellsOn}
+use Rattle.acq_lines.specs.declared.feed.Halt.{Halt}
+use Rattle.acq_lines.specs.declared.feed.Halt.TheVariants.{Called}
+use Rattle.acq_lines.specs.declared.feed.LineFeed.{LineFeed}
+use Rattle.acq_lines.specs.declared.rules.LineRules.{LineRules}
 use Rattle.acq_run.specs.Works.{AreMarked}
 use Rattle.acq_script.specs.declared.script.Plan.{Plan}
 use Rattle.mdf_command.specs.Texts.{Gives, Prints, numbered}
@@ -24,14 +24,14 @@ use Rattle.mdf_command.specs.declared.fault.Fault.{Fault}
 use Rattle.mdf_command.specs.declared.fault.Fault.TheVariants as fault_
 use Rattle.mdf_rotate.specs.Rotate.{recorded_in}
 use Rattle.mdf_rotate.specs.Text.{part_line}
-use Rattle.log_setup.specs.Setup.{rules_in}
-use Rattle.log_report.specs.Report.{log_status, log_text}
-use Rattle.log_report.specs.declared.end.LogEnd.{LogEnd}
-use Rattle.log_report.specs.declared.end.LogEnd.TheVariants.{Closed, Inputs, Refused}
-use Rattle.log_report.specs.declared.end.SourceEnd.{SourceEnd}
-use Rattle.log_report.specs.declared.end.Stop.{Stop}
-use Rattle.log_report.specs.declared.end.Stop.TheVariants as stops
-use Rattle.log_disks.specs.Served.{Served}
+use Rattle.mdf_log.specs.Setup.{rules_in}
+use Rattle.mdf_log.specs.Report.{log_status, log_text}
+use Rattle.mdf_log.specs.declared.end.LogEnd.{LogEnd}
+use Rattle.mdf_log.specs.declared.end.LogEnd.TheVariants.{Closed, Inputs, Refused}
+use Rattle.mdf_log.specs.declared.end.SourceEnd.{SourceEnd}
+use Rattle.mdf_log.specs.declared.end.Stop.{Stop}
+use Rattle.mdf_log.specs.declared.end.Stop.TheVariants as stops
+use Rattle.mdf_disk.specs.Served.{Served}
 use Rattle.mdf_log.specs.Durable.{IsDurableWhole}
 use Rattle.mdf_log.specs.Logged.{DidIn, IsDurableAmong, in_order}
 use Rattle.mdf_log.specs.Parts.{AreParts, Follow, GoesOn, IsPart, Part, Precedes, durable_count, fault_of, lefts_of, live_of, recordings_of, sample_count, served_by, served_of}

@@ -5,3 +5,6 @@ pub mod Part
 pub mod Parts
 pub mod Tally
 pub mod Tap
+pub mod Setup
+pub mod Words
+pub mod Report

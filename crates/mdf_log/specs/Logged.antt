@@ -8,28 +8,28 @@ use Rattle.mdf_layout.specs.History.{source_samples}
 use Rattle.mdf_port.specs.State.{SinkState}
 use Rattle.mdf_spell.specs.Recording.{head_file}
 use Rattle.acq_lines.specs.Lines.{IsCut, Reads, Unread, lines_behind, nothing}
-use Rattle.acq_feed.specs.Feeds.{flushes_behind, samples_of}
-use Rattle.acq_feed.specs.declared.feed.Fed.{Fed}
-use Rattle.acq_live.specs.Said.{AreFlushedMore, EndsLast, bad_in, feds_in, is_ended, said_in}
-use Rattle.acq_live.specs.Told.{TellsOn}
-use Rattle.acq_live.specs.Wants.{wants_memory}
-use Rattle.acq_live.specs.declared.feed.Halt.{Halt}
-use Rattle.acq_live.specs.declared.feed.Halt.TheVariants as halts
-use Rattle.acq_live.specs.declared.said.Said.{Said}
+use Rattle.acq_run.specs.Feeds.{flushes_behind, samples_of}
+use Rattle.acq_run.specs.declared.feed.Fed.{Fed}
+use Rattle.acq_lines.specs.Said.{AreFlushedMore, EndsLast, bad_in, feds_in, is_ended, said_in}
+use Rattle.acq_lines.specs.Told.{TellsOn}
+use Rattle.acq_lines.specs.Wants.{wants_memory}
+use Rattle.acq_lines.specs.declared.feed.Halt.{Halt}
+use Rattle.acq_lines.specs.declared.feed.Halt.TheVariants as halts
+use Rattle.acq_lines.specs.declared.said.Said.{Said}
 use Rattle.acq_script.specs.declared.script.Plan.{Plan}
 use Rattle.mdf_command.specs.Texts.{Prints, numbered}
 use Rattle.mdf_command.specs.declared.fault.Fault.{Fault}
 use Rattle.mdf_command.specs.declared.fault.Fault.TheVariants as fault_
 use Rattle.mdf_record.specs.Sources.{feds_of}
 use Rattle.mdf_rotate.specs.Text.{part_line}
-use Rattle.log_setup.specs.Setup.{rules_in}
-use Rattle.log_report.specs.Report.{log_status, log_text}
-use Rattle.log_report.specs.declared.end.LogEnd.{LogEnd}
-use Rattle.log_report.specs.declared.end.LogEnd.TheVariants.{Closed, Inputs, Refused}
-use Rattle.log_report.specs.declared.end.SourceEnd.{SourceEnd}
-use Rattle.log_report.specs.declared.end.Stop.{Stop}
-use Rattle.log_report.specs.declared.end.Stop.TheVariants as stops
-use Rattle.log_disks.specs.Served.{Served}
+use Rattle.mdf_log.specs.Setup.{rules_in}
+use Rattle.mdf_log.specs.Report.{log_status, log_text}
+use Rattle.mdf_log.specs.declared.end.LogEnd.{LogEnd}
+use Rattle.mdf_log.specs.declared.end.LogEnd.TheVariants.{Closed, Inputs, Refused}
+use Rattle.mdf_log.specs.declared.end.SourceEnd.{SourceEnd}
+use Rattle.mdf_log.specs.declared.end.Stop.{Stop}
+use Rattle.mdf_log.specs.declared.end.Stop.TheVariants as stops
+use Rattle.mdf_disk.specs.Served.{Served}
 use Rattle.mdf_log.specs.Durable.{IsDurable}
 use Rattle.mdf_log.specs.Parts.{AreParts, Follow, Part, durable_count, fault_of, lefts_of, live_of, recordings_of, sample_count, served_by}
 use Rattle.mdf_log.specs.Tap.{TapState}

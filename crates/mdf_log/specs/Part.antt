@@ -2,7 +2,7 @@
 -- its feed handed in.
 use Rattle.std.specs.Prelude.{ℕ, ◌≡◌, ◌⊎◌, List, map}
 use Rattle.mdf_disk.specs.State.{DiskState}
-use Rattle.acq_feed.specs.declared.feed.Fed.{Fed}
+use Rattle.acq_run.specs.declared.feed.Fed.{Fed}
 use Rattle.acq_run.specs.Ran.{AllHanded}
 use Rattle.acq_run.specs.declared.work.Driven.{Driven}
 use Rattle.acq_script.specs.declared.script.Plan.{Plan}

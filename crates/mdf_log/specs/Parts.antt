@@ -13,7 +13,7 @@ use Rattle.mdf_record.specs.Recovers.{AreRecovered}
 use Rattle.mdf_record.specs.declared.record.RecordEnd.{RecordEnd}
 use Rattle.mdf_record.specs.declared.record.RecordEnd.TheVariants.{Refused, Closed}
 use Rattle.mdf_rotate.specs.Rotate.{recorded_in}
-use Rattle.log_disks.specs.Served.{Served, handed_out, taken_back}
+use Rattle.mdf_disk.specs.Served.{Served, handed_out, taken_back}
 use Rattle.mdf_rotate.specs.Text.{Recording}
 use Rattle.mdf_rotate.specs.Words.{part_name}
 

@@ -6,12 +6,22 @@
 //! goes on in the next part, unless the sample that had no room costs more than a session.
 #![tactic(auto)]
 
+mod end;
+mod floats;
 mod log;
 mod part;
 mod parts;
+mod setup;
 mod tally;
 mod tap;
+mod text;
+mod words;
 
+pub use end::{LogEnd, SourceEnd, Stop};
+pub use floats::{floats_of, rules_of};
 pub use log::{Logged, run_log};
 pub use part::log_part;
+pub use setup::read_setup;
 pub use tap::Tap;
+pub use text::{give_log, log_status, report};
+pub use words::{LogWords, is_standard, log_words, run_log_usage};

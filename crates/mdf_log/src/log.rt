@@ -1,10 +1,10 @@
 ghost use Rattle.std.specs.Prelude.{ℕ, ◌≡◌, ◌≤◌, ◌++◌, ◌∷◌, List, [], length, vec_capacity, IfOk};
 ghost use Rattle.mdf_port.specs.State.{SinkState, sink_state, source_state};
-ghost use Rattle.acq_live.specs.Told.{TellsOn};
+ghost use Rattle.acq_lines.specs.Told.{TellsOn};
 ghost use Rattle.acq_script.specs.Plan.{IsPlan};
 ghost use Rattle.mdf_command.specs.Texts.{Gives, Prints};
-ghost use Rattle.log_setup.specs.Setup.{SaysSetup, SetupFaultComes};
-ghost use Rattle.log_report.specs.Report.{log_status, log_text};
+ghost use Rattle.mdf_log.specs.Setup.{SaysSetup, SetupFaultComes};
+ghost use Rattle.mdf_log.specs.Report.{log_status, log_text};
 ghost use Rattle.mdf_log.specs.Course.{AreFresh, Finishes, HasLeft, HaveLeft, is_calm, stop_of};
 ghost use Rattle.mdf_log.specs.Logged.{LogRuns};
 ghost use Rattle.mdf_log.specs.Tally.{IsNone};
@@ -13,13 +13,14 @@ ghost use Rattle.mdf_log.specs.Tap.{tap_states};
 use crate::parts::{Course, log_parts};
 use crate::tally::Tally;
 use crate::tap::Tap;
-use acq_live::{Halt, LineFeed, LineRules};
+use crate::{
+    LogEnd, SourceEnd, Stop, floats_of, give_log, log_status, read_setup, report, rules_of,
+};
+use acq_lines::{Halt, LineFeed, LineRules};
 use acq_script::Plan;
-use log_disks::Disks;
-use log_report::{LogEnd, SourceEnd, Stop, give_log, log_status, report};
-use log_setup::{floats_of, read_setup, rules_of};
 use mdf_command::Piece::{Number, Sum, Text};
 use mdf_command::{Fault, give_line, status_after};
+use mdf_disk::Disks;
 use mdf_input::Input;
 use mdf_num::{Bytes, Failed, Memory};
 use mdf_port::{Sink, Source};

@@ -8,7 +8,7 @@ ghost use Rattle.mdf_record.specs.Recovers.{AreRecovered};
 ghost use Rattle.mdf_rotate.specs.Words.{part_name};
 ghost use Rattle.mdf_log.specs.Part.{PartComes};
 
-use acq_feed::Feed;
+use acq_run::Feed;
 use acq_script::Plan;
 use book_rotate::shapes_like;
 use mdf_carried::what_is_carried_is_recovered;

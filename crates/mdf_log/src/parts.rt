@@ -2,7 +2,7 @@
 ghost use Rattle.std.specs.Prelude.{ℕ, ◌≡◌, ◌<◌, ◌+◌, ◌^◌, ◌↔◌, ◌++◌, ◌⊎◌, List, None, true, length};
 ghost use Rattle.std.specs.List.{list_any, slice_index_or};
 ghost use Rattle.mdf_port.specs.State.{SinkState, sink_state};
-ghost use Rattle.acq_live.specs.Handled.{Resumes};
+ghost use Rattle.acq_lines.specs.Handled.{Resumes};
 ghost use Rattle.acq_script.specs.Plan.{IsPlan};
 ghost use Rattle.mdf_command.specs.Texts.{Gives};
 ghost use Rattle.mdf_rotate.specs.Text.{part_line, record_of};
@@ -11,10 +11,10 @@ ghost use Rattle.mdf_log.specs.Parts.{durable_of, fault_of, fits_anew, live_of};
 
 use crate::part::log_part;
 use crate::tally::Tally;
-use acq_live::{Halt, LineFeed};
+use acq_lines::{Halt, LineFeed};
 use acq_script::Plan;
-use log_disks::Disks;
 use mdf_command::Fault;
+use mdf_disk::Disks;
 use mdf_input::Input;
 use mdf_num::{Bytes, Failed};
 use mdf_port::{Sink, Source};

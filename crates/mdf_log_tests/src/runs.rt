@@ -1,6 +1,5 @@
 //! A log over disks, inputs and sinks in memory.
-use log_disks::Disks;
-use mdf_disk::MemoryDisk;
+use mdf_disk::{Disks, MemoryDisk};
 use mdf_log::{Logged, Tap, run_log};
 use mdf_num::{Bytes, Memory, Numbers};
 use mdf_port::{MemorySink, MemorySource};

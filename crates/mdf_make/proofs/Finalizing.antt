@@ -8,7 +8,7 @@ use Rattle.mdf_disk.specs.State.{DiskState}
 use Rattle.mdf_disk.specs.Story.{Story}
 use Rattle.mdf_disk.proofs.Crash.{adds_more}
 use Rattle.mdf_head.specs.declared.identity.Ident.{Ident}
-use Rattle.mdf_mended.specs.Flags.{unfinished}
+use Rattle.tool_complete.specs.Flags.{unfinished}
 use Rattle.mdf_tool.specs.declared.fault.ToolFault.{ToolFault}
 use Rattle.mdf_tool.specs.declared.fault.ToolFault.TheVariants as tool
 use Rattle.mdf_tool.specs.declared.made.Report.{Report}

@@ -8,8 +8,8 @@ use Rattle.mdf_port.specs.State.{SinkState}
 use Rattle.mdf_session.specs.Identified.{IsIdentifiedRecording}
 use Rattle.mdf_session.specs.Session.{session}
 use Rattle.mdf_make.specs.declared.said.Said.{Said}
-use Rattle.mdf_mended.specs.Completed.{completion}
-use Rattle.mdf_mended.specs.Flags.{IsUnfinished, unfinished}
+use Rattle.tool_complete.specs.Completed.{completion}
+use Rattle.tool_complete.specs.Flags.{IsUnfinished, unfinished}
 use Rattle.tool_complete.specs.Complete.{IsCompleteImage, IsCompleting}
 use Rattle.tool_final.specs.Finalize.{IsFinalizeImage, IsFinalizedOf}
 use Rattle.mdf_make.specs.Making.{EndsMaking, one_input}

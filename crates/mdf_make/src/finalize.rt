@@ -11,11 +11,10 @@ use crate::said::Said;
 use crate::tool::Tool;
 use mdf_command::Fault;
 use mdf_disk::Disk;
-use mdf_mended::unfinished_of;
 use mdf_num::Bytes;
 use mdf_port::Sink;
 use std::alloc::Global;
-use tool_complete::complete;
+use tool_complete::{complete, unfinished_of};
 use tool_final::finalize;
 
 /// Makes the finished file of a recording, or of a file that another tool left unfinished.

@@ -2,11 +2,11 @@
 
 use crate::files::{Piece, marked_file, put, put_numbers};
 use crate::told::{Told, all_are_told, is_told, shown};
-use mdf_mended::{Whole, completed_of, unfinished_of};
 use mdf_model::{Measurement, ReadFault, take_file};
 use mdf_num::{Bytes, Memory};
 use std::alloc::Global;
 use std::process::Abort;
+use tool_complete::{Whole, completed_of, unfinished_of};
 
 const HD: Piece = (64, b"##HD", &[168, 0, 0, 0, 0, 0], &[0; 32]);
 

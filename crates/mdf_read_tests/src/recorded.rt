@@ -4,7 +4,7 @@ ghost use Rattle.mdf_read_tests.specs.Recorded.{master, group};
 
 use crate::files::{Piece, marked_file};
 use mdf_block::Note;
-use mdf_form::Form;
+use mdf_format::Form;
 use mdf_group::{ChannelRow, GroupRow};
 use mdf_num::{Bytes, Memory, Rows};
 use mdf_spell::recording_head;

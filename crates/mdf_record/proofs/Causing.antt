@@ -8,10 +8,10 @@ use Rattle.book_owned.specs.declared.mark.Mark.{Mark}
 use Rattle.book_shared.specs.Causes.{AnyOf, IsAmong, MarksCaused}
 use Rattle.book_shared.proofs.Causing.{caused_later, caused_more}
 use Rattle.acq_run.specs.Ran.{AskedFor, DueFor}
-use Rattle.acq_feed.specs.Feeds.{samples_of as samples_fed}
+use Rattle.acq_run.specs.Feeds.{samples_of as samples_fed}
 use Rattle.acq_run.specs.Works.{IsFlushed}
-use Rattle.acq_feed.specs.declared.feed.Fed.{Fed}
-use Rattle.acq_feed.specs.declared.feed.Fed.TheVariants as fed
+use Rattle.acq_run.specs.declared.feed.Fed.{Fed}
+use Rattle.acq_run.specs.declared.feed.Fed.TheVariants as fed
 use Rattle.acq_script.specs.Tasks.{samples_of}
 use Rattle.acq_script.specs.declared.script.Script.{Script}
 use Rattle.acq_script.specs.declared.script.Task.{Task}

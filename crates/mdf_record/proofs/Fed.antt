@@ -8,7 +8,7 @@ use Rattle.book_owned.specs.declared.view.Shown.{Ghosts as ViewOf}
 use Rattle.book_owned.specs.Account.{Account}
 use Rattle.book_owned.specs.Begun.{HasBegun}
 use Rattle.mdf_layout.specs.Layout.{Layout}
-use Rattle.acq_feed.specs.declared.feed.Fed.{Fed}
+use Rattle.acq_run.specs.declared.feed.Fed.{Fed}
 use Rattle.acq_run.specs.Ran.{AllHanded}
 use Rattle.acq_run.specs.declared.audience.Audience.{Audience}
 use Rattle.acq_run.specs.declared.work.Driven.{Driven}

@@ -3,11 +3,11 @@ use Rattle.std.proofs.Common.{◌≡◌, ◌+◌, ℕ, List, [], ◌∷◌, ◌+
 use Rattle.mdf_layout.specs.declared.sample.Sample.{Sample}
 use Rattle.book_owned.specs.Account.{Terms}
 use Rattle.book_owned.specs.declared.mark.Mark.{Mark}
-use Rattle.acq_feed.specs.Feeds.{samples_of as samples_fed}
+use Rattle.acq_run.specs.Feeds.{samples_of as samples_fed}
 use Rattle.acq_run.specs.Tasks.{MayFeed}
 use Rattle.acq_run.specs.Works.{AreMarked, IsNext}
-use Rattle.acq_feed.specs.declared.feed.Fed.{Fed}
-use Rattle.acq_feed.specs.declared.feed.Fed.TheVariants as fed
+use Rattle.acq_run.specs.declared.feed.Fed.{Fed}
+use Rattle.acq_run.specs.declared.feed.Fed.TheVariants as fed
 use Rattle.acq_script.specs.Plan.{IsTaskOf, TaskFits}
 use Rattle.acq_script.specs.Tasks.{samples_of}
 use Rattle.acq_script.specs.declared.script.Plan.{Plan}

@@ -11,9 +11,9 @@ use Rattle.book_owned.specs.Account.{Account}
 use Rattle.book_owned.specs.declared.mark.Mark.{Mark}
 use Rattle.book_shared.specs.Causes.{IsAmong, MarksCaused}
 use Rattle.book_shared.proofs.Causing.{caused_later}
-use Rattle.acq_feed.specs.Feeds.{samples_of}
-use Rattle.acq_feed.specs.declared.feed.Fed.{Fed}
-use Rattle.acq_feed.specs.declared.feed.Fed.TheVariants as fed
+use Rattle.acq_run.specs.Feeds.{samples_of}
+use Rattle.acq_run.specs.declared.feed.Fed.{Fed}
+use Rattle.acq_run.specs.declared.feed.Fed.TheVariants as fed
 use Rattle.acq_run.specs.Works.{IsFlushed, IsNext}
 use Rattle.acq_run.specs.Ran.{AllEnded, AllHanded, AllRan, AskedFor, DueFor, EndsIn, Ran}
 use Rattle.acq_run.specs.declared.work.Driven.{Driven}

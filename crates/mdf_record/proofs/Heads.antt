@@ -1,8 +1,8 @@
 -- The head of a recording is one, and its data begin where it ends.
 use Rattle.std.proofs.Common.{◌≡◌, ◌%◌, ℕ, List, [], ◌++◌, refl, sym, ◌∙◌, ap, subst, inl, inr, arith, append-nil}
-use Rattle.mdf_form.specs.Form.{IsInRecordingForm}
-use Rattle.mdf_form.specs.declared.form.Form.{Form}
-use Rattle.mdf_form.specs.declared.form.Form.TheVariants.{Bare, Listed}
+use Rattle.mdf_format.specs.Form.{IsInRecordingForm}
+use Rattle.mdf_format.specs.declared.form.Form.{Form}
+use Rattle.mdf_format.specs.declared.form.Form.TheVariants.{Bare, Listed}
 use Rattle.mdf_format.specs.Identification.{IsMdf, HasReadVersion}
 use Rattle.mdf_format.specs.Block.{link_at, IsBlock, IsChain}
 use Rattle.mdf_format.specs.declared.kind.Kind.TheVariants.{Dg}

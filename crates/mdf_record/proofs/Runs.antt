@@ -9,10 +9,10 @@ use Rattle.mdf_layout.specs.History.{source_samples}
 use Rattle.mdf_layout.specs.declared.sample.Sample.{Sample}
 use Rattle.book_owned.specs.Account.{Account}
 use Rattle.book_owned.specs.declared.mark.Mark.{Mark}
-use Rattle.acq_feed.specs.Feeds.{samples_of as samples_fed}
+use Rattle.acq_run.specs.Feeds.{samples_of as samples_fed}
 use Rattle.acq_run.specs.Works.{AreMarked}
 use Rattle.acq_run.specs.Ran.{AllRan, EndsIn, Ran}
-use Rattle.acq_feed.specs.declared.feed.Fed.{Fed}
+use Rattle.acq_run.specs.declared.feed.Fed.{Fed}
 use Rattle.acq_run.specs.declared.work.Driven.{Driven}
 use Rattle.acq_run.specs.declared.work.Ended.{Ended}
 use Rattle.acq_run.specs.declared.work.Ended.TheVariants as ended

@@ -12,7 +12,7 @@ use Rattle.book_owned.specs.Members.{DiskOf}
 use Rattle.book_owned.specs.declared.view.Shown.{Ghosts as ViewOf}
 use Rattle.book_owned.specs.Account.{Account, Terms}
 use Rattle.book_owned.specs.Begun.{HasBegun}
-use Rattle.acq_feed.specs.declared.feed.Fed.{Fed}
+use Rattle.acq_run.specs.declared.feed.Fed.{Fed}
 use Rattle.acq_run.specs.Works.{HasRoomNext, IsOver}
 use Rattle.acq_run.specs.Ran.{AllHeard, AllRan, AreOwned, EndsIn, Ran, WasLast}
 use Rattle.acq_run.specs.Watching.{Hears}

@@ -1,7 +1,7 @@
 -- What the feed of a source's tasks hands in.
 use Rattle.std.specs.Prelude.{List, [], ◌++◌, map}
-use Rattle.acq_feed.specs.Listed.{IsAny, IsBehind, IsEmpty, behind_more, behind_none}
-use Rattle.acq_feed.specs.declared.feed.Fed.{Fed}
+use Rattle.acq_run.specs.Listed.{IsAny, IsBehind, IsEmpty, behind_more, behind_none}
+use Rattle.acq_run.specs.declared.feed.Fed.{Fed}
 use Rattle.mdf_record.specs.Sources.{feds_of}
 use Rattle.mdf_record.specs.declared.sources.TaskFeed.{TaskFeed}
 

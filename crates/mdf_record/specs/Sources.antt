@@ -5,8 +5,8 @@ use Rattle.book_owned.specs.Account.{Account}
 use Rattle.book_owned.specs.declared.mark.Mark.{Mark}
 use Rattle.acq_run.specs.Works.{IsMarkedAt}
 use Rattle.acq_run.specs.Ran.{AllRan}
-use Rattle.acq_feed.specs.declared.feed.Fed.{Fed}
-use Rattle.acq_feed.specs.declared.feed.Fed.TheVariants as fed
+use Rattle.acq_run.specs.declared.feed.Fed.{Fed}
+use Rattle.acq_run.specs.declared.feed.Fed.TheVariants as fed
 use Rattle.acq_run.specs.declared.work.Driven.{Driven}
 use Rattle.acq_run.specs.declared.work.Ended.{Ended}
 use Rattle.acq_run.specs.declared.work.Ended.TheVariants as ended

@@ -6,7 +6,7 @@ use Rattle.book_owned.specs.Account.{Account}
 use Rattle.book_owned.specs.Members.{DiskOf}
 use Rattle.book_view.specs.Known.{Note}
 use Rattle.acq_run.specs.Ran.{AllMayHand, AreOwned, HaveWorked}
-use Rattle.acq_feed.specs.declared.feed.Fed.{Fed}
+use Rattle.acq_run.specs.declared.feed.Fed.{Fed}
 use Rattle.acq_run.specs.Audience.{count_in, hands_in, shows_in, which_in}
 use Rattle.acq_run.specs.Watching.{Hears, Watches, counted}
 use Rattle.acq_run.specs.declared.audience.Audience.{Audience}

@@ -10,8 +10,7 @@ ghost use Rattle.mdf_record.specs.Work.{HasNotWorked, IsPrepared, IsUnrecorded, 
 
 use crate::record::{Recorded, close, finish, refused};
 use crate::sources::{Accepted, add_none, told_all};
-use acq_feed::Feed;
-use acq_run::{Audience, Driven, Gathered, Seen, Unshared, Watcher, last_look, record_live};
+use acq_run::{Audience, Driven, Feed, Gathered, Seen, Unshared, Watcher, last_look, record_live};
 use book_owned::{Book, Shown};
 use mdf_command::Fault;
 use mdf_disk::Disk;

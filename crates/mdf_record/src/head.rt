@@ -4,7 +4,7 @@ ghost use Rattle.mdf_gate.specs.Gated.{IsRecordingHead};
 ghost use Rattle.mdf_spell.specs.Recording.{head_file};
 ghost use Rattle.mdf_carried.specs.Recovers.{IsReadHead};
 
-use mdf_form::Form;
+use mdf_format::Form;
 use mdf_group::GroupRow;
 use mdf_num::{Bytes, Memory, Rows};
 use mdf_spell::recording_head;

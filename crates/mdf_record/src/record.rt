@@ -27,7 +27,7 @@ use mdf_carried::what_is_carried_is_recovered;
 use mdf_command::Piece::{Number, Text};
 use mdf_command::{Fault, give_line, status_after};
 use mdf_disk::{Disk, Role};
-use mdf_form::Form;
+use mdf_format::Form;
 use mdf_gate::GatedFile;
 use mdf_group::GroupRow;
 use mdf_layout::Samples;

@@ -4,8 +4,7 @@ ghost use Rattle.mdf_record.specs.Sources.{counts_of, ends_of, feds_of, told_of,
 ghost use Rattle.mdf_record.specs.Feeding.{fed_by};
 
 use crate::gate::Gate;
-use acq_feed::{Fed, Feed};
-use acq_run::{Driven, Ended};
+use acq_run::{Driven, Ended, Fed, Feed};
 use acq_script::Task;
 use mdf_layout::Reserved;
 use mdf_num::{Memory, Rows};

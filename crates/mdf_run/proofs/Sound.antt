@@ -26,8 +26,8 @@ use Rattle.mdf_command.specs.declared.fault.Fault.{Fault}
 use Rattle.mdf_command.specs.declared.fault.Fault.TheVariants as fault
 use Rattle.mdf_head.specs.declared.identity.Ident.{Ident}
 use Rattle.mdf_head.specs.Ident.{identify}
-use Rattle.mdf_mended.specs.Completed.{completed_file, completion, dropped_rest}
-use Rattle.mdf_mended.specs.Flags.{is_mendable, unfinished, unfinished_by}
+use Rattle.tool_complete.specs.Completed.{completed_file, completion, dropped_rest}
+use Rattle.tool_complete.specs.Flags.{is_mendable, unfinished, unfinished_by}
 use Rattle.mdf_make.specs.Finalize.{IsNotFinalized, RefusesBy}
 use Rattle.mdf_make.specs.Sort.{IsNotMeasured}
 use Rattle.mdf_make.specs.Making.{EndsMaking, Inputs, MakingComes, making_text, making_status, one_input}

@@ -19,7 +19,7 @@ use Rattle.mdf_command.specs.declared.command.Union.{Union}
 use Rattle.mdf_command.specs.declared.command.Origin.TheVariants.{Source, Generated}
 use Rattle.mdf_attach.specs.declared.attachment.Attachment.{Attachment}
 use Rattle.mdf_attach.specs.Stands.{AreAttachments, AreFew}
-use Rattle.mdf_mended.specs.Completed.{completion}
+use Rattle.tool_complete.specs.Completed.{completion}
 use Rattle.mdf_model.specs.Measurement.{Measured, measurement}
 use Rattle.tool_concat.specs.Difference.{AreAlike}
 use Rattle.tool_concat.specs.Wide.{NoneWideTo}

@@ -4,7 +4,7 @@ use Rattle.std.proofs.lemmas.Bool.{cond-false}
 use Rattle.std.proofs.lemmas.Option.{same_Some}
 use Rattle.std.specs.Prelude.{nat_eq, slice_get, Option, Some, None}
 use Rattle.std.specs.List.{concat, AllByRecursion, enumerate_from}
-use Rattle.mdf_form.specs.declared.form.Form.{Form}
+use Rattle.mdf_format.specs.declared.form.Form.{Form}
 use Rattle.mdf_format.specs.Block.{body_size, header_size, links_at}
 use Rattle.mdf_gate.specs.Unit.{block_place, next_place, unit_data, AreUnits}
 use Rattle.mdf_group.specs.declared.row.ChannelRow.{ChannelRow}

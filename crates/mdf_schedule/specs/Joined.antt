@@ -1,7 +1,7 @@
 -- Recordings of the same groups, one behind the other, and the measurements of their finished files, joined.
 use Rattle.std.specs.Prelude.{ℕ, ◌≡◌, ◌≢◌, List, [], ◌∷◌, length, Option}
 use Rattle.std.specs.List.{AllByRecursion}
-use Rattle.mdf_form.specs.declared.form.Form.{Form}
+use Rattle.mdf_format.specs.declared.form.Form.{Form}
 use Rattle.mdf_disk.specs.State.{DiskState}
 use Rattle.mdf_disk.specs.Story.{LeftSince}
 use Rattle.mdf_group.specs.declared.row.GroupRow.{GroupRow}

@@ -1,7 +1,7 @@
 -- Recordings of the same groups whose samples came in different orders.
 use Rattle.std.specs.Prelude.{ℕ, ◌≡◌, ◌<◌, List, map}
 use mathlib.Core.List.{IsPrefix}
-use Rattle.mdf_form.specs.declared.form.Form.{Form}
+use Rattle.mdf_format.specs.declared.form.Form.{Form}
 use Rattle.mdf_group.specs.declared.row.GroupRow.{GroupRow}
 use Rattle.mdf_layout.specs.History.{group_samples}
 use Rattle.mdf_layout.specs.declared.sample.Sample.{Sample}

@@ -1,7 +1,7 @@
 ghost use Rattle.std.specs.Prelude.{◌≡◌, ◌⊎◌, ℕ, List};
 ghost use mathlib.Core.List.{IsPrefix};
 ghost use Rattle.acq_script.specs.declared.script.Script.{Script};
-ghost use Rattle.mdf_form.specs.declared.form.Form.{Form};
+ghost use Rattle.mdf_format.specs.declared.form.Form.{Form};
 ghost use Rattle.mdf_group.specs.declared.row.GroupRow.{GroupRow};
 ghost use Rattle.mdf_group.specs.Recordable.{AreRecordable};
 ghost use Rattle.mdf_layout.specs.declared.sample.Sample.{Sample};

@@ -1,5 +1,5 @@
 ghost use Rattle.std.specs.Prelude.{◌≡◌, ℕ, List, length};
-ghost use Rattle.mdf_form.specs.declared.form.Form.{Form};
+ghost use Rattle.mdf_format.specs.declared.form.Form.{Form};
 ghost use Rattle.mdf_group.specs.declared.row.GroupRow.{GroupRow};
 ghost use Rattle.mdf_group.specs.Recordable.{AreRecordable};
 ghost use Rattle.mdf_layout.specs.declared.sample.Sample.{Sample};

@@ -1,6 +1,6 @@
 -- A recording that is read has a recording's identification.
 use Rattle.std.proofs.Common.{◌≡◌, List, ℕ, Ok}
-use Rattle.mdf_form.specs.Form.{form_named}
+use Rattle.mdf_format.specs.Form.{form_named}
 use Rattle.mdf_block.specs.Refusal.{◌>>=◌}
 use Rattle.mdf_block.proofs.Refusals.{bind_ok}
 use Rattle.mdf_head.specs.declared.identity.Ident.{Ident}

@@ -1,6 +1,6 @@
 -- The loop from gate to gate: the units so far, with what the rest gives.
 use Rattle.std.proofs.Common.{◌≡◌, ◌+◌, ◌<◌, ◌≤◌, ℕ, zero, suc, true, false, List, [], ◌∷◌, ◌++◌, length, Option, Ok, Err, refl, sym, ◌∙◌, ap, subst, arith, append_assoc, append-nil}
-use Rattle.mdf_form.specs.declared.form.Form.{Form}
+use Rattle.mdf_format.specs.declared.form.Form.{Form}
 use Rattle.mdf_num.specs.declared.halt.Halt.{Halt}
 use Rattle.mdf_block.specs.declared.place.BlockAt.{BlockAt}
 use Rattle.mdf_block.specs.Refusal.{Refusal, Read, ◌>>=◌, Halts}

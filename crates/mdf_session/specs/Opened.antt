@@ -1,7 +1,7 @@
 -- The opened blocks of a recording, as the parts of one stream.
 use Rattle.std.specs.Prelude.{ℕ, zero, suc, ◌+◌, ◌-◌, ◌%◌, Bool, ◌&&◌, ◌||◌, not, nat_eq, if◌then◌else◌, List, [], ◌∷◌, length, get_or, Ok, Err}
-use Rattle.mdf_form.specs.declared.form.Form.{Form}
-use Rattle.mdf_form.specs.declared.form.Form.TheVariants.{Bare, Listed}
+use Rattle.mdf_format.specs.declared.form.Form.{Form}
+use Rattle.mdf_format.specs.declared.form.Form.TheVariants.{Bare, Listed}
 use Rattle.mdf_format.specs.Number.{aligned}
 use Rattle.mdf_format.specs.Block.{link_at}
 use Rattle.mdf_format.specs.declared.kind.Kind.TheVariants.{Dl, Dt}

@@ -1,7 +1,7 @@
 -- A recording that is read: its header, its history, its data groups, and what the first of these holds.
 use Rattle.std.specs.Prelude.{ℕ, ◌≡◌, ◌<◌, ◌||◌, slice_index_or, false, not, if◌then◌else◌, List, [], ◌∷◌, length, Ok, Err}
-use Rattle.mdf_form.specs.Form.{form_named, names_form}
-use Rattle.mdf_form.specs.declared.form.Form.{Form}
+use Rattle.mdf_format.specs.Form.{form_named, names_form}
+use Rattle.mdf_format.specs.declared.form.Form.{Form}
 use Rattle.mdf_format.specs.declared.kind.Kind.TheVariants.{Dg}
 use Rattle.mdf_block.specs.Refusal.{Bad, NotRecording, Read, ◌>>=◌}
 use Rattle.mdf_stream.specs.Parts.{stream_of, stream_size}

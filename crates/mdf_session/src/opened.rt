@@ -9,7 +9,7 @@ ghost use Rattle.mdf_session.specs.Opened.{data_behind, data_block, is_list, is_
 
 use mdf_block::{BlockAt, BlockFault, block_in, link_in};
 use mdf_content::{Kind, ReadFault};
-use mdf_form::Form;
+use mdf_format::Form;
 use mdf_num::{Halt, Memory, Span, Stop, align8};
 use mdf_stream::DataView;
 use std::alloc::Global;

@@ -11,7 +11,7 @@ ghost use Rattle.mdf_session.specs.Standing.{StandIn, session_from, session_with
 
 use crate::standing::{Standing, first_standing_in};
 use mdf_content::ReadFault;
-use mdf_form::Form;
+use mdf_format::Form;
 use mdf_group::DataRow;
 use mdf_head::{Head, History, Ident};
 use mdf_model::{Tree, identity_in, tree_in};

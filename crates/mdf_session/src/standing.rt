@@ -14,7 +14,7 @@ use crate::counted::{all_streams_in, counts_of, totals_in};
 use crate::opened::opened_in;
 use mdf_content::{Kind, ReadFault, count_at, layouts_in, record_size, records_in};
 use mdf_data::Places;
-use mdf_form::Form;
+use mdf_format::Form;
 use mdf_group::DataRow;
 use mdf_num::{Halt, Rows, Span};
 use mdf_stream::DataView;

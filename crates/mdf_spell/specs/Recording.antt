@@ -2,8 +2,8 @@
 -- recorded, and behind them one group of values for each channel of variable length.
 use Rattle.std.specs.Prelude.{ℕ, zero, suc, ◌≡◌, ◌≤◌, ◌+◌, Ok, pos, List, [], ◌∷◌, ◌++◌, length, filter, sum_by, replicate, codes, None}
 use Rattle.std.specs.Int.{to_le_bytes, w16}
-use Rattle.mdf_form.specs.Form.{custom_word, standard_word}
-use Rattle.mdf_form.specs.declared.form.Form.{Form}
+use Rattle.mdf_format.specs.Form.{custom_word, standard_word}
+use Rattle.mdf_format.specs.declared.form.Form.{Form}
 use Rattle.mdf_format.specs.declared.kind.Kind.TheVariants.{Dg}
 use Rattle.mdf_block.specs.declared.link.Link.{Link}
 use Rattle.mdf_block.specs.declared.link.Link.TheVariants as links

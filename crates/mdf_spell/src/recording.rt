@@ -9,7 +9,7 @@ ghost use Rattle.mdf_tree.specs.Sized.{IsWholeSized};
 use crate::history::new_entry;
 use crate::variable::{block_links, variable_count};
 use mdf_block::{Draft, Kind, Link, Note};
-use mdf_form::Form;
+use mdf_format::Form;
 use mdf_group::GroupRow;
 use mdf_head::Head;
 use mdf_num::{Bytes, Memory, Rows, put_u16};

@@ -13,7 +13,7 @@ use crate::told::is_told;
 use crate::views::WantsOnce;
 use book_owned::{Append, Book, Marks, NoView, Shown};
 use mdf_disk::{Disk, MemoryDisk, Role};
-use mdf_form::Form;
+use mdf_format::Form;
 use mdf_gate::{GateFault, GatedFile, Opened, opened};
 use mdf_layout::{FieldRow, Sample, Shape, ShapeFault, Shapes, shape_of};
 use mdf_num::{Bytes, Failed, Memory, Rows};

@@ -9,8 +9,8 @@ use Rattle.mdf_disk.specs.Story.{Story}
 use Rattle.mdf_disk.proofs.Crash.{adds_more}
 use Rattle.mdf_head.specs.declared.identity.Ident.{Ident}
 use Rattle.mdf_model.specs.Measurement.{Measured, measurement}
-use Rattle.mdf_mended.specs.Completed.{completed_file, completion, dropped_rest}
-use Rattle.mdf_mended.specs.Flags.{unfinished}
+use Rattle.tool_complete.specs.Completed.{completed_file, completion, dropped_rest}
+use Rattle.tool_complete.specs.Flags.{unfinished}
 use Rattle.mdf_tool.specs.Tool.{IsToolImage, WriteEnds}
 use Rattle.mdf_tool.specs.declared.made.Made.{Made}
 use Rattle.mdf_tool.specs.declared.made.Report.{Report}

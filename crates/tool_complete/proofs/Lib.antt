@@ -1,1 +1,16 @@
+pub mod Counts
+pub mod Cuts
 pub mod Ends
+pub mod Fields
+pub mod Inside
+pub mod Lasts
+pub mod Listed
+pub mod Marks
+pub mod Mends
+pub mod Naming
+pub mod Numbers
+pub mod Sets
+pub mod Sizes
+pub mod Splits
+pub mod Tallies
+pub mod Trees

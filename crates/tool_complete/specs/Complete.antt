@@ -13,8 +13,8 @@ use Rattle.tool_sort.specs.Kept.{IsSortedOf}
 use Rattle.tool_sort.specs.Made.{report_for}
 use Rattle.tool_sort.specs.Sorted.{sorted_file}
 use Rattle.tool_complete.specs.declared.told.Completed.{Completed}
-use Rattle.mdf_mended.specs.Completed.{completion}
-use Rattle.mdf_mended.specs.Flags.{IsUnfinished}
+use Rattle.tool_complete.specs.Completed.{completion}
+use Rattle.tool_complete.specs.Flags.{IsUnfinished}
 
 -- These bytes are the sorted file of the measurement of the completed file, at a time in ns, and this is told of it. They are a
 -- valid file whose measurement has the same header, channel groups and records, and one entry more in its history.

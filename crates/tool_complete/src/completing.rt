@@ -5,8 +5,8 @@ ghost use Rattle.mdf_seal.specs.Seal.{IsBlank};
 ghost use Rattle.tool_complete.specs.Complete.{CompleteEnds, IsCompleteImage};
 
 use crate::told::Completed;
+use crate::{completed_of, unfinished_of};
 use mdf_disk::Disk;
-use mdf_mended::{completed_of, unfinished_of};
 use mdf_num::Bytes;
 use mdf_tool::{ToolFault, write_made};
 use std::alloc::Global;

@@ -1,6 +1,6 @@
 use Rattle.std.proofs.Common.{◌≡◌, ◌∷◌, [], List, length, ℕ, ap, arith, refl, subst, sym}
 use Rattle.book_shared.specs.Place.{IsSingle}
-use Rattle.acq_feed.specs.Feeds.{flushes_of}
+use Rattle.acq_run.specs.Feeds.{flushes_of}
 use Rattle.acq_run.specs.Works.{Does}
 use Rattle.acq_run.proofs.Performing.{any_err, any_ok, append_counted, append_done, append_due, append_ended, flush_done, flush_due, flush_failed, flush_stopped, flush_turns, follows_on}
 use Rattle.acq_run.proofs.driving.perform.Goals as goal

@@ -1,5 +1,5 @@
 use Rattle.std.proofs.Common.{◌≡◌, ◌++◌, ◌∷◌, [], ap, arith, length, length-append, subst}
-use Rattle.acq_live.specs.Handled.{IsFresh}
+use Rattle.acq_lines.specs.Handled.{IsFresh}
 use Rattle.mdf_log.specs.Course.{AreFresh}
 use Rattle.mdf_log.proofs.Letting.{all_done, next_taken, pair_more}
 use Rattle.mdf_log.proofs.log.feeds_for.Goals as goal

@@ -1,6 +1,6 @@
 use Rattle.std.proofs.Common.{inl, refl, subst, sym, ap}
 use Rattle.mdf_port.specs.State.{source_state}
-use Rattle.log_setup.specs.Setup.{SaysSetup}
+use Rattle.mdf_log.specs.Setup.{SaysSetup}
 use Rattle.mdf_log.specs.Tap.{tap_states}
 use Rattle.mdf_log.proofs.Starting.{runs_as}
 use Rattle.mdf_log.proofs.Whole.{unbegun_runs}

@@ -1,10 +1,10 @@
 use Rattle.std.proofs.Common.{◌≡◌, ◌∙◌, ◌+◌, List, [], ◌∷◌, length, get_or, Option, true, sym, ap, subst, inl, inr, ⊎_elim, arith}
 use Rattle.mdf_disk.specs.State.{state_of}
 use Rattle.acq_run.specs.declared.work.Driven.{Driven}
-use Rattle.acq_live.specs.Handled.{Halts, Hands, Waits}
+use Rattle.acq_lines.specs.Handled.{Halts, Hands, Waits}
 use Rattle.mdf_command.specs.declared.fault.Fault.{Fault}
 use Rattle.mdf_record.specs.Record.{outcome}
-use Rattle.log_disks.specs.Served.{handed_out, taken_back}
+use Rattle.mdf_disk.specs.Served.{handed_out, taken_back}
 use Rattle.mdf_log.specs.Parts.{fits_anew}
 use Rattle.mdf_log.proofs.Going.{all_few, durable_is, idle, may_record, moved}
 use Rattle.mdf_log.proofs.Moving.{handed_count, moves}

@@ -3,7 +3,7 @@ use Rattle.std.proofs.Math.ListN.{set}
 use Rattle.std.proofs.lemmas.Grind.{get_or-set_at}
 use Rattle.std.proofs.lemmas.List.{get_or-set_other, get_or_default, length-set}
 use Rattle.std.proofs.lemmas.Bool.Decides.{leb_tells}
-use Rattle.acq_live.specs.Handled.{Resumes}
+use Rattle.acq_lines.specs.Handled.{Resumes}
 use Rattle.mdf_log.proofs.parts.resume_all.Goals as goal
 
 -- one more of a list was put in the place of what it was

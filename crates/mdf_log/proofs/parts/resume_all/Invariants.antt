@@ -1,6 +1,6 @@
 use Rattle.std.proofs.Common.{◌≡◌, ◌<◌, ◌≤◌, ℕ, length}
 use Rattle.std.specs.List.{slice_index_or}
-use Rattle.acq_live.specs.Handled.{Resumes}
+use Rattle.acq_lines.specs.Handled.{Resumes}
 use Rattle.mdf_log.proofs.parts.resume_all.Given as goal
 
 -- those so far were taken up

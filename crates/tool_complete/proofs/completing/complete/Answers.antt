@@ -5,8 +5,8 @@ use Rattle.mdf_disk.specs.Crash.{Adds}
 use Rattle.mdf_disk.specs.State.{state_of}
 use Rattle.mdf_tool.proofs.Unread.{unread}
 use Rattle.mdf_tool.specs.declared.fault.ToolFault.{ToolFault}
-use Rattle.mdf_mended.specs.Completed.{completion}
-use Rattle.mdf_mended.specs.Flags.{IsUnfinished}
+use Rattle.tool_complete.specs.Completed.{completion}
+use Rattle.tool_complete.specs.Flags.{IsUnfinished}
 use Rattle.tool_complete.specs.Complete.{CompleteEnds, IsCompleteImage}
 use Rattle.tool_complete.proofs.Ends.{completed_fails, completed_is, ends, fails, leaves, may_want, no_want, unfinished_fails}
 use Rattle.tool_complete.proofs.completing.complete.Given as given

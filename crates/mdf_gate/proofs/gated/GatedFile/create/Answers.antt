@@ -1,7 +1,7 @@
 use Rattle.std.proofs.Common.{◌≡◌, ◌%◌, ◌++◌, [], ◌∷◌, ℕ, length, sym, subst, ◌∙◌, arith}
 use Rattle.std.specs.Prelude.{IfSome}
 use Rattle.mdf_disk.specs.Crash.{HoldsSince}
-use Rattle.mdf_form.specs.Form.{form_of}
+use Rattle.mdf_format.specs.Form.{form_of}
 use Rattle.mdf_gate.specs.Images.{IsBegun, head_of}
 use Rattle.mdf_gate.proofs.Begun.{begun_holds, begun_since, kept_form, kept_head}
 use Rattle.mdf_gate.proofs.Resting.{head_rests}

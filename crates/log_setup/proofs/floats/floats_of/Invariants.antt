@@ -1,6 +1,0 @@
-use Rattle.std.proofs.Common.{◌≡◌, take, map}
-use Rattle.log_setup.specs.Setup.{widths_of}
-use Rattle.log_setup.proofs.floats.floats_of.Given as goal
-
-abbrev pub invariant-loop-row : goal.invariant-loop-row
-invariant-loop-row l = l.floats ≡ map widths_of (take l.row-index l.plan.rows)

@@ -1,6 +1,0 @@
-use Rattle.std.proofs.Common.{◌≡◌, take, map}
-use Rattle.log_setup.specs.Setup.{width_of}
-use Rattle.log_setup.proofs.floats.widths_of.Given as goal
-
-abbrev pub invariant-loop-channel : goal.invariant-loop-channel
-invariant-loop-channel l = l.widths ≡ map width_of (take l.channel-index l.row.channels)
