@@ -1,5 +1,5 @@
 -- Why a span, and a reader over a span, stopped.
-use Rattle.std.specs.Prelude.{ℕ, ◌≤◌, Bool, true, false, Result, IfErr}
+use Rattle.std.specs.Prelude.{ℕ, ◌≡◌, ◌≤◌, Bool, true, false, Result, IfErr}
 use Rattle.mdf_format.specs.Cause.{Rose}
 use Rattle.mdf_num.specs.declared.halt.Stop.{Stop}
 use Rattle.mdf_num.specs.declared.halt.Stop.TheVariants as stops
@@ -14,6 +14,12 @@ halt_of E stops.Memory = halts.Memory
 -- want of memory for a reader, whatever faults it has
 abbrev pub memory_halt : (E : Type 0) → Halt E
 memory_halt E = halts.Memory
+
+-- the halt of a reader above another one: its fault comes from the fault below, and any other halt stays what it is
+abbrev pub Raises : {E F : Type 0} → (E → F → Type 0) → Halt E → Halt F → Type 0
+Raises {E} {F} from_gives (halts.Fault fault) halt = (raised : F) × (halt ≡ halts.Fault raised) × from_gives fault raised
+Raises from_gives halts.Failed halt = halt ≡ halts.Failed
+Raises from_gives halts.Memory halt = halt ≡ halts.Memory
 
 -- memory may be wanted
 abbrev pub Wants : Bool → Type 0

@@ -1,4 +1,5 @@
 ghost use Rattle.std.specs.Prelude.{◌≡◌};
+ghost use Rattle.mdf_num.specs.Halt.{Raises};
 
 use crate::Memory;
 use std::alloc::AllocError;
@@ -24,6 +25,19 @@ pub enum Halt<E> {
     Failed,
     /// Want of memory.
     Memory,
+}
+
+impl<E> Halt<E> {
+    /// Why the reader above stops, where one below it stopped for this.
+    pub fn raised<F: From<E>>(self) -> Halt<F>
+        ensures { Raises F.from_gives self result }
+    {
+        match self {
+            Halt::Fault(fault) => Halt::Fault(F::from(fault)),
+            Halt::Failed => Halt::Failed,
+            Halt::Memory => Halt::Memory,
+        }
+    }
 }
 
 impl From<Memory> for Stop {

@@ -17,7 +17,7 @@ pub use bytes::Bytes;
 pub use failure::{Failed, Memory};
 pub use fault::{FaultCount, FaultPlan};
 pub use halt::{Halt, Stop};
-pub use number::{align8, number_of, put_u16, put_u32, put_u64, u16_at, u32_at, u64_at};
+pub use number::{align8, has_bits, number_of, put_u16, put_u32, put_u64, u16_at, u32_at, u64_at};
 pub use pieces::Pieces;
 pub use rows::{Numbers, Rows};
 pub use span::{SliceSpan, Span};

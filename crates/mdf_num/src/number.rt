@@ -61,6 +61,13 @@ pub fn number_of(bytes: &[u8]) -> u64
     }
 }
 
+/// Whether so many bits hold the number.
+pub fn has_bits(number: u64, bits: u32) -> bool
+    ensures { IsTrue result ↔ (number < 2 ^ bits) }
+{
+    bits >= 64 || number < 1 << bits
+}
+
 /// Writes a number into the 2 bytes from `at` on.
 pub fn put_u16(bytes: &mut [u8], at: usize, value: u16)
     requires { at + 2 ≤ length bytes.old }
