@@ -2,6 +2,8 @@ pub mod Story
 pub mod Crash
 pub mod Calls
 pub mod State
+pub mod Stays
+pub mod Goes
 pub mod Tape
 pub mod Image
 pub mod Load

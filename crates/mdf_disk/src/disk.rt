@@ -3,6 +3,7 @@ ghost use Rattle.mdf_format.specs.Number.{bytes_at};
 ghost use Rattle.mdf_format.specs.Cause.{HasCause};
 ghost use Rattle.mdf_disk.specs.declared.role.Role.{Role};
 ghost use Rattle.mdf_disk.specs.Story.{Story, Agrees, IsFresh};
+ghost use Rattle.mdf_disk.specs.Stays.{Stays};
 ghost use Rattle.mdf_disk.specs.Calls.{Attaches, Patches, Writes, Keeps, Syncs};
 
 use crate::Role;
@@ -52,11 +53,9 @@ pub trait Disk {
     fn size(&mut self) -> Result<u64, Failed>
         requires { attached self.old ≡ true }
         ensures size { IfOk result (λ n. IfSome (content self.old) (λ file. n ≡ length file)) }
-        ensures asked { asked self.new ≡ asked self.old }
-        ensures attached { attached self.new ≡ attached self.old }
+        ensures stays { Stays asked attached moment self.old self.new }
         ensures content { content self.new ≡ content self.old }
         ensures story { story self.new ≡ story self.old }
-        ensures moment { moment self.old ≤ moment self.new }
         ensures cause { HasCause (faults self.old) (faults self.new) result }
         ensures calm { OnOk result (faults self.new ≡ faults self.old) };
 
@@ -68,11 +67,9 @@ pub trait Disk {
         requires attached { attached self.old ≡ true }
         requires within { IfSome (content self.old) (λ file. at + length buf.old ≤ length file) }
         ensures bytes { OnOk result (IfSome (content self.old) (λ file. buf.new ≡ bytes_at (length buf.old) file at)) }
-        ensures asked { asked self.new ≡ asked self.old }
-        ensures attached { attached self.new ≡ attached self.old }
+        ensures stays { Stays asked attached moment self.old self.new }
         ensures content { content self.new ≡ content self.old }
         ensures story { story self.new ≡ story self.old }
-        ensures moment { moment self.old ≤ moment self.new }
         ensures cause { HasCause (faults self.old) (faults self.new) result }
         ensures calm { OnOk result (faults self.new ≡ faults self.old) };
 
@@ -84,11 +81,9 @@ pub trait Disk {
     fn write_at(&mut self, at: u64, bytes: &[u8]) -> Result<(), Failed>
         requires attached { attached self.old ≡ true }
         requires within { IfSome (content self.old) (λ file. at ≤ length file) }
-        ensures asked { asked self.new ≡ asked self.old }
-        ensures attached { attached self.new ≡ attached self.old }
+        ensures stays { Stays asked attached moment self.old self.new }
         ensures content { Patches (content self.old) (content self.new) at bytes.now result }
         ensures story { Writes (story self.old) (story self.new) at bytes.now result }
-        ensures moment { moment self.old ≤ moment self.new }
         ensures cause { HasCause (faults self.old) (faults self.new) result }
         ensures calm { OnOk result (faults self.new ≡ faults self.old) };
 
@@ -98,11 +93,9 @@ pub trait Disk {
     /// `Failed` where the disk failed.
     fn sync(&mut self) -> Result<(), Failed>
         requires { attached self.old ≡ true }
-        ensures asked { asked self.new ≡ asked self.old }
-        ensures attached { attached self.new ≡ attached self.old }
+        ensures stays { Stays asked attached moment self.old self.new }
         ensures content { Keeps (content self.old) (content self.new) result }
         ensures story { Syncs (story self.old) (story self.new) result }
-        ensures moment { moment self.old ≤ moment self.new }
         ensures cause { HasCause (faults self.old) (faults self.new) result }
         ensures calm { OnOk result (faults self.new ≡ faults self.old) };
 

@@ -1,6 +1,7 @@
 ghost use Rattle.std.specs.Prelude.{◌≡◌, ◌+◌, ◌-◌, ◌^◌, ◌<◌, ◌↔◌, ◌≤◌, Option, Some, None, true, IsTrue, IsOk, IfOk, IfSome, OnOk, length, min};
 ghost use Rattle.mdf_format.specs.Number.{bytes_at};
 ghost use Rattle.mdf_format.specs.Cause.{HasCause};
+ghost use Rattle.mdf_disk.specs.Stays.{Stays};
 ghost use Rattle.mdf_disk.specs.Calls.{Attaches, Patches, Writes, Keeps, Syncs};
 ghost use Rattle.mdf_disk.specs.Asked.{first_asked, unasked_below};
 
@@ -103,11 +104,9 @@ impl<D: Disk> Disk for Fuse<D> {
     fn size(&mut self) -> Result<u64, Failed>
         requires { ⟦<Fuse<D> as Disk>⟧.attached self.old ≡ true }
         ensures size { IfOk result (λ n. IfSome (⟦<Fuse<D> as Disk>⟧.content self.old) (λ file. n ≡ length file)) }
-        ensures asked { ⟦<Fuse<D> as Disk>⟧.asked self.new ≡ ⟦<Fuse<D> as Disk>⟧.asked self.old }
-        ensures attached { ⟦<Fuse<D> as Disk>⟧.attached self.new ≡ ⟦<Fuse<D> as Disk>⟧.attached self.old }
+        ensures stays { Stays ⟦<Fuse<D> as Disk>⟧.asked ⟦<Fuse<D> as Disk>⟧.attached ⟦<Fuse<D> as Disk>⟧.moment self.old self.new }
         ensures content { ⟦<Fuse<D> as Disk>⟧.content self.new ≡ ⟦<Fuse<D> as Disk>⟧.content self.old }
         ensures story { ⟦<Fuse<D> as Disk>⟧.story self.new ≡ ⟦<Fuse<D> as Disk>⟧.story self.old }
-        ensures moment { ⟦<Fuse<D> as Disk>⟧.moment self.old ≤ ⟦<Fuse<D> as Disk>⟧.moment self.new }
         ensures cause { HasCause (⟦<Fuse<D> as Disk>⟧.faults self.old) (⟦<Fuse<D> as Disk>⟧.faults self.new) result }
         ensures calm { OnOk result (⟦<Fuse<D> as Disk>⟧.faults self.new ≡ ⟦<Fuse<D> as Disk>⟧.faults self.old) }
         ensures counted { left_of self.new ≡ left_of self.old - 1 }
@@ -124,11 +123,9 @@ impl<D: Disk> Disk for Fuse<D> {
         requires attached { ⟦<Fuse<D> as Disk>⟧.attached self.old ≡ true }
         requires within { IfSome (⟦<Fuse<D> as Disk>⟧.content self.old) (λ file. at + length buf.old ≤ length file) }
         ensures bytes { OnOk result (IfSome (⟦<Fuse<D> as Disk>⟧.content self.old) (λ file. buf.new ≡ bytes_at (length buf.old) file at)) }
-        ensures asked { ⟦<Fuse<D> as Disk>⟧.asked self.new ≡ ⟦<Fuse<D> as Disk>⟧.asked self.old }
-        ensures attached { ⟦<Fuse<D> as Disk>⟧.attached self.new ≡ ⟦<Fuse<D> as Disk>⟧.attached self.old }
+        ensures stays { Stays ⟦<Fuse<D> as Disk>⟧.asked ⟦<Fuse<D> as Disk>⟧.attached ⟦<Fuse<D> as Disk>⟧.moment self.old self.new }
         ensures content { ⟦<Fuse<D> as Disk>⟧.content self.new ≡ ⟦<Fuse<D> as Disk>⟧.content self.old }
         ensures story { ⟦<Fuse<D> as Disk>⟧.story self.new ≡ ⟦<Fuse<D> as Disk>⟧.story self.old }
-        ensures moment { ⟦<Fuse<D> as Disk>⟧.moment self.old ≤ ⟦<Fuse<D> as Disk>⟧.moment self.new }
         ensures cause { HasCause (⟦<Fuse<D> as Disk>⟧.faults self.old) (⟦<Fuse<D> as Disk>⟧.faults self.new) result }
         ensures calm { OnOk result (⟦<Fuse<D> as Disk>⟧.faults self.new ≡ ⟦<Fuse<D> as Disk>⟧.faults self.old) }
         ensures counted { left_of self.new ≡ left_of self.old - 1 }
@@ -144,11 +141,9 @@ impl<D: Disk> Disk for Fuse<D> {
     fn write_at(&mut self, at: u64, bytes: &[u8]) -> Result<(), Failed>
         requires attached { ⟦<Fuse<D> as Disk>⟧.attached self.old ≡ true }
         requires within { IfSome (⟦<Fuse<D> as Disk>⟧.content self.old) (λ file. at ≤ length file) }
-        ensures asked { ⟦<Fuse<D> as Disk>⟧.asked self.new ≡ ⟦<Fuse<D> as Disk>⟧.asked self.old }
-        ensures attached { ⟦<Fuse<D> as Disk>⟧.attached self.new ≡ ⟦<Fuse<D> as Disk>⟧.attached self.old }
+        ensures stays { Stays ⟦<Fuse<D> as Disk>⟧.asked ⟦<Fuse<D> as Disk>⟧.attached ⟦<Fuse<D> as Disk>⟧.moment self.old self.new }
         ensures content { Patches (⟦<Fuse<D> as Disk>⟧.content self.old) (⟦<Fuse<D> as Disk>⟧.content self.new) at bytes.now result }
         ensures story { Writes (⟦<Fuse<D> as Disk>⟧.story self.old) (⟦<Fuse<D> as Disk>⟧.story self.new) at bytes.now result }
-        ensures moment { ⟦<Fuse<D> as Disk>⟧.moment self.old ≤ ⟦<Fuse<D> as Disk>⟧.moment self.new }
         ensures cause { HasCause (⟦<Fuse<D> as Disk>⟧.faults self.old) (⟦<Fuse<D> as Disk>⟧.faults self.new) result }
         ensures calm { OnOk result (⟦<Fuse<D> as Disk>⟧.faults self.new ≡ ⟦<Fuse<D> as Disk>⟧.faults self.old) }
         ensures counted { left_of self.new ≡ left_of self.old - 1 }
@@ -163,11 +158,9 @@ impl<D: Disk> Disk for Fuse<D> {
 
     fn sync(&mut self) -> Result<(), Failed>
         requires { ⟦<Fuse<D> as Disk>⟧.attached self.old ≡ true }
-        ensures asked { ⟦<Fuse<D> as Disk>⟧.asked self.new ≡ ⟦<Fuse<D> as Disk>⟧.asked self.old }
-        ensures attached { ⟦<Fuse<D> as Disk>⟧.attached self.new ≡ ⟦<Fuse<D> as Disk>⟧.attached self.old }
+        ensures stays { Stays ⟦<Fuse<D> as Disk>⟧.asked ⟦<Fuse<D> as Disk>⟧.attached ⟦<Fuse<D> as Disk>⟧.moment self.old self.new }
         ensures content { Keeps (⟦<Fuse<D> as Disk>⟧.content self.old) (⟦<Fuse<D> as Disk>⟧.content self.new) result }
         ensures story { Syncs (⟦<Fuse<D> as Disk>⟧.story self.old) (⟦<Fuse<D> as Disk>⟧.story self.new) result }
-        ensures moment { ⟦<Fuse<D> as Disk>⟧.moment self.old ≤ ⟦<Fuse<D> as Disk>⟧.moment self.new }
         ensures cause { HasCause (⟦<Fuse<D> as Disk>⟧.faults self.old) (⟦<Fuse<D> as Disk>⟧.faults self.new) result }
         ensures calm { OnOk result (⟦<Fuse<D> as Disk>⟧.faults self.new ≡ ⟦<Fuse<D> as Disk>⟧.faults self.old) }
         ensures counted { left_of self.new ≡ left_of self.old - 1 }

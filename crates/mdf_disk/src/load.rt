@@ -1,5 +1,6 @@
 ghost use Rattle.std.specs.Prelude.{◌≡◌, ◌≤◌, ◌<◌, true, IfSome, IfOk, IfErr, OnOk, length};
 ghost use Rattle.mdf_disk.specs.declared.load.LoadFault.TheVariants.{Failed as DeviceFailed, Memory as NoMemory};
+ghost use Rattle.mdf_disk.specs.Goes.{OnlyRead};
 ghost use Rattle.mdf_disk.specs.Load.{LoadCause};
 
 use crate::Disk;
@@ -49,11 +50,7 @@ pub fn read_whole<D: Disk>(alloc: Global, disk: &mut D, limit: u64) -> Result<By
     ensures cause { IfErr result (LoadCause (D.content disk.old) (D.faults disk.old) (D.faults disk.new) limit) }
     ensures calm { OnOk result (D.faults disk.new ≡ D.faults disk.old) }
     ensures later { D.faults disk.old ≤ D.faults disk.new }
-    ensures asked { D.asked disk.new ≡ D.asked disk.old }
-    ensures attached { D.attached disk.new ≡ D.attached disk.old }
-    ensures content { D.content disk.new ≡ D.content disk.old }
-    ensures story { D.story disk.new ≡ D.story disk.old }
-    ensures moment { D.moment disk.old ≤ D.moment disk.new }
+    ensures only_read { OnlyRead D.Disk disk.old disk.new }
 {
     let size = disk.size()?;
     if size > limit {

@@ -162,6 +162,7 @@ impl MemoryDisk {
 impl Disk for MemoryDisk {
     ghost use Rattle.std.specs.Prelude.{◌↔◌, ◌+◌, ◌-◌, ◌^◌, IsOk, IfSome, Contains, min};
     ghost use Rattle.mdf_format.specs.Number.{bytes_at};
+    ghost use Rattle.mdf_disk.specs.Stays.{Stays};
     ghost use Rattle.mdf_disk.specs.Calls.{Attaches, Patches, Writes, Keeps, Syncs};
     ghost use Rattle.mdf_disk.specs.Memory.{file_of, calls_of, plan_of, failed_write, Records, IsThere};
     ghost use Rattle.mdf_disk.specs.declared.call.Call.TheVariants.{Attach, Size, Read, Write, Sync};
@@ -219,11 +220,9 @@ impl Disk for MemoryDisk {
     fn size(&mut self) -> Result<u64, Failed>
         requires { ⟦<MemoryDisk as Disk>⟧.attached self.old ≡ true }
         ensures size { IfOk result (λ n. IfSome (⟦<MemoryDisk as Disk>⟧.content self.old) (λ file. n ≡ length file)) }
-        ensures asked { ⟦<MemoryDisk as Disk>⟧.asked self.new ≡ ⟦<MemoryDisk as Disk>⟧.asked self.old }
-        ensures attached { ⟦<MemoryDisk as Disk>⟧.attached self.new ≡ ⟦<MemoryDisk as Disk>⟧.attached self.old }
+        ensures stays { Stays ⟦<MemoryDisk as Disk>⟧.asked ⟦<MemoryDisk as Disk>⟧.attached ⟦<MemoryDisk as Disk>⟧.moment self.old self.new }
         ensures content { ⟦<MemoryDisk as Disk>⟧.content self.new ≡ ⟦<MemoryDisk as Disk>⟧.content self.old }
         ensures story { ⟦<MemoryDisk as Disk>⟧.story self.new ≡ ⟦<MemoryDisk as Disk>⟧.story self.old }
-        ensures moment { ⟦<MemoryDisk as Disk>⟧.moment self.old ≤ ⟦<MemoryDisk as Disk>⟧.moment self.new }
         ensures cause { HasCause (⟦<MemoryDisk as Disk>⟧.faults self.old) (⟦<MemoryDisk as Disk>⟧.faults self.new) result }
         ensures calm { OnOk result (⟦<MemoryDisk as Disk>⟧.faults self.new ≡ ⟦<MemoryDisk as Disk>⟧.faults self.old) }
         ensures recorded { Records (calls_of self.old) (calls_of self.new) Size Size result }
@@ -244,11 +243,9 @@ impl Disk for MemoryDisk {
         requires attached { ⟦<MemoryDisk as Disk>⟧.attached self.old ≡ true }
         requires within { IfSome (⟦<MemoryDisk as Disk>⟧.content self.old) (λ file. at + length buf.old ≤ length file) }
         ensures bytes { OnOk result (IfSome (⟦<MemoryDisk as Disk>⟧.content self.old) (λ file. buf.new ≡ bytes_at (length buf.old) file at)) }
-        ensures asked { ⟦<MemoryDisk as Disk>⟧.asked self.new ≡ ⟦<MemoryDisk as Disk>⟧.asked self.old }
-        ensures attached { ⟦<MemoryDisk as Disk>⟧.attached self.new ≡ ⟦<MemoryDisk as Disk>⟧.attached self.old }
+        ensures stays { Stays ⟦<MemoryDisk as Disk>⟧.asked ⟦<MemoryDisk as Disk>⟧.attached ⟦<MemoryDisk as Disk>⟧.moment self.old self.new }
         ensures content { ⟦<MemoryDisk as Disk>⟧.content self.new ≡ ⟦<MemoryDisk as Disk>⟧.content self.old }
         ensures story { ⟦<MemoryDisk as Disk>⟧.story self.new ≡ ⟦<MemoryDisk as Disk>⟧.story self.old }
-        ensures moment { ⟦<MemoryDisk as Disk>⟧.moment self.old ≤ ⟦<MemoryDisk as Disk>⟧.moment self.new }
         ensures cause { HasCause (⟦<MemoryDisk as Disk>⟧.faults self.old) (⟦<MemoryDisk as Disk>⟧.faults self.new) result }
         ensures calm { OnOk result (⟦<MemoryDisk as Disk>⟧.faults self.new ≡ ⟦<MemoryDisk as Disk>⟧.faults self.old) }
         ensures recorded { Records (calls_of self.old) (calls_of self.new) Read Read result }
@@ -270,11 +267,9 @@ impl Disk for MemoryDisk {
     fn write_at(&mut self, at: u64, bytes: &[u8]) -> Result<(), Failed>
         requires attached { ⟦<MemoryDisk as Disk>⟧.attached self.old ≡ true }
         requires within { IfSome (⟦<MemoryDisk as Disk>⟧.content self.old) (λ file. at ≤ length file) }
-        ensures asked { ⟦<MemoryDisk as Disk>⟧.asked self.new ≡ ⟦<MemoryDisk as Disk>⟧.asked self.old }
-        ensures attached { ⟦<MemoryDisk as Disk>⟧.attached self.new ≡ ⟦<MemoryDisk as Disk>⟧.attached self.old }
+        ensures stays { Stays ⟦<MemoryDisk as Disk>⟧.asked ⟦<MemoryDisk as Disk>⟧.attached ⟦<MemoryDisk as Disk>⟧.moment self.old self.new }
         ensures content { Patches (⟦<MemoryDisk as Disk>⟧.content self.old) (⟦<MemoryDisk as Disk>⟧.content self.new) at bytes.now result }
         ensures story { Writes (⟦<MemoryDisk as Disk>⟧.story self.old) (⟦<MemoryDisk as Disk>⟧.story self.new) at bytes.now result }
-        ensures moment { ⟦<MemoryDisk as Disk>⟧.moment self.old ≤ ⟦<MemoryDisk as Disk>⟧.moment self.new }
         ensures cause { HasCause (⟦<MemoryDisk as Disk>⟧.faults self.old) (⟦<MemoryDisk as Disk>⟧.faults self.new) result }
         ensures calm { OnOk result (⟦<MemoryDisk as Disk>⟧.faults self.new ≡ ⟦<MemoryDisk as Disk>⟧.faults self.old) }
         ensures recorded { Records (calls_of self.old) (calls_of self.new) (Write at bytes.now true)
@@ -306,11 +301,9 @@ impl Disk for MemoryDisk {
 
     fn sync(&mut self) -> Result<(), Failed>
         requires { ⟦<MemoryDisk as Disk>⟧.attached self.old ≡ true }
-        ensures asked { ⟦<MemoryDisk as Disk>⟧.asked self.new ≡ ⟦<MemoryDisk as Disk>⟧.asked self.old }
-        ensures attached { ⟦<MemoryDisk as Disk>⟧.attached self.new ≡ ⟦<MemoryDisk as Disk>⟧.attached self.old }
+        ensures stays { Stays ⟦<MemoryDisk as Disk>⟧.asked ⟦<MemoryDisk as Disk>⟧.attached ⟦<MemoryDisk as Disk>⟧.moment self.old self.new }
         ensures content { Keeps (⟦<MemoryDisk as Disk>⟧.content self.old) (⟦<MemoryDisk as Disk>⟧.content self.new) result }
         ensures story { Syncs (⟦<MemoryDisk as Disk>⟧.story self.old) (⟦<MemoryDisk as Disk>⟧.story self.new) result }
-        ensures moment { ⟦<MemoryDisk as Disk>⟧.moment self.old ≤ ⟦<MemoryDisk as Disk>⟧.moment self.new }
         ensures cause { HasCause (⟦<MemoryDisk as Disk>⟧.faults self.old) (⟦<MemoryDisk as Disk>⟧.faults self.new) result }
         ensures calm { OnOk result (⟦<MemoryDisk as Disk>⟧.faults self.new ≡ ⟦<MemoryDisk as Disk>⟧.faults self.old) }
         ensures recorded { Records (calls_of self.old) (calls_of self.new) (Sync true) (Sync false) result }

@@ -2,6 +2,7 @@ ghost use Rattle.std.specs.Prelude.{◌≡◌, ◌+◌, ◌≤◌, ◌<◌, ◌^
 ghost use Rattle.std.specs.Option.{option_map};
 ghost use Rattle.mdf_format.specs.Cause.{HasCause};
 ghost use Rattle.mdf_disk.specs.Crash.{Adds, NowHas};
+ghost use Rattle.mdf_disk.specs.Goes.{GoesOn};
 ghost use Rattle.mdf_seal.specs.Images.{IsShut, IsClosed, IsWholeButFirst, closed};
 ghost use Rattle.mdf_seal.specs.Seal.{synced};
 
@@ -29,11 +30,7 @@ fn append<D: Disk>(disk: &mut D, at: u64, bytes: &[u8]) -> Result<(), Failed>
     ensures any_moment { Adds (D.story disk.old) (D.story disk.new) IsClosed }
     ensures none { bytes.now ≡ [] → disk.new ≡ disk.old }
     ensures cause { HasCause (D.faults disk.old) (D.faults disk.new) result }
-    ensures asked { D.asked disk.new ≡ D.asked disk.old }
-    ensures attached { D.attached disk.new ≡ D.attached disk.old }
-    ensures moment { D.moment disk.old ≤ D.moment disk.new }
-    ensures told { is_some (D.story disk.new) ≡ is_some (D.story disk.old) }
-    ensures told_content { is_some (D.content disk.new) ≡ is_some (D.content disk.old) }
+    ensures goes_on { GoesOn D.Disk disk.old disk.new }
 {
     if bytes.is_empty() {
         return Ok(());
@@ -57,11 +54,7 @@ impl Sealed {
         ensures unbegun { OnErr result (IfSome (synced (D.story disk.new)) (λ kept. kept ≡ [])) }
         ensures calls { IfSome (D.story disk.old) (λ _. D.moment disk.new ≤ D.moment disk.old + 2) }
         ensures cause { HasCause (D.faults disk.old) (D.faults disk.new) result }
-        ensures asked { D.asked disk.new ≡ D.asked disk.old }
-        ensures attached { D.attached disk.new ≡ D.attached disk.old }
-        ensures moment { D.moment disk.old ≤ D.moment disk.new }
-        ensures told { is_some (D.story disk.new) ≡ is_some (D.story disk.old) }
-        ensures told_content { is_some (D.content disk.new) ≡ is_some (D.content disk.old) }
+        ensures goes_on { GoesOn D.Disk disk.old disk.new }
     {
         disk.write_at(0, &[0])?;
         disk.sync()?;
@@ -89,11 +82,7 @@ impl Sealed {
         ensures none { bytes.now ≡ [] → disk.new ≡ disk.old }
         ensures held { self.old.first ≡ None → length bytes.now ≤ 1 → disk.new ≡ disk.old }
         ensures cause { HasCause (D.faults disk.old) (D.faults disk.new) result }
-        ensures asked { D.asked disk.new ≡ D.asked disk.old }
-        ensures attached { D.attached disk.new ≡ D.attached disk.old }
-        ensures moment { D.moment disk.old ≤ D.moment disk.new }
-        ensures told { is_some (D.story disk.new) ≡ is_some (D.story disk.old) }
-        ensures told_content { is_some (D.content disk.new) ≡ is_some (D.content disk.old) }
+        ensures goes_on { GoesOn D.Disk disk.old disk.new }
     {
         let [first, rest @ ..] = bytes else {
             return Ok(());
@@ -125,11 +114,7 @@ impl Sealed {
             → OnErr result ((synced (D.story disk.new) ≡ synced (D.story disk.old)) ⊎ IfSome (synced (D.story disk.new)) (λ kept. kept ≡ closed given)) }
         ensures calls { IfSome (D.story disk.old) (λ _. D.moment disk.new ≤ D.moment disk.old + 3) }
         ensures cause { HasCause (D.faults disk.old) (D.faults disk.new) result }
-        ensures asked { D.asked disk.new ≡ D.asked disk.old }
-        ensures attached { D.attached disk.new ≡ D.attached disk.old }
-        ensures moment { D.moment disk.old ≤ D.moment disk.new }
-        ensures told { is_some (D.story disk.new) ≡ is_some (D.story disk.old) }
-        ensures told_content { is_some (D.content disk.new) ≡ is_some (D.content disk.old) }
+        ensures goes_on { GoesOn D.Disk disk.old disk.new }
     {
         let Some(first) = self.first else {
             return Ok(());

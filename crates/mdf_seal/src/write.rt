@@ -2,6 +2,7 @@ ghost use Rattle.std.specs.Prelude.{◌≡◌, ◌+◌, ◌-◌, ◌≤◌, ◌<
 ghost use Rattle.std.specs.List.{concat};
 ghost use Rattle.mdf_format.specs.Cause.{HasCause};
 ghost use Rattle.mdf_disk.specs.Crash.{Adds};
+ghost use Rattle.mdf_disk.specs.Goes.{GoesOn};
 ghost use Rattle.mdf_seal.specs.Images.{IsClosed, IsSealedImage, IsUnopened};
 ghost use Rattle.mdf_seal.specs.Seal.{Seals, IsBlank, IsKept, synced};
 
@@ -19,11 +20,7 @@ fn give_all<D: Disk>(seal: &mut Sealed, disk: &mut D, pieces: &[Bytes]) -> Resul
     ensures unsynced { synced (D.story disk.new) ≡ synced (D.story disk.old) }
     ensures calls { IfSome (D.story disk.old) (λ _. D.moment disk.new ≤ D.moment disk.old + (length (concat pieces.now) - 1)) }
     ensures cause { HasCause (D.faults disk.old) (D.faults disk.new) result }
-    ensures asked { D.asked disk.new ≡ D.asked disk.old }
-    ensures attached { D.attached disk.new ≡ D.attached disk.old }
-    ensures moment { D.moment disk.old ≤ D.moment disk.new }
-    ensures told { is_some (D.story disk.new) ≡ is_some (D.story disk.old) }
-    ensures told_content { is_some (D.content disk.new) ≡ is_some (D.content disk.old) }
+    ensures goes_on { GoesOn D.Disk disk.old disk.new }
 {
     for piece in pieces {
         seal.give(disk, piece.as_slice())?;
@@ -46,11 +43,7 @@ pub fn write_sealed<D: Disk>(disk: &mut D, file: &Pieces) -> Result<(), Failed>
     ensures unopened { OnErr result (IfSome (synced (D.story disk.new)) (IsUnopened file.now)) }
     ensures calls { IfSome (D.story disk.old) (λ _. D.moment disk.new ≤ D.moment disk.old + (length file.now + 4)) }
     ensures cause { HasCause (D.faults disk.old) (D.faults disk.new) result }
-    ensures asked { D.asked disk.new ≡ D.asked disk.old }
-    ensures attached { D.attached disk.new ≡ D.attached disk.old }
-    ensures moment { D.moment disk.old ≤ D.moment disk.new }
-    ensures told { is_some (D.story disk.new) ≡ is_some (D.story disk.old) }
-    ensures told_content { is_some (D.content disk.new) ≡ is_some (D.content disk.old) }
+    ensures goes_on { GoesOn D.Disk disk.old disk.new }
 {
     let mut seal = Sealed::begin(disk)?;
     give_all(&mut seal, disk, file.as_slice())?;

@@ -3,6 +3,7 @@ use Rattle.std.specs.Prelude.{IfSome}
 use Rattle.std.specs.List.{concat}
 use Rattle.mdf_num.proofs.Joins.{concat-take, concat-within}
 use Rattle.mdf_disk.proofs.Crash.{adds_both}
+use Rattle.mdf_disk.proofs.Goes.{goes_further}
 use Rattle.mdf_seal.specs.Images.{IsClosed}
 use Rattle.mdf_seal.specs.Seal.{Seals}
 use Rattle.mdf_seal.proofs.Calls.{calls_more, calls_most}
@@ -37,15 +38,11 @@ loop-piece-preserved g c =
       any_moment = adds_both (disk.story c.args.disk.now) (disk.story c.loop-piece.disk) (disk.story new) IsClosed before.any_moment after.any_moment;
       calls = subst (λ (bytes : List ℕ). IfSome (disk.story c.args.disk.now) (λ _. disk.moment new ≤ disk.moment c.args.disk.now + (length bytes - 1))) joined
           (calls_more (disk.story c.args.disk.now) (disk.story c.loop-piece.disk) given c.as_slice.result.now c.loop-piece.seal.first (disk.moment c.args.disk.now)
-          (disk.moment c.loop-piece.disk) (disk.moment new) before.told before.seals.first before.calls after.calls
+          (disk.moment c.loop-piece.disk) (disk.moment new) before.goes_on.told before.seals.first before.calls after.calls
           (λ none. ap disk.moment (after.none none)) (λ kept short. ap disk.moment (after.held kept short)));
       unsynced = after.unsynced ∙ before.unsynced;
       later = omega (arith, before.later, after.cause.later);
-      asked = after.asked ∙ before.asked;
-      attached = after.attached ∙ before.attached;
-      moment = omega (arith, before.moment, after.moment);
-      told = after.told ∙ before.told;
-      told_content = after.told_content ∙ before.told_content;
+      goes_on = goes_further disk c.args.disk.now c.loop-piece.disk new before.goes_on after.goes_on;
     }
 
 pub returns-in_err-give-clause-calls : goal.returns-in_err-give-clause-calls
@@ -60,7 +57,7 @@ returns-in_err-give-clause-calls g c =
     let piece = c.as_slice.result.now in
     calls_most (disk.story c.args.disk.now) (disk.moment c.args.disk.now) (disk.moment new) (length (given ++ piece) - 1) (length (concat pieces) - 1)
     (calls_more (disk.story c.args.disk.now) (disk.story c.loop-piece.disk) given piece c.loop-piece.seal.first (disk.moment c.args.disk.now)
-    (disk.moment c.loop-piece.disk) (disk.moment new) before.told before.seals.first before.calls after.calls
+    (disk.moment c.loop-piece.disk) (disk.moment new) before.goes_on.told before.seals.first before.calls after.calls
     (λ none. ap disk.moment (after.none none)) (λ kept short. ap disk.moment (after.held kept short)))
     (omega (
       arith,

@@ -1,7 +1,8 @@
 use Rattle.std.proofs.Common.{◌≡◌, ◌+◌, ◌-◌, ◌≤◌, length, take}
-use Rattle.std.specs.Prelude.{is_some, IfSome}
+use Rattle.std.specs.Prelude.{IfSome}
 use Rattle.std.specs.List.{concat}
 use Rattle.mdf_disk.specs.Crash.{Adds}
+use Rattle.mdf_disk.specs.Goes.{GoesOn}
 use Rattle.mdf_seal.specs.Images.{IsClosed}
 use Rattle.mdf_seal.specs.Seal.{Seals, synced}
 use Rattle.mdf_seal.proofs.write.give_all.Given as goal
@@ -17,9 +18,5 @@ invariant-loop-piece g l =
       calls : IfSome (disk.story old) (λ _. disk.moment l.disk ≤ disk.moment old + (length (concat (take l.piece-index l.pieces)) - 1));
       unsynced : synced (disk.story l.disk) ≡ synced (disk.story old);
       later : disk.faults old ≤ disk.faults l.disk;
-      asked : disk.asked l.disk ≡ disk.asked old;
-      attached : disk.attached l.disk ≡ disk.attached old;
-      moment : disk.moment old ≤ disk.moment l.disk;
-      told : is_some (disk.story l.disk) ≡ is_some (disk.story old);
-      told_content : is_some (disk.content l.disk) ≡ is_some (disk.content old);
+      goes_on : GoesOn disk old l.disk;
     }

@@ -13,10 +13,10 @@ returns-then-not-may-clause-story c =
     let disk = c.args.self.now in
     (stays_told disk.file disk.tape c.log.new.tape Read refl c.in_ok-log.ensures.ok).story_is
 
-pub returns-then-not-may-clause-moment : goal.returns-then-not-may-clause-moment
-returns-then-not-may-clause-moment c =
+pub returns-then-not-may-clause-stays : goal.returns-then-not-may-clause-stays
+returns-then-not-may-clause-stays c =
     let disk = c.args.self.now in
-    clock_rises disk.tape c.log.new.tape Read c.in_ok-log.ensures.ok
+    record { asked_is = refl; attached_is = refl; later = clock_rises disk.tape c.log.new.tape Read c.in_ok-log.ensures.ok }
 
 pub returns-clause-content : goal.returns-clause-content
 returns-clause-content c =
@@ -28,10 +28,10 @@ returns-clause-story c =
     let disk = c.args.self.now in
     (stays_told disk.file disk.tape c.log.new.tape Read refl c.in_ok-log.ensures.ok).story_is
 
-pub returns-clause-moment : goal.returns-clause-moment
-returns-clause-moment c =
+pub returns-clause-stays : goal.returns-clause-stays
+returns-clause-stays c =
     let disk = c.args.self.now in
-    clock_rises disk.tape c.log.new.tape Read c.in_ok-log.ensures.ok
+    record { asked_is = refl; attached_is = refl; later = clock_rises disk.tape c.log.new.tape Read c.in_ok-log.ensures.ok }
 
 pub overflow_add-start : goal.overflow_add-start
 overflow_add-start c =
