@@ -1,5 +1,5 @@
 -- The program's faults: the status of each, its line, and when it may come.
-use Rattle.std.specs.Prelude.{ℕ, List, [], ◌∷◌, codes, Option, Some, None}
+use Rattle.std.specs.Prelude.{ℕ, List, [], ◌∷◌, codes, Option, Some, None, Result, Ok, Err}
 use Rattle.std.specs.Fmt.{decimal}
 use Rattle.mdf_format.specs.Block.{name_of}
 use Rattle.mdf_gate.specs.declared.answer.GateFault.{GateFault}
@@ -108,6 +108,15 @@ fault_line (NoGroup said groups) = texts_line (codes "no group ") said (codes " 
 fault_line (Differs group) = text_line (codes "differs group ") group
 fault_line (Wide group channel) = texts_line (codes "wide group ") group (codes " channel ") channel
 fault_line (Attached at) = text_line (codes "too many AT at ") at
+
+-- the status of a command that ended so: 0, or that of the fault
+abbrev pub end_status : {T : Type 0} → Result T Fault → ℕ
+end_status (Ok done) = 0
+end_status (Err problem) = fault_status problem
+
+-- how many bytes a script has at most
+abbrev pub SCRIPT_LIMIT : ℕ
+SCRIPT_LIMIT = 67108864
 
 -- how many bytes an input file has at most that is held whole
 abbrev pub INPUT_LIMIT : ℕ

@@ -8,6 +8,9 @@ use mdf_disk::{Disk, Role, read_whole};
 use mdf_num::Bytes;
 use std::alloc::Global;
 
+/// How many bytes a script has at most.
+pub const SCRIPT_LIMIT: u64 = 67_108_864;
+
 /// How many bytes an input file has at most that is held whole.
 pub const INPUT_LIMIT: u64 = 536_870_912;
 

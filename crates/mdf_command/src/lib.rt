@@ -5,6 +5,7 @@
 mod attached;
 mod bound;
 mod command;
+mod end;
 mod fault;
 mod input;
 mod parts;
@@ -14,7 +15,8 @@ mod usage;
 
 pub use attached::attach_fault;
 pub use command::{Aspect, Command, Origin, Product, Union, command_of};
+pub use end::{run_unread, status_of};
 pub use fault::Fault;
-pub use input::{INPUT_LIMIT, READING_LIMIT, load, open};
+pub use input::{INPUT_LIMIT, READING_LIMIT, SCRIPT_LIMIT, load, open};
 pub use report::{Piece, give_line, status_after};
 pub use usage::run_usage;
