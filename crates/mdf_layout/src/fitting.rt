@@ -15,6 +15,7 @@ ghost use Rattle.mdf_layout.specs.Written.{
 
 use crate::rule::{bits_of, shares_bit};
 use crate::{Entry, FieldKind, FieldRow, Value};
+use mdf_num::has_bits;
 
 /// Whether its field is of whole bytes.
 fn is_whole(row: FieldRow) -> bool
@@ -116,13 +117,6 @@ pub fn are_apart(rows: &[FieldRow]) -> bool
         }
     }
     true
-}
-
-/// Whether so many bits hold the number.
-fn has_bits(number: u64, bits: u32) -> bool
-    ensures { IsTrue result ↔ (number < 2 ^ bits) }
-{
-    bits >= 64 || number < 1 << bits
 }
 
 /// How many bits there are below the sign.
