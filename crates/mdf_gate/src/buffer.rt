@@ -1,8 +1,9 @@
-ghost use Rattle.std.specs.Prelude.{◌≡◌, ◌+◌, ◌-◌, ◌≤◌, ◌<◌, ◌^◌, ◌↔◌, ℕ, List, [], ◌∷◌, ◌++◌, length, take, drop, true, is_some, All, IsTrue, IfSome, IfOk, OnOk, OnErr};
+ghost use Rattle.std.specs.Prelude.{◌≡◌, ◌+◌, ◌-◌, ◌≤◌, ◌<◌, ◌^◌, ◌↔◌, ℕ, List, [], ◌∷◌, ◌++◌, length, take, drop, true, All, IsTrue, IfSome, IfOk, OnOk, OnErr};
 ghost use Rattle.std.specs.Option.{option_map};
 ghost use Rattle.mdf_format.specs.Number.{bytes_at, patched};
 ghost use Rattle.mdf_format.specs.Cause.{HasCause};
 ghost use Rattle.mdf_disk.specs.Crash.{Adds, NowHas};
+ghost use Rattle.mdf_disk.specs.Goes.{GoesOn};
 ghost use Rattle.mdf_layout.specs.Written.{AreApart};
 ghost use Rattle.mdf_layout.specs.Stored.{IsStored};
 ghost use Rattle.mdf_layout.specs.Record.{SampleFits, encoded_size};
@@ -236,14 +237,10 @@ impl Block {
             → OnErr result (IfSome (synced (D.story disk.new)) (IsStaged kept (payload_of form place offset self.old.bytes))) }
         ensures in_flight { (kept : List ℕ) → IsKept (D.content disk.old) (D.story disk.old) kept
             → OnErr result (NowHas (D.story disk.new) (λ moment. length moment.writes ≤ 1)) }
-        ensures told { is_some (D.story disk.new) ≡ is_some (D.story disk.old) }
-        ensures told_content { is_some (D.content disk.new) ≡ is_some (D.content disk.old) }
-        ensures moment { D.moment disk.old ≤ D.moment disk.new }
+        ensures goes_on { GoesOn D.Disk disk.old disk.new }
         ensures calls { OnOk result (IfSome (D.story disk.old) (λ _. D.moment disk.new ≡ D.moment disk.old + 4)) }
         ensures few { IfSome (D.story disk.old) (λ _. D.moment disk.new ≤ D.moment disk.old + 4) }
         ensures cause { HasCause (D.faults disk.old) (D.faults disk.new) result }
-        ensures asked { D.asked disk.new ≡ D.asked disk.old }
-        ensures attached { D.attached disk.new ≡ D.attached disk.old }
     {
         let begin = LEAD - form.lead() as usize;
         let end = LEAD + align8(24 + u64::from(self.used)) as usize;
