@@ -1,14 +1,30 @@
--- What `create` and `append` leave of a recording that is being written.
+-- What the writing of a unit, `create` and `append` leave of a recording that is being written.
 use Rattle.std.specs.Prelude.{ℕ, ◌≡◌, ◌+◌, ◌≤◌, List, [], ◌∷◌, ◌++◌, length, true, false, IfSome}
 use Rattle.std.specs.Option.{option_map}
 use Rattle.mdf_disk.specs.Crash.{NowHas, HoldsSince}
 use Rattle.mdf_disk.specs.Goes.{GoesOn}
 use Rattle.mdf_disk.specs.declared.disk.Disk.{Ghosts}
-use Rattle.mdf_seal.specs.Seal.{synced}
+use Rattle.mdf_seal.specs.Seal.{IsKept, synced}
 use Rattle.mdf_form.specs.Form.{form_of}
 use Rattle.mdf_gate.specs.Written.{opened_at, payload_of, room_of}
 use Rattle.mdf_gate.specs.Gated.{Gated, Buffered, RestsOn}
 use Rattle.mdf_gate.specs.Images.{head_of, IsBegun, IsStaged}
+
+-- From one state of a disk to another a payload was written behind the last gate of its file, at this place, and then
+-- that gate was opened, in four calls. A file that was kept is kept so.
+pub record HasOpened {D : Type 0} (tells : Ghosts D) (place : ℕ) (payload : List ℕ) (old new : D) : Type 0 where
+  pub kept : (file : List ℕ) → IsKept (tells.content old) (tells.story old) file → length file ≡ place + 1
+      → IsKept (tells.content new) (tells.story new) (opened_at place payload file)
+  pub content : tells.content new ≡ option_map (opened_at place payload) (tells.content old)
+  pub calls : IfSome (tells.story old) (λ _. tells.moment new ≡ tells.moment old + 4)
+
+-- The disk failed on the way there. Of a file that was kept it keeps the bytes, or with the whole payload behind them, and
+-- at most one write is behind its last successful sync.
+pub record HasStaged {D : Type 0} (tells : Ghosts D) (place : ℕ) (payload : List ℕ) (old new : D) : Type 0 where
+  pub staged : (file : List ℕ) → IsKept (tells.content old) (tells.story old) file → length file ≡ place + 1
+      → IfSome (synced (tells.story new)) (IsStaged file payload)
+  pub in_flight : (file : List ℕ) → IsKept (tells.content old) (tells.story old) file
+      → NowHas (tells.story new) (λ moment. length moment.writes ≤ 1)
 
 -- A recording of this head was made of the disk: it is at rest with no block, and since its start a crash left only
 -- beginnings of it.

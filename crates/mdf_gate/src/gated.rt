@@ -1,6 +1,6 @@
 ghost use Rattle.std.specs.Prelude.{◌≡◌, ◌+◌, ◌%◌, ◌≤◌, ◌<◌, ◌^◌, ◌++◌, ℕ, List, [], ◌∷◌, length, true, false, IsSome, IfSome, IfOk, OnOk, OnErr};
 ghost use Rattle.mdf_format.specs.Cause.{Rose, HasCause};
-ghost use Rattle.mdf_disk.specs.Crash.{Adds, NowHas, HoldsSince};
+ghost use Rattle.mdf_disk.specs.Crash.{Adds, HoldsSince};
 ghost use Rattle.mdf_disk.specs.Goes.{GoesOn};
 ghost use Rattle.mdf_seal.specs.Seal.{IsBlank, IsKept, synced};
 ghost use Rattle.mdf_seal.specs.Images.{IsUnopened};

@@ -59,13 +59,13 @@ invariant_of-self-2 g c =
         later = omega (arith, c.self.invariant.1.later, c.write.ensures.cause.later);
         cause = λ failed. absurd (cc failed);
         form_is = λ still. form_on_after Failed (Ok tt) (g.D.Disk.story file.disk) (g.D.Disk.content file.disk) (g.D.Disk.content c.write.new.disk) file.first rests.0
-            file.place file.form file.offset body rests.1 (c.self.invariant.1.form_is going) c.in_ok-write.ensures.content;
+            file.place file.form file.offset body rests.1 (c.self.invariant.1.form_is going) c.in_ok-write.ensures.ok.content;
         rests = λ still. (
           rests.0 ++ body ∷ [],
           subst (λ (n : ℕ). RestsOn (g.D.Disk.content c.write.new.disk) (g.D.Disk.story c.write.new.disk) file.first (rests.0 ++ body ∷ []) (file.place + n)) (sym room)
               (rests_on_after Failed (Ok tt) (g.D.Disk.story file.disk) (g.D.Disk.story c.write.new.disk) (g.D.Disk.content file.disk) (g.D.Disk.content c.write.new.disk) _ file.first rests.0
               file.place file.form file.offset body (g.met.D.Disk.agrees file.disk) rests.1 (c.self.invariant.1.form_is going) c.self.invariant.1.on_eight small
-              c.write.ensures.goes_on.told_content c.write.ensures.goes_on.told c.in_ok-write.ensures.ok),
+              c.write.ensures.goes_on.told_content c.write.ensures.goes_on.told c.in_ok-write.ensures.ok.kept),
         );
       },
     )
@@ -110,13 +110,13 @@ returns-clause-ok g c = rw (← c.self.view_is) (
       going = refl;
       place = ap (λ (n : ℕ). file.place + n) room;
       offset = ap (λ (n : ℕ). file.offset + n) added;
-      content = c.in_ok-write.ensures.content;
+      content = c.in_ok-write.ensures.ok.content;
       rests = λ blocks rests.
           subst (λ (n : ℕ). RestsOn (g.D.Disk.content c.write.new.disk) (g.D.Disk.story c.write.new.disk) file.first (blocks ++ body ∷ []) (file.place + n)) (sym room)
           (rests_on_after Failed (Ok tt) (g.D.Disk.story file.disk) (g.D.Disk.story c.write.new.disk) (g.D.Disk.content file.disk) (g.D.Disk.content c.write.new.disk) _ file.first blocks
           file.place file.form file.offset body (g.met.D.Disk.agrees file.disk) rests (c.self.invariant.1.form_is going) c.self.invariant.1.on_eight small
-          c.write.ensures.goes_on.told_content c.write.ensures.goes_on.told c.in_ok-write.ensures.ok);
-      calls = c.in_ok-write.ensures.calls;
+          c.write.ensures.goes_on.told_content c.write.ensures.goes_on.told c.in_ok-write.ensures.ok.kept);
+      calls = c.in_ok-write.ensures.ok.calls;
       empty = c.clear.ensures.bytes;
     })
 
@@ -146,7 +146,7 @@ returns-in_err-write-clause-err g c = rw (← c.self.view_is) (
       place = refl;
       kept = ap (λ (b : Buffered). b.bytes) c.write.ensures.same;
       staged = staged_after (story file.disk) (story c.write.new.disk) content _ file.first rests.0 file.place (payload_of file.form file.place file.offset body)
-          agrees rests.1 c.in_err-write.ensures.staged;
-      in_flight = c.in_err-write.ensures.in_flight kept.0 kept.1;
+          agrees rests.1 c.in_err-write.ensures.err.staged;
+      in_flight = c.in_err-write.ensures.err.in_flight kept.0 kept.1;
     } in
     on_err _ _ cut)
