@@ -1,14 +1,16 @@
 -- The two writes of a block: the payload behind the last gate of a file, and that gate.
-use Rattle.std.proofs.Common.{◌≡◌, inl, inr, ℕ, ◌+◌, ◌≤◌, List, [], ◌∷◌, ◌++◌, length, take, drop, get_or, Option, Some, None, Result, Ok, Err, sym, ◌∙◌, ap, subst, arith, take-append-drop, append_assoc, length-append}
+use Rattle.std.proofs.Common.{◌≡◌, inl, inr, ℕ, ◌+◌, ◌≤◌, List, [], ◌∷◌, ◌++◌, length, take, drop, get_or, Option, Some, None, is_some, Result, Ok, Err, sym, ◌∙◌, ap, subst, arith, take-append-drop, append_assoc, length-append}
 use Rattle.std.specs.Prelude.{IfSome, OnOk, OnErr}
 use Rattle.std.specs.Option.{option_map}
 use Rattle.std.proofs.lemmas.List.{take_all, drop_all, drop_more, append-nil, length-take-le}
 use Rattle.mdf_format.specs.Number.{patched}
 use Rattle.mdf_disk.specs.Story.{Moment, Story, settled}
 use Rattle.mdf_disk.specs.Crash.{NowHas}
-use Rattle.mdf_seal.specs.Seal.{synced}
+use Rattle.mdf_disk.specs.declared.disk.Disk.{Ghosts}
+use Rattle.mdf_seal.specs.Seal.{IsKept, synced}
 use Rattle.mdf_gate.specs.Written.{opened_at}
 use Rattle.mdf_gate.specs.Images.{IsTorn, IsStage, IsStaged}
+use Rattle.mdf_gate.specs.Appended.{HasOpened, HasStaged}
 use Rattle.mdf_gate.proofs.Left.{left_behind, left_one, patched_gate}
 
 -- two facts about a success make a third
@@ -102,3 +104,29 @@ still_within place payload (Some file) mid ends first =
     let all = length-append (take (place + 1) file ++ payload) rest in
     let within : place ≤ length (patched (place + 1) payload file) = omega (arith, front, all, length-append (take (place + 1) file) payload) in
     subst (λ c. IfSome c (λ file. place ≤ length file)) (sym first) within
+
+-- the clock after both writes
+pub rises_twice : (old mid : Option Story) (before between now : ℕ) → is_some mid ≡ is_some old → IfSome old (λ _. between ≡ before + 2)
+    → IfSome mid (λ _. now ≡ between + 2) → IfSome old (λ _. now ≡ before + 4)
+rises_twice None mid before between now told first second = tt
+rises_twice (Some s) None before between now told first second = absurd (cc told)
+rises_twice (Some s) (Some t) before between now told first second = omega (arith, first, second)
+
+-- what is known of each file that was kept, as one fact of the call that came last
+pub has_opened : {D T E : Type 0} (tells : Ghosts D) (place : ℕ) (payload : List ℕ) (old new : D) (result : Result T E)
+    → ((file : List ℕ) → IsKept (tells.content old) (tells.story old) file → length file ≡ place + 1
+    → OnOk result (IsKept (tells.content new) (tells.story new) (opened_at place payload file)))
+    → OnOk result (tells.content new ≡ option_map (opened_at place payload) (tells.content old))
+    → OnOk result (IfSome (tells.story old) (λ _. tells.moment new ≡ tells.moment old + 4))
+    → OnOk result (HasOpened tells place payload old new)
+has_opened tells place payload old new (Ok done) kept content calls = record { kept = kept; content = content; calls = calls }
+has_opened tells place payload old new (Err e) kept content calls = tt
+
+pub has_staged : {D T E : Type 0} (tells : Ghosts D) (place : ℕ) (payload : List ℕ) (old new : D) (result : Result T E)
+    → ((file : List ℕ) → IsKept (tells.content old) (tells.story old) file → length file ≡ place + 1
+    → OnErr result (IfSome (synced (tells.story new)) (IsStaged file payload)))
+    → ((file : List ℕ) → IsKept (tells.content old) (tells.story old) file
+    → OnErr result (NowHas (tells.story new) (λ moment. length moment.writes ≤ 1)))
+    → OnErr result (HasStaged tells place payload old new)
+has_staged tells place payload old new (Ok done) staged in_flight = tt
+has_staged tells place payload old new (Err e) staged in_flight = record { staged = staged; in_flight = in_flight }

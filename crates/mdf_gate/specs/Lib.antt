@@ -7,4 +7,5 @@ pub mod Scan
 pub mod Fault
 pub mod Gated
 pub mod Images
+pub mod Appended
 pub mod Carried

@@ -1,18 +1,19 @@
-ghost use Rattle.std.specs.Prelude.{◌≡◌, ◌+◌, ◌-◌, ◌≤◌, ◌<◌, ◌^◌, ◌↔◌, ℕ, List, [], ◌∷◌, ◌++◌, length, take, drop, true, is_some, All, IsTrue, IfSome, IfOk, OnOk, OnErr};
-ghost use Rattle.std.specs.Option.{option_map};
+ghost use Rattle.std.specs.Prelude.{◌≡◌, ◌+◌, ◌-◌, ◌≤◌, ◌<◌, ◌^◌, ◌↔◌, ℕ, List, [], ◌∷◌, ◌++◌, length, take, drop, true, All, IsTrue, IfSome, IfOk, OnOk, OnErr};
 ghost use Rattle.mdf_format.specs.Number.{bytes_at, patched};
 ghost use Rattle.mdf_format.specs.Cause.{HasCause};
-ghost use Rattle.mdf_disk.specs.Crash.{Adds, NowHas};
+ghost use Rattle.mdf_disk.specs.Crash.{Adds};
+ghost use Rattle.mdf_disk.specs.Goes.{GoesOn};
 ghost use Rattle.mdf_layout.specs.Written.{AreApart};
 ghost use Rattle.mdf_layout.specs.Stored.{IsStored};
 ghost use Rattle.mdf_layout.specs.Record.{SampleFits, encoded_size};
 ghost use Rattle.mdf_layout.specs.Behind.{first_id, IsEncodingBehind};
 ghost use Rattle.mdf_layout.specs.Next.{AreNext};
 ghost use Rattle.mdf_layout.specs.declared.sample.Sample.{Sample};
-ghost use Rattle.mdf_seal.specs.Seal.{IsKept, synced};
+ghost use Rattle.mdf_seal.specs.Seal.{IsKept};
 ghost use Rattle.mdf_format.specs.Form.{lead};
-ghost use Rattle.mdf_gate.specs.Written.{block_header, lead_bytes, list_block, opened_at, payload_of, room_of};
-ghost use Rattle.mdf_gate.specs.Images.{IsStage, IsStaged};
+ghost use Rattle.mdf_gate.specs.Written.{block_header, lead_bytes, list_block, payload_of, room_of};
+ghost use Rattle.mdf_gate.specs.Images.{IsStage};
+ghost use Rattle.mdf_gate.specs.Appended.{HasOpened, HasStaged};
 
 use crate::stage::write_block;
 use mdf_disk::Disk;
@@ -227,23 +228,13 @@ impl Block {
         requires small { place < 2 ^ 62 }
         requires ends { IfSome (D.content disk.old) (λ file. length file ≡ place + 1) }
         ensures same { self.new ≡ self.old }
-        ensures ok { (kept : List ℕ) → IsKept (D.content disk.old) (D.story disk.old) kept → length kept ≡ place + 1
-            → OnOk result (IsKept (D.content disk.new) (D.story disk.new) (take place kept ++ 35 ∷ payload_of form place offset self.old.bytes)) }
-        ensures content { OnOk result (D.content disk.new ≡ option_map (opened_at place (payload_of form place offset self.old.bytes)) (D.content disk.old)) }
+        ensures ok { OnOk result (HasOpened D.Disk place (payload_of form place offset self.old.bytes) disk.old disk.new) }
+        ensures err { OnErr result (HasStaged D.Disk place (payload_of form place offset self.old.bytes) disk.old disk.new) }
         ensures any_moment { (kept : List ℕ) → IsKept (D.content disk.old) (D.story disk.old) kept → length kept ≡ place + 1
             → Adds (D.story disk.old) (D.story disk.new) (IsStage place kept (payload_of form place offset self.old.bytes)) }
-        ensures staged { (kept : List ℕ) → IsKept (D.content disk.old) (D.story disk.old) kept → length kept ≡ place + 1
-            → OnErr result (IfSome (synced (D.story disk.new)) (IsStaged kept (payload_of form place offset self.old.bytes))) }
-        ensures in_flight { (kept : List ℕ) → IsKept (D.content disk.old) (D.story disk.old) kept
-            → OnErr result (NowHas (D.story disk.new) (λ moment. length moment.writes ≤ 1)) }
-        ensures told { is_some (D.story disk.new) ≡ is_some (D.story disk.old) }
-        ensures told_content { is_some (D.content disk.new) ≡ is_some (D.content disk.old) }
-        ensures moment { D.moment disk.old ≤ D.moment disk.new }
-        ensures calls { OnOk result (IfSome (D.story disk.old) (λ _. D.moment disk.new ≡ D.moment disk.old + 4)) }
+        ensures goes_on { GoesOn D.Disk disk.old disk.new }
         ensures few { IfSome (D.story disk.old) (λ _. D.moment disk.new ≤ D.moment disk.old + 4) }
         ensures cause { HasCause (D.faults disk.old) (D.faults disk.new) result }
-        ensures asked { D.asked disk.new ≡ D.asked disk.old }
-        ensures attached { D.attached disk.new ≡ D.attached disk.old }
     {
         let begin = LEAD - form.lead() as usize;
         let end = LEAD + align8(24 + u64::from(self.used)) as usize;

@@ -1,13 +1,14 @@
-ghost use Rattle.std.specs.Prelude.{◌≡◌, ◌+◌, ◌%◌, ◌≤◌, ◌<◌, ◌^◌, ◌++◌, ℕ, List, [], ◌∷◌, length, is_some, true, false, IsSome, IfSome, IfOk, OnOk, OnErr};
-ghost use Rattle.std.specs.Option.{option_map};
+ghost use Rattle.std.specs.Prelude.{◌≡◌, ◌+◌, ◌%◌, ◌≤◌, ◌<◌, ◌^◌, ◌++◌, ℕ, List, [], ◌∷◌, length, true, false, IsSome, IfSome, IfOk, OnOk, OnErr};
 ghost use Rattle.mdf_format.specs.Cause.{Rose, HasCause};
-ghost use Rattle.mdf_disk.specs.Crash.{Adds, NowHas, HoldsSince};
+ghost use Rattle.mdf_disk.specs.Crash.{Adds, HoldsSince};
+ghost use Rattle.mdf_disk.specs.Goes.{GoesOn};
 ghost use Rattle.mdf_seal.specs.Seal.{IsBlank, IsKept, synced};
 ghost use Rattle.mdf_seal.specs.Images.{IsUnopened};
 ghost use Rattle.mdf_format.specs.Form.{form_of};
-ghost use Rattle.mdf_gate.specs.Written.{opened_at, payload_of, room_of};
+ghost use Rattle.mdf_gate.specs.Written.{room_of};
 ghost use Rattle.mdf_gate.specs.Gated.{IsRecordingHead, RestsOn, disk_of};
-ghost use Rattle.mdf_gate.specs.Images.{head_of, Opens, OpensEither, IsBegun, IsStaged};
+ghost use Rattle.mdf_gate.specs.Images.{head_of, Opens, OpensEither, IsBegun};
+ghost use Rattle.mdf_gate.specs.Appended.{FileGoesOn, IsAppended, IsCutShort, StartsFrom};
 
 use crate::Block;
 use crate::recording::form_of;
@@ -52,11 +53,7 @@ fn write_head<D: Disk>(disk: &mut D, head: &[u8]) -> Result<(), Failed>
     ensures unopened { OnErr result (IfSome (synced (D.story disk.new)) (IsUnopened (head.now ++ 0 ∷ []))) }
     ensures calls { IfSome (D.story disk.old) (λ _. D.moment disk.new ≤ D.moment disk.old + 7) }
     ensures cause { HasCause (D.faults disk.old) (D.faults disk.new) result }
-    ensures asked { D.asked disk.new ≡ D.asked disk.old }
-    ensures attached { D.attached disk.new ≡ D.attached disk.old }
-    ensures moment { D.moment disk.old ≤ D.moment disk.new }
-    ensures told { is_some (D.story disk.new) ≡ is_some (D.story disk.old) }
-    ensures told_content { is_some (D.content disk.new) ≡ is_some (D.content disk.old) }
+    ensures goes_on { GoesOn D.Disk disk.old disk.new }
 {
     let mut seal = Sealed::begin(disk)?;
     seal.give(disk, head)?;
@@ -77,26 +74,12 @@ impl<D: Disk> GatedFile<D> {
         requires blank { IsBlank (D.content disk) (D.story disk) }
         requires head { IsRecordingHead head.now }
         requires short { length head.now < 2 ^ 61 }
-        ensures rests { IfOk result (λ file. RestsOn (D.content file.disk) (D.story file.disk) file.first [] file.place) }
-        ensures form { IfOk result (λ file. file.form ≡ form_of head.now) }
-        ensures first { IfOk result (λ file. file.first ≡ length head.now) }
-        ensures place { IfOk result (λ file. file.place ≡ length head.now) }
-        ensures offset { IfOk result (λ file. file.offset ≡ 0) }
-        ensures start { IfOk result (λ file. file.start ≡ D.moment disk) }
-        ensures faults { IfOk result (λ file. file.faults ≡ D.faults disk) }
-        ensures going { IfOk result (λ file. file.failed ≡ false) }
-        ensures content { IfOk result (λ file. IfSome (D.content file.disk) (λ bytes. bytes ≡ head.now ++ 0 ∷ [])) }
-        ensures head { IfOk result (λ file. IfSome (D.story file.disk) (λ _. head_of (D.story file.disk) file.first ≡ head.now)) }
-        ensures any_moment { Adds (D.story disk) (D.story (disk_of result)) (IsBegun head.now) }
+        ensures created { IfOk result (StartsFrom D.Disk disk head.now) }
         ensures unopened { OnErr result (IfSome (synced (D.story (disk_of result))) (IsUnopened (head.now ++ 0 ∷ []))) }
+        ensures any_moment { Adds (D.story disk) (D.story (disk_of result)) (IsBegun head.now) }
         ensures calls { IfSome (D.story disk) (λ _. D.moment (disk_of result) ≤ D.moment disk + 7) }
-        ensures begun { IfOk result (λ file. HoldsSince (D.story file.disk) file.start (IsBegun (head_of (D.story file.disk) file.first))) }
+        ensures goes_on { GoesOn D.Disk disk (disk_of result) }
         ensures cause { HasCause (D.faults disk) (D.faults (disk_of result)) result }
-        ensures asked { D.asked (disk_of result) ≡ D.asked disk }
-        ensures attached { D.attached (disk_of result) ≡ true }
-        ensures moment { D.moment disk ≤ D.moment (disk_of result) }
-        ensures told { is_some (D.story (disk_of result)) ≡ is_some (D.story disk) }
-        ensures told_content { is_some (D.content (disk_of result)) ≡ is_some (D.content disk) }
     {
         let start = disk.moment();
         let faults = disk.faults();
@@ -129,38 +112,14 @@ impl<D: Disk> GatedFile<D> {
         requires going { self.old.failed ≡ false }
         requires some { 1 ≤ length block.old.bytes }
         requires short { self.old.place + length block.old.bytes + 88 < 2 ^ 62 }
-        ensures rests { (blocks : List (List ℕ)) → RestsOn (D.content self.old.disk) (D.story self.old.disk) self.old.first blocks self.old.place
-            → OnOk result (RestsOn (D.content self.new.disk) (D.story self.new.disk) self.new.first (blocks ++ block.old.bytes ∷ []) self.new.place) }
-        ensures content { OnOk result (D.content self.new.disk
-            ≡ option_map (opened_at self.old.place (payload_of self.old.form self.old.place self.old.offset block.old.bytes)) (D.content self.old.disk)) }
+        ensures ok { OnOk result (IsAppended D.Disk self.old self.new block.old block.new) }
+        ensures err { OnErr result (IsCutShort D.Disk self.old self.new block.old block.new) }
         ensures any_moment { (blocks : List (List ℕ)) → RestsOn (D.content self.old.disk) (D.story self.old.disk) self.old.first blocks self.old.place
             → Adds (D.story self.old.disk) (D.story self.new.disk) (OpensEither (head_of (D.story self.old.disk) self.old.first) blocks block.old.bytes
             (self.old.place + room_of self.old.form (length block.old.bytes))) }
-        ensures head { head_of (D.story self.new.disk) self.new.first ≡ head_of (D.story self.old.disk) self.old.first }
-        ensures place { OnOk result (self.new.place ≡ self.old.place + room_of self.old.form (length block.old.bytes)) }
-        ensures offset { OnOk result (self.new.offset ≡ self.old.offset + length block.old.bytes) }
-        ensures going { OnOk result (self.new.failed ≡ false) }
-        ensures failed { OnErr result (self.new.failed ≡ true) }
-        ensures emptied { OnOk result (block.new.bytes ≡ []) }
-        ensures left { OnErr result (block.new.bytes ≡ block.old.bytes) }
+        ensures goes_on { FileGoesOn D.Disk self.old self.new }
         ensures limit { block.new.limit ≡ block.old.limit }
-        ensures form { self.new.form ≡ self.old.form }
-        ensures first { self.new.first ≡ self.old.first }
-        ensures start { self.new.start ≡ self.old.start }
-        ensures faults { self.new.faults ≡ self.old.faults }
-        ensures told { is_some (D.story self.new.disk) ≡ is_some (D.story self.old.disk) }
-        ensures told_content { is_some (D.content self.new.disk) ≡ is_some (D.content self.old.disk) }
-        ensures moment { D.moment self.old.disk ≤ D.moment self.new.disk }
-        ensures rises { OnOk result (IfSome (D.story self.old.disk) (λ _. D.moment self.old.disk < D.moment self.new.disk)) }
-        ensures calls { OnOk result (IfSome (D.story self.old.disk) (λ _. D.moment self.new.disk ≡ D.moment self.old.disk + 4)) }
-        ensures few { IfSome (D.story self.old.disk) (λ _. D.moment self.new.disk ≤ D.moment self.old.disk + 4) }
-        ensures staged { OnErr result (IfSome (D.content self.old.disk) (λ file. IfSome (synced (D.story self.new.disk))
-            (IsStaged file (payload_of self.old.form self.old.place self.old.offset block.old.bytes)))) }
-        ensures in_flight { OnErr result (NowHas (D.story self.new.disk) (λ moment. length moment.writes ≤ 1)) }
-        ensures stays { OnErr result (self.new.place ≡ self.old.place) }
         ensures cause { HasCause (D.faults self.old.disk) (D.faults self.new.disk) result }
-        ensures asked { D.asked self.new.disk ≡ D.asked self.old.disk }
-        ensures attached { D.attached self.new.disk ≡ D.attached self.old.disk }
     {
         self.failed = true;
         block.write(&mut self.disk, self.form, self.place, self.offset)?;

@@ -1,12 +1,13 @@
-ghost use Rattle.std.specs.Prelude.{◌≡◌, ◌+◌, ◌≤◌, ◌<◌, ◌^◌, ◌++◌, ℕ, List, ◌∷◌, length, take, true, is_some, IfSome, OnOk, OnErr};
+ghost use Rattle.std.specs.Prelude.{◌≡◌, ◌+◌, ◌≤◌, ◌<◌, ◌^◌, ℕ, List, length, true, IfSome, OnOk, OnErr};
 ghost use Rattle.std.specs.Option.{option_map};
 ghost use Rattle.mdf_format.specs.Number.{patched};
 ghost use Rattle.mdf_format.specs.Cause.{HasCause};
 ghost use Rattle.mdf_disk.specs.Story.{settled};
 ghost use Rattle.mdf_disk.specs.Crash.{Adds, NowHas};
+ghost use Rattle.mdf_disk.specs.Goes.{GoesOn};
 ghost use Rattle.mdf_seal.specs.Seal.{IsKept, synced};
-ghost use Rattle.mdf_gate.specs.Written.{opened_at};
-ghost use Rattle.mdf_gate.specs.Images.{IsTorn, IsStage, IsStaged};
+ghost use Rattle.mdf_gate.specs.Images.{IsTorn, IsStage};
+ghost use Rattle.mdf_gate.specs.Appended.{HasOpened, HasStaged};
 
 use mdf_disk::Disk;
 use mdf_num::Failed;
@@ -23,14 +24,10 @@ fn write_and_sync<D: Disk>(disk: &mut D, at: u64, bytes: &[u8]) -> Result<(), Fa
     ensures unsynced { OnErr result (synced (D.story disk.new) ≡ synced (D.story disk.old)) }
     ensures in_flight { (kept : List ℕ) → NowHas (D.story disk.old) (λ moment. moment ≡ settled kept)
         → OnErr result (NowHas (D.story disk.new) (λ moment. length moment.writes ≤ 1)) }
-    ensures told { is_some (D.story disk.new) ≡ is_some (D.story disk.old) }
-    ensures told_content { is_some (D.content disk.new) ≡ is_some (D.content disk.old) }
-    ensures moment { D.moment disk.old ≤ D.moment disk.new }
+    ensures goes_on { GoesOn D.Disk disk.old disk.new }
     ensures calls { OnOk result (IfSome (D.story disk.old) (λ _. D.moment disk.new ≡ D.moment disk.old + 2)) }
     ensures few { IfSome (D.story disk.old) (λ _. D.moment disk.new ≤ D.moment disk.old + 2) }
     ensures cause { HasCause (D.faults disk.old) (D.faults disk.new) result }
-    ensures asked { D.asked disk.new ≡ D.asked disk.old }
-    ensures attached { D.attached disk.new ≡ D.attached disk.old }
 {
     disk.write_at(at, bytes)?;
     disk.sync()
@@ -41,23 +38,13 @@ pub fn write_block<D: Disk>(disk: &mut D, place: u64, payload: &[u8]) -> Result<
     requires attached { D.attached disk.old ≡ true }
     requires small { place < 2 ^ 62 }
     requires ends { IfSome (D.content disk.old) (λ file. length file ≡ place + 1) }
-    ensures ok { (kept : List ℕ) → IsKept (D.content disk.old) (D.story disk.old) kept → length kept ≡ place + 1
-        → OnOk result (IsKept (D.content disk.new) (D.story disk.new) (take place kept ++ 35 ∷ payload.now)) }
-    ensures content { OnOk result (D.content disk.new ≡ option_map (opened_at place payload.now) (D.content disk.old)) }
+    ensures ok { OnOk result (HasOpened D.Disk place payload.now disk.old disk.new) }
+    ensures err { OnErr result (HasStaged D.Disk place payload.now disk.old disk.new) }
     ensures any_moment { (kept : List ℕ) → IsKept (D.content disk.old) (D.story disk.old) kept → length kept ≡ place + 1
         → Adds (D.story disk.old) (D.story disk.new) (IsStage place kept payload.now) }
-    ensures staged { (kept : List ℕ) → IsKept (D.content disk.old) (D.story disk.old) kept → length kept ≡ place + 1
-        → OnErr result (IfSome (synced (D.story disk.new)) (IsStaged kept payload.now)) }
-    ensures in_flight { (kept : List ℕ) → IsKept (D.content disk.old) (D.story disk.old) kept
-        → OnErr result (NowHas (D.story disk.new) (λ moment. length moment.writes ≤ 1)) }
-    ensures told { is_some (D.story disk.new) ≡ is_some (D.story disk.old) }
-    ensures told_content { is_some (D.content disk.new) ≡ is_some (D.content disk.old) }
-    ensures moment { D.moment disk.old ≤ D.moment disk.new }
-    ensures calls { OnOk result (IfSome (D.story disk.old) (λ _. D.moment disk.new ≡ D.moment disk.old + 4)) }
+    ensures goes_on { GoesOn D.Disk disk.old disk.new }
     ensures few { IfSome (D.story disk.old) (λ _. D.moment disk.new ≤ D.moment disk.old + 4) }
     ensures cause { HasCause (D.faults disk.old) (D.faults disk.new) result }
-    ensures asked { D.asked disk.new ≡ D.asked disk.old }
-    ensures attached { D.attached disk.new ≡ D.attached disk.old }
 {
     // The payload, which holds the closed gate of the next place, has to be kept before this gate is opened.
     write_and_sync(disk, place + 1, payload)?;

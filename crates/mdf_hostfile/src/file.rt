@@ -2,6 +2,7 @@ ghost use Rattle.std.specs.Prelude.{◌≡◌, ◌↔◌, ◌<◌, ◌≤◌, �
 ghost use Rattle.std.specs.Option.{option_map};
 ghost use Rattle.mdf_format.specs.Number.{bytes_at};
 ghost use Rattle.mdf_format.specs.Cause.{HasCause};
+ghost use Rattle.mdf_disk.specs.Stays.{Stays};
 ghost use Rattle.mdf_disk.specs.Calls.{Attaches, Patches, Writes, Keeps, Syncs};
 ghost use Rattle.mdf_hostfile.specs.Call.{Opens, answer};
 ghost use Rattle.mdf_hostfile.specs.Call.FileCall.{Size, ReadAt, WriteAll, SyncData};
@@ -135,11 +136,9 @@ impl<S: FileCalls> Disk for FileDisk<S> {
     fn size(&mut self) -> Result<u64, Failed>
         requires { ⟦<FileDisk<S> as Disk>⟧.attached self.old ≡ true }
         ensures size { IfOk result (λ n. IfSome (⟦<FileDisk<S> as Disk>⟧.content self.old) (λ file. n ≡ length file)) }
-        ensures asked { ⟦<FileDisk<S> as Disk>⟧.asked self.new ≡ ⟦<FileDisk<S> as Disk>⟧.asked self.old }
-        ensures attached { ⟦<FileDisk<S> as Disk>⟧.attached self.new ≡ ⟦<FileDisk<S> as Disk>⟧.attached self.old }
+        ensures stays { Stays ⟦<FileDisk<S> as Disk>⟧.asked ⟦<FileDisk<S> as Disk>⟧.attached ⟦<FileDisk<S> as Disk>⟧.moment self.old self.new }
         ensures content { ⟦<FileDisk<S> as Disk>⟧.content self.new ≡ ⟦<FileDisk<S> as Disk>⟧.content self.old }
         ensures story { ⟦<FileDisk<S> as Disk>⟧.story self.new ≡ ⟦<FileDisk<S> as Disk>⟧.story self.old }
-        ensures moment { ⟦<FileDisk<S> as Disk>⟧.moment self.old ≤ ⟦<FileDisk<S> as Disk>⟧.moment self.new }
         ensures cause { HasCause (⟦<FileDisk<S> as Disk>⟧.faults self.old) (⟦<FileDisk<S> as Disk>⟧.faults self.new) result }
         ensures calm { OnOk result (⟦<FileDisk<S> as Disk>⟧.faults self.new ≡ ⟦<FileDisk<S> as Disk>⟧.faults self.old) }
         ensures made { S.makes (system_of self.old) (Size (answer result)) (system_of self.new) }
@@ -153,11 +152,9 @@ impl<S: FileCalls> Disk for FileDisk<S> {
         requires attached { ⟦<FileDisk<S> as Disk>⟧.attached self.old ≡ true }
         requires within { IfSome (⟦<FileDisk<S> as Disk>⟧.content self.old) (λ file. at + length buf.old ≤ length file) }
         ensures bytes { OnOk result (IfSome (⟦<FileDisk<S> as Disk>⟧.content self.old) (λ file. buf.new ≡ bytes_at (length buf.old) file at)) }
-        ensures asked { ⟦<FileDisk<S> as Disk>⟧.asked self.new ≡ ⟦<FileDisk<S> as Disk>⟧.asked self.old }
-        ensures attached { ⟦<FileDisk<S> as Disk>⟧.attached self.new ≡ ⟦<FileDisk<S> as Disk>⟧.attached self.old }
+        ensures stays { Stays ⟦<FileDisk<S> as Disk>⟧.asked ⟦<FileDisk<S> as Disk>⟧.attached ⟦<FileDisk<S> as Disk>⟧.moment self.old self.new }
         ensures content { ⟦<FileDisk<S> as Disk>⟧.content self.new ≡ ⟦<FileDisk<S> as Disk>⟧.content self.old }
         ensures story { ⟦<FileDisk<S> as Disk>⟧.story self.new ≡ ⟦<FileDisk<S> as Disk>⟧.story self.old }
-        ensures moment { ⟦<FileDisk<S> as Disk>⟧.moment self.old ≤ ⟦<FileDisk<S> as Disk>⟧.moment self.new }
         ensures cause { HasCause (⟦<FileDisk<S> as Disk>⟧.faults self.old) (⟦<FileDisk<S> as Disk>⟧.faults self.new) result }
         ensures calm { OnOk result (⟦<FileDisk<S> as Disk>⟧.faults self.new ≡ ⟦<FileDisk<S> as Disk>⟧.faults self.old) }
         ensures made { S.makes (system_of self.old) (ReadAt at buf.new (is_ok result)) (system_of self.new) }
@@ -170,11 +167,9 @@ impl<S: FileCalls> Disk for FileDisk<S> {
     fn write_at(&mut self, at: u64, bytes: &[u8]) -> Result<(), Failed>
         requires attached { ⟦<FileDisk<S> as Disk>⟧.attached self.old ≡ true }
         requires within { IfSome (⟦<FileDisk<S> as Disk>⟧.content self.old) (λ file. at ≤ length file) }
-        ensures asked { ⟦<FileDisk<S> as Disk>⟧.asked self.new ≡ ⟦<FileDisk<S> as Disk>⟧.asked self.old }
-        ensures attached { ⟦<FileDisk<S> as Disk>⟧.attached self.new ≡ ⟦<FileDisk<S> as Disk>⟧.attached self.old }
+        ensures stays { Stays ⟦<FileDisk<S> as Disk>⟧.asked ⟦<FileDisk<S> as Disk>⟧.attached ⟦<FileDisk<S> as Disk>⟧.moment self.old self.new }
         ensures content { Patches (⟦<FileDisk<S> as Disk>⟧.content self.old) (⟦<FileDisk<S> as Disk>⟧.content self.new) at bytes.now result }
         ensures story { Writes (⟦<FileDisk<S> as Disk>⟧.story self.old) (⟦<FileDisk<S> as Disk>⟧.story self.new) at bytes.now result }
-        ensures moment { ⟦<FileDisk<S> as Disk>⟧.moment self.old ≤ ⟦<FileDisk<S> as Disk>⟧.moment self.new }
         ensures cause { HasCause (⟦<FileDisk<S> as Disk>⟧.faults self.old) (⟦<FileDisk<S> as Disk>⟧.faults self.new) result }
         ensures calm { OnOk result (⟦<FileDisk<S> as Disk>⟧.faults self.new ≡ ⟦<FileDisk<S> as Disk>⟧.faults self.old) }
         ensures made { S.makes (system_of self.old) (WriteAll at bytes.now (is_ok result)) (system_of self.new) }
@@ -186,11 +181,9 @@ impl<S: FileCalls> Disk for FileDisk<S> {
 
     fn sync(&mut self) -> Result<(), Failed>
         requires { ⟦<FileDisk<S> as Disk>⟧.attached self.old ≡ true }
-        ensures asked { ⟦<FileDisk<S> as Disk>⟧.asked self.new ≡ ⟦<FileDisk<S> as Disk>⟧.asked self.old }
-        ensures attached { ⟦<FileDisk<S> as Disk>⟧.attached self.new ≡ ⟦<FileDisk<S> as Disk>⟧.attached self.old }
+        ensures stays { Stays ⟦<FileDisk<S> as Disk>⟧.asked ⟦<FileDisk<S> as Disk>⟧.attached ⟦<FileDisk<S> as Disk>⟧.moment self.old self.new }
         ensures content { Keeps (⟦<FileDisk<S> as Disk>⟧.content self.old) (⟦<FileDisk<S> as Disk>⟧.content self.new) result }
         ensures story { Syncs (⟦<FileDisk<S> as Disk>⟧.story self.old) (⟦<FileDisk<S> as Disk>⟧.story self.new) result }
-        ensures moment { ⟦<FileDisk<S> as Disk>⟧.moment self.old ≤ ⟦<FileDisk<S> as Disk>⟧.moment self.new }
         ensures cause { HasCause (⟦<FileDisk<S> as Disk>⟧.faults self.old) (⟦<FileDisk<S> as Disk>⟧.faults self.new) result }
         ensures calm { OnOk result (⟦<FileDisk<S> as Disk>⟧.faults self.new ≡ ⟦<FileDisk<S> as Disk>⟧.faults self.old) }
         ensures made { S.makes (system_of self.old) (SyncData (is_ok result)) (system_of self.new) }

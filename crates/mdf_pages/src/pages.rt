@@ -1,6 +1,7 @@
 ghost use Rattle.std.specs.Prelude.{◌≡◌, ◌+◌, ◌-◌, ◌*◌, ◌/◌, ◌%◌, ◌^◌, ◌≤◌, ◌<◌, ◌++◌, ℕ, List, [], true, false, min, length, take, drop, Some, IfOk, IfErr, OnOk, IsTrue};
 ghost use Rattle.std.proofs.Props.{props};
 ghost use Rattle.mdf_format.specs.Number.{le_number, bytes_at};
+ghost use Rattle.mdf_disk.specs.Goes.{OnlyRead};
 ghost use Rattle.mdf_num.specs.Halt.{StopCause};
 ghost use Rattle.mdf_num.specs.Span.{IsTold};
 ghost use Rattle.mdf_pages.specs.Page.{is_kept, first_page, ArePages, AreKept, AreOfOnePage, StillKept};
@@ -60,11 +61,7 @@ impl<D: Disk> Pages<D> {
         ensures cause { IfErr result (λ refused. ReadCause (D.faults disk) (D.faults refused.1) refused.0) }
         ensures calm { IfOk result (λ pages. D.faults (disk_of pages) ≡ D.faults disk) }
         ensures later { D.faults disk ≤ D.faults (disk_then result) }
-        ensures asked { D.asked (disk_then result) ≡ D.asked disk }
-        ensures attached { D.attached (disk_then result) ≡ true }
-        ensures content { D.content (disk_then result) ≡ D.content disk }
-        ensures story { D.story (disk_then result) ≡ D.story disk }
-        ensures moment { D.moment disk ≤ D.moment (disk_then result) }
+        ensures only_read { OnlyRead D.Disk disk (disk_then result) }
     {
         let Ok(cache) = Cache::new(alloc) else {
             return Err((Stop::Memory, disk));
@@ -110,10 +107,7 @@ impl<D: Disk> Pages<D> {
         ensures cause { StopCause true (D.faults self.old.disk) (D.faults self.new.disk) result }
         ensures reason { IfErr result (ReadCause (D.faults self.old.disk) (D.faults self.new.disk)) }
         ensures calm { OnOk result (D.faults self.new.disk ≡ D.faults self.old.disk) }
-        ensures asked { D.asked self.new.disk ≡ D.asked self.old.disk }
-        ensures content { D.content self.new.disk ≡ D.content self.old.disk }
-        ensures story { D.story self.new.disk ≡ D.story self.old.disk }
-        ensures moment { D.moment self.old.disk ≤ D.moment self.new.disk }
+        ensures only_read { OnlyRead D.Disk self.old.disk self.new.disk }
     {
         let room = self.cache.take_room(self.alloc);
         let bytes = read_page(self.alloc, &mut self.disk, self.size, page, room)?;
@@ -136,10 +130,7 @@ impl<D: Disk> Pages<D> {
         ensures cause { StopCause true (D.faults self.old.disk) (D.faults self.new.disk) result }
         ensures reason { IfErr result (ReadCause (D.faults self.old.disk) (D.faults self.new.disk)) }
         ensures calm { OnOk result (D.faults self.new.disk ≡ D.faults self.old.disk) }
-        ensures asked { D.asked self.new.disk ≡ D.asked self.old.disk }
-        ensures content { D.content self.new.disk ≡ D.content self.old.disk }
-        ensures story { D.story self.new.disk ≡ D.story self.old.disk }
-        ensures moment { D.moment self.old.disk ≤ D.moment self.new.disk }
+        ensures only_read { OnlyRead D.Disk self.old.disk self.new.disk }
     {
         if self.cache.touch(page) {
             return Ok(());
@@ -160,10 +151,7 @@ impl<D: Disk> Pages<D> {
         ensures cause { StopCause true (D.faults self.old.disk) (D.faults self.new.disk) result }
         ensures reason { IfErr result (ReadCause (D.faults self.old.disk) (D.faults self.new.disk)) }
         ensures calm { OnOk result (D.faults self.new.disk ≡ D.faults self.old.disk) }
-        ensures asked { D.asked self.new.disk ≡ D.asked self.old.disk }
-        ensures content { D.content self.new.disk ≡ D.content self.old.disk }
-        ensures story { D.story self.new.disk ≡ D.story self.old.disk }
-        ensures moment { D.moment self.old.disk ≤ D.moment self.new.disk }
+        ensures only_read { OnlyRead D.Disk self.old.disk self.new.disk }
     {
         if self.cache.is_first(page) {
             return Ok(());
@@ -187,10 +175,7 @@ impl<D: Disk> Pages<D> {
         ensures cause { StopCause true (D.faults self.old.disk) (D.faults self.new.disk) result }
         ensures reason { IfErr result (ReadCause (D.faults self.old.disk) (D.faults self.new.disk)) }
         ensures calm { OnOk result (D.faults self.new.disk ≡ D.faults self.old.disk) }
-        ensures asked { D.asked self.new.disk ≡ D.asked self.old.disk }
-        ensures content { D.content self.new.disk ≡ D.content self.old.disk }
-        ensures story { D.story self.new.disk ≡ D.story self.old.disk }
-        ensures moment { D.moment self.old.disk ≤ D.moment self.new.disk }
+        ensures only_read { OnlyRead D.Disk self.old.disk self.new.disk }
     {
         self.load(at / PAGE_LEN)?;
         Ok(copy_front(self.cache.first(), (at % PAGE_LEN) as usize, buf))
@@ -211,10 +196,7 @@ impl<D: Disk> Pages<D> {
         ensures cause { StopCause true (D.faults self.old.disk) (D.faults self.new.disk) result }
         ensures reason { IfErr result (ReadCause (D.faults self.old.disk) (D.faults self.new.disk)) }
         ensures calm { OnOk result (D.faults self.new.disk ≡ D.faults self.old.disk) }
-        ensures asked { D.asked self.new.disk ≡ D.asked self.old.disk }
-        ensures content { D.content self.new.disk ≡ D.content self.old.disk }
-        ensures story { D.story self.new.disk ≡ D.story self.old.disk }
-        ensures moment { D.moment self.old.disk ≤ D.moment self.new.disk }
+        ensures only_read { OnlyRead D.Disk self.old.disk self.new.disk }
     {
         let mut word = [0u8; 8];
         let part = &mut word[..count as usize];
@@ -253,11 +235,7 @@ impl<D: Disk> Span for Pages<D> {
         ensures few { length (kept_of self.new) ≤ 256 }
         ensures reason { IfErr result (ReadCause (D.faults (disk_of self.old)) (D.faults (disk_of self.new))) }
         ensures calm { OnOk result (D.faults (disk_of self.new) ≡ D.faults (disk_of self.old)) }
-        ensures asked { D.asked (disk_of self.new) ≡ D.asked (disk_of self.old) }
-        ensures attached { D.attached (disk_of self.new) ≡ true }
-        ensures content { D.content (disk_of self.new) ≡ D.content (disk_of self.old) }
-        ensures story { D.story (disk_of self.new) ≡ D.story (disk_of self.old) }
-        ensures moment { D.moment (disk_of self.old) ≤ D.moment (disk_of self.new) }
+        ensures only_read { OnlyRead D.Disk (disk_of self.old) (disk_of self.new) }
     {
         let mut done = 0;
         while done < buf.len() {
@@ -287,11 +265,7 @@ impl<D: Disk> Span for Pages<D> {
         ensures few { length (kept_of self.new) ≤ 256 }
         ensures reason { IfErr result (ReadCause (D.faults (disk_of self.old)) (D.faults (disk_of self.new))) }
         ensures calm { OnOk result (D.faults (disk_of self.new) ≡ D.faults (disk_of self.old)) }
-        ensures asked { D.asked (disk_of self.new) ≡ D.asked (disk_of self.old) }
-        ensures attached { D.attached (disk_of self.new) ≡ true }
-        ensures content { D.content (disk_of self.new) ≡ D.content (disk_of self.old) }
-        ensures story { D.story (disk_of self.new) ≡ D.story (disk_of self.old) }
-        ensures moment { D.moment (disk_of self.old) ≤ D.moment (disk_of self.new) }
+        ensures only_read { OnlyRead D.Disk (disk_of self.old) (disk_of self.new) }
     {
         let start = at % PAGE_LEN;
         if start + u64::from(count) > PAGE_LEN {

@@ -1,4 +1,5 @@
-ghost use Rattle.std.specs.Prelude.{◌≡◌, ◌*◌, ◌≤◌, ◌<◌, true, length, IfOk, IfErr, OnOk};
+ghost use Rattle.std.specs.Prelude.{◌≡◌, ◌*◌, ◌<◌, true, length, IfOk, IfErr, OnOk};
+ghost use Rattle.mdf_disk.specs.Goes.{OnlyRead};
 ghost use Rattle.mdf_num.specs.declared.halt.Stop.TheVariants.{Memory};
 ghost use Rattle.mdf_num.specs.Halt.{StopCause};
 ghost use Rattle.mdf_num.specs.Span.{IsTold};
@@ -43,11 +44,7 @@ pub(crate) fn read_page<D: Disk>(
     ensures cause { StopCause true (D.faults disk.old) (D.faults disk.new) result }
     ensures reason { IfErr result (ReadCause (D.faults disk.old) (D.faults disk.new)) }
     ensures calm { OnOk result (D.faults disk.new ≡ D.faults disk.old) }
-    ensures asked { D.asked disk.new ≡ D.asked disk.old }
-    ensures attached { D.attached disk.new ≡ D.attached disk.old }
-    ensures content { D.content disk.new ≡ D.content disk.old }
-    ensures story { D.story disk.new ≡ D.story disk.old }
-    ensures moment { D.moment disk.old ≤ D.moment disk.new }
+    ensures only_read { OnlyRead D.Disk disk.old disk.new }
 {
     let at = page * PAGE_LEN;
     let count = (size - at).min(PAGE_LEN);

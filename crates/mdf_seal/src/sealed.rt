@@ -1,4 +1,4 @@
-ghost use Rattle.std.specs.Prelude.{◌≡◌, ◌+◌, ◌≤◌, ◌<◌, ◌^◌, ◌++◌, ◌⊎◌, List, ℕ, [], ◌∷◌, length, None, true, is_some, IfSome, IfOk, OnOk, OnErr};
+ghost use Rattle.std.specs.Prelude.{◌≡◌, ◌+◌, ◌≤◌, ◌<◌, ◌^◌, ◌++◌, ◌⊎◌, List, ℕ, [], ◌∷◌, length, None, true, IfSome, IfOk, OnOk, OnErr};
 ghost use Rattle.std.specs.Option.{option_map};
 ghost use Rattle.mdf_format.specs.Cause.{HasCause};
 ghost use Rattle.mdf_disk.specs.Crash.{Adds, NowHas};

@@ -1,6 +1,7 @@
-ghost use Rattle.std.specs.Prelude.{◌≡◌, ◌+◌, ◌≤◌, length, true, is_some, IfSome};
+ghost use Rattle.std.specs.Prelude.{◌≡◌, ◌+◌, ◌≤◌, length, true, IfSome};
 ghost use Rattle.mdf_format.specs.Identification.{IsFinalized};
 ghost use Rattle.mdf_disk.specs.Crash.{Adds};
+ghost use Rattle.mdf_disk.specs.Goes.{GoesOn};
 ghost use Rattle.mdf_disk.specs.State.{state_of};
 ghost use Rattle.mdf_seal.specs.Seal.{IsBlank};
 ghost use Rattle.mdf_tool.specs.Tool.{IsToolImage, WriteEnds};
@@ -22,10 +23,7 @@ pub fn write_made<C: Disk>(out: &mut C, made: Made) -> Result<Report, ToolFault>
     ensures ends { WriteEnds made (state_of C.Disk out.old) (state_of C.Disk out.new) result }
     ensures any_moment { Adds (C.story out.old) (C.story out.new) (IsToolImage made.bytes) }
     ensures calls { IfSome (C.story out.old) (λ _. C.moment out.new ≤ C.moment out.old + (length made.bytes + 4)) }
-    ensures asked { C.asked out.new ≡ C.asked out.old }
-    ensures attached { C.attached out.new ≡ C.attached out.old }
-    ensures moment { C.moment out.old ≤ C.moment out.new }
-    ensures told { is_some (C.story out.new) ≡ is_some (C.story out.old) }
+    ensures goes_on { GoesOn C.Disk out.old out.new }
 {
     let Made { bytes, report } = made;
     write_sealed(out, &bytes)?;

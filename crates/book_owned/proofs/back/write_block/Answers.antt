@@ -1,26 +1,26 @@
-use Rattle.std.proofs.Common.{refl}
+use Rattle.std.proofs.Common.{refl, arith}
 use Rattle.book_owned.proofs.Backs.{back_keeps, back_holds, back_marked}
-use Rattle.book_owned.proofs.Turning.{rises_told}
+use Rattle.book_owned.proofs.Turning.{rises_told, told_on}
 use Rattle.book_owned.proofs.back.write_block.Goals as goal
 
 pub returns-in_default-clause-keeps : goal.returns-in_default-clause-keeps
 returns-in_default-clause-keeps g c = λ layouts most samples marks from keeps holds handed few.
     back_keeps g.D.Disk layouts most c.args.file.now c.append.new.self c.args.block.now samples from c.args.through c.requires.some handed holds
-    marks few keeps c.append.ensures.told c.append.ensures.any_moment c.append.ensures.moment c.append.ensures.head c.append.ensures.start
+    marks few keeps c.append.ensures.goes_on.disk.told c.append.ensures.any_moment c.append.ensures.goes_on.disk.moment c.append.ensures.goes_on.head c.append.ensures.goes_on.start
 
 pub returns-clause-keeps : goal.returns-clause-keeps
 returns-clause-keeps g c = λ layouts most samples marks from keeps holds handed few.
     back_keeps g.D.Disk layouts most c.args.file.now c.append.new.self c.args.block.now samples from c.args.through c.requires.some handed holds
-    marks few keeps c.append.ensures.told c.append.ensures.any_moment c.append.ensures.moment c.append.ensures.head c.append.ensures.start
+    marks few keeps c.append.ensures.goes_on.disk.told c.append.ensures.any_moment c.append.ensures.goes_on.disk.moment c.append.ensures.goes_on.head c.append.ensures.goes_on.start
 
 pub returns-clause-marked : goal.returns-clause-marked
 returns-clause-marked g c = λ layouts most samples marks from keeps holds handed few. (
   back_marked g.D.Disk layouts most c.args.file.now c.append.new.self c.args.block.now samples from c.args.through c.requires.some handed holds
-      marks few keeps c.append.ensures.told c.append.ensures.any_moment c.append.ensures.moment c.append.ensures.head c.append.ensures.start
-      c.in-Ok.ensures.going c.in-Ok.ensures.place c.in-Ok.ensures.rests
+      marks few keeps c.append.ensures.goes_on.disk.told c.append.ensures.any_moment c.append.ensures.goes_on.disk.moment c.append.ensures.goes_on.head c.append.ensures.goes_on.start
+      c.in-Ok.ensures.ok.going c.in-Ok.ensures.ok.place c.in-Ok.ensures.ok.rests
       (record { moment = c.moment.result; through = c.args.through }) c.moment.ensures.moment refl
-      (rises_told _ _ c.append.ensures.told _ c.in-Ok.ensures.rises) c.moment.ensures.leaves,
+      (rises_told _ _ c.append.ensures.goes_on.disk.told _ (told_on _ _ _ _ refl (λ four. omega (arith, four)) c.in-Ok.ensures.ok.calls)) c.moment.ensures.leaves,
   back_holds g.D.Disk layouts most c.args.file.now c.append.new.self c.args.block.now samples from c.args.through c.requires.some handed holds
-      marks few keeps c.append.ensures.told c.append.ensures.any_moment c.append.ensures.moment c.append.ensures.head c.append.ensures.start
-      c.in-Ok.ensures.going c.in-Ok.ensures.place c.in-Ok.ensures.rests,
+      marks few keeps c.append.ensures.goes_on.disk.told c.append.ensures.any_moment c.append.ensures.goes_on.disk.moment c.append.ensures.goes_on.head c.append.ensures.goes_on.start
+      c.in-Ok.ensures.ok.going c.in-Ok.ensures.ok.place c.in-Ok.ensures.ok.rests,
 )

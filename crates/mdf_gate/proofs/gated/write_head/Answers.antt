@@ -66,7 +66,7 @@ returns-in_err-give-clause-calls g c =
     let old = c.args.disk.now in
     let begun = c.begin.new.disk in
     let given = c.give.new.disk in
-    let given_by = rises_both (story old) (story begun) (moment old) (moment begun) (moment given) 2 1 c.begin.ensures.told c.begin.ensures.calls c.give.ensures.calls in
+    let given_by = rises_both (story old) (story begun) (moment old) (moment begun) (moment given) 2 1 c.begin.ensures.goes_on.told c.begin.ensures.calls c.give.ensures.calls in
     rises_more (story old) (moment old) (moment given) 3 7 (omega arith) given_by
 
 pub returns-in_err-give-2-clause-calls : goal.returns-in_err-give-2-clause-calls
@@ -77,8 +77,8 @@ returns-in_err-give-2-clause-calls g c =
     let begun = c.begin.new.disk in
     let given = c.give.new.disk in
     let gated = c.give-2.new.disk in
-    let given_by = rises_both (story old) (story begun) (moment old) (moment begun) (moment given) 2 1 c.begin.ensures.told c.begin.ensures.calls c.give.ensures.calls in
-    let gated_by = rises_both (story old) (story given) (moment old) (moment given) (moment gated) 3 1 (c.give.ensures.told ∙ c.begin.ensures.told) given_by c.give-2.ensures.calls in
+    let given_by = rises_both (story old) (story begun) (moment old) (moment begun) (moment given) 2 1 c.begin.ensures.goes_on.told c.begin.ensures.calls c.give.ensures.calls in
+    let gated_by = rises_both (story old) (story given) (moment old) (moment given) (moment gated) 3 1 (c.give.ensures.goes_on.told ∙ c.begin.ensures.goes_on.told) given_by c.give-2.ensures.calls in
     rises_more (story old) (moment old) (moment gated) 4 7 (omega arith) gated_by
 
 pub returns-clause-calls : goal.returns-clause-calls
@@ -89,7 +89,7 @@ returns-clause-calls g c =
     let begun = c.begin.new.disk in
     let given = c.give.new.disk in
     let gated = c.give-2.new.disk in
-    let given_by = rises_both (story old) (story begun) (moment old) (moment begun) (moment given) 2 1 c.begin.ensures.told c.begin.ensures.calls c.give.ensures.calls in
-    let gated_by = rises_both (story old) (story given) (moment old) (moment given) (moment gated) 3 1 (c.give.ensures.told ∙ c.begin.ensures.told) given_by c.give-2.ensures.calls in
+    let given_by = rises_both (story old) (story begun) (moment old) (moment begun) (moment given) 2 1 c.begin.ensures.goes_on.told c.begin.ensures.calls c.give.ensures.calls in
+    let gated_by = rises_both (story old) (story given) (moment old) (moment given) (moment gated) 3 1 (c.give.ensures.goes_on.told ∙ c.begin.ensures.goes_on.told) given_by c.give-2.ensures.calls in
     rises_both (story old) (story gated) (moment old) (moment gated) (moment c.finish.new.disk) 4 3
-    (c.give-2.ensures.told ∙ c.give.ensures.told ∙ c.begin.ensures.told) gated_by c.finish.ensures.calls
+    (c.give-2.ensures.goes_on.told ∙ c.give.ensures.goes_on.told ∙ c.begin.ensures.goes_on.told) gated_by c.finish.ensures.calls

@@ -56,28 +56,29 @@ returns-in-Ok-made-clause-created g c =
     let made = c.attach.new.self in
     let file = c.in-Ok-made.file in
     let gated = c.in-Ok-made.ensures in
+    let start = gated.created in
     let head_is = c.as_slice.ensures ∙ c.in-Ok.ensures.head in
     record {
       created = record {
-        going = gated.going;
-        rests = gated.rests;
-        short = omega (arith, gated.place, ap length c.as_slice.ensures, c.in-Ok.ensures.short);
-        begun = gated.begun;
+        going = start.going;
+        rests = start.rests;
+        short = omega (arith, start.place, ap length c.as_slice.ensures, c.in-Ok.ensures.short);
+        begun = start.begun;
       };
-      head = subst (λ h. IfSome (disk.story file.disk) (λ _. head_of (disk.story file.disk) file.first ≡ h)) head_is gated.head;
-      asked = gated.asked ∙ c.attach.ensures.asked ∙ ap (λ n. Some (n, Create)) c.in-Ok-copy.ensures;
+      head = subst (λ h. IfSome (disk.story file.disk) (λ _. head_of (disk.story file.disk) file.first ≡ h)) head_is start.head;
+      asked = gated.goes_on.asked ∙ c.attach.ensures.asked ∙ ap (λ n. Some (n, Create)) c.in-Ok-copy.ensures;
       made = record {
-        attached = gated.attached;
-        content = subst (λ h. IfSome (disk.content file.disk) (λ file. file ≡ h ++ 0 ∷ [])) head_is gated.content;
+        attached = start.attached;
+        content = subst (λ h. IfSome (disk.content file.disk) (λ file. file ≡ h ++ 0 ∷ [])) head_is start.content;
       };
       begun = begun_since (head_file c.args.form c.args.now_ns c.args.rows.now) (disk.story out) (disk.story made) (disk.story file.disk) (disk.content out) (disk.moment out)
           (laws.agrees out) (laws.unattached out (laws.unasked out c.requires.asked)) c.attach.ensures.story
           (subst (λ h. Adds (disk.story made) (disk.story file.disk) (IsBegun h)) head_is gated.any_moment);
-      told = gated.told ∙ ap is_some c.attach.ensures.story;
-      start = subst (λ n. IfSome (disk.story out) (λ _. n ≡ disk.moment out)) (sym gated.start)
+      told = gated.goes_on.told ∙ ap is_some c.attach.ensures.story;
+      start = subst (λ n. IfSome (disk.story out) (λ _. n ≡ disk.moment out)) (sym start.start)
           (one_moment (disk.story out) (disk.story made) (disk.content out) (disk.content made) (disk.moment out) (disk.moment made) (laws.agrees out) (laws.agrees made)
           c.attach.ensures.story);
-      faults = omega (arith, c.attach.ensures.cause.later, gated.faults);
+      faults = omega (arith, c.attach.ensures.cause.later, start.faults);
       readable = c.in-Ok.ensures.readable;
     }
 
@@ -88,7 +89,7 @@ returns-in-Err-clause-refused g c =
     let out = c.args.out in
     let made = c.attach.new.self in
     let after = c.in-Err.out in
-    let asked = c.in-Err.ensures.asked ∙ c.attach.ensures.asked ∙ ap (λ n. Some (n, Create)) c.in-Ok-copy.ensures in
+    let asked = c.in-Err.ensures.goes_on.asked ∙ c.attach.ensures.asked ∙ ap (λ n. Some (n, Create)) c.in-Ok-copy.ensures in
     let begun = begun_since (head_file c.args.form c.args.now_ns c.args.rows.now) (disk.story out) (disk.story made) (disk.story after) (disk.content out) (disk.moment out)
     (laws.agrees out) (laws.unattached out (laws.unasked out c.requires.asked)) c.attach.ensures.story
     (subst (λ h. Adds (disk.story made) (disk.story after) (IsBegun h)) (c.as_slice.ensures ∙ c.in-Ok.ensures.head) c.in-Err.ensures.any_moment) in

@@ -1,13 +1,12 @@
-use Rattle.std.proofs.Common.{◌≡◌, ◌++◌, ◌∷◌, ◌∙◌, ◌-◌, ◌+◌, List, ℕ, length, take, drop, refl, ap, sym, subst, rules}
+use Rattle.std.proofs.Common.{◌≡◌, ◌++◌, ◌∙◌, ◌-◌, ◌+◌, List, ℕ, length, take, drop, refl, ap, sym, subst, rules}
 use Rattle.std.proofs.lemmas.List.{take_at}
 use Rattle.mdf_format.specs.Number.{bytes_at}
-use Rattle.std.specs.Prelude.{IfSome, OnOk, OnErr}
-use Rattle.std.specs.Option.{option_map}
+use Rattle.std.specs.Prelude.{OnOk, OnErr}
 use Rattle.mdf_disk.specs.Crash.{Adds}
-use Rattle.mdf_seal.specs.Seal.{IsKept, synced}
-use Rattle.mdf_gate.specs.Written.{payload_of, opened_at}
+use Rattle.mdf_gate.specs.Written.{payload_of}
 use Rattle.mdf_gate.specs.Gated.{Buffered}
-use Rattle.mdf_gate.specs.Images.{IsStage, IsStaged}
+use Rattle.mdf_gate.specs.Images.{IsStage}
+use Rattle.mdf_gate.specs.Appended.{HasOpened, HasStaged}
 use Rattle.mdf_gate.proofs.Buffers.{written_payload}
 use Rattle.mdf_gate.proofs.buffer.Block.write.Given as given
 use Rattle.mdf_gate.proofs.buffer.Block.write.Goals as goal
@@ -27,28 +26,20 @@ payload g c =
     c.frame.ensures.payload (ap (λ (b : Buffered). b.bytes) c.self.view_is)
 
 pub returns-clause-ok : goal.returns-clause-ok
-returns-clause-ok g c = λ kept is ends.
-    let new = c.write_block.new.disk in
-    subst (λ (bytes : List ℕ). OnOk c.write_block.result (IsKept (g.D.Disk.content new) (g.D.Disk.story new) (take c.args.place kept ++ 35 ∷ bytes)))
-    (payload g (goal.at.returns-clause-ok g c).After-write_block) (c.write_block.ensures.ok kept is ends)
+returns-clause-ok g c =
+    subst (λ (bytes : List ℕ). OnOk c.write_block.result (HasOpened g.D.Disk c.args.place bytes c.args.disk.now c.write_block.new.disk))
+    (payload g (goal.at.returns-clause-ok g c).After-write_block) c.write_block.ensures.ok
+
+pub returns-clause-err : goal.returns-clause-err
+returns-clause-err g c =
+    subst (λ (bytes : List ℕ). OnErr c.write_block.result (HasStaged g.D.Disk c.args.place bytes c.args.disk.now c.write_block.new.disk))
+    (payload g (goal.at.returns-clause-err g c).After-write_block) c.write_block.ensures.err
 
 pub returns-clause-any_moment : goal.returns-clause-any_moment
 returns-clause-any_moment g c = λ kept is ends.
     let new = c.write_block.new.disk in
     subst (λ (bytes : List ℕ). Adds (g.D.Disk.story c.args.disk.now) (g.D.Disk.story new) (IsStage c.args.place kept bytes))
     (payload g (goal.at.returns-clause-any_moment g c).After-write_block) (c.write_block.ensures.any_moment kept is ends)
-
-pub returns-clause-content : goal.returns-clause-content
-returns-clause-content g c =
-    let content = g.D.Disk.content in
-    subst (λ (bytes : List ℕ). OnOk c.write_block.result (content c.write_block.new.disk ≡ option_map (opened_at c.args.place bytes) (content c.args.disk.now)))
-    (payload g (goal.at.returns-clause-content g c).After-write_block) c.write_block.ensures.content
-
-pub returns-clause-staged : goal.returns-clause-staged
-returns-clause-staged g c = λ kept is ends.
-    let new = c.write_block.new.disk in
-    subst (λ (bytes : List ℕ). OnErr c.write_block.result (IfSome (synced (g.D.Disk.story new)) (IsStaged kept bytes)))
-    (payload g (goal.at.returns-clause-staged g c).After-write_block) (c.write_block.ensures.staged kept is ends)
 
 pub returns-clause-same : goal.returns-clause-same
 returns-clause-same g c =

@@ -1,4 +1,4 @@
-use Rattle.std.proofs.Common.{◌≡◌, ◌%◌, ◌++◌, [], ◌∷◌, ℕ, length, sym, subst, ◌∙◌, arith}
+use Rattle.std.proofs.Common.{◌≡◌, ◌%◌, ◌++◌, [], ◌∷◌, ℕ, length, refl, sym, subst, ◌∙◌, arith}
 use Rattle.std.specs.Prelude.{IfSome}
 use Rattle.mdf_disk.specs.Crash.{HoldsSince}
 use Rattle.mdf_format.specs.Form.{form_of}
@@ -8,18 +8,12 @@ use Rattle.mdf_gate.proofs.Resting.{head_rests}
 use Rattle.mdf_gate.proofs.Appends.{kept_rests}
 use Rattle.mdf_gate.proofs.gated.GatedFile.create.Goals as goal
 
-pub returns-clause-rests : goal.returns-clause-rests
-returns-clause-rests g c =
-    let head = c.args.head.now in
-    let disk = c.write_head.new.disk in
-    kept_rests (g.D.Disk.content disk) (g.D.Disk.story disk) (length head) [] (length head) (head ++ 0 ∷ []) c.in-Ok.ensures.ok (head_rests head c.requires.head)
-
 pub invariant_of-result : goal.invariant_of-result
 invariant_of-result g c =
     let head = c.args.head.now in
     let disk = c.write_head.new.disk in
     let on_eight : length head % 8 ≡ 0 = subst (λ n. n % 8 ≡ 0) c.requires.head.ends c.requires.head.recording.place.on_eight in (
-      c.in-Ok.ensures.attached ∙ c.requires.attached,
+      c.in-Ok.ensures.goes_on.attached ∙ c.requires.attached,
       record {
         behind = omega arith;
         filled = omega arith;
@@ -36,15 +30,25 @@ invariant_of-result g c =
       },
     )
 
-pub returns-clause-begun : goal.returns-clause-begun
-returns-clause-begun g c =
-    let story = g.D.Disk.story c.write_head.new.disk in
-    let head = c.args.head.now in
-    subst (λ (t : ℕ). HoldsSince story t (IsBegun (head_of story (length head)))) (sym c.moment-start.ensures)
-    (begun_since head story _ (length head) (kept_head head (g.D.Disk.content c.write_head.new.disk) story c.in-Ok.ensures.ok)
-    (begun_holds head (g.D.Disk.story c.args.disk) story (g.D.Disk.content c.args.disk) _ (g.met.D.Disk.agrees c.args.disk) c.requires.blank.kept c.write_head.ensures.any_moment))
-
-pub returns-clause-head : goal.returns-clause-head
-returns-clause-head g c =
+pub returns-clause-created : goal.returns-clause-created
+returns-clause-created g c =
     let disk = c.write_head.new.disk in
-    kept_head c.args.head.now (g.D.Disk.content disk) (g.D.Disk.story disk) c.in-Ok.ensures.ok
+    let content = g.D.Disk.content disk in
+    let story = g.D.Disk.story disk in
+    let head = c.args.head.now in
+    let kept = c.in-Ok.ensures.ok in record {
+      attached = c.in-Ok.ensures.goes_on.attached ∙ c.requires.attached;
+      form = c.form_of.ensures;
+      first = refl;
+      place = refl;
+      offset = refl;
+      start = c.moment-start.ensures;
+      faults = c.faults-faults.ensures;
+      going = refl;
+      rests = kept_rests content story (length head) [] (length head) (head ++ 0 ∷ []) kept (head_rests head c.requires.head);
+      content = kept.whole;
+      head = kept_head head content story kept;
+      begun = subst (λ (t : ℕ). HoldsSince story t (IsBegun (head_of story (length head)))) (sym c.moment-start.ensures)
+          (begun_since head story _ (length head) (kept_head head content story kept)
+          (begun_holds head (g.D.Disk.story c.args.disk) story (g.D.Disk.content c.args.disk) _ (g.met.D.Disk.agrees c.args.disk) c.requires.blank.kept c.write_head.ensures.any_moment));
+    }

@@ -2,6 +2,7 @@ use Rattle.std.proofs.Common.{◌≡◌, ◌+◌, ◌-◌, ◌/◌, ◌<◌, ℕ
 use Rattle.std.proofs.lemmas.List.{take_all}
 use borrow.Rule.Slice.PartMut.{put_mid, same_len_mid}
 use Rattle.mdf_format.specs.Number.{bytes_at}
+use Rattle.mdf_disk.proofs.Goes.{read_further}
 use Rattle.mdf_pages.specs.Page.{StillKept, is_kept}
 use Rattle.mdf_pages.proofs.Fronts.{front_more}
 use Rattle.mdf_pages.proofs.Held.{first_is_kept}
@@ -17,7 +18,7 @@ loop-done-preserved g c =
       filled = λ file told.
           front_more file loop.buf c.front.new.buf c.args.at loop.done c.in_ok-done.field-0 (omega arith)
           (omega (arith, c.front.auto.buf, c.in_ok-done.ensures.most)) (loop.invariant.filled file told)
-          (c.in_ok-done.ensures.filled file (loop.invariant.content ∙ told));
+          (c.in_ok-done.ensures.filled file (loop.invariant.only_read.content ∙ told));
       first = λ some. c.in_ok-done.ensures.first ∙ ap (λ (place : ℕ). Some ((place - 1) / 65536)) (omega arith);
       kept = λ all. c.front.ensures.kept (loop.invariant.held all (c.args.at + loop.done) (omega arith) (omega arith)) ∙ loop.invariant.kept all;
       held = λ all place low high.
@@ -41,10 +42,7 @@ loop-done-preserved g c =
           );
       size = c.front.ensures.size ∙ loop.invariant.size;
       calm = c.in_ok-done.ensures.calm ∙ loop.invariant.calm;
-      asked = c.front.ensures.asked ∙ loop.invariant.asked;
-      content = c.front.ensures.content ∙ loop.invariant.content;
-      story = c.front.ensures.story ∙ loop.invariant.story;
-      moment = omega (arith, c.front.ensures.moment);
+      only_read = read_further g.D.Disk c.args.self.now.disk loop.self.disk c.front.new.self.disk loop.invariant.only_read c.front.ensures.only_read;
     }
 
 pub returns-clause-filled : goal.returns-clause-filled

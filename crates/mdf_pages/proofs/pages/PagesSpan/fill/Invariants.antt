@@ -1,5 +1,6 @@
 use Rattle.std.proofs.Common.{◌≡◌, ◌+◌, ◌-◌, ◌/◌, ◌<◌, ◌≤◌, ◌⊎◌, ℕ, List, Some, true, length, take}
 use Rattle.mdf_format.specs.Number.{bytes_at}
+use Rattle.mdf_disk.specs.Goes.{OnlyRead}
 use Rattle.mdf_pages.specs.Page.{is_kept, first_page, AreKept, AreOfOnePage, StillKept}
 use Rattle.mdf_pages.proofs.pages.PagesSpan.fill.Given as goal
 
@@ -14,10 +15,7 @@ invariant-loop-done g l = record {
       → ((l.done ≡ 0) × (l.self.cache ≡ l.initial.self.cache)) ⊎ ((is_kept (l.at / 65536) l.self.cache ≡ true) × StillKept l.initial.self.cache l.self.cache);
   size : l.self.size ≡ l.initial.self.size;
   calm : g.D.Disk.faults l.self.disk ≡ g.D.Disk.faults l.initial.self.disk;
-  asked : g.D.Disk.asked l.self.disk ≡ g.D.Disk.asked l.initial.self.disk;
-  content : g.D.Disk.content l.self.disk ≡ g.D.Disk.content l.initial.self.disk;
-  story : g.D.Disk.story l.self.disk ≡ g.D.Disk.story l.initial.self.disk;
-  moment : g.D.Disk.moment l.initial.self.disk ≤ g.D.Disk.moment l.self.disk;
+  only_read : OnlyRead g.D.Disk l.initial.self.disk l.self.disk;
 }
 
 abbrev pub decreases-loop-done : goal.decreases-loop-done
