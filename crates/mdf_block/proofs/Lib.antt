@@ -4,6 +4,7 @@ pub mod Wholes
 pub mod Zeros
 pub mod Refusals
 pub mod Readers
+pub mod Raised
 pub mod Notes
 pub mod Chains
 pub mod Eachs

@@ -38,6 +38,10 @@ pub data Refusal : Type 0 where
   -- the channel, the row, and the offset that meets no value
   Offset : ℕ → ℕ → ℕ → Refusal
 
+-- a fault of a reader and the fault that the reader above it makes of it are told for the same refusal
+abbrev pub Renames : {E F : Type 0} → (E → Option Refusal) → (F → Option Refusal) → E → F → Type 0
+Renames below above fault raised = above raised ≡ below fault
+
 -- what is found, or the first reason to refuse
 abbrev pub Read : Type 0 → Type 0
 Read A = Result A Refusal

@@ -29,7 +29,7 @@ pub use fault::{BlockFault, NoteFault};
 pub use field::{u16_field, u32_field, u64_field};
 pub use link::Link;
 pub use mdf_format::Kind;
-pub use name::{kind_at, kind_in};
+pub use name::{kind_at, kind_in, name_of};
 pub use named::is_named_in;
 pub use note::Note;
 pub use place::BlockAt;

@@ -26,7 +26,7 @@ const KINDS: [Kind; 13] = [
 ];
 
 /// The first four bytes of a block of this kind.
-pub(crate) fn name_of(kind: Kind) -> [u8; 4]
+pub fn name_of(kind: Kind) -> [u8; 4]
     ensures { result ≡ name_of kind }
 {
     match kind {

@@ -1,4 +1,6 @@
-use mdf_num::Bytes;
+ghost use Rattle.std.specs.Prelude.{◌≡◌, IfOk};
+
+use mdf_num::{Bytes, Memory};
 
 /// A text that a link names.
 #[derive(Debug, Drop)]
@@ -9,4 +11,17 @@ pub enum Note {
     Plain(Bytes),
     /// The text of an MDBLOCK, which is XML.
     Xml(Bytes),
+}
+
+impl Note {
+    /// An equal text, over the same allocator.
+    pub fn copy(&self) -> Result<Note, Memory>
+        ensures { IfOk result (λ copy. copy ≡ self.now) }
+    {
+        Ok(match self {
+            Note::Nothing => Note::Nothing,
+            Note::Plain(text) => Note::Plain(text.copy()?),
+            Note::Xml(text) => Note::Xml(text.copy()?),
+        })
+    }
 }
