@@ -5,7 +5,7 @@ use Rattle.mdf_disk.specs.Crash.{NowHas, HoldsSince}
 use Rattle.mdf_disk.specs.Goes.{GoesOn}
 use Rattle.mdf_disk.specs.declared.disk.Disk.{Ghosts}
 use Rattle.mdf_seal.specs.Seal.{IsKept, synced}
-use Rattle.mdf_form.specs.Form.{form_of}
+use Rattle.mdf_format.specs.Form.{form_of}
 use Rattle.mdf_gate.specs.Written.{opened_at, payload_of, room_of}
 use Rattle.mdf_gate.specs.Gated.{Gated, Buffered, RestsOn}
 use Rattle.mdf_gate.specs.Images.{head_of, IsBegun, IsStaged}
