@@ -44,7 +44,7 @@ use Rattle.mdf_model.proofs.Complete.{values_there, tree_there}
 use Rattle.mdf_block.proofs.Picks.{passed_get}
 use Rattle.mdf_model.proofs.Founds.{hold_by}
 use Rattle.mdf_session.specs.declared.session.Kept.{Kept}
-use Rattle.mdf_session.specs.Opened.{opened_parts}
+use Rattle.mdf_gate.specs.Units.{opened_parts}
 use Rattle.mdf_session.specs.Session.{SessionParts, kept_by, kept, first_kept, session}
 use Rattle.mdf_gate.specs.Recording.{first_place}
 use Rattle.mdf_carried.specs.Recovered.{IsGroupContents, Recovery, IsRecovery, IsSessionOf}
@@ -54,7 +54,7 @@ use Rattle.mdf_carried.proofs.Kept.{IsSuch, fitting, streams_read}
 use Rattle.mdf_carried.proofs.Laid.{TestTells, laid, laid_back, layouts_laid}
 use Rattle.mdf_carried.proofs.Lists.{all_along, from_here, one_on}
 use Rattle.mdf_carried.proofs.Onces.{none_at_first, recoveries_agree}
-use Rattle.mdf_carried.proofs.Opened.{AreFound, blocks_found}
+use Rattle.mdf_gate.proofs.Blocks.{AreFound, blocks_found}
 use Rattle.mdf_carried.proofs.Sessions.{kept_by_parts, session_by_parts}
 use Rattle.mdf_carried.proofs.Splits.{places_are}
 use Rattle.mdf_carried.proofs.Trees.{ident_found}

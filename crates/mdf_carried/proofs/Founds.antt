@@ -46,13 +46,13 @@ use Rattle.mdf_model.proofs.Founds.{size_found, contents_found, hold_by, rooms_b
 use Rattle.mdf_block.proofs.Picks.{IsPicked, all_read, read_with, picked, all_there, keyed_numbered}
 use Rattle.mdf_model.proofs.Wholes.{tree_found, identified}
 use Rattle.mdf_session.specs.declared.session.Kept.{Kept}
-use Rattle.mdf_session.specs.Opened.{opened_parts}
+use Rattle.mdf_gate.specs.Units.{opened_parts}
 use Rattle.mdf_session.specs.Counted.{group_streams, all_streams, joined}
 use Rattle.mdf_session.specs.Session.{recording_by, recording, kept_by, kept_of, kept, first_kept, SessionParts, session}
 use Rattle.mdf_gate.specs.Recording.{IsPlace, IsOpened, IsRecording, first_place}
 use Rattle.mdf_carried.specs.Recovered.{told, IsGroupContents, Recovery, IsRecovery, IsSessionOf}
 use Rattle.mdf_carried.proofs.Counts.{places_count, counts_are, content_is}
-use Rattle.mdf_carried.proofs.Opens.{AreOpened, opened_found}
+use Rattle.mdf_gate.proofs.Opens.{AreOpened, opened_found}
 use Rattle.mdf_carried.proofs.Values.{sized, totals_are}
 
 -- what is found of each item, put together

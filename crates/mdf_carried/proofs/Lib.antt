@@ -11,9 +11,6 @@ pub mod Laid
 pub mod Lists
 pub mod Numbers
 pub mod Onces
-pub mod Opened
-mod Units
-mod Opens
 pub mod Placed
 pub mod Records
 pub mod Rows

@@ -34,7 +34,7 @@ use Rattle.mdf_model.specs.Tree.{tree}
 use Rattle.mdf_spell.specs.Recording.{recorded_row, recorded_head, recorded_history, IsRecordingTree, FindsHead, FindsGroups}
 use Rattle.mdf_session.specs.declared.session.Kept.{Kept}
 use Rattle.mdf_session.specs.Counted.{all_streams}
-use Rattle.mdf_session.specs.Opened.{opened_parts}
+use Rattle.mdf_gate.specs.Units.{opened_parts}
 use Rattle.mdf_session.specs.Session.{SessionParts, recording, kept_by, kept_of, kept, first_kept, session}
 use Rattle.mdf_data.specs.Bodies.{bodies}
 use Rattle.mdf_model.specs.Contents.{IsChannelStream}
@@ -48,7 +48,7 @@ use Rattle.mdf_carried.proofs.Rows.{IsRecorded, fronts_many}
 use Rattle.mdf_carried.proofs.Records.{record_of, records_split, back_holds, no_layout}
 use Rattle.mdf_carried.proofs.Holds.{contents_at, group_holds, named_in}
 use Rattle.mdf_carried.proofs.Placed.{RulesAgree, is_recorded}
-use Rattle.mdf_carried.proofs.Opened.{AreFound, blocks_found}
+use Rattle.mdf_gate.proofs.Blocks.{AreFound, blocks_found}
 use Rattle.mdf_carried.proofs.Splits.{places_are}
 use Rattle.mdf_carried.proofs.Laid.{TestTells, groups_laid, layouts_found}
 use Rattle.mdf_carried.proofs.Kept.{IsSuch, fitting, streams_read}

@@ -5,7 +5,7 @@ use Rattle.std.proofs.lemmas.Slice.Eq.{bytes_eq-Decides}
 use Rattle.std.specs.Prelude.{◌||◌, not, nat_eq, nat_le, codes, if◌then◌else◌}
 use Rattle.mdf_format.specs.Form.{NamesForm, names_form}
 use Rattle.mdf_format.specs.Number.{bytes_at}
-use Rattle.mdf_format.specs.Identification.{version_of, custom_flags}
+use Rattle.mdf_format.specs.Identification.{version_of}
 use Rattle.mdf_format.specs.declared.kind.Kind.TheVariants.{Hd}
 use Rattle.mdf_block.specs.declared.place.BlockAt.{BlockAt}
 use Rattle.mdf_block.specs.Refusal.{Read, ◌>>=◌, NotMdf, Version, NotRecording}

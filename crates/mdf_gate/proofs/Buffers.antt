@@ -5,12 +5,11 @@ use Rattle.std.proofs.Math.Seq.{take-add}
 use borrow.Rule.Slice.PartMut.{put_mid, post_of}
 use Rattle.std.specs.Prelude.{codes}
 use Rattle.std.specs.Int.{to_le_bytes, w32, w64}
-use Rattle.mdf_format.specs.Number.{bytes_at, patched, aligned}
+use Rattle.mdf_format.specs.Number.{bytes_at, patched}
 use Rattle.mdf_format.specs.Form.{lead}
 use Rattle.mdf_gate.specs.Written.{block_header, lead_bytes, list_block, payload_of, room_of}
 use Rattle.mdf_format.specs.declared.form.Form.{Form}
 use Rattle.mdf_format.specs.declared.form.Form.TheVariants.{Bare, Listed}
-use Rattle.mdf_gate.proofs.Units.{lead_few, lead_on_eight}
 
 -- bytes put over others leave the length
 pub length-patched : (at : ℕ) (part items : List ℕ) → at + length part ≤ length items → length (patched at part items) ≡ length items
@@ -264,14 +263,14 @@ module _ (items new : List ℕ) (place next offset : ℕ) (within : 79 ≤ lengt
   length-listed = ap length is ∙ length-patched 0 (drop 1 (list_block place next offset) ++ 35 ∷ []) items (omega (arith, within))
 
 -- what is written of a framed buffer
-pub written_payload : (items new slice body old : List ℕ) (form : Form) (place offset used len from end number leads : ℕ) → len ≡ length items
+pub written_payload : (items new slice body old : List ℕ) (form : Form) (place offset used len from leads room : ℕ) → len ≡ length items
     → length new ≡ length items → old ≡ items → slice ≡ take len (new ++ drop (length new) items)
-    → leads ≡ lead form → from ≡ 56 - leads → end ≡ 56 + aligned (24 + number) → number ≡ used
+    → leads ≡ lead form → from ≡ 56 - leads → room ≡ room_of form used
     → bytes_at (room_of form used) new (56 - lead form) ≡ payload_of form place offset (bytes_at used old 79) → bytes_at used items 79 ≡ body
-    → bytes_at (end - from) slice from ≡ payload_of form place offset body
-written_payload items new slice body old form place offset used len from end number leads is_len long is_old is_slice is_leads is_from is_end is_number framed_new is_body =
+    → bytes_at (from + room - from) slice from ≡ payload_of form place offset body
+written_payload items new slice body old form place offset used len from leads room is_len long is_old is_slice is_leads is_from is_room framed_new is_body =
     let begins : from ≡ 56 - lead form = is_from ∙ ap (λ (n : ℕ). 56 - n) is_leads in
-    let count : end - from ≡ room_of form used = omega (arith, begins, is_end, is_number, lead_few form, lead_on_eight form) in
+    let count : from + room - from ≡ room_of form used = omega (arith, is_room) in
     ap (λ (n : ℕ). bytes_at n slice from) count
     ∙ ap (λ (n : ℕ). bytes_at (room_of form used) slice n) begins
     ∙ ap (λ (xs : List ℕ). bytes_at (room_of form used) xs (56 - lead form)) (is_slice ∙ take_at new (drop (length new) items) len (omega (arith, long, is_len)))

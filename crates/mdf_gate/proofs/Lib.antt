@@ -1,9 +1,12 @@
 pub mod Units
+mod Found
+mod Loops
+pub mod Blocks
+pub mod Opens
 mod Missing
 mod Fronts
 mod Laid
 mod Left
-mod Lists
 mod Resting
 mod Stages
 mod Buffers

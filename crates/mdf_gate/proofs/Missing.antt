@@ -6,15 +6,12 @@ use Rattle.mdf_seal.proofs.Marks.{in_mark}
 use Rattle.mdf_format.specs.Block.{IsBlock}
 use Rattle.mdf_head.specs.declared.identity.Ident.{Ident}
 use Rattle.mdf_head.specs.Ident.{IsIdent}
-use Rattle.mdf_format.specs.declared.kind.Kind.TheVariants.{Hd, Dg, Dl, Dt}
-use Rattle.mdf_format.specs.Form.{NamesForm, IsInRecordingForm, form_of}
-use Rattle.mdf_gate.specs.Unit.{block_place, IsLed, IsLinkedOn}
+use Rattle.mdf_format.specs.declared.kind.Kind.TheVariants.{Hd, Dg, Dt}
+use Rattle.mdf_format.specs.Form.{NamesForm, IsInRecordingForm}
 use Rattle.mdf_gate.specs.Recording.{HEADER, first_group, first_place, IsPlace, IsRecording}
 use Rattle.mdf_gate.specs.Fault.{IsFormed, HasFault}
-use Rattle.mdf_gate.specs.Scan.{IsNoUnit, IsStuckAt}
-use Rattle.mdf_format.specs.declared.form.Form.{Form}
 use Rattle.mdf_gate.specs.declared.answer.GateFault.{GateFault}
-use Rattle.mdf_gate.specs.declared.answer.GateFault.TheVariants.{NotMdf, Version, NotRecording, Bad}
+use Rattle.mdf_gate.specs.declared.answer.GateFault.TheVariants.{Bad}
 
 module _ (file : List ℕ) (formed : IsFormed file) (header : IsBlock file HEADER Hd) where
   pub no_group : (at : ℕ) (fault : GateFault) → at ≡ first_group file → ¬ IsBlock file at Dg → fault ≡ Bad at Dg → HasFault file fault
@@ -61,23 +58,3 @@ module _ (file : List ℕ) (id : Ident) (mdf : IsMdf file) (is : IsIdent file id
 
   pub of_form : IsInRecordingForm file → (¬ IsTrue id.finalized) × NamesForm id.custom_flags
   of_form form = (λ finalized. both_marks file (is.finalized.0 finalized) form.unfinalized, subst NamesForm (sym is.custom_flags) form.custom)
-
--- why no unit stands at a place
-module _ (form : Form) (file : List ℕ) (place : ℕ) where
-  pub no_list : ¬ IsLed form file place → IsNoUnit form file place (Bad place Dl)
-  no_list none = inl (record { at_place = refl; kind = refl; none = none })
-
-  pub no_data : (fault : GateFault) → IsLed form file place → ¬ IsBlock file (block_place form place) Dt → fault ≡ Bad (block_place form place) Dt
-      → IsNoUnit form file place fault
-  no_data fault led none is = subst (IsNoUnit form file place) (sym is) (inr (inl (record { led = led; at_block = refl; kind = refl; none = none })))
-
-  pub no_link : IsLed form file place → IsBlock file (block_place form place) Dt → ¬ IsLinkedOn form file place → IsNoUnit form file place (Bad place Dl)
-  no_link led block none = inr (inr (record { led = led; block = block; at_place = refl; kind = refl; none = none }))
-
--- the fault that a scan comes to is that of the recording
-pub stuck_fault : (file : List ℕ) (fault : GateFault) → IsRecording file → IsStuckAt (form_of file) file (first_place file) fault → HasFault file fault
-stuck_fault file NotMdf recording stuck = absurd stuck.2
-stuck_fault file (Version ver) recording stuck = absurd stuck.2
-stuck_fault file (NotRecording std custom) recording stuck = absurd stuck.2
-stuck_fault file (Bad at want) recording stuck =
-    inr (inr (inr (record { recording = recording; place = stuck.0; reached = stuck.1; unit = stuck.2 })))

@@ -1,10 +1,12 @@
 -- Why a file has no opened blocks. What makes a file a recording is looked at in order: the identification, the version,
 -- the form, the header, the first data group, the data link of that, and then each place. The first that fails is told.
-use Rattle.std.specs.Prelude.{ℕ, ◌≡◌, ◌⊎◌, List}
+use Rattle.std.specs.Prelude.{ℕ, ◌≡◌, ◌⊎◌, List, Option, Some}
 use Rattle.mdf_format.specs.Identification.{IsMdf, HasReadVersion, version_of, standard_flags, custom_flags}
 use Rattle.mdf_format.specs.Block.{IsBlock}
 use Rattle.mdf_format.specs.declared.kind.Kind.{Kind}
 use Rattle.mdf_format.specs.declared.kind.Kind.TheVariants.{Hd, Dg, Dl, Dt}
+use Rattle.mdf_block.specs.Refusal.{Refusal}
+use Rattle.mdf_block.specs.Refusal as refusals
 use Rattle.mdf_head.specs.declared.fault.IdentFault.{IdentFault}
 use Rattle.mdf_head.specs.declared.fault.IdentFault.TheVariants as ident
 use Rattle.mdf_format.specs.Form.{IsInRecordingForm, form_of}
@@ -97,3 +99,10 @@ HasFault file (Bad at want) = LacksBlock file at want
 abbrev pub fault_of_ident : IdentFault → GateFault
 fault_of_ident ident.NotMdf = NotMdf
 fault_of_ident (ident.Version ver) = Version ver
+
+-- what a fault says of a file, in the words of all readers
+abbrev pub gate_refusal : GateFault → Option Refusal
+gate_refusal NotMdf = Some refusals.NotMdf
+gate_refusal (Version ver) = Some (refusals.Version ver)
+gate_refusal (NotRecording std custom) = Some (refusals.NotRecording std custom)
+gate_refusal (Bad at want) = Some (refusals.Bad at want)

@@ -1,4 +1,5 @@
 pub mod Unit
+pub mod Units
 pub mod Chain
 pub mod Written
 pub mod Recording

@@ -1,29 +1,22 @@
 -- The opened units from a place on, counted.
-use Rattle.std.specs.Prelude.{ℕ, ◌≡◌, List, length, sum_by}
-use Rattle.mdf_gate.specs.Fault.{HasNoUnit, IsReached}
-use Rattle.mdf_gate.specs.Unit.{AreUnits, IsOpenPlace}
+use Rattle.std.specs.Prelude.{ℕ, ◌≡◌, ◌+◌, List, [], ◌∷◌, length, Ok}
+use Rattle.mdf_format.specs.Number.{aligned}
 use Rattle.mdf_format.specs.declared.form.Form.{Form}
+use Rattle.mdf_stream.specs.declared.part.Part.{Part}
+use Rattle.mdf_stream.specs.Parts.{stream_size}
+use Rattle.mdf_gate.specs.Units.{opened_from}
 use Rattle.mdf_gate.specs.declared.answer.Opened.{Opened}
-use Rattle.mdf_gate.specs.declared.answer.GateFault.{GateFault}
-use Rattle.mdf_gate.specs.declared.answer.GateFault.TheVariants.{Bad}
 
--- so many units with so many bytes stand from one place up to another, which is closed
+-- the place behind the units with these bodies, the first of which stands at this place
+unfoldable pub place_after : ℕ → List Part → ℕ
+place_after place [] = place
+place_after place (part ∷ parts) = place_after (aligned (part.at + part.len)) parts
+
+-- the opened units from a place on are so many, with so many bytes, up to the next place
 pub record AreCounted (form : Form) (file : List ℕ) (place : ℕ) (count : Opened) : Type 0 where
-  pub bodies : List (List ℕ)
-  pub units : AreUnits form file place bodies count.next
-  pub closed : ¬ IsOpenPlace file count.next
-  pub number : count.blocks ≡ length bodies
-  pub total : count.bytes ≡ sum_by length bodies
-
--- however many units stand from a place on, the place behind them is open
-abbrev pub HasOpenEnd : Form → List ℕ → ℕ → Type 0
-HasOpenEnd form file place = (bodies : List (List ℕ)) (last : ℕ) → AreUnits form file place bodies last → IsOpenPlace file last
-
--- the fault names what is missing of a unit at a place
-abbrev pub IsNoUnit : Form → List ℕ → ℕ → GateFault → Type 0
-IsNoUnit form file place (Bad at want) = HasNoUnit form file place at want
-IsNoUnit form file place _ = ⊥
-
--- the fault names what is missing at the open place without a unit that a scan comes to
-abbrev pub IsStuckAt : Form → List ℕ → ℕ → GateFault → Type 0
-IsStuckAt form file first fault = (place : ℕ) × IsReached form file first place × IsNoUnit form file place fault
+  pub parts : List Part
+  pub found : opened_from form file (length file) place ≡ Ok parts
+  pub from : count.first ≡ place
+  pub number : count.blocks ≡ length parts
+  pub total : count.bytes ≡ stream_size parts
+  pub next : count.next ≡ place_after place parts

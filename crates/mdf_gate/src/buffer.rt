@@ -1,4 +1,4 @@
-ghost use Rattle.std.specs.Prelude.{◌≡◌, ◌+◌, ◌-◌, ◌≤◌, ◌<◌, ◌^◌, ◌↔◌, ℕ, List, [], ◌∷◌, ◌++◌, length, take, drop, true, All, IsTrue, IfSome, IfOk, OnOk, OnErr};
+ghost use Rattle.std.specs.Prelude.{◌≡◌, ◌+◌, ◌-◌, ◌%◌, ◌≤◌, ◌<◌, ◌^◌, ◌↔◌, ℕ, List, [], ◌∷◌, ◌++◌, length, take, drop, true, All, IsTrue, IfSome, IfOk, OnOk, OnErr};
 ghost use Rattle.mdf_format.specs.Number.{bytes_at, patched};
 ghost use Rattle.mdf_format.specs.Cause.{HasCause};
 ghost use Rattle.mdf_disk.specs.Crash.{Adds};
@@ -91,6 +91,16 @@ fn put_list(bytes: &mut [u8], place: u64, next: u64, offset: u64)
     put(bytes, 55, b"#");
 }
 
+/// How many bytes the unit of a block with so many bytes of data has, up to the next place.
+pub(crate) fn room_of(form: Form, count: u32) -> u64
+    ensures room { result ≡ room_of form count }
+    ensures on_eight { result % 8 ≡ 0 }
+    ensures more { count < result }
+    ensures few { result ≤ count + 88 }
+{
+    align8(form.lead() + 24 + u64::from(count))
+}
+
 /// Writes what stands before the data block in the form, but for the first byte of the unit.
 fn put_lead(bytes: &mut [u8], form: Form, place: u64, offset: u64, count: u32)
     requires room { 79 ≤ length bytes.old }
@@ -101,7 +111,7 @@ fn put_lead(bytes: &mut [u8], form: Form, place: u64, offset: u64, count: u32)
 {
     match form {
         Form::Bare => {}
-        Form::Listed => put_list(bytes, place, place + align8(80 + u64::from(count)), offset),
+        Form::Listed => put_list(bytes, place, place + room_of(form, count), offset),
     }
 }
 
@@ -237,7 +247,7 @@ impl Block {
         ensures cause { HasCause (D.faults disk.old) (D.faults disk.new) result }
     {
         let begin = LEAD - form.lead() as usize;
-        let end = LEAD + align8(24 + u64::from(self.used)) as usize;
+        let end = begin + room_of(form, self.used) as usize;
         frame(&mut self.bytes, form, place, offset, self.used);
         write_block(disk, place, &self.bytes[begin..end])
     }

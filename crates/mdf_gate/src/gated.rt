@@ -11,10 +11,11 @@ ghost use Rattle.mdf_gate.specs.Images.{head_of, Opens, OpensEither, IsBegun};
 ghost use Rattle.mdf_gate.specs.Appended.{FileGoesOn, IsAppended, IsCutShort, StartsFrom};
 
 use crate::Block;
+use crate::buffer::room_of;
 use crate::recording::form_of;
 use mdf_disk::Disk;
 use mdf_format::Form;
-use mdf_num::{Failed, align8};
+use mdf_num::Failed;
 use mdf_seal::Sealed;
 use std::marker::Model;
 
@@ -123,7 +124,7 @@ impl<D: Disk> GatedFile<D> {
     {
         self.failed = true;
         block.write(&mut self.disk, self.form, self.place, self.offset)?;
-        self.place += align8(self.form.lead() + 24 + u64::from(block.len()));
+        self.place += room_of(self.form, block.len());
         self.offset += u64::from(block.len());
         self.failed = false;
         block.clear();

@@ -20,3 +20,4 @@ pub use gated::GatedFile;
 pub use law::{carries_one_list, lists_lead_to_each_block};
 pub use mdf_format::Form;
 pub use scan::opened;
+pub use unit::opened_in;

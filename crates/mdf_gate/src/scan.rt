@@ -1,11 +1,12 @@
-ghost use Rattle.std.specs.Prelude.{◌≡◌, ◌+◌, ◌≤◌, ◌<◌, ◌^◌, ◌↔◌, length, IsTrue, IfOk, IfErr, OnErr};
+ghost use Rattle.std.specs.Prelude.{◌≡◌, ◌+◌, ◌≤◌, ◌<◌, ◌^◌, length, true, IfOk, IfErr, OnErr};
 ghost use Rattle.mdf_format.specs.Number.{aligned};
 ghost use Rattle.mdf_format.specs.Form.{form_of};
-ghost use Rattle.mdf_gate.specs.Unit.{IsOpenPlace};
+ghost use Rattle.mdf_block.specs.Refusal.{Refuses};
+ghost use Rattle.mdf_gate.specs.Units.{is_open, opened_from};
 ghost use Rattle.mdf_gate.specs.Recording.{HasNoOpened};
 ghost use Rattle.mdf_gate.specs.Opened.{IsCountOf};
-ghost use Rattle.mdf_gate.specs.Fault.{HasFault};
-ghost use Rattle.mdf_gate.specs.Scan.{AreCounted, HasOpenEnd, IsStuckAt};
+ghost use Rattle.mdf_gate.specs.Fault.{HasFault, gate_refusal};
+ghost use Rattle.mdf_gate.specs.Scan.{AreCounted};
 
 use crate::recording::{first_place, form_of};
 use crate::unit::unit_at;
@@ -16,8 +17,8 @@ use mdf_num::align8;
 
 /// Whether the gate at a place is open.
 fn is_open(bytes: &[u8], place: u64) -> bool
-    ensures gate { IsTrue result ↔ IsOpenPlace bytes.now place }
-    ensures within { IsTrue result → place < length bytes.now }
+    ensures gate { result ≡ is_open bytes.now place }
+    ensures within { result ≡ true → place < length bytes.now }
 {
     place < bytes.len() as u64 && bytes[place as usize] == b'#'
 }
@@ -48,9 +49,7 @@ fn count_unit(count: Opened, unit: BlockAt) -> Opened
 fn scan(bytes: &[u8], form: Form, first: u64) -> Result<Opened, GateFault>
     requires { length bytes.now ≤ 2 ^ 63 }
     ensures counted { IfOk result (AreCounted form bytes.now first) }
-    ensures from { IfOk result (λ count. count.first ≡ first) }
-    ensures stuck { IfErr result (IsStuckAt form bytes.now first) }
-    ensures no_unit { OnErr result (HasOpenEnd form bytes.now first) }
+    ensures refused { IfErr result (λ fault. Refuses (gate_refusal fault) (opened_from form bytes.now (length bytes.now) first)) }
 {
     let mut count = Opened {
         blocks: 0,

@@ -1,4 +1,3 @@
-pub mod Units
 pub mod Counts
 pub mod Keeps
 mod Firsts

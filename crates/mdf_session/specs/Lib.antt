@@ -1,4 +1,3 @@
-pub mod Opened
 pub mod Counted
 pub mod Session
 pub mod Standing

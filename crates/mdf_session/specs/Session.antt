@@ -12,7 +12,7 @@ use Rattle.mdf_content.specs.Layouts.{layouts}
 use Rattle.mdf_content.specs.Records.{places_of}
 use Rattle.mdf_model.specs.declared.tree.Tree.{Tree}
 use Rattle.mdf_model.specs.Tree.{tree}
-use Rattle.mdf_session.specs.Opened.{opened_parts}
+use Rattle.mdf_gate.specs.Units.{opened_parts}
 use Rattle.mdf_stream.specs.declared.part.Part.{Part}
 use Rattle.mdf_session.specs.declared.session.Kept.{Kept}
 use Rattle.mdf_session.specs.Counted.{all_streams, counts_from, records_content, totals_from}

@@ -8,5 +8,4 @@ mod session;
 mod standing;
 
 pub use mdf_content::ReadFault;
-pub use opened::opened_in;
 pub use session::{Session, read_session, session_in, session_of};

@@ -11,7 +11,7 @@ ghost use Rattle.mdf_session.specs.Session.{HasFirst, IsCountedOf, first_kept, k
 ghost use Rattle.mdf_session.specs.Standing.{StandIn, kept_from, with_content};
 
 use crate::counted::{all_streams_in, counts_of, totals_in};
-use crate::opened::opened_in;
+use crate::opened::opened_stream_in;
 use mdf_content::{Kind, ReadFault, count_at, layouts_in, record_size, records_in};
 use mdf_data::Places;
 use mdf_format::Form;
@@ -86,7 +86,7 @@ fn counted_in<P: Span>(
 ///
 /// # Errors
 /// The first fault in this order: `Layout` of its id size; `Layout` of the first channel that breaks a rule; that of its
-/// opened blocks, as `opened_in`; that of its records, as `records_in`; and of each channel of variable length in order the
+/// opened blocks, as `opened_in` of mdf_gate; that of its records, as `records_in`; and of each channel of variable length in order the
 /// fault of its link to data, and `Offset` of the first record whose offset meets no value. The span's own; and want of
 /// memory.
 #[tactic(auto, unfolding(crate::specs::Session::kept))]
@@ -102,7 +102,7 @@ fn standing_in<P: Span>(
     ensures counted { IfOk result (λ found. (content : List ℕ) → IsCountedOf row.now (with_content content found)) }
 {
     layouts_in(alloc, span, row)?;
-    let view = opened_in(alloc, span, form, row.content)?;
+    let view = opened_stream_in(alloc, span, form, row.content)?;
     let lists = records_in(alloc, span, &view, false, row)?;
     let standing = counted_in(alloc, span, view, row, lists)?;
     Ok(standing)

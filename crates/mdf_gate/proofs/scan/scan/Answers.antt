@@ -1,8 +1,7 @@
-use Rattle.std.proofs.Common.{◌≡◌, ◌+◌, ◌∙◌, length, refl, sym, ap, arith, rules}
+use Rattle.std.proofs.Common.{◌<◌, ◌∙◌, refl, sym, arith}
 use Rattle.std.proofs.lemmas.Result.{err_from_is_err_and}
-use Rattle.mdf_format.specs.Number.{aligned}
-use Rattle.mdf_gate.specs.Unit.{IsOpenPlace, next_place, unit_data}
-use Rattle.mdf_gate.proofs.Units.{has_come, comes_further, stuck, unit_end, length-unit_data}
+use Rattle.mdf_gate.specs.Units.{place_behind}
+use Rattle.mdf_gate.proofs.Loops.{comes_further, comes_to_end, has_come, stuck}
 use Rattle.mdf_gate.proofs.scan.scan.Goals as goal
 
 pub loop-form-init : goal.loop-form-init
@@ -13,29 +12,33 @@ loop-form-init c = record {
   bytes = omega arith;
 }
 
-pub returns-in_err-unit-clause-no_unit : goal.returns-in_err-unit-clause-no_unit
-returns-in_err-unit-clause-no_unit c =
-    let file = c.args.bytes.now in
+pub returns-in_err-unit-clause-refused : goal.returns-in_err-unit-clause-refused
+returns-in_err-unit-clause-refused c =
     let count = c.loop-form.count in
     let p = err_from_is_err_and c.from_residual.result c.from_residual.ensures.1 in
-    let is_open : IsOpenPlace file count.next = search rules in
-    rw p.1 (stuck c.args.form file c.args.first count.next count.blocks count.bytes c.loop-form.invariant.come is_open c.in_err-unit.ensures.none)
+    rw (p.1, p.2) (
+    stuck c.args.form c.args.bytes.now c.args.first count.next count.blocks count.bytes c.loop-form.invariant.come _
+    (sym c.is_open.ensures.gate ∙ c.loop-form-test.true) c.in_err-unit.ensures.refused
+    )
 
 pub loop-form-preserved : goal.loop-form-preserved
 loop-form-preserved c =
-    let file = c.args.bytes.now in
-    let form = c.args.form in
     let count = c.loop-form.count in
-    let is_open : IsOpenPlace file count.next = search rules in
-    let unit = c.in_ok-unit.ensures.unit in
-    let block = c.in_ok-unit.ensures.block in
+    let unit = c.in_ok-unit in
     let next = c.count_unit-count.ensures in
-    let place : c.count_unit-count.result.next ≡ next_place form file count.next =
-    next.next ∙ ap (λ b. aligned (b.body_at + b.body_len)) block ∙ unit_end form file count.next unit in
-    let bytes : c.count_unit-count.result.bytes ≡ count.bytes + length (unit_data form file count.next) =
-    next.bytes ∙ ap (λ b. count.bytes + b.body_len) block ∙ ap (λ n. count.bytes + n) (sym (length-unit_data form file count.next unit)) in record {
-      come = rw (place, next.blocks, bytes) (comes_further form file c.args.first count.next count.blocks count.bytes c.loop-form.invariant.come is_open unit);
+    let later : count.next < place_behind unit.unit = omega (arith, next.next, next.later) in record {
+      come =
+          rw (next.next, next.blocks, next.bytes) (
+          comes_further c.args.form c.args.bytes.now c.args.first count.next count.blocks count.bytes c.loop-form.invariant.come unit.unit
+          (sym c.is_open.ensures.gate ∙ c.loop-form-test.true) unit.ensures.unit later
+          );
       from = next.first ∙ c.loop-form.invariant.from;
       blocks = next.still_blocks;
       bytes = next.still_bytes;
     }
+
+pub returns-clause-counted : goal.returns-clause-counted
+returns-clause-counted c =
+    let count = c.loop-form.count in
+    comes_to_end c.args.form c.args.bytes.now c.args.first count.next count.blocks count.bytes c.loop-form.invariant.come count c.loop-form.invariant.from refl refl refl
+    (sym c.is_open.ensures.gate ∙ c.loop-form-test.false)

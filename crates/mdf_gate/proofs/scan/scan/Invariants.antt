@@ -1,5 +1,5 @@
 use Rattle.std.proofs.Common.{◌≡◌, ◌-◌, ◌≤◌, length}
-use Rattle.mdf_gate.proofs.Units.{HasCome}
+use Rattle.mdf_gate.proofs.Loops.{HasCome}
 use Rattle.mdf_gate.proofs.scan.scan.Given as goal
 
 abbrev pub invariant-loop-form : goal.invariant-loop-form

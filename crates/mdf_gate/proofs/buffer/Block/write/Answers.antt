@@ -14,15 +14,15 @@ use Rattle.mdf_gate.proofs.buffer.Block.write.Goals.{After-write_block}
 
 -- what is written is the payload of the unit
 payload : (g : given.Over) (c : After-write_block g)
-    → bytes_at (56 + c.align8.result - (56 - c.lead.result)) c.deref.result.now (56 - c.lead.result)
+    → bytes_at (56 - c.lead.result + c.room_of.result - (56 - c.lead.result)) c.deref.result.now (56 - c.lead.result)
     ≡ payload_of c.args.form c.args.place c.args.offset c.args.self.now.bytes
 payload g c =
     let block = c.self.inside in
     let len : block.bytes.len ≡ length block.bytes.items = search rules in
     let long : length c.frame.new.bytes ≡ length block.bytes.items = c.frame.ensures.length ∙ ap length c.deref_mut.ensures.value in
     written_payload block.bytes.items c.frame.new.bytes c.deref.result.now c.args.self.now.bytes c.deref_mut.result.now c.args.form c.args.place c.args.offset
-    block.used block.bytes.len (56 - c.lead.result) (56 + c.align8.result) c.from.result c.lead.result
-    len long c.deref_mut.ensures.value c.deref.ensures.value c.lead.ensures.lead refl (ap (λ (n : ℕ). 56 + n) c.align8.ensures.aligned) c.from.ensures
+    block.used block.bytes.len (56 - c.lead.result) c.lead.result c.room_of.result
+    len long c.deref_mut.ensures.value c.deref.ensures.value c.lead.ensures.lead refl c.room_of.ensures.room
     c.frame.ensures.payload (ap (λ (b : Buffered). b.bytes) c.self.view_is)
 
 pub returns-clause-ok : goal.returns-clause-ok

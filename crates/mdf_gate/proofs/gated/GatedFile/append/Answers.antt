@@ -1,8 +1,6 @@
 use Rattle.std.proofs.Common.{◌≡◌, ◌+◌, ◌<◌, ◌^◌, ◌++◌, [], ◌∷◌, ℕ, length, true, false, Ok, refl, ap, sym, subst, ◌∙◌, arith, List}
-use Rattle.mdf_format.specs.Number.{aligned}
 use Rattle.mdf_num.specs.declared.failure.Failed.{Failed}
 use Rattle.mdf_disk.specs.Crash.{Adds}
-use Rattle.mdf_format.specs.Form.{lead}
 use Rattle.mdf_gate.specs.Written.{payload_of, room_of}
 use Rattle.mdf_gate.specs.Gated.{Gated, Buffered, RestsOn}
 use Rattle.mdf_gate.specs.Images.{OpensEither, head_of}
@@ -47,15 +45,14 @@ invariant_of-self-2 g c =
     let small : file.place + length body + 88 < 2 ^ 64 = omega (arith, c.requires.short, place) in
     let going : file.failed ≡ false = ap (λ (s : Gated _). s.failed) c.self.view_is ∙ c.requires.going in
     let rests = c.self.invariant.1.rests going in
-    let count : c.from.result ≡ length body = c.from.ensures ∙ c.len.ensures.len ∙ ap (λ (b : Buffered). length b.bytes) c.in_ok-write.ensures.same in
-    let room : c.align8.result ≡ room_of file.form (length body) =
-    c.align8.ensures.aligned ∙ ap (λ (n : ℕ). aligned (n + 24 + c.from.result)) c.lead.ensures.lead ∙ ap (λ (n : ℕ). aligned (lead file.form + 24 + n)) count in (
+    let count : c.len.result ≡ length body = c.len.ensures.len ∙ ap (λ (b : Buffered). length b.bytes) c.in_ok-write.ensures.same in
+    let room : c.room_of.result ≡ room_of file.form (length body) = c.room_of.ensures.room ∙ ap (room_of file.form) count in (
       c.write.ensures.goes_on.attached ∙ c.self.invariant.0,
       record {
         behind = omega (arith, c.self.invariant.1.behind);
-        filled = omega (arith, c.self.invariant.1.filled, count, c.align8.ensures.not_below);
-        on_eight = omega (arith, c.self.invariant.1.on_eight, c.align8.ensures.multiple);
-        small = omega (arith, c.requires.short, place, count, c.align8.ensures.least, c.lead.ensures.few);
+        filled = omega (arith, c.self.invariant.1.filled, count, c.room_of.ensures.more);
+        on_eight = omega (arith, c.self.invariant.1.on_eight, c.room_of.ensures.on_eight);
+        small = omega (arith, c.requires.short, place, count, c.room_of.ensures.few);
         later = omega (arith, c.self.invariant.1.later, c.write.ensures.cause.later);
         cause = λ failed. absurd (cc failed);
         form_is = λ still. form_on_after Failed (Ok tt) (g.D.Disk.story file.disk) (g.D.Disk.content file.disk) (g.D.Disk.content c.write.new.disk) file.first rests.0
@@ -102,10 +99,9 @@ returns-clause-ok g c = rw (← c.self.view_is) (
     let going : file.failed ≡ false = ap (λ (s : Gated _). s.failed) c.self.view_is ∙ c.requires.going in
     let small : file.place + length body + 88 < 2 ^ 64 = omega (arith, c.requires.short, ap (λ (s : Gated _). s.place) c.self.view_is) in
     let long : length c.write.new.self.bytes ≡ length body = ap (λ (b : Buffered). length b.bytes) c.in_ok-write.ensures.same in
-    let count : c.from.result ≡ length body = c.from.ensures ∙ c.len.ensures.len ∙ long in
-    let added : c.from-2.result ≡ length body = c.from-2.ensures ∙ c.len-2.ensures.len ∙ long in
-    let room : c.align8.result ≡ room_of file.form (length body) =
-    c.align8.ensures.aligned ∙ ap (λ (n : ℕ). aligned (n + 24 + c.from.result)) c.lead.ensures.lead ∙ ap (λ (n : ℕ). aligned (lead file.form + 24 + n)) count in
+    let count : c.len.result ≡ length body = c.len.ensures.len ∙ long in
+    let added : c.from.result ≡ length body = c.from.ensures ∙ c.len-2.ensures.len ∙ long in
+    let room : c.room_of.result ≡ room_of file.form (length body) = c.room_of.ensures.room ∙ ap (room_of file.form) count in
     record {
       going = refl;
       place = ap (λ (n : ℕ). file.place + n) room;

@@ -1,7 +1,6 @@
 -- The opened blocks of a recording are found by a reader.
-use Rattle.std.proofs.Common.{◌≡◌, ◌+◌, ◌-◌, ◌%◌, ◌≤◌, ℕ, zero, suc, true, false, List, [], ◌∷◌, ◌++◌, length, get_or, drop, Ok, Err, refl, sym, ◌∙◌, ap, subst, inl, inr, arith}
-use Rattle.std.proofs.lemmas.Bool.{eq-eqb, ne_eqb, cond-true, cond-false, false_from_ne_true}
-use Rattle.std.proofs.lemmas.List.{get_or-take, get_or-drop}
+use Rattle.std.proofs.Common.{◌≡◌, ◌+◌, ◌%◌, ◌≤◌, ℕ, zero, suc, true, false, List, [], ◌∷◌, ◌++◌, length, get_or, Ok, Err, refl, sym, ◌∙◌, ap, subst, arith}
+use Rattle.std.proofs.lemmas.Bool.{eq-eqb, ne_eqb, cond-true, cond-false}
 use Rattle.std.specs.Prelude.{◌||◌, not, nat_eq}
 use Rattle.std.specs.List.{concat}
 use Rattle.mdf_format.specs.Form.{form_of}
@@ -9,16 +8,20 @@ use Rattle.mdf_format.specs.declared.form.Form.{Form}
 use Rattle.mdf_format.specs.Block.{body_at}
 use Rattle.mdf_format.specs.declared.kind.Kind.TheVariants.{Dt}
 use Rattle.mdf_block.specs.declared.place.BlockAt.{BlockAt}
-use Rattle.mdf_block.specs.Refusal.{Bad, Read, ◌>>=◌}
+use Rattle.mdf_block.specs.Refusal.{Bad, Read, Refuses, ◌>>=◌}
+use Rattle.mdf_block.specs.Refusal as refusals
 use Rattle.mdf_block.specs.Block.{the_block}
 use Rattle.mdf_stream.specs.declared.part.Part.{Part}
 use Rattle.mdf_stream.specs.Parts.{stream_of, ArePartsInside}
 use Rattle.mdf_stream.specs.Link.{part_of}
-use Rattle.mdf_session.specs.Opened.{is_open, unit, place_behind, opened_from, is_place, opened_parts}
+use Rattle.mdf_gate.specs.Units.{is_open, unit, place_behind, opened_from, is_place, opened_parts}
 use Rattle.mdf_gate.specs.Unit.{block_place, next_place, AreUnits, IsOpenPlace}
-use Rattle.mdf_gate.specs.Recording.{IsOpened, first_place}
+use Rattle.mdf_gate.specs.Recording.{IsOpened, HasNoOpened, first_place}
+use Rattle.mdf_gate.specs.Fault.{gate_refusal}
+use Rattle.mdf_gate.specs.declared.answer.GateFault.{GateFault}
+use Rattle.mdf_gate.specs.declared.answer.GateFault.TheVariants as faults
 use Rattle.mdf_gate.proofs.Once.{open_gate}
-use Rattle.mdf_carried.proofs.Units.{behind_is, later, unit_there}
+use Rattle.mdf_gate.proofs.Found.{behind_is, later, not_both, unit_there}
 
 -- these parts are read, and are the data of the blocks
 pub record AreFound (file : List ℕ) (read : Read (List Part)) (blocks : List (List ℕ)) : Type 0 where
@@ -75,3 +78,17 @@ blocks_found file blocks opened =
       bytes = all.bytes;
       inside = all.inside;
     }
+
+-- a recording whose units are refused has no opened blocks
+pub stuck_none : (file : List ℕ) (fault : GateFault) → Refuses (gate_refusal fault) (opened_from (form_of file) file (length file) (first_place file))
+    → HasNoOpened file
+stuck_none file fault refused blocks opened =
+    let is = opened.1 in
+    let all = units_found (form_of file) file (length file) (first_place file) opened.0 blocks is.units is.closed (omega arith) in
+    refuted fault (opened_from (form_of file) file (length file) (first_place file)) all.parts all.found refused
+  where
+    refuted : (fault : GateFault) (read : Read (List Part)) (parts : List Part) → read ≡ Ok parts → Refuses (gate_refusal fault) read → ⊥
+    refuted faults.NotMdf read parts found refused = not_both read parts refusals.NotMdf found refused
+    refuted (faults.Version ver) read parts found refused = not_both read parts (refusals.Version ver) found refused
+    refuted (faults.NotRecording std custom) read parts found refused = not_both read parts (refusals.NotRecording std custom) found refused
+    refuted (faults.Bad at want) read parts found refused = not_both read parts (Bad at want) found refused

@@ -1,13 +1,21 @@
 -- The loop from gate to gate: the units so far, with what the rest gives.
-use Rattle.std.proofs.Common.{◌≡◌, ◌+◌, ◌<◌, ◌≤◌, ℕ, zero, suc, true, false, List, [], ◌∷◌, ◌++◌, length, Option, Ok, Err, refl, sym, ◌∙◌, ap, subst, arith, append_assoc, append-nil}
+use Rattle.std.proofs.Common.{◌≡◌, ◌+◌, ◌<◌, ◌≤◌, ℕ, zero, suc, true, false, List, [], ◌∷◌, ◌++◌, length, Option, Ok, Err, refl, sym, ◌∙◌, ap, subst, arith, append_assoc, append-nil, length-append}
+use Rattle.std.proofs.lemmas.List.Sums.{sum_by_push}
+use Rattle.mdf_format.specs.Number.{aligned}
 use Rattle.mdf_format.specs.declared.form.Form.{Form}
 use Rattle.mdf_num.specs.declared.halt.Halt.{Halt}
+use Rattle.mdf_num.specs.declared.halt.Halt.TheVariants as halts
 use Rattle.mdf_block.specs.declared.place.BlockAt.{BlockAt}
-use Rattle.mdf_block.specs.Refusal.{Refusal, Read, ◌>>=◌, Halts}
+use Rattle.mdf_block.specs.Refusal.{Refusal, Read, ◌>>=◌, Halts, Refuses}
 use Rattle.mdf_block.proofs.Refusals.{halts_then}
 use Rattle.mdf_stream.specs.declared.part.Part.{Part}
 use Rattle.mdf_stream.specs.Link.{part_of}
-use Rattle.mdf_session.specs.Opened.{is_open, opened_from, place_behind, unit}
+use Rattle.mdf_stream.specs.Parts.{stream_size}
+use Rattle.mdf_gate.specs.Fault.{gate_refusal}
+use Rattle.mdf_gate.specs.Scan.{AreCounted, place_after}
+use Rattle.mdf_gate.specs.declared.answer.GateFault.{GateFault}
+use Rattle.mdf_gate.specs.declared.answer.Opened.{Opened}
+use Rattle.mdf_gate.specs.Units.{is_open, opened_from, place_behind, unit}
 
 -- parts in front of those that are read
 abbrev pub with_parts : List Part → Read (List Part) → Read (List Part)
@@ -88,3 +96,48 @@ module _ (form : Form) (file : List ℕ) where
       let second : Halts refusal halt (opened_from form file opens.most place) =
       subst (λ (most : ℕ). Halts refusal halt (opened_from form file most place)) (sym more.1) first in
       subst (Halts refusal halt) opens.is (halts_then refusal halt (opened_from form file opens.most place) (λ rest. Ok (parts ++ rest)) second)
+
+after_more : (place : ℕ) (parts : List Part) (b : BlockAt) → place_after place (parts ++ part_of b ∷ []) ≡ place_behind b
+unfolding place_after
+after_more place [] b = refl
+after_more place (part ∷ parts) b = after_more (aligned (part.at + part.len)) parts b
+
+-- what a scan that has come to a place knows: the units behind it, counted
+pub record HasCome (form : Form) (file : List ℕ) (first place blocks bytes : ℕ) : Type 0 where
+  pub parts : List Part
+  pub opens : Opens form file parts place (opened_from form file (length file) first)
+  pub number : blocks ≡ length parts
+  pub total : bytes ≡ stream_size parts
+  pub last : place ≡ place_after first parts
+
+module _ (form : Form) (file : List ℕ) (first : ℕ) where
+  pub has_come : HasCome form file first first 0 0
+  unfolding place_after
+  has_come = record { parts = []; opens = begins form file first; number = refl; total = refl; last = refl }
+
+  module _ (place blocks bytes : ℕ) (come : HasCome form file first place blocks bytes) where
+    pub comes_further : (b : BlockAt) → is_open file place ≡ true → unit form file place ≡ Ok b → place < place_behind b
+        → HasCome form file first (place_behind b) (blocks + 1) (bytes + b.body_len)
+    comes_further b is_opened found later = record {
+      parts = come.parts ++ part_of b ∷ [];
+      opens = goes_on form file come.parts place (opened_from form file (length file) first) b is_opened found later come.opens;
+      number = omega (arith, come.number, length-append come.parts (part_of b ∷ []));
+      total = ap (λ (n : ℕ). n + b.body_len) come.total ∙ sym (sum_by_push (λ (part : Part). part.len) come.parts (part_of b));
+      last = sym (after_more first come.parts b);
+    }
+
+    pub comes_to_end : (count : Opened) → count.first ≡ first → count.next ≡ place → count.blocks ≡ blocks → count.bytes ≡ bytes
+        → is_open file place ≡ false → AreCounted form file first count
+    comes_to_end count from next number total is_closed = record {
+      parts = come.parts;
+      found = is_done form file come.parts place (opened_from form file (length file) first) is_closed come.opens;
+      from = from;
+      number = number ∙ come.number;
+      total = total ∙ come.total;
+      next = next ∙ come.last;
+    }
+
+    pub stuck : (fault : GateFault) → is_open file place ≡ true → Refuses (gate_refusal fault) (unit form file place)
+        → Refuses (gate_refusal fault) (opened_from form file (length file) first)
+    stuck fault is_opened refused =
+        ends form file gate_refusal (halts.Fault fault) come.parts place (opened_from form file (length file) first) is_opened refused come.opens

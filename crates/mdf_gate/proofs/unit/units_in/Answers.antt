@@ -2,11 +2,11 @@ use Rattle.std.proofs.Common.{◌+◌, ◌≤◌, ◌<◌, refl, sym, subst, ◌
 use Rattle.std.proofs.lemmas.Result.{err_from_is_err_and}
 use Rattle.mdf_stream.specs.Parts.{IsPartInside}
 use Rattle.mdf_stream.proofs.Links.{all_more}
-use Rattle.mdf_content.specs.Fault.{read_refusal}
+use Rattle.mdf_gate.specs.Fault.{gate_refusal}
 use Rattle.mdf_stream.proofs.Moves.{behind_more, none_behind}
-use Rattle.mdf_session.proofs.Units.{begins, is_done, goes_on, ends}
+use Rattle.mdf_gate.proofs.Loops.{begins, is_done, goes_on, ends}
 use Rattle.mdf_block.proofs.Readers.{says_of}
-use Rattle.mdf_session.proofs.opened.units_in.Goals as goal
+use Rattle.mdf_gate.proofs.unit.units_in.Goals as goal
 
 pub loop-view-init : goal.loop-view-init
 loop-view-init g c = record {
@@ -26,7 +26,7 @@ returns-in_err-unit-clause-reads g c = says_of (search rules) (λ f told.
     let gate = c.in_ok-is_open_in.ensures in
     let now = loop.invariant.same ∙ told in
     rw (p.1, p.2) (
-    ends c.args.form f read_refusal _ loop.view loop.place _ (sym (gate.reads.seen f now) ∙ c.if-branch.true) (c.in_err-unit.ensures.reads.found f (gate.reads.same ∙ now))
+    ends c.args.form f gate_refusal _ loop.view loop.place _ (sym (gate.reads.seen f now) ∙ c.if-branch.true) (c.in_err-unit.ensures.reads.found f (gate.reads.same ∙ now))
     (loop.invariant.found f told)
     ))
 

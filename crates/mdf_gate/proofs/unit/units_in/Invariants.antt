@@ -1,8 +1,8 @@
 use Rattle.std.proofs.Common.{◌≡◌, ◌-◌, ◌≤◌, ℕ, List, Some, length}
 use Rattle.mdf_stream.specs.Parts.{AreBehind, ArePartsInside, stream_size}
-use Rattle.mdf_session.specs.Opened.{opened_from}
-use Rattle.mdf_session.proofs.Units.{Opens}
-use Rattle.mdf_session.proofs.opened.units_in.Given as goal
+use Rattle.mdf_gate.specs.Units.{opened_from}
+use Rattle.mdf_gate.proofs.Loops.{Opens}
+use Rattle.mdf_gate.proofs.unit.units_in.Given as goal
 
 abbrev pub invariant-loop-view : goal.invariant-loop-view
 invariant-loop-view g l = record {

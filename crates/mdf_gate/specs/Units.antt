@@ -1,9 +1,10 @@
--- The opened blocks of a recording, as the parts of one stream.
+-- The opened blocks of a recording as a reader finds them, one after the other, or the first reason to refuse them.
 use Rattle.std.specs.Prelude.{ℕ, zero, suc, ◌+◌, ◌-◌, ◌%◌, Bool, ◌&&◌, ◌||◌, not, nat_eq, if◌then◌else◌, List, [], ◌∷◌, length, get_or, Ok, Err}
 use Rattle.mdf_format.specs.declared.form.Form.{Form}
 use Rattle.mdf_format.specs.declared.form.Form.TheVariants.{Bare, Listed}
 use Rattle.mdf_format.specs.Number.{aligned}
 use Rattle.mdf_format.specs.Block.{link_at}
+use Rattle.mdf_format.specs.declared.kind.Kind.{Kind}
 use Rattle.mdf_format.specs.declared.kind.Kind.TheVariants.{Dl, Dt}
 use Rattle.mdf_block.specs.declared.place.BlockAt.{BlockAt}
 use Rattle.mdf_block.specs.Refusal.{Bad, Read, ◌>>=◌}
@@ -15,29 +16,28 @@ use Rattle.mdf_stream.specs.Link.{part_of}
 abbrev pub is_open : List ℕ → ℕ → Bool
 is_open file place = nat_eq (get_or file place 0) 35
 
--- a whole DTBLOCK; whatever else stands there is refused as none
-abbrev pub data_of : ℕ → Read BlockAt → Read BlockAt
-data_of place (Ok b) = Ok b
-data_of place (Err refusal) = Err (Bad place Dt)
+-- a whole block of the kind; whatever else stands there is refused as none
+abbrev pub wanted_of : ℕ → Kind → Read BlockAt → Read BlockAt
+wanted_of at want (Ok b) = Ok b
+wanted_of at want (Err refusal) = Err (Bad at want)
 
-unfoldable pub data_block : List ℕ → ℕ → Read BlockAt
-data_block file place = data_of place (block file place Dt)
+unfoldable pub wanted : List ℕ → ℕ → Kind → Read BlockAt
+wanted file at want = wanted_of at want (block file at want)
 
 -- where a block ends
 abbrev pub end_of : BlockAt → ℕ
 end_of b = b.body_at + b.body_len
 
--- a DLBLOCK of 56 bytes with two links, of which the second names the address behind it; whatever else stands there is
--- refused as none
+-- a DLBLOCK has 56 bytes and two links, of which the second names the address behind it
 abbrev pub is_list : List ℕ → BlockAt → Bool
 is_list file b = nat_eq b.links 2 && nat_eq (end_of b - b.at) 56 && nat_eq (link_at file b.at 1) (end_of b)
 
-abbrev pub list_of : List ℕ → ℕ → Read BlockAt → Read BlockAt
-list_of file place (Ok b) = if is_list file b then Ok b else Err (Bad place Dl)
-list_of file place (Err refusal) = Err (Bad place Dl)
+abbrev pub list_by : List ℕ → BlockAt → Read BlockAt
+list_by file b = if is_list file b then Ok b else Err (Bad b.at Dl)
 
+-- such a DLBLOCK
 unfoldable pub list_block : List ℕ → ℕ → Read BlockAt
-list_block file place = list_of file place (block file place Dl)
+list_block file place = wanted file place Dl >>= list_by file
 
 -- the place behind a unit with this data block
 abbrev pub place_behind : BlockAt → ℕ
@@ -48,11 +48,11 @@ abbrev pub linked_by : List ℕ → BlockAt → BlockAt → Read BlockAt
 linked_by file list b = if nat_eq (link_at file list.at 0) (place_behind b) then Ok b else Err (Bad list.at Dl)
 
 abbrev pub data_behind : List ℕ → BlockAt → Read BlockAt
-data_behind file list = data_block file (end_of list) >>= linked_by file list
+data_behind file list = wanted file (end_of list) Dt >>= linked_by file list
 
 -- the data block of the unit at a place
 unfoldable pub unit : Form → List ℕ → ℕ → Read BlockAt
-unit Bare file place = data_block file place
+unit Bare file place = wanted file place Dt
 unit Listed file place = list_block file place >>= data_behind file
 
 -- the bodies of the units from a place on, up to the first closed place; so many at most
