@@ -1,2 +1,1 @@
 pub mod Goings
-pub mod Logged

@@ -6,9 +6,9 @@ ghost use Rattle.log_setup.specs.Setup.{floats_in, rules_in, width_of, widths_of
 
 use acq_live::LineRules;
 use acq_script::Plan;
-use log_float::Width;
 use mdf_group::{ChannelRow, GroupRow};
 use mdf_num::{Memory, Rows};
+use script_line::Width;
 use std::alloc::Global;
 
 /// How wide the floats of a channel are, if it has floats.
