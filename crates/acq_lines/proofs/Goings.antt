@@ -26,11 +26,11 @@ use Rattle.acq_lines.specs.Act.{Act, AreCommitted, handed_in, pending_behind, pe
 use Rattle.acq_lines.specs.Act as act
 use Rattle.acq_lines.specs.Handled.{ComesNext, EndsWanted, Goes, Halts, HaltsAt, Handled, Hands, InOnePart, IsDue, MayRead, Resumes, ResumesFrom, SaysJust, Serves, Stops, StopsWell, Waits}
 use Rattle.acq_lines.specs.Rules.{MayCome, Rules}
-use Rattle.acq_lines.specs.Said.{AreFlushedMore, IsSampleLine, bad_in, feds_for, feds_in, is_end, said_by, said_in}
+use Rattle.acq_lines.specs.Said.{AreFlushedMore, bad_in, feds_for, feds_in, is_end, said_by, said_in}
 use Rattle.acq_lines.specs.Spot.{Fixed, Spot, before, fixed, spot, spot_before}
 use Rattle.acq_lines.specs.Steps.{consumes_none, ends_more, feds_more, none_handled, on_with, or_none, said_more, serves_more, tells_none}
 use Rattle.acq_lines.specs.Told.{TellsOn, durable_line}
-use Rattle.acq_lines.specs.Wants.{begins_with_sample, is_sample_line, names_group, wants_memory}
+use Rattle.acq_lines.specs.Wants.{begins_with_sample, is_sample_line, wants_memory}
 use Rattle.acq_lines.specs.declared.feed.Halt.{Halt}
 use Rattle.acq_lines.specs.declared.feed.Halt.TheVariants.{Input, Line, Failed, Memory, Count, Called}
 use Rattle.acq_lines.specs.declared.feed.LineFeed.{LineFeed}
@@ -261,14 +261,9 @@ none_closed unread none =
     ∙ ap (closed unread.long) (slice_split_none lf unread.bytes (none_in unread.bytes none))
 
 -- memory may be wanted for a line of a sample
-sample_line : (rules : Rules) (text : Option (List ℕ)) → IsSampleLine rules text → is_sample_line rules text ≡ true
-sample_line rules None is = absurd is
-sample_line rules (Some text) (group, words, is, there) = ap (names_group rules) is ∙ le-leb (suc group) (length rules.shapes) (omega (arith, there))
-
-pub wanted_here : (rules : Rules) (unread : Unread) (count : ℕ) → FindsLf unread.bytes (Some count) → IsSampleLine rules (limited unread.long (take count unread.bytes))
+pub wanted_here : (rules : Rules) (unread : Unread) (count : ℕ) → FindsLf unread.bytes (Some count) → is_sample_line rules (limited unread.long (take count unread.bytes)) ≡ true
     → wants_memory rules unread ≡ true
-wanted_here rules unread count found says =
-    ap (begins_with_sample rules) ((line_passed_by unread count _ found refl).each []) ∙ sample_line rules (limited unread.long (take count unread.bytes)) says
+wanted_here rules unread count found says = ap (begins_with_sample rules) ((line_passed_by unread count _ found refl).each []) ∙ says
 
 -- and each sample has its flush, so more may be read
 pub may_read : (at : Fixed) (spot : Spot) → spot.pending ≡ false → FindsLf spot.unread.bytes None → MayRead at spot

@@ -1,7 +1,5 @@
 pub mod Lines
 pub mod Source
-pub mod Float
-pub mod Words
 pub mod Rules
 pub mod Said
 pub mod Act

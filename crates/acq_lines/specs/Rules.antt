@@ -3,7 +3,7 @@ use Rattle.std.specs.Prelude.{ℕ, ◌≡◌, ◌≤◌, List, Option, slice_ind
 use Rattle.mdf_layout.specs.Layout.{Layout}
 use Rattle.mdf_layout.specs.Record.{SampleFits, encoded_size}
 use Rattle.mdf_layout.specs.declared.sample.Sample.{Sample}
-use Rattle.acq_lines.specs.declared.float.Width.{Width}
+use Rattle.script_line.specs.declared.float.Width.{Width}
 use Rattle.acq_run.specs.declared.feed.Fed.{Fed}
 use Rattle.acq_run.specs.declared.feed.Fed.TheVariants as fed
 use Rattle.acq_lines.specs.declared.rules.LineRules.{LineRules}

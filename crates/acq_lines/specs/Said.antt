@@ -1,12 +1,11 @@
 -- What the lines of an input say to its source, by the rules of scripts.
-use Rattle.std.specs.Prelude.{ℕ, ◌≡◌, ◌<◌, ◌+◌, ◌==◌, ◌⊎◌, ◌&&◌, ◌||◌, Bool, true, false, List, [], ◌∷◌, length, map, Option, Some, None, nat_le, slice_index, if◌then◌else◌}
+use Rattle.std.specs.Prelude.{ℕ, ◌≡◌, ◌+◌, ◌==◌, ◌⊎◌, ◌&&◌, ◌||◌, Bool, true, false, List, [], ◌∷◌, map, Option, Some, None, nat_le, slice_index, if◌then◌else◌}
 use Rattle.script_line.specs.Line.{line_of}
 use Rattle.script_line.specs.Line as line
 use Rattle.mdf_layout.specs.Record.{encoded_size}
 use Rattle.mdf_layout.specs.declared.sample.Sample.{Sample}
 use Rattle.std.specs.List.{slice_index_or}
 use Rattle.acq_script.specs.Stage.{sample_of}
-use Rattle.acq_lines.specs.Words.{script_words}
 use Rattle.acq_run.specs.declared.feed.Fed.{Fed}
 use Rattle.acq_run.specs.declared.feed.Fed.TheVariants as fed
 use Rattle.acq_lines.specs.Rules.{Rules}
@@ -19,9 +18,9 @@ sample_said rules source None = Bad
 sample_said rules source (Some sample) =
     if slice_index rules.owners sample.group == source && nat_le (encoded_size rules.shapes sample) rules.block then Sampled sample else Bad
 
--- the sample of a group whose words are those of a log: of a channel of floats the number, and no bits
+-- the sample of a group whose words are those of a log: a channel of floats has the number, and not its bits
 abbrev pub logged_sample : Rules → ℕ → List (List ℕ) → Option Sample
-logged_sample rules group words = sample_of rules.shapes group (script_words (slice_index_or rules.floats group []) words)
+logged_sample rules group words = sample_of rules.shapes (slice_index_or rules.floats group []) group words
 
 abbrev pub line_said : Rules → ℕ → Option line.Line → Said
 line_said rules source (Some line.Passed) = Nothing
@@ -82,8 +81,3 @@ AreFlushedMore pending (fed.Sample sample ∷ feds) said = (later : List Fed) ×
 AreFlushedMore pending (fed.Flush ∷ feds) said =
     ((later : List Fed) × (said ≡ fed.Flush ∷ later) × AreFlushedMore false feds later) ⊎ ((pending ≡ true) × AreFlushedMore false feds said)
 AreFlushedMore pending (fed.End ∷ feds) said = ⊥
-
--- The line says a sample of a group that there is, be its values good or not: for no other memory may be wanted.
-abbrev pub IsSampleLine : Rules → Option (List ℕ) → Type 0
-IsSampleLine rules None = ⊥
-IsSampleLine rules (Some text) = (group : ℕ) × (words : List (List ℕ)) × (line_of text ≡ Some (line.Sample group words)) × (group < length rules.shapes)

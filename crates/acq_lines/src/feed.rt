@@ -65,7 +65,8 @@ impl<'a, S: Input + Drop, K: Sink + Drop> LineFeed<'a, S, K> {
     ghost use Rattle.acq_lines.specs.Lines.{FindsLf, IsCut, limited};
     ghost use Rattle.acq_lines.specs.Source.{unread};
     ghost use Rattle.acq_lines.specs.Rules.{MayCome, rules_of};
-    ghost use Rattle.acq_lines.specs.Said.{IsSampleLine, feds_for, said_by};
+    ghost use Rattle.acq_lines.specs.Said.{feds_for, said_by};
+    ghost use Rattle.acq_lines.specs.Wants.{is_sample_line};
     ghost use Rattle.acq_lines.specs.Spot.{fixed, spot, spot_before};
     ghost use Rattle.acq_lines.specs.declared.feed.Halt.TheVariants.{Memory as MemoryHalt};
     ghost use Rattle.acq_lines.specs.Handled.{Goes, HaltsAt, IsAsked, IsDue, IsFresh, Resumes};
@@ -141,7 +142,7 @@ impl<'a, S: Input + Drop, K: Sink + Drop> LineFeed<'a, S, K> {
             return;
         };
         if !self.deaf {
-            self.deaf = give_durable(&mut self.told, self.number, count).is_err();
+            self.deaf = give_durable(&mut self.told, self.number, count as u128).is_err();
         }
     }
 
@@ -151,8 +152,8 @@ impl<'a, S: Input + Drop, K: Sink + Drop> LineFeed<'a, S, K> {
         ensures said { IfOk result (λ said. said ≡ said_by (rules_of self.now.rules) self.now.number
             (limited (unread self.now.lines).long (take count (unread self.now.lines).bytes))) }
         ensures may { IfOk result (λ said. All (MayCome (rules_of self.now.rules) self.now.number) (feds_for said)) }
-        ensures wanted { OnErr result (IsSampleLine (rules_of self.now.rules)
-            (limited (unread self.now.lines).long (take count (unread self.now.lines).bytes))) }
+        ensures wanted { OnErr result (is_sample_line (rules_of self.now.rules)
+            (limited (unread self.now.lines).long (take count (unread self.now.lines).bytes)) ≡ true) }
     {
         said_by(self.alloc, &self.rules, self.number, self.lines.line(count))
     }

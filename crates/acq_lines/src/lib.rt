@@ -9,16 +9,13 @@
 #![tactic(auto)]
 
 mod feed;
-mod float;
 mod rules;
 mod said;
 mod source;
 mod told;
-mod words;
 
 pub use feed::{Halt, LineFeed};
-pub use float::{Width, float_bits};
 pub use rules::LineRules;
 pub use said::{Said, said_by};
 pub use source::{LINE_LIMIT, LineSource};
-pub use words::script_words;
+pub use told::give_durable;

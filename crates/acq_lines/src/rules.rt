@@ -1,8 +1,8 @@
 ghost use Rattle.std.specs.Prelude.{◌≡◌, ◌≤◌, length};
 
-use crate::Width;
 use mdf_layout::Shapes;
 use mdf_num::Rows;
+use script_line::Width;
 
 /// What the lines of an input are judged by: the layouts of the groups, which of the channels of each are floats, the source of each,
 /// and how many bytes the records of a sample have at most. A group without floats may have no widths.

@@ -1,15 +1,17 @@
-ghost use Rattle.std.specs.Prelude.{◌≡◌, ◌<◌, length, All, Some, IfOk, IfSome, OnErr};
+ghost use Rattle.std.specs.Prelude.{◌≡◌, ◌<◌, [], true, length, All, Some, IfOk, IfSome, OnErr};
+ghost use Rattle.std.specs.List.{slice_index_or};
 ghost use Rattle.std.specs.Option.{option_map};
 ghost use Rattle.mdf_layout.specs.Record.{SampleFits};
 ghost use Rattle.script_line.specs.Text.{words_left};
 ghost use Rattle.acq_lines.specs.Rules.{MayCome, rules_of};
-ghost use Rattle.acq_lines.specs.Said.{IsSampleLine, feds_for, logged_sample, said_by, sample_said};
+ghost use Rattle.acq_lines.specs.Said.{feds_for, logged_sample, said_by, sample_said};
+ghost use Rattle.acq_lines.specs.Wants.{is_sample_line};
 
 use crate::{LineRules, script_words};
 use acq_script::sample_of;
 use mdf_layout::Sample;
 use mdf_num::Memory;
-use script_line::{Line, line_of};
+use script_line::{Line, Width, line_of};
 use std::alloc::Global;
 
 /// What a line says to its source.
@@ -27,8 +29,18 @@ pub enum Said {
     Bad,
 }
 
-/// The sample of this group of these values as a log has them, if they are admitted: where a channel has floats, the word is the
-/// number and not its bits.
+/// Which channels of a group take floats, and how wide they are.
+fn widths_of<'a>(rules: &LineRules<'a>, group: u64) -> &'a [Option<Width>]
+    ensures { result.now ≡ slice_index_or rules.now.floats.now group [] }
+{
+    match rules.floats.get(group as usize) {
+        Some(widths) => widths.as_slice(),
+        None => &[],
+    }
+}
+
+/// The sample of this group of these values as a log has them, if they are admitted: a channel of floats has the number, and not its
+/// bits.
 fn logged_sample(
     alloc: Global,
     rules: &LineRules<'_>,
@@ -39,17 +51,7 @@ fn logged_sample(
     ensures fits { IfOk result (λ found. IfSome found (SampleFits rules.now.shapes.now)) }
     ensures wanted { OnErr result (group < length rules.now.shapes.now) }
 {
-    let Some(text) = values else {
-        return sample_of(alloc, rules.shapes, group, values);
-    };
-    let Some(widths) = rules.floats.get(group as usize) else {
-        return sample_of(alloc, rules.shapes, group, values);
-    };
-    if widths.as_slice().is_empty() {
-        return sample_of(alloc, rules.shapes, group, values);
-    }
-    let words = script_words(alloc, widths.as_slice(), text)?;
-    sample_of(alloc, rules.shapes, group, Some(words.as_slice()))
+    sample_of(alloc, rules.shapes, widths_of(rules, group), group, values)
 }
 
 /// What a sample says to a source: nothing good, where it is of a group of another source, or its records are longer than a block.
@@ -78,7 +80,7 @@ pub fn said_by(
     ensures said { IfOk result (λ said. said ≡ said_by (rules_of rules.now) source (option_map (λ bytes. bytes.now) line.entry)) }
     // What it hands in is the source's, and a book has room for it.
     ensures may { IfOk result (λ said. All (MayCome (rules_of rules.now) source) (feds_for said)) }
-    ensures wanted { OnErr result (IsSampleLine (rules_of rules.now) (option_map (λ bytes. bytes.now) line.entry)) }
+    ensures wanted { OnErr result (is_sample_line (rules_of rules.now) (option_map (λ bytes. bytes.now) line.entry) ≡ true) }
 {
     let Some(text) = line else {
         return Ok(Said::Bad);

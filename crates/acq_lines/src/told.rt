@@ -8,7 +8,10 @@ use mdf_num::Failed;
 use mdf_port::Sink;
 
 /// Gives the line that so many samples of a source are durable, at once: several sources may share what is behind their sinks.
-pub(crate) fn give_durable<K: Sink>(sink: &mut K, source: u8, count: u64) -> Result<(), Failed>
+///
+/// # Errors
+/// `Failed` if the sink failed; then it has a front of the line.
+pub fn give_durable<K: Sink>(sink: &mut K, source: u8, count: u128) -> Result<(), Failed>
     ensures { Gives (durable_line source count) (sink_state K.Sink sink.old) (sink_state K.Sink sink.new) result }
 {
     give_line(
@@ -17,7 +20,7 @@ pub(crate) fn give_durable<K: Sink>(sink: &mut K, source: u8, count: u64) -> Res
             Piece::Text(b"source "),
             Piece::Number(u64::from(source)),
             Piece::Text(b" durable "),
-            Piece::Number(count),
+            Piece::Sum(count),
         ],
     )
 }

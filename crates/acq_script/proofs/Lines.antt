@@ -8,11 +8,11 @@ use Rattle.std.proofs.lemmas.List.Elements.{All-nil}
 use Rattle.script_line.specs.Text.{is_end, words_of}
 use Rattle.script_line.specs.Line as said
 use Rattle.script_line.specs.Line.{Line, is_passed, line_of, worded_list, worded_plan}
-use Rattle.acq_script.specs.Stage.{step}
+use Rattle.acq_script.specs.Stage.{first_stage, step}
 use Rattle.acq_script.specs.Script.{ended, read_from, script_of}
 use Rattle.acq_script.specs.declared.script.Script.{Script}
 use Rattle.acq_script.specs.declared.stage.Stage.{Stage}
-use Rattle.acq_script.specs.declared.stage.Stage.TheVariants.{Empty, Ended}
+use Rattle.acq_script.specs.declared.stage.Stage.TheVariants.{Ended}
 use Rattle.acq_script.proofs.Steps.{at_end, taken}
 
 -- the parts that a separator cuts, byte by byte
@@ -73,10 +73,10 @@ all_read (text ∷ texts) (line ∷ lines) stage number script said ends =
 
 -- from the beginning these lines make this script
 abbrev pub Makes : List Line → Script → Type 0
-Makes lines script = after_all (Empty None None None false) lines ≡ Some (Ended script)
+Makes lines script = after_all first_stage lines ≡ Some (Ended script)
 
 -- a text of lines that say these is read as the script that they make
 pub text_read : (text : List ℕ) (texts : List (List ℕ)) (lines : List Line) (script : Script) → parts 10 text ≡ texts ++ [] ∷ [] → AreSaid texts lines
     → Makes lines script → script_of text ≡ Ok script
 text_read text texts lines script cut said makes =
-    ap (read_from (Empty None None None false) 1) (parts_are 10 text ∙ cut) ∙ all_read texts lines (Empty None None None false) 1 script said makes
+    ap (read_from first_stage 1) (parts_are 10 text ∙ cut) ∙ all_read texts lines first_stage 1 script said makes

@@ -29,7 +29,7 @@ use Rattle.acq_script.specs.Draft.{channel_row, drawn, with_channel, group_row}
 use Rattle.script_line.specs.Line as said
 use Rattle.script_line.specs.Line.{line_of, worded, worded_plan, group_of, channel_of, channel_with, marks_of, inval_of, one_number, block_of, session_of, form_of, flush_of, alone}
 use Rattle.acq_script.specs.Plan.{layout_of, TaskFits}
-use Rattle.acq_script.specs.Sketch.{opening_of, sketch_with, counted, channel_in, plan_with, script_with}
+use Rattle.acq_script.specs.Sketch.{preamble_of, opening_of, sketch_with, counted, channel_in, plan_with, script_with}
 use Rattle.acq_script.specs.Stage.{step, admitted, with_task}
 use Rattle.acq_script.specs.Script.{read_from, script_of}
 use Rattle.acq_script.specs.Spelled.{Channel, Spelling, limit_lines, form_lines, live_lines, group_words, channel_words, value_word, task_words, line_with, text_with, spelled, word_form, word_rows, sketch_of, script_said, IsSpellable}
@@ -163,7 +163,7 @@ word_of entry = value_word entry.value
 
 record IsRead (row : FieldRow) (entry : Entry) : Type 0 where
   bytes : All IsByte (word_of entry)
-  says : entry_of row (word_of entry) ≡ Some entry
+  says : entry_of None row (word_of entry) ≡ Some entry
 
 value_read : (row : FieldRow) (v : Value) (valid : Bool) → IsWord row → valid ≡ true → ValueFits Unsigned 64 v → IsRead row (record { value = v; valid = valid })
 unfolding entry_of value_of unsigned_value
@@ -188,7 +188,7 @@ entry_read row entry word is =
 
 record AreRead (rows : List FieldRow) (entries : List Entry) : Type 0 where
   bytes : AreWords (map word_of entries)
-  says : entries_of rows (map word_of entries) ≡ Some entries
+  says : entries_of [] rows (map word_of entries) ≡ Some entries
 
 tail_fits : (row : FieldRow) (rows : List FieldRow) (entry : Entry) (entries : List Entry) → AreEntriesOf (row ∷ rows) (entry ∷ entries) → AreEntriesOf rows entries
 tail_fits row rows entry entries are = record { count = omega (arith, are.count); each = λ k r d below. are.each (suc k) r d (omega (arith, below)) }
@@ -203,7 +203,7 @@ entries_read (row ∷ rows) (entry ∷ entries) words are =
     let rest = entries_read rows entries words.1 (tail_fits row rows entry entries are) in record {
       bytes = All-cons (All IsByte) (word_of entry) (map word_of entries) first.bytes rest.bytes;
       says =
-          ap (option_and_then (λ e. option_map (λ es. e ∷ es) (entries_of rows (map word_of entries)))) first.says
+          ap (option_and_then (λ e. option_map (λ es. e ∷ es) (entries_of [] rows (map word_of entries)))) first.says
           ∙ ap (option_map (λ es. entry ∷ es)) rest.says;
     }
 
@@ -318,19 +318,19 @@ in_range : (limit most : ℕ) (changed : Option Stage) → 1 ≤ limit → limit
 in_range limit most changed low high =
     ap (λ b. cond (b && nat_le limit most) changed None) (le-leb 1 limit low) ∙ ap (λ b. cond b changed None) (le-leb limit most high)
 
-block_read : (block : Option ℕ) (lines : List (List (List ℕ))) (script : Script) → IsSaidLimit 16777216 block → ((line : ℕ) → reads (Empty block None None false) line lines ≡ Ok script) → (line : ℕ) → reads (Empty None None None false) line (limit_lines (codes "block") block ++ lines) ≡ Ok script
+block_read : (block : Option ℕ) (lines : List (List (List ℕ))) (script : Script) → IsSaidLimit 16777216 block → ((line : ℕ) → reads (Empty (preamble_of block None None false)) line lines ≡ Ok script) → (line : ℕ) → reads (Empty (preamble_of None None None false)) line (limit_lines (codes "block") block ++ lines) ≡ Ok script
 block_read None lines script is follow line = follow line
 block_read (Some limit) lines script is follow line =
-    one_line (Empty None None None false) line (codes "block" ∷ decimal limit ∷ []) lines (said.Block limit) (Empty (Some limit) None None false) script
+    one_line (Empty (preamble_of None None None false)) line (codes "block" ∷ decimal limit ∷ []) lines (said.Block limit) (Empty (preamble_of (Some limit) None None false)) script
     (limit_are (codes "block") limit (literal (codes "block") refl) (omega (arith, is.1))) (block_says limit (omega (arith, is.1)))
-    (in_range limit 16777216 (Some (Empty (Some limit) None None false)) is.0 is.1) (follow (line + 1))
+    (in_range limit 16777216 (Some (Empty (preamble_of (Some limit) None None false))) is.0 is.1) (follow (line + 1))
 
-session_read : (block session : Option ℕ) (lines : List (List (List ℕ))) (script : Script) → IsSaidLimit 268435456 session → ((line : ℕ) → reads (Empty block session None false) line lines ≡ Ok script) → (line : ℕ) → reads (Empty block None None false) line (limit_lines (codes "session") session ++ lines) ≡ Ok script
+session_read : (block session : Option ℕ) (lines : List (List (List ℕ))) (script : Script) → IsSaidLimit 268435456 session → ((line : ℕ) → reads (Empty (preamble_of block session None false)) line lines ≡ Ok script) → (line : ℕ) → reads (Empty (preamble_of block None None false)) line (limit_lines (codes "session") session ++ lines) ≡ Ok script
 session_read block None lines script is follow line = follow line
 session_read block (Some limit) lines script is follow line =
-    one_line (Empty block None None false) line (codes "session" ∷ decimal limit ∷ []) lines (said.Session limit) (Empty block (Some limit) None false) script
+    one_line (Empty (preamble_of block None None false)) line (codes "session" ∷ decimal limit ∷ []) lines (said.Session limit) (Empty (preamble_of block (Some limit) None false)) script
     (limit_are (codes "session") limit (literal (codes "session") refl) (omega (arith, is.1))) (session_says limit (omega (arith, is.1)))
-    (in_range limit 268435456 (Some (Empty block (Some limit) None false)) is.0 is.1) (follow (line + 1))
+    (in_range limit 268435456 (Some (Empty (preamble_of block (Some limit) None false))) is.0 is.1) (follow (line + 1))
 
 -- the line of the form
 form_says : (number : ℕ) → number < 2 ^ 64 → line_of (line_with (codes "form" ∷ decimal number ∷ [])) ≡ Some (said.Form number)
@@ -347,21 +347,21 @@ form_back : (form : Form) → form_numbered (form_number form) ≡ Some form
 form_back Bare = refl
 form_back Listed = refl
 
-form_read : (block session : Option ℕ) (form : Option Form) (lines : List (List (List ℕ))) (script : Script) → ((line : ℕ) → reads (Empty block session form false) line lines ≡ Ok script) → (line : ℕ) → reads (Empty block session None false) line (form_lines form ++ lines) ≡ Ok script
+form_read : (block session : Option ℕ) (form : Option Form) (lines : List (List (List ℕ))) (script : Script) → ((line : ℕ) → reads (Empty (preamble_of block session form false)) line lines ≡ Ok script) → (line : ℕ) → reads (Empty (preamble_of block session None false)) line (form_lines form ++ lines) ≡ Ok script
 form_read block session None lines script follow line = follow line
 form_read block session (Some form) lines script follow line =
-    one_line (Empty block session None false) line (codes "form" ∷ decimal (form_number form) ∷ []) lines (said.Form (form_number form)) (Empty block session (Some form) false) script
+    one_line (Empty (preamble_of block session None false)) line (codes "form" ∷ decimal (form_number form) ∷ []) lines (said.Form (form_number form)) (Empty (preamble_of block session (Some form) false)) script
     (limit_are (codes "form") (form_number form) (literal (codes "form") refl) (number_small form)) (form_says (form_number form) (number_small form))
-    (ap (option_map (λ f. Empty block session (Some f) false)) (form_back form)) (follow (line + 1))
+    (ap (option_map (λ f. Empty (preamble_of block session (Some f) false))) (form_back form)) (follow (line + 1))
 
 live_says : line_of (line_with (codes "live" ∷ [])) ≡ Some said.Live
 unfolding worded_plan alone
 live_says = line_said 108 (codes "ive") [] refl (one (codes "live") (literal (codes "live") refl))
 
-live_read : (block session : Option ℕ) (form : Option Form) (live : Bool) (lines : List (List (List ℕ))) (script : Script) → ((line : ℕ) → reads (Empty block session form live) line lines ≡ Ok script) → (line : ℕ) → reads (Empty block session form false) line (live_lines live ++ lines) ≡ Ok script
+live_read : (block session : Option ℕ) (form : Option Form) (live : Bool) (lines : List (List (List ℕ))) (script : Script) → ((line : ℕ) → reads (Empty (preamble_of block session form live)) line lines ≡ Ok script) → (line : ℕ) → reads (Empty (preamble_of block session form false)) line (live_lines live ++ lines) ≡ Ok script
 live_read block session form false lines script follow line = follow line
 live_read block session form true lines script follow line =
-    one_line (Empty block session form false) line (codes "live" ∷ []) lines said.Live (Empty block session form true) script
+    one_line (Empty (preamble_of block session form false)) line (codes "live" ∷ []) lines said.Live (Empty (preamble_of block session form true)) script
     (one (codes "live") (literal (codes "live") refl)) live_says refl (follow (line + 1))
 
 -- as many rows as channels
@@ -370,13 +370,13 @@ length-word_rows bit [] = refl
 length-word_rows bit (channel ∷ channels) = ap suc (length-word_rows (bit + 64) channels)
 
 -- the whole
-group_read : (s : Spelling) → IsSpellable s → (line : ℕ) → reads (Empty s.block s.session s.form s.live) line (group_words s.name ∷ (map channel_words s.channels ++ (codes "begin" ∷ []) ∷ (map task_words s.tasks ++ (codes "end" ∷ []) ∷ []))) ≡ Ok (script_said s)
+group_read : (s : Spelling) → IsSpellable s → (line : ℕ) → reads (Empty (preamble_of s.block s.session s.form s.live)) line (group_words s.name ∷ (map channel_words s.channels ++ (codes "begin" ∷ []) ∷ (map task_words s.tasks ++ (codes "end" ∷ []) ∷ []))) ≡ Ok (script_said s)
 group_read s is line =
     let behind : List (List (List ℕ)) = (codes "begin" ∷ []) ∷ (map task_words s.tasks ++ (codes "end" ∷ []) ∷ []) in
-    let opening : Opening = opening_of s.block s.session s.form s.live in
+    let opening : Opening = opening_of (preamble_of s.block s.session s.form s.live) in
     let rows = word_rows 0 s.channels in
     let n = length s.channels in
-    one_line (Empty s.block s.session s.form s.live) line (group_words s.name) (map channel_words s.channels ++ behind) (said.Group 0 s.name) (Planned (sketch_of opening s.name [] 0 0 false false)) (script_said s) (group_are s.name is.name) (group_says s.name is.name) refl
+    one_line (Empty (preamble_of s.block s.session s.form s.live)) line (group_words s.name) (map channel_words s.channels ++ behind) (said.Group 0 s.name) (Planned (sketch_of opening s.name [] 0 0 false false)) (script_said s) (group_are s.name is.name) (group_says s.name is.name) refl
     (channels_read opening s.name [] rows 0 n 0 (64 * n) false false s.channels (line + 1) behind (script_said s) refl (omega arith) is.few (omega arith) refl (omega (arith, is.master)) is.names
     (λ had unit line. begin_read opening s.name rows n (64 * n) had unit line (map task_words s.tasks ++ (codes "end" ∷ []) ∷ []) (script_said s) (omega (arith, is.some, length-word_rows 0 s.channels))
     (tasks_read opening s.name rows n (64 * n) [] s.tasks (line + 1) ((codes "end" ∷ []) ∷ []) (script_said s) (word_fields 0 s.channels) is.tasks (λ line. end_read (script_said s) line))))

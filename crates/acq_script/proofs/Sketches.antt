@@ -10,7 +10,6 @@ use Rattle.std.proofs.lemmas.List.Sums.{sum_by-append, sum_by-cons}
 use Rattle.std.proofs.lemmas.Option.{slice_get-get_or}
 use Rattle.mdf_format.specs.Field.{HasBit}
 use Rattle.mdf_format.specs.Row.{RowNumbers, BreaksRowRule}
-use Rattle.mdf_format.specs.declared.form.Form.{Form}
 use Rattle.mdf_group.specs.Recordable.{numbers_of, is_of_values, ArePlaced, IsRecordableChannel, IsRecordableGroup}
 use Rattle.mdf_group.specs.declared.row.ChannelRow.{ChannelRow}
 use Rattle.mdf_group.specs.declared.row.GroupRow.{GroupRow}
@@ -32,6 +31,7 @@ use Rattle.acq_script.specs.Stage.{IsLimit, IsScript}
 use Rattle.script_line.specs.declared.line.ChannelForm.{ChannelForm}
 use Rattle.acq_script.specs.declared.draft.Draft.{Draft}
 use Rattle.acq_script.specs.declared.sketch.Opening.{Opening}
+use Rattle.acq_script.specs.declared.sketch.Preamble.{Preamble}
 use Rattle.acq_script.specs.declared.sketch.Sketch.{Sketch}
 use Rattle.acq_script.specs.declared.script.Script.{Script}
 use Rattle.script_line.proofs.Entries.{kept, mapped}
@@ -42,11 +42,10 @@ low_limit : (most default_ : ℕ) (o : Option ℕ) → IsLimit most o → 1 ≤ 
 low_limit most default_ None is some few = (some, few)
 low_limit most default_ (Some limit) is some few = is
 
-pub opening_is : (block session : Option ℕ) (form : Option Form) (live : Bool) → IsLimit 16777216 block → IsLimit 268435456 session
-    → AreLimits (opening_of block session form live).block (opening_of block session form live).session
-opening_is block session form live one two =
-    let first = low_limit 16777216 65536 block one (omega arith) (omega arith) in
-    let second = low_limit 268435456 268435456 session two (omega arith) (omega arith) in
+pub opening_is : (said : Preamble) → IsLimit 16777216 said.block → IsLimit 268435456 said.session → AreLimits (opening_of said).block (opening_of said).session
+opening_is said one two =
+    let first = low_limit 16777216 65536 said.block one (omega arith) (omega arith) in
+    let second = low_limit 268435456 268435456 said.session two (omega arith) (omega arith) in
     record { block_low = first.0; block_high = first.1; session_low = second.0; session_high = second.1 }
 
 pub first_is : (opening : Opening) (source : ℕ) (name : List ℕ) (sketch : Sketch) → AreLimits opening.block opening.session → is_name name ≡ true → first_sketch opening source name ≡ Some sketch → IsSketch sketch

@@ -1,6 +1,6 @@
 -- What holds of every stage of a script.
-use Rattle.std.proofs.Common.{◌≡◌, ◌∙◌, sym, ap, subst, ℕ, ◌<◌, ◌≤◌, inl, inr, Bool, true, Option, Some, None, List, [], ◌∷◌, ◌++◌, length, get_or, refl, arith, false}
-use Rattle.std.specs.Prelude.{nat_lt, nat_le, ◌&&◌, All, slice_get, slice_index, is_none}
+use Rattle.std.proofs.Common.{◌≡◌, ◌∙◌, sym, ap, subst, ℕ, ◌<◌, ◌≤◌, inl, inr, Bool, true, Option, Some, None, List, [], ◌∷◌, ◌++◌, length, get_or, refl, arith}
+use Rattle.std.specs.Prelude.{nat_lt, nat_le, not, ◌&&◌, All, slice_get, slice_index, is_none}
 use Rattle.std.specs.Option.{option_and_then, option_map}
 use Rattle.std.proofs.lemmas.Bool.{leb-true, le-leb, lt-leb, ltb-true, and_parts, cases_eq, cond-true, cond-false}
 use Rattle.std.proofs.lemmas.Option.{slice_get_within}
@@ -13,6 +13,7 @@ use Rattle.mdf_layout.specs.Record.{SampleFits, encoded_size}
 use Rattle.mdf_layout.specs.declared.sample.Entry.{Entry}
 use Rattle.mdf_layout.specs.declared.sample.Sample.{Sample}
 use Rattle.script_line.specs.Value.{entries_of}
+use Rattle.script_line.specs.declared.float.Width.{Width}
 use Rattle.script_line.specs.Line as said
 use Rattle.script_line.specs.Line.{IsSaid}
 use Rattle.acq_script.specs.Plan.{TaskFits, IsTaskOf, layout_of}
@@ -21,6 +22,7 @@ use Rattle.acq_script.specs.Stage.{sample_of, list_with, with_task, admitted, wi
 use Rattle.acq_script.specs.declared.script.Script.{Script}
 use Rattle.acq_script.specs.declared.script.Task.{Task}
 use Rattle.acq_script.specs.declared.script.Task.TheVariants as task
+use Rattle.acq_script.specs.declared.sketch.Preamble.{Preamble}
 use Rattle.acq_script.specs.declared.sketch.Sketch.{Sketch}
 use Rattle.acq_script.specs.declared.stage.Stage.{Stage}
 use Rattle.acq_script.specs.declared.stage.Stage.TheVariants.{Empty, Planned, Running, Ended}
@@ -29,11 +31,11 @@ use Rattle.acq_script.proofs.Layings.{only_one}
 use Rattle.acq_script.proofs.Sketches.{opening_is, first_is, group_more, channel_more, unit_more, begun_is, long_mapped}
 
 -- the sample that words are fits the layouts
-pub sample_fits : (layouts : List Layout) (group : ℕ) (words : List (List ℕ)) (sample : Sample) → sample_of layouts group words ≡ Some sample → SampleFits layouts sample
-sample_fits layouts group words sample e =
-    let found = then_some (λ (layout : Layout). option_map (λ (entries : List Entry). record { group = group; values = entries }) (entries_of layout.rows words)) (slice_get layouts group) sample e in
-    let read = mapped (λ (entries : List Entry). record { group = group; values = entries }) (entries_of found.0.rows words) sample found.2 in
-    subst (SampleFits layouts) read.2 (record { layout = found.0; known = found.1; entries = entries_fit found.0.rows words read.0 read.1 })
+pub sample_fits : (layouts : List Layout) (widths : List (Option Width)) (group : ℕ) (words : List (List ℕ)) (sample : Sample) → sample_of layouts widths group words ≡ Some sample → SampleFits layouts sample
+sample_fits layouts widths group words sample e =
+    let found = then_some (λ (layout : Layout). option_map (λ (entries : List Entry). record { group = group; values = entries }) (entries_of widths layout.rows words)) (slice_get layouts group) sample e in
+    let read = mapped (λ (entries : List Entry). record { group = group; values = entries }) (entries_of widths found.0.rows words) sample found.2 in
+    subst (SampleFits layouts) read.2 (record { layout = found.0; known = found.1; entries = entries_fit widths found.0.rows words read.0 read.1 })
 
 -- one task more in a list
 each_list : (P : ℕ → Task → Type 0) (lists : List (List Task)) (source : ℕ) (does : Task) → source < length lists → P source does
@@ -65,10 +67,10 @@ owner_there script sample is fits =
 
 -- what comes of a sample: it is none, or its records are longer than a block, or it is handed in
 module _ (script : Script) (group : ℕ) (words : List (List ℕ)) where
-  pub sample_none : None ≡ sample_of script.plan.shapes group words → with_sample script group words ≡ None
+  pub sample_none : None ≡ sample_of script.plan.shapes [] group words → with_sample script group words ≡ None
   sample_none is = ap (option_and_then (admitted script)) (sym is)
 
-  module _ (sample : Sample) (is : Some sample ≡ sample_of script.plan.shapes group words) where
+  module _ (sample : Sample) (is : Some sample ≡ sample_of script.plan.shapes [] group words) where
     abbrev handed : Option Script
     handed = Some (with_task script (slice_index script.plan.owners sample.group) (task.Sample sample))
 
@@ -81,13 +83,13 @@ module _ (script : Script) (group : ℕ) (words : List (List ℕ)) where
         ap (option_and_then (admitted script)) (sym is) ∙ cond-true _ handed None (le-leb (encoded_size script.plan.shapes sample) script.plan.block short)
 
     pub sample_there : IsScript script → slice_index script.plan.owners sample.group < length script.lists
-    sample_there whole = owner_there script sample whole (sample_fits script.plan.shapes group words sample (sym is))
+    sample_there whole = owner_there script sample whole (sample_fits script.plan.shapes [] group words sample (sym is))
 
 sample_more : (script changed : Script) (group : ℕ) (words : List (List ℕ)) → IsScript script → with_sample script group words ≡ Some changed → IsScript changed
 sample_more script changed group words is e =
-    let found = then_some (admitted script) (sample_of script.plan.shapes group words) changed e in
+    let found = then_some (admitted script) (sample_of script.plan.shapes [] group words) changed e in
     let sample : Sample = found.0 in
-    let fits = sample_fits script.plan.shapes group words sample found.1 in
+    let fits = sample_fits script.plan.shapes [] group words sample found.1 in
     let does : Task = task.Sample sample in
     let source = slice_index script.plan.owners sample.group in
     let both : (nat_le (encoded_size script.plan.shapes sample) script.plan.block ≡ true) × (Some (with_task script source does) ≡ Some changed) =
@@ -112,23 +114,28 @@ in_range first limit most e =
 some_is : {A : Type 0} (P : A → Type 0) (x y : A) → P x → Some x ≡ Some y → P y
 some_is P x y here e = let same : x ≡ y = cc in subst P same here
 
-empty_sound : (block session : Option ℕ) (form : Option Form) (live : Bool) (line : said.Line) (stage : Stage) → IsLimit 16777216 block × IsLimit 268435456 session → IsSaid line → empty block session form live line ≡ Some stage → Sound stage
-empty_sound block session form live said.Passed stage is ok e = some_is Sound (Empty block session form live) stage is e
-empty_sound block session form live (said.Block limit) stage is ok e =
-    let both = kept (is_none block && nat_le 1 limit && nat_le limit 16777216) (Some (Empty (Some limit) session form live)) stage e in
-    some_is Sound (Empty (Some limit) session form live) stage (in_range (is_none block) limit 16777216 both.0, is.1) both.1
-empty_sound block session form live (said.Session limit) stage is ok e =
-    let both = kept (is_none session && nat_le 1 limit && nat_le limit 268435456) (Some (Empty block (Some limit) form live)) stage e in
-    some_is Sound (Empty block (Some limit) form live) stage (is.0, in_range (is_none session) limit 268435456 both.0) both.1
-empty_sound block session None live (said.Form number) stage is ok e =
-    let found = mapped (λ form. Empty block session (Some form) live) (form_numbered number) stage e in subst Sound found.2 is
-empty_sound block session (Some form) live (said.Form number) stage is ok e = absurd (cc)
-empty_sound block session form true said.Live stage is ok e = absurd (cc)
-empty_sound block session form false said.Live stage is ok e = some_is Sound (Empty block session form true) stage is e
-empty_sound block session form live (said.Group source name) stage is ok e =
-    let found = mapped Planned (first_sketch (opening_of block session form live) source name) stage e in
-    subst Sound found.2 (first_is (opening_of block session form live) source name found.0 (opening_is block session form live is.0 is.1) ok found.1)
-empty_sound block session form live _ stage is ok e = absurd (cc)
+empty_sound : (p : Preamble) (line : said.Line) (stage : Stage) → IsLimit 16777216 p.block × IsLimit 268435456 p.session → IsSaid line → empty p line ≡ Some stage → Sound stage
+empty_sound p said.Passed stage is ok e = some_is Sound (Empty p) stage is e
+empty_sound p (said.Block limit) stage is ok e =
+    let changed = Empty (record p { block = Some limit }) in
+    let both = kept (is_none p.block && nat_le 1 limit && nat_le limit 16777216) (Some changed) stage e in
+    some_is Sound changed stage (in_range (is_none p.block) limit 16777216 both.0, is.1) both.1
+empty_sound p (said.Session limit) stage is ok e =
+    let changed = Empty (record p { session = Some limit }) in
+    let both = kept (is_none p.session && nat_le 1 limit && nat_le limit 268435456) (Some changed) stage e in
+    some_is Sound changed stage (is.0, in_range (is_none p.session) limit 268435456 both.0) both.1
+empty_sound p (said.Form number) stage is ok e =
+    let changed : Form → Stage = λ form. Empty (record p { form = Some form }) in
+    let both = kept (is_none p.form) (option_map changed (form_numbered number)) stage e in
+    let found = mapped changed (form_numbered number) stage both.1 in
+    subst Sound found.2 is
+empty_sound p said.Live stage is ok e =
+    let changed = Empty (record p { live = true }) in
+    some_is Sound changed stage is (kept (not p.live) (Some changed) stage e).1
+empty_sound p (said.Group source name) stage is ok e =
+    let found = mapped Planned (first_sketch (opening_of p) source name) stage e in
+    subst Sound found.2 (first_is (opening_of p) source name found.0 (opening_is p is.0 is.1) ok found.1)
+empty_sound p _ stage is ok e = absurd (cc)
 
 planned_sound : (sketch : Sketch) (line : said.Line) (stage : Stage) → IsSketch sketch → IsSaid line → planned sketch line ≡ Some stage → Sound stage
 planned_sound sketch said.Passed stage is ok e = some_is Sound (Planned sketch) stage is e
@@ -153,7 +160,7 @@ running_sound script _ stage is e = absurd (cc)
 
 -- what a line makes of a sound stage is sound
 pub step_sound : (stage changed : Stage) (line : said.Line) → Sound stage → IsSaid line → step stage line ≡ Some changed → Sound changed
-step_sound (Empty block session form live) changed line is ok e = empty_sound block session form live line changed is ok e
+step_sound (Empty preamble) changed line is ok e = empty_sound preamble line changed is ok e
 step_sound (Planned sketch) changed line is ok e = planned_sound sketch line changed is ok e
 step_sound (Running script) changed line is ok e = running_sound script line changed is e
 step_sound (Ended script) changed _ is ok e = absurd (cc)

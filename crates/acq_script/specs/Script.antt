@@ -1,14 +1,14 @@
 -- What a script says, or its first line that no rule admits.
-use Rattle.std.specs.Prelude.{ℕ, ◌≡◌, ◌+◌, ◌⊎◌, List, [], ◌∷◌, Result, Ok, Err, None, IsSomeAnd, false}
+use Rattle.std.specs.Prelude.{ℕ, ◌≡◌, ◌+◌, ◌⊎◌, List, [], ◌∷◌, Result, Ok, Err, IsSomeAnd}
 use Rattle.std.specs.Option.{option_and_then, ok_or}
 use Rattle.script_line.specs.Text.{lines_of}
 use Rattle.script_line.specs.Line.{line_of}
-use Rattle.acq_script.specs.Stage.{MayWant, step}
+use Rattle.acq_script.specs.Stage.{MayWant, first_stage, step}
 use Rattle.acq_script.specs.declared.fault.ScriptFault.{ScriptFault}
 use Rattle.acq_script.specs.declared.fault.ScriptFault.TheVariants as faults
 use Rattle.acq_script.specs.declared.script.Script.{Script}
 use Rattle.acq_script.specs.declared.stage.Stage.{Stage}
-use Rattle.acq_script.specs.declared.stage.Stage.TheVariants.{Empty, Ended}
+use Rattle.acq_script.specs.declared.stage.Stage.TheVariants.{Ended}
 
 -- where nothing stands behind the last LF and the script has ended, the script; otherwise the number of the line that is
 -- missing there, or that is not ended by LF
@@ -36,7 +36,7 @@ read_from stage line (text ∷ next ∷ more) = do
 -- the script that bytes are, or the number of their first line that no rule admits after the lines before it, counted
 -- from 1
 abbrev pub script_of : List ℕ → Result Script ℕ
-script_of bytes = read_from (Empty None None None false) 1 (lines_of bytes)
+script_of bytes = read_from first_stage 1 (lines_of bytes)
 
 -- memory may be wanted for a line that is spelled so
 abbrev pub MayWantFor : Stage → List ℕ → Type 0
@@ -52,7 +52,7 @@ WantsFrom stage (text ∷ next ∷ more) =
 
 -- Memory may be wanted for a line of these bytes before which each line is admitted.
 abbrev pub WantsIn : List ℕ → Type 0
-WantsIn bytes = WantsFrom (Empty None None None false) (lines_of bytes)
+WantsIn bytes = WantsFrom first_stage (lines_of bytes)
 
 -- where the fault is want of memory, this holds
 abbrev pub WantComes : Type 0 → ScriptFault → Type 0

@@ -11,15 +11,23 @@ use Rattle.acq_script.specs.Plan.{AreLimits, AreLaid, MOST_SOURCES, layout_of}
 use Rattle.script_line.specs.declared.line.ChannelForm.{ChannelForm}
 use Rattle.acq_script.specs.declared.draft.Draft.{Draft}
 use Rattle.acq_script.specs.declared.sketch.Opening.{Opening}
+use Rattle.acq_script.specs.declared.sketch.Preamble.{Preamble}
 use Rattle.acq_script.specs.declared.sketch.Counts.{Counts}
 use Rattle.acq_script.specs.declared.sketch.Sketch.{Sketch}
 use Rattle.acq_script.specs.declared.script.Plan.{Plan}
 use Rattle.acq_script.specs.declared.script.Script.{Script}
 
 -- what stands before the first group: the limits and the form where the script says them, and whether it says `live`
-abbrev pub opening_of : Option ℕ → Option ℕ → Option Form → Bool → Opening
-opening_of block session form live =
-    record { block = unwrap_or block 65536; session = unwrap_or session 268435456; form = unwrap_or form Bare; live = live }
+abbrev pub preamble_of : Option ℕ → Option ℕ → Option Form → Bool → Preamble
+preamble_of block session form live = record { block = block; session = session; form = form; live = live }
+
+abbrev pub opening_of : Preamble → Opening
+opening_of said = record {
+  block = unwrap_or said.block 65536;
+  session = unwrap_or said.session 268435456;
+  form = unwrap_or said.form Bare;
+  live = said.live;
+}
 
 -- the plan of a first group
 abbrev pub first_of : Opening → ℕ → List ℕ → Sketch

@@ -9,7 +9,7 @@ use Rattle.mdf_layout.specs.declared.sample.Value.TheVariants as value
 use Rattle.script_line.specs.Text.{is_name}
 use Rattle.script_line.specs.Kind.{packed}
 use Rattle.acq_script.specs.Draft.{channel_row}
-use Rattle.acq_script.specs.Sketch.{opening_of, plan_with}
+use Rattle.acq_script.specs.Sketch.{preamble_of, opening_of, plan_with}
 use Rattle.acq_script.specs.Plan.{TaskFits}
 use Rattle.script_line.specs.declared.line.ChannelForm.{ChannelForm}
 use Rattle.acq_script.specs.declared.sketch.Opening.{Opening}
@@ -100,7 +100,7 @@ sketch_of opening name rows n free master unit = record {
 
 -- its plan, and the script
 abbrev pub plan_said : Spelling → Plan
-plan_said s = plan_with (sketch_of (opening_of s.block s.session s.form s.live) s.name (word_rows 0 s.channels) (length s.channels) (64 * length s.channels) false false)
+plan_said s = plan_with (sketch_of (opening_of (preamble_of s.block s.session s.form s.live)) s.name (word_rows 0 s.channels) (length s.channels) (64 * length s.channels) false false)
 
 abbrev pub script_said : Spelling → Script
 script_said s = record { plan = plan_said s; lists = s.tasks ∷ [] }

@@ -1,45 +1,50 @@
 -- The rules of a script: which line may stand behind which.
-use Rattle.std.specs.Prelude.{ℕ, ◌≡◌, ◌≤◌, ◌<◌, Bool, true, ◌&&◌, nat_le, nat_lt, if◌then◌else◌, List, [], ◌∷◌, ◌++◌, length, All, slice_get, slice_index, slice_set, Option, Some, None, is_none, IsSome}
+use Rattle.std.specs.Prelude.{ℕ, ◌≡◌, ◌≤◌, ◌<◌, not, true, false, ◌&&◌, nat_le, nat_lt, if◌then◌else◌, List, [], ◌∷◌, ◌++◌, length, All, slice_get, slice_index, slice_set, Option, Some, None, is_none, IsSome}
 use Rattle.std.specs.List.{slice_index_or}
 use Rattle.std.specs.Option.{option_map, option_and_then}
 use Rattle.mdf_layout.specs.Layout.{Layout}
 use Rattle.mdf_layout.specs.Record.{encoded_size}
 use Rattle.mdf_layout.specs.declared.sample.Sample.{Sample}
 use Rattle.mdf_format.specs.Form.{form_numbered}
-use Rattle.mdf_format.specs.declared.form.Form.{Form}
 use Rattle.script_line.specs.Line as said
 use Rattle.script_line.specs.Value.{entries_of}
+use Rattle.script_line.specs.declared.float.Width.{Width}
 use Rattle.acq_script.specs.Plan.{IsPlan, TaskFits, IsTaskOf}
-use Rattle.acq_script.specs.Sketch.{IsSketch, opening_of, first_sketch, with_group, channel_in, unit_in, begun}
+use Rattle.acq_script.specs.Sketch.{IsSketch, preamble_of, opening_of, first_sketch, with_group, channel_in, unit_in, begun}
 use Rattle.acq_script.specs.declared.script.Script.{Script}
 use Rattle.acq_script.specs.declared.script.Task.{Task}
 use Rattle.acq_script.specs.declared.script.Task.TheVariants as task
+use Rattle.acq_script.specs.declared.sketch.Preamble.{Preamble}
 use Rattle.acq_script.specs.declared.sketch.Sketch.{Sketch}
 use Rattle.acq_script.specs.declared.stage.Stage.{Stage}
 use Rattle.acq_script.specs.declared.stage.Stage.TheVariants.{Empty, Planned, Running, Ended}
 
--- the limits, each at most once: 1 to 16,777,216 data bytes of a block, and 1 to 268,435,456 for what the samples cost
-abbrev pub with_block : Option ℕ → Option ℕ → Option Form → Bool → ℕ → Option Stage
-with_block block session form live limit =
-    if is_none block && nat_le 1 limit && nat_le limit 16777216 then Some (Empty (Some limit) session form live) else None
+-- what there is before the first line
+abbrev pub first_stage : Stage
+first_stage = Empty (preamble_of None None None false)
 
-abbrev pub with_session : Option ℕ → Option ℕ → Option Form → Bool → ℕ → Option Stage
-with_session block session form live limit =
-    if is_none session && nat_le 1 limit && nat_le limit 268435456 then Some (Empty block (Some limit) form live) else None
+-- the limits, each at most once: 1 to 16,777,216 data bytes of a block, and 1 to 268,435,456 for what the samples cost
+abbrev pub with_block : Preamble → ℕ → Option Stage
+with_block preamble limit =
+    if is_none preamble.block && nat_le 1 limit && nat_le limit 16777216 then Some (Empty (record preamble { block = Some limit })) else None
+
+abbrev pub with_session : Preamble → ℕ → Option Stage
+with_session preamble limit =
+    if is_none preamble.session && nat_le 1 limit && nat_le limit 268435456 then Some (Empty (record preamble { session = Some limit })) else None
 
 -- the form, at most once: 1 or 2
-abbrev pub with_form : Option ℕ → Option ℕ → Option Form → Bool → ℕ → Option Stage
-with_form block session form live number =
-    if is_none form then option_map (λ said_form. Empty block session (Some said_form) live) (form_numbered number) else None
+abbrev pub with_form : Preamble → ℕ → Option Stage
+with_form preamble number =
+    if is_none preamble.form then option_map (λ form. Empty (record preamble { form = Some form })) (form_numbered number) else None
 
 -- `live`, at most once
-abbrev pub with_live : Option ℕ → Option ℕ → Option Form → Bool → Option Stage
-with_live block session form live = if live then None else Some (Empty block session form true)
+abbrev pub with_live : Preamble → Option Stage
+with_live preamble = if not preamble.live then Some (Empty (record preamble { live = true })) else None
 
--- the sample of a group whose entries words are
-abbrev pub sample_of : List Layout → ℕ → List (List ℕ) → Option Sample
-sample_of layouts group words = option_and_then
-    (λ layout. option_map (λ entries. record { group = group; values = entries }) (entries_of layout.rows words)) (slice_get layouts group)
+-- the sample of a group whose entries words are; its first channels take floats of these widths
+abbrev pub sample_of : List Layout → List (Option Width) → ℕ → List (List ℕ) → Option Sample
+sample_of layouts widths group words = option_and_then
+    (λ layout. option_map (λ entries. record { group = group; values = entries }) (entries_of widths layout.rows words)) (slice_get layouts group)
 
 -- the script with one task more of a source
 abbrev pub list_with : List (List Task) → ℕ → Task → List (List Task)
@@ -55,20 +60,20 @@ admitted script sample =
     then Some (with_task script (slice_index script.plan.owners sample.group) (task.Sample sample)) else None
 
 abbrev pub with_sample : Script → ℕ → List (List ℕ) → Option Script
-with_sample script group words = option_and_then (admitted script) (sample_of script.plan.shapes group words)
+with_sample script group words = option_and_then (admitted script) (sample_of script.plan.shapes [] group words)
 
 abbrev pub with_flush : Script → ℕ → Option Script
 with_flush script source = if nat_lt source script.plan.sources then Some (with_task script source task.Flush) else None
 
 -- what a line makes of what stands before the first group, of a plan, and of a script
-abbrev pub empty : Option ℕ → Option ℕ → Option Form → Bool → said.Line → Option Stage
-empty block session form live said.Passed = Some (Empty block session form live)
-empty block session form live (said.Block limit) = with_block block session form live limit
-empty block session form live (said.Session limit) = with_session block session form live limit
-empty block session form live (said.Form number) = with_form block session form live number
-empty block session form live said.Live = with_live block session form live
-empty block session form live (said.Group source name) = option_map Planned (first_sketch (opening_of block session form live) source name)
-empty block session form live _ = None
+abbrev pub empty : Preamble → said.Line → Option Stage
+empty preamble said.Passed = Some (Empty preamble)
+empty preamble (said.Block limit) = with_block preamble limit
+empty preamble (said.Session limit) = with_session preamble limit
+empty preamble (said.Form number) = with_form preamble number
+empty preamble said.Live = with_live preamble
+empty preamble (said.Group source name) = option_map Planned (first_sketch (opening_of preamble) source name)
+empty preamble _ = None
 
 abbrev pub planned : Sketch → said.Line → Option Stage
 planned sketch said.Passed = Some (Planned sketch)
@@ -87,7 +92,7 @@ running script _ = None
 
 -- what a line makes of the lines before it; None where no rule admits it there
 abbrev pub step : Stage → said.Line → Option Stage
-step (Empty block session form live) line = empty block session form live line
+step (Empty preamble) line = empty preamble line
 step (Planned sketch) line = planned sketch line
 step (Running script) line = running script line
 step (Ended script) _ = None
@@ -122,7 +127,7 @@ IsLimit most (Some limit) = (1 ≤ limit) × (limit ≤ most)
 
 -- what holds of every stage
 abbrev pub Sound : Stage → Type 0
-Sound (Empty block session form live) = IsLimit 16777216 block × IsLimit 268435456 session
+Sound (Empty preamble) = IsLimit 16777216 preamble.block × IsLimit 268435456 preamble.session
 Sound (Planned sketch) = IsSketch sketch
 Sound (Running script) = IsScript script
 Sound (Ended script) = IsScript script

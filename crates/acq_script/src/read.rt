@@ -5,7 +5,7 @@ ghost use Rattle.acq_script.specs.Script.{GivesScript, FaultIs, MayWantFor, Want
 
 use crate::ScriptFault;
 use crate::script::Script;
-use crate::stage::{Stage, step};
+use crate::stage::{Stage, first_stage, step};
 use script_line::{cut, line_of};
 use std::alloc::Global;
 
@@ -53,12 +53,7 @@ fn script_of(alloc: Global, bytes: &[u8]) -> Result<Script, ScriptFault>
     ensures sound { IfOk result IsScript }
     ensures wanted { IfErr result (WantComes (WantsIn bytes.now)) }
 {
-    let mut stage = Stage::Empty {
-        block: None,
-        session: None,
-        form: None,
-        live: false,
-    };
+    let mut stage = first_stage();
     let mut line = 1;
     let (mut text, mut rest) = cut(bytes, b'\n');
     while let Some(behind) = rest {

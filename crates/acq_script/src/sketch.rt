@@ -37,7 +37,20 @@ const BLOCK: u32 = 65_536;
 /// What the samples cost in all at most where the script says nothing of it.
 const SESSION: u64 = 268_435_456;
 
-/// What the lines before the first group say.
+/// What the lines before the first group say: each limit and the form if one of them does, and whether one is `live`.
+#[derive(Clone, Copy)]
+pub(crate) struct Preamble {
+    /// How many data bytes a block of records has at most.
+    pub block: Option<u32>,
+    /// What the samples cost in all at most.
+    pub session: Option<u64>,
+    /// The form of the recording.
+    pub form: Option<Form>,
+    /// Whether samples are shown while the recording is made.
+    pub live: bool,
+}
+
+/// What holds for the recording.
 #[derive(Clone, Copy)]
 pub(crate) struct Opening {
     /// How many data bytes a block of records has at most.
@@ -72,20 +85,15 @@ pub(crate) struct Sketch {
     pub draft: Draft,
 }
 
-/// These limits and this form where the script says them, and whether it says `live`.
-pub(crate) fn opening_of(
-    block: Option<u32>,
-    session: Option<u64>,
-    form: Option<Form>,
-    live: bool,
-) -> Opening
-    ensures { result ≡ opening_of block session form live }
+/// What holds for the recording if the lines before the first group say this.
+pub(crate) fn opening_of(said: Preamble) -> Opening
+    ensures { result ≡ opening_of said }
 {
     Opening {
-        block: block.unwrap_or(BLOCK),
-        session: session.unwrap_or(SESSION),
-        form: form.unwrap_or(Form::Bare),
-        live,
+        block: said.block.unwrap_or(BLOCK),
+        session: said.session.unwrap_or(SESSION),
+        form: said.form.unwrap_or(Form::Bare),
+        live: said.live,
     }
 }
 

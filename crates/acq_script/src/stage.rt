@@ -7,10 +7,12 @@ ghost use Rattle.script_line.specs.Line.{IsSaid, IsForm};
 ghost use Rattle.script_line.specs.View.{seen};
 ghost use Rattle.acq_script.specs.declared.stage.Stage.TheVariants.{Planned, Running};
 ghost use Rattle.acq_script.specs.Done.{done_as};
-ghost use Rattle.acq_script.specs.Stage.{HasGroup, MayWant, Sound, with_block, with_session, with_form, with_live, step};
+ghost use Rattle.acq_script.specs.Stage.{HasGroup, MayWant, Sound, first_stage, step};
 
 use crate::script::Script;
-use crate::sketch::{Sketch, add_channel, add_group, add_unit, begun, first_sketch, opening_of};
+use crate::sketch::{
+    Preamble, Sketch, add_channel, add_group, add_unit, begun, first_sketch, opening_of,
+};
 use crate::task::{add_flush, add_sample};
 use mdf_format::Form;
 use mdf_num::Memory;
@@ -27,108 +29,100 @@ const MOST_SESSION: u64 = 268_435_456;
 /// What the lines so far make.
 #[derive(Drop)]
 pub(crate) enum Stage {
-    /// No group yet; the limits and the form that were said, and whether `live` was.
-    Empty {
-        block: Option<u32>,
-        session: Option<u64>,
-        form: Option<Form>,
-        live: bool,
-    },
+    /// No group yet.
+    Empty { preamble: Preamble },
     /// A plan whose groups are being named.
-    Planned {
-        sketch: Sketch,
-    },
+    Planned { sketch: Sketch },
     /// A plan that has ended, and what its sources do so far.
-    Running {
-        script: Script,
-    },
+    Running { script: Script },
     /// The whole script.
-    Ended {
-        script: Script,
-    },
+    Ended { script: Script },
 }
 
-/// What the limit of a block makes of the lines before it, if it is admitted.
-fn with_block(
-    block: Option<u32>,
-    session: Option<u64>,
-    form: Option<Form>,
-    live: bool,
-    limit: u64,
-) -> Option<Stage>
-    ensures { result ≡ with_block block session form live limit }
+/// What there is before the first line.
+pub(crate) fn first_stage() -> Stage
+    ensures { result ≡ first_stage }
 {
-    if block.is_some() || limit < 1 || limit > MOST_BLOCK {
+    Stage::Empty {
+        preamble: Preamble {
+            block: None,
+            session: None,
+            form: None,
+            live: false,
+        },
+    }
+}
+
+/// What the line of a block's limit makes of a stage, if it is admitted.
+fn with_block(stage: &Stage, limit: u64) -> Option<Stage>
+    ensures { result ≡ step stage.now (said.Block limit) }
+{
+    let Stage::Empty { preamble } = stage else {
+        return None;
+    };
+    if preamble.block.is_some() || limit < 1 || limit > MOST_BLOCK {
         return None;
     }
     Some(Stage::Empty {
-        block: Some(limit as u32),
-        session,
-        form,
-        live,
+        preamble: Preamble {
+            block: Some(limit as u32),
+            ..*preamble
+        },
     })
 }
 
-/// What the limit of the samples' cost makes of the lines before it, if it is admitted.
-fn with_session(
-    block: Option<u32>,
-    session: Option<u64>,
-    form: Option<Form>,
-    live: bool,
-    limit: u64,
-) -> Option<Stage>
-    ensures { result ≡ with_session block session form live limit }
+/// What the line of the limit of the samples' cost makes of a stage, if it is admitted.
+fn with_session(stage: &Stage, limit: u64) -> Option<Stage>
+    ensures { result ≡ step stage.now (said.Session limit) }
 {
-    if session.is_some() || limit < 1 || limit > MOST_SESSION {
+    let Stage::Empty { preamble } = stage else {
+        return None;
+    };
+    if preamble.session.is_some() || limit < 1 || limit > MOST_SESSION {
         return None;
     }
     Some(Stage::Empty {
-        block,
-        session: Some(limit),
-        form,
-        live,
+        preamble: Preamble {
+            session: Some(limit),
+            ..*preamble
+        },
     })
 }
 
-/// What the line of the form makes of the lines before it, if it is admitted.
-fn with_form(
-    block: Option<u32>,
-    session: Option<u64>,
-    form: Option<Form>,
-    live: bool,
-    number: u64,
-) -> Option<Stage>
-    ensures { result ≡ with_form block session form live number }
+/// What the line of the form makes of a stage, if it is admitted.
+fn with_form(stage: &Stage, number: u64) -> Option<Stage>
+    ensures { result ≡ step stage.now (said.Form number) }
 {
-    if form.is_some() {
+    let Stage::Empty { preamble } = stage else {
+        return None;
+    };
+    if preamble.form.is_some() {
         return None;
     }
     let form = Form::numbered(number)?;
     Some(Stage::Empty {
-        block,
-        session,
-        form: Some(form),
-        live,
+        preamble: Preamble {
+            form: Some(form),
+            ..*preamble
+        },
     })
 }
 
-/// What the line `live` makes of the lines before it, if it is admitted.
-fn with_live(
-    block: Option<u32>,
-    session: Option<u64>,
-    form: Option<Form>,
-    live: bool,
-) -> Option<Stage>
-    ensures { result ≡ with_live block session form live }
+/// What the line `live` makes of a stage, if it is admitted.
+fn with_live(stage: &Stage) -> Option<Stage>
+    ensures { result ≡ step stage.now said.Live }
 {
-    if live {
+    let Stage::Empty { preamble } = stage else {
+        return None;
+    };
+    if preamble.live {
         return None;
     }
     Some(Stage::Empty {
-        block,
-        session,
-        form,
-        live: true,
+        preamble: Preamble {
+            live: true,
+            ..*preamble
+        },
     })
 }
 
@@ -169,15 +163,7 @@ fn put(stage: &mut Stage, found: Option<Stage>) -> bool
 fn taken(stage: &mut Stage) -> Stage
     ensures { result ≡ stage.old }
 {
-    replace(
-        stage,
-        Stage::Empty {
-            block: None,
-            session: None,
-            form: None,
-            live: false,
-        },
-    )
+    replace(stage, first_stage())
 }
 
 /// Whether an empty line or a comment is admitted behind the lines so far.
@@ -194,16 +180,7 @@ fn pass(stage: &Stage) -> bool
 fn limit_block(stage: &mut Stage, limit: u64) -> bool
     ensures { step stage.old (said.Block limit) ≡ done_as result stage.new }
 {
-    let Stage::Empty {
-        block,
-        session,
-        form,
-        live,
-    } = stage
-    else {
-        return false;
-    };
-    let found = with_block(*block, *session, *form, *live, limit);
+    let found = with_block(stage, limit);
     put(stage, found)
 }
 
@@ -211,16 +188,7 @@ fn limit_block(stage: &mut Stage, limit: u64) -> bool
 fn limit_session(stage: &mut Stage, limit: u64) -> bool
     ensures { step stage.old (said.Session limit) ≡ done_as result stage.new }
 {
-    let Stage::Empty {
-        block,
-        session,
-        form,
-        live,
-    } = stage
-    else {
-        return false;
-    };
-    let found = with_session(*block, *session, *form, *live, limit);
+    let found = with_session(stage, limit);
     put(stage, found)
 }
 
@@ -228,16 +196,7 @@ fn limit_session(stage: &mut Stage, limit: u64) -> bool
 fn choose_form(stage: &mut Stage, number: u64) -> bool
     ensures { step stage.old (said.Form number) ≡ done_as result stage.new }
 {
-    let Stage::Empty {
-        block,
-        session,
-        form,
-        live,
-    } = stage
-    else {
-        return false;
-    };
-    let found = with_form(*block, *session, *form, *live, number);
+    let found = with_form(stage, number);
     put(stage, found)
 }
 
@@ -245,16 +204,7 @@ fn choose_form(stage: &mut Stage, number: u64) -> bool
 fn show_live(stage: &mut Stage) -> bool
     ensures { step stage.old said.Live ≡ done_as result stage.new }
 {
-    let Stage::Empty {
-        block,
-        session,
-        form,
-        live,
-    } = stage
-    else {
-        return false;
-    };
-    let found = with_live(*block, *session, *form, *live);
+    let found = with_live(stage);
     put(stage, found)
 }
 
@@ -265,13 +215,8 @@ fn begin_group(alloc: Global, stage: &mut Stage, source: u64, name: &[u8]) -> Re
     ensures wanted { OnErr result (IsSome (step stage.old (said.Group source name.now))) }
 {
     match stage {
-        Stage::Empty {
-            block,
-            session,
-            form,
-            live,
-        } => {
-            let opening = opening_of(*block, *session, *form, *live);
+        Stage::Empty { preamble } => {
+            let opening = opening_of(*preamble);
             let found = first_sketch(alloc, opening, source, name)?;
             Ok(put(stage, planned_by(found)))
         }

@@ -8,30 +8,31 @@ ghost use Rattle.acq_script.specs.Stage.{IsScript, sample_of, list_with, with_ta
 use crate::script::{Script, Task};
 use mdf_layout::{Sample, Shapes};
 use mdf_num::{Memory, Rows};
-use script_line::entries_of;
+use script_line::{Width, entries_of};
 use std::alloc::Global;
 use std::mem::replace;
 
-/// The sample of a group of these values, if they are admitted: one for each channel of the group, which it can hold. There are at most 64
-/// groups.
+/// The sample of a group of these values, if they are admitted: one for each channel of the group, which it can hold. A channel of the
+/// group that has a width takes floats, as `entries_of` says. There are at most 64 groups.
 ///
 /// # Errors
 /// `Memory`, and only for a group that there is.
 pub fn sample_of(
     alloc: Global,
     shapes: &Shapes,
+    widths: &[Option<Width>],
     group: u64,
     values: Option<&[u8]>,
 ) -> Result<Option<Sample>, Memory>
     requires { length shapes.now ≤ 64 }
-    ensures found { IfOk result (λ found. found ≡ sample_of shapes.now group (words_left values.entry)) }
+    ensures found { IfOk result (λ found. found ≡ sample_of shapes.now widths.now group (words_left values.entry)) }
     ensures fits { IfOk result (λ found. IfSome found (SampleFits shapes.now)) }
     ensures wanted { OnErr result (group < length shapes.now) }
 {
     let Some(shape) = shapes.get(group) else {
         return Ok(None);
     };
-    match entries_of(alloc, shape.fields().as_slice(), values)? {
+    match entries_of(alloc, widths, shape.fields().as_slice(), values)? {
         Some(values) => Ok(Some(Sample {
             group: group as u16,
             values,
@@ -76,7 +77,7 @@ pub(crate) fn add_sample(
     ensures found { IfOk result (λ done. with_sample script.old group (words_left values.entry) ≡ done_as done script.new) }
     ensures wanted { OnErr result (group < length script.old.plan.shapes) }
 {
-    let Some(sample) = sample_of(alloc, &script.plan.shapes, group, values)? else {
+    let Some(sample) = sample_of(alloc, &script.plan.shapes, &[], group, values)? else {
         return Ok(false);
     };
     if script.plan.shapes.encoded_size(&sample) > script.plan.block as u64 {

@@ -1,6 +1,6 @@
 //! The bits of floats, as Python's `struct` packs them.
-use acq_lines::Width::{Double, Single};
-use acq_lines::{Width, float_bits};
+use script_line::Width::{Double, Single};
+use script_line::{Width, float_bits};
 
 static FLOATS: [(Width, &str, Option<u64>); 27] = [
     (Single, "1.5", Some(0x3fc0_0000)),

@@ -1,11 +1,11 @@
 //! What a setup says, and which are refused.
 use crate::told::{is_told, numbers, printed};
-use acq_lines::Width;
 use acq_script::Plan;
 use mdf_command::Fault;
 use mdf_log::{floats_of, read_setup};
 use mdf_num::{Bytes, Rows};
 use mdf_port::{MemorySink, MemorySource};
+use script_line::Width;
 use std::alloc::Global;
 use std::test::Fail;
 

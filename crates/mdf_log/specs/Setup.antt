@@ -9,8 +9,8 @@ use Rattle.mdf_group.specs.declared.row.GroupRow.{GroupRow}
 use Rattle.acq_script.specs.Script.{script_of}
 use Rattle.acq_script.specs.declared.script.Plan.{Plan}
 use Rattle.acq_script.specs.declared.script.Script.{Script}
-use Rattle.acq_lines.specs.declared.float.Width.{Width}
-use Rattle.acq_lines.specs.declared.float.Width.TheVariants.{Single, Double}
+use Rattle.script_line.specs.declared.float.Width.{Width}
+use Rattle.script_line.specs.declared.float.Width.TheVariants.{Single, Double}
 use Rattle.acq_lines.specs.Rules.{Rules}
 use Rattle.mdf_command.specs.declared.fault.Fault.{Fault}
 use Rattle.mdf_command.specs.declared.fault.Fault.TheVariants as fault

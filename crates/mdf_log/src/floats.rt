@@ -8,6 +8,7 @@ use acq_lines::{LineRules, Width};
 use acq_script::Plan;
 use mdf_group::{ChannelRow, GroupRow};
 use mdf_num::{Memory, Rows};
+use script_line::Width;
 use std::alloc::Global;
 
 /// How wide the floats of a channel are, if it has floats.

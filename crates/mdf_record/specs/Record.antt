@@ -33,10 +33,13 @@ use Rattle.mdf_record.specs.declared.record.RecordEnd.TheVariants.{Refused, Clos
 abbrev pub source_line : ℕ → ℕ → List ℕ
 source_line source n = line (codes "source " ∷ decimal source ∷ codes " accepted " ∷ decimal n ∷ [])
 
+-- the line on all samples: how many there are, and how many of them are durable
+abbrev pub totals_line : ℕ → ℕ → List ℕ
+totals_line samples durable = line (codes "samples " ∷ decimal samples ∷ codes " durable " ∷ decimal durable ∷ [])
+
 -- the lines on the recording
 abbrev pub summary_text : List ℕ → ℕ → ℕ → List ℕ
-summary_text accepted samples durable =
-    numbered source_line 0 accepted ++ line (codes "samples " ∷ decimal samples ∷ codes " durable " ∷ decimal durable ∷ [])
+summary_text accepted samples durable = numbered source_line 0 accepted ++ totals_line samples durable
 
 abbrev pub fault_text : Option Fault → List ℕ
 fault_text None = []

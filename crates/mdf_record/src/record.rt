@@ -18,6 +18,7 @@ ghost use Rattle.mdf_record.specs.Recovers.{AreRecovered};
 use crate::feeds::{RecordedFeeds, Setting, record_feeds};
 use crate::gate::Gate;
 use crate::head::head_for;
+use crate::lines::{give_accepted, give_totals};
 use crate::sources::{Accepted, End, feeds_of};
 use acq_run::{Audience, Seen};
 use acq_script::{Script, generated, read_script};
@@ -278,15 +279,7 @@ fn give_sources<K: Sink>(sink: &mut K, accepted: &[u64]) -> Result<(), Failed>
     ensures { Gives (numbered source_line 0 accepted.now) (sink_state K.Sink sink.old) (sink_state K.Sink sink.new) result }
 {
     for (source, samples) in accepted.iter().enumerate() {
-        give_line(
-            sink,
-            &[
-                Text(b"source "),
-                Number(source as u64),
-                Text(b" accepted "),
-                Number(*samples),
-            ],
-        )?;
+        give_accepted(sink, source as u64, *samples as u128)?;
     }
     Ok(())
 }
@@ -301,15 +294,7 @@ fn give_summary<K: Sink>(
     ensures { Gives (summary_text accepted.now samples durable) (sink_state K.Sink sink.old) (sink_state K.Sink sink.new) result }
 {
     give_sources(sink, accepted)?;
-    give_line(
-        sink,
-        &[
-            Text(b"samples "),
-            Number(samples),
-            Text(b" durable "),
-            Number(durable),
-        ],
-    )
+    give_totals(sink, samples as u128, durable as u128)
 }
 
 /// Gives the line on what a reader finds shown, if there is one.

@@ -12,9 +12,11 @@ use Rattle.mdf_layout.specs.declared.sample.Value.{Value}
 use Rattle.mdf_layout.specs.declared.sample.Value.TheVariants.{Unsigned, Signed, Bytes}
 use Rattle.mdf_layout.specs.declared.sample.Entry.{Entry}
 use Rattle.mdf_layout.specs.Written.{ValueFits, IsEntryOf, AreEntriesOf}
-use Rattle.script_line.specs.Text.{is_end}
+use Rattle.script_line.specs.Float.{float_bits}
+use Rattle.script_line.specs.Text.{begins_with, is_end, is_marked}
 use Rattle.script_line.specs.Number.{number_of}
-use Rattle.script_line.specs.Value.{begins_with, is_marked, held_in, unsigned_value, negative_in, positive_in, signed_value, bytes_of, sized, fixed_value, value_as, value_of, entry_with, entry_of, entries_of, short, long_value}
+use Rattle.script_line.specs.Value.{held_in, unsigned_value, negative_in, positive_in, signed_value, bytes_of, sized, fixed_value, value_as, value_of, number_value, value_in, entry_with, entry_of, first_width, entries_of, short, long_value}
+use Rattle.script_line.specs.declared.float.Width.{Width}
 
 -- the entries so far in front of those to come
 abbrev pub behind : List Entry → Option (List Entry) → Option (List Entry)
@@ -39,34 +41,35 @@ none_left [] (suc i) past = refl
 none_left (row ∷ rows) zero past = absurd (omega (arith, past))
 none_left (row ∷ rows) (suc i) past = none_left rows i (omega (arith, past))
 
-pub one_entry : (front : List Entry) (left : List FieldRow) (row : FieldRow) (rows : List FieldRow) (entry : Entry) (all : List (List ℕ)) (word : List ℕ) (words : List (List ℕ)) → left ≡ row ∷ rows → all ≡ word ∷ words → entry_of row word ≡ Some entry → behind front (entries_of left all) ≡ behind (front ++ entry ∷ []) (entries_of rows words)
+pub one_entry : (front : List Entry) (widths : List (Option Width)) (left : List FieldRow) (row : FieldRow) (rows : List FieldRow) (entry : Entry) (all : List (List ℕ)) (word : List ℕ) (words : List (List ℕ)) → left ≡ row ∷ rows → all ≡ word ∷ words → entry_of (first_width widths) row word ≡ Some entry → behind front (entries_of widths left all) ≡ behind (front ++ entry ∷ []) (entries_of (drop 1 widths) rows words)
 unfolding entries_of
-one_entry front left row rows entry all word words e is found =
-    ap (λ k. behind front (entries_of k all)) e
-    ∙ ap (λ ws. behind front (entries_of (row ∷ rows) ws)) is
-    ∙ ap (λ o. behind front (option_and_then (λ x. option_map (λ entries. x ∷ entries) (entries_of rows words)) o)) found
-    ∙ behind_more front entry (entries_of rows words)
+one_entry front widths left row rows entry all word words e is found =
+    let later = drop 1 widths in
+    ap (λ k. behind front (entries_of widths k all)) e
+    ∙ ap (λ ws. behind front (entries_of widths (row ∷ rows) ws)) is
+    ∙ ap (λ o. behind front (option_and_then (λ x. option_map (λ entries. x ∷ entries) (entries_of later rows words)) o)) found
+    ∙ behind_more front entry (entries_of later rows words)
 
-pub no_entry : (front : List Entry) (left : List FieldRow) (row : FieldRow) (rows : List FieldRow) (all : List (List ℕ)) (word : List ℕ) (words : List (List ℕ)) → left ≡ row ∷ rows → all ≡ word ∷ words → entry_of row word ≡ None → behind front (entries_of left all) ≡ None
+pub no_entry : (front : List Entry) (widths : List (Option Width)) (left : List FieldRow) (row : FieldRow) (rows : List FieldRow) (all : List (List ℕ)) (word : List ℕ) (words : List (List ℕ)) → left ≡ row ∷ rows → all ≡ word ∷ words → entry_of (first_width widths) row word ≡ None → behind front (entries_of widths left all) ≡ None
 unfolding entries_of
-no_entry front left row rows all word words e is found =
-    ap (λ k. behind front (entries_of k all)) e
-    ∙ ap (λ ws. behind front (entries_of (row ∷ rows) ws)) is
-    ∙ ap (λ o. behind front (option_and_then (λ x. option_map (λ entries. x ∷ entries) (entries_of rows words)) o)) found
+no_entry front widths left row rows all word words e is found =
+    ap (λ k. behind front (entries_of widths k all)) e
+    ∙ ap (λ ws. behind front (entries_of widths (row ∷ rows) ws)) is
+    ∙ ap (λ o. behind front (option_and_then (λ x. option_map (λ entries. x ∷ entries) (entries_of (drop 1 widths) rows words)) o)) found
 
-pub too_few : (front : List Entry) (left : List FieldRow) (row : FieldRow) (rows : List FieldRow) (all : List (List ℕ)) → left ≡ row ∷ rows → all ≡ [] → behind front (entries_of left all) ≡ None
+pub too_few : (front : List Entry) (widths : List (Option Width)) (left : List FieldRow) (row : FieldRow) (rows : List FieldRow) (all : List (List ℕ)) → left ≡ row ∷ rows → all ≡ [] → behind front (entries_of widths left all) ≡ None
 unfolding entries_of
-too_few front left row rows all e is = ap (λ k. behind front (entries_of k all)) e ∙ ap (λ ws. behind front (entries_of (row ∷ rows) ws)) is
+too_few front widths left row rows all e is = ap (λ k. behind front (entries_of widths k all)) e ∙ ap (λ ws. behind front (entries_of widths (row ∷ rows) ws)) is
 
-pub too_many : (front : List Entry) (left : List FieldRow) (all : List (List ℕ)) → left ≡ [] → is_end all ≡ false → behind front (entries_of left all) ≡ None
+pub too_many : (front : List Entry) (widths : List (Option Width)) (left : List FieldRow) (all : List (List ℕ)) → left ≡ [] → is_end all ≡ false → behind front (entries_of widths left all) ≡ None
 unfolding entries_of
-too_many front left [] e more = absurd (false≢true (sym more))
-too_many front left (word ∷ words) e more = ap (λ k. behind front (entries_of k (word ∷ words))) e
+too_many front widths left [] e more = absurd (false≢true (sym more))
+too_many front widths left (word ∷ words) e more = ap (λ k. behind front (entries_of widths k (word ∷ words))) e
 
-pub all_entries : (front : List Entry) (left : List FieldRow) (all : List (List ℕ)) → left ≡ [] → is_end all ≡ true → behind front (entries_of left all) ≡ Some front
+pub all_entries : (front : List Entry) (widths : List (Option Width)) (left : List FieldRow) (all : List (List ℕ)) → left ≡ [] → is_end all ≡ true → behind front (entries_of widths left all) ≡ Some front
 unfolding entries_of
-all_entries front left [] e more = ap (λ k. behind front (entries_of k [])) e ∙ ap Some (append-nil front)
-all_entries front left (word ∷ words) e more = absurd (false≢true more)
+all_entries front widths left [] e more = ap (λ k. behind front (entries_of widths k [])) e ∙ ap Some (append-nil front)
+all_entries front widths left (word ∷ words) e more = absurd (false≢true more)
 
 -- a test and then what holds of an option
 pub kept : {A : Type 0} (b : Bool) (o : Option A) (x : A) → cond b o None ≡ Some x → (b ≡ true) × (o ≡ Some x)
@@ -134,24 +137,37 @@ value_of_fits : (row : FieldRow) (word : List ℕ) (v : Value) → value_of row 
 unfolding value_of
 value_of_fits row word v e = value_as_fits row.kind row.bits word v e
 
+number_value_fits : (kind : FieldKind) (bits n : ℕ) (v : Value) → number_value kind bits n ≡ Some v → ValueFits kind bits v
+number_value_fits kinds.Unsigned bits n v e = held_fits bits n v e
+number_value_fits kinds.Signed bits n v e = positive_fits bits n v e
+number_value_fits kinds.Fixed bits n v e = absurd (cc)
+number_value_fits kinds.Variable bits n v e = absurd (cc)
+number_value_fits kinds.Virtual bits n v e = absurd (cc)
+
+value_in_fits : (width : Option Width) (row : FieldRow) (word : List ℕ) (v : Value) → value_in width row word ≡ Some v → ValueFits row.kind row.bits v
+value_in_fits None row word v e = value_of_fits row word v e
+value_in_fits (Some width) row word v e =
+    let found = then_some (number_value row.kind row.bits) (float_bits width word) v e in
+    number_value_fits row.kind row.bits found.0 v found.2
+
 -- where there is a position, the entry can be invalid
 has_position : (row : FieldRow) (at : Option ℕ) → row.inval ≡ at → is_some at ≡ true → row.inval ≡ None → ⊥
 has_position row None is some none = absurd (false≢true some)
 has_position row (Some p) is some none = let wrong : ◌≡◌ {A = Option ℕ} (Some p) None = sym is ∙ none in cc
 
-entry_fits_if : (b : Bool) (row : FieldRow) (word front : List ℕ) (entry : Entry)
-    → cond b (cond (is_some row.inval) (option_map (entry_with false) (value_of row front)) None) (option_map (entry_with true) (value_of row word)) ≡ Some entry → IsEntryOf row entry
-entry_fits_if true row word front entry e =
-    let both : (is_some row.inval ≡ true) × (option_map (entry_with false) (value_of row front) ≡ Some entry) = kept (is_some row.inval) (option_map (entry_with false) (value_of row front)) entry e in
-    let found = mapped (entry_with false) (value_of row front) entry both.1 in
-    subst (IsEntryOf row) found.2 (record { value = value_of_fits row front found.0 found.1; valid = λ none. absurd (has_position row row.inval refl both.0 none) })
-entry_fits_if false row word front entry e =
-    let found = mapped (entry_with true) (value_of row word) entry e in
-    subst (IsEntryOf row) found.2 (record { value = value_of_fits row word found.0 found.1; valid = λ none. refl })
+entry_fits_if : (b : Bool) (width : Option Width) (row : FieldRow) (word front : List ℕ) (entry : Entry)
+    → cond b (cond (is_some row.inval) (option_map (entry_with false) (value_in width row front)) None) (option_map (entry_with true) (value_in width row word)) ≡ Some entry → IsEntryOf row entry
+entry_fits_if true width row word front entry e =
+    let both : (is_some row.inval ≡ true) × (option_map (entry_with false) (value_in width row front) ≡ Some entry) = kept (is_some row.inval) (option_map (entry_with false) (value_in width row front)) entry e in
+    let found = mapped (entry_with false) (value_in width row front) entry both.1 in
+    subst (IsEntryOf row) found.2 (record { value = value_in_fits width row front found.0 found.1; valid = λ none. absurd (has_position row row.inval refl both.0 none) })
+entry_fits_if false width row word front entry e =
+    let found = mapped (entry_with true) (value_in width row word) entry e in
+    subst (IsEntryOf row) found.2 (record { value = value_in_fits width row word found.0 found.1; valid = λ none. refl })
 
-pub entry_fits : (row : FieldRow) (word : List ℕ) (entry : Entry) → entry_of row word ≡ Some entry → IsEntryOf row entry
+pub entry_fits : (width : Option Width) (row : FieldRow) (word : List ℕ) (entry : Entry) → entry_of width row word ≡ Some entry → IsEntryOf row entry
 unfolding entry_of
-entry_fits row word entry e = entry_fits_if (is_marked word) row word (take (length word - 1) word) entry e
+entry_fits width row word entry e = entry_fits_if (is_marked word) width row word (take (length word - 1) word) entry e
 
 none_yet : AreEntriesOf [] []
 none_yet = record { count = refl; each = λ k row entry below. absurd (omega (arith, below)) }
@@ -165,18 +181,20 @@ pub with_entry : (row : FieldRow) (rows : List FieldRow) (entry : Entry) (entrie
 with_entry row rows entry entries here are = record { count = ap suc are.count; each = first_or_later row rows entry entries here are }
 
 -- the entries that words are fit their channels
-pub entries_fit : (rows : List FieldRow) (words : List (List ℕ)) (entries : List Entry) → entries_of rows words ≡ Some entries → AreEntriesOf rows entries
+pub entries_fit : (widths : List (Option Width)) (rows : List FieldRow) (words : List (List ℕ)) (entries : List Entry) → entries_of widths rows words ≡ Some entries → AreEntriesOf rows entries
 unfolding entries_of
-entries_fit [] [] entries e =
+entries_fit widths [] [] entries e =
     let is : [] ≡ entries = cc in
     subst (AreEntriesOf []) is none_yet
-entries_fit [] (word ∷ words) entries e = absurd (cc)
-entries_fit (row ∷ rows) [] entries e = absurd (cc)
-entries_fit (row ∷ rows) (word ∷ words) entries e =
-    let first = then_some (λ entry. option_map (λ more. entry ∷ more) (entries_of rows words)) (entry_of row word) entries e in
-    let rest = mapped (λ more. first.0 ∷ more) (entries_of rows words) entries first.2 in
-    subst (AreEntriesOf (row ∷ rows)) rest.2 (with_entry row rows first.0 rest.0 (entry_fits row word first.0 first.1) (entries_fit rows words rest.0 rest.1))
+entries_fit widths [] (word ∷ words) entries e = absurd (cc)
+entries_fit widths (row ∷ rows) [] entries e = absurd (cc)
+entries_fit widths (row ∷ rows) (word ∷ words) entries e =
+    let later = drop 1 widths in
+    let first = then_some (λ entry. option_map (λ more. entry ∷ more) (entries_of later rows words)) (entry_of (first_width widths) row word) entries e in
+    let rest = mapped (λ more. first.0 ∷ more) (entries_of later rows words) entries first.2 in
+    subst (AreEntriesOf (row ∷ rows)) rest.2
+    (with_entry row rows first.0 rest.0 (entry_fits (first_width widths) row word first.0 first.1) (entries_fit later rows words rest.0 rest.1))
 
-pub some_fit : (rows : List FieldRow) (words : List (List ℕ)) (found : Option (List Entry)) → found ≡ entries_of rows words → IfSome found (AreEntriesOf rows)
-some_fit rows words None is = tt
-some_fit rows words (Some entries) is = entries_fit rows words entries (sym is)
+pub some_fit : (widths : List (Option Width)) (rows : List FieldRow) (words : List (List ℕ)) (found : Option (List Entry)) → found ≡ entries_of widths rows words → IfSome found (AreEntriesOf rows)
+some_fit widths rows words None is = tt
+some_fit widths rows words (Some entries) is = entries_fit widths rows words entries (sym is)

@@ -13,9 +13,9 @@ use Rattle.mdf_layout.specs.declared.field.FieldKind.TheVariants.{Unsigned, Sign
 use Rattle.mdf_layout.specs.declared.field.FieldRow.{FieldRow}
 use Rattle.mdf_layout.specs.declared.sample.Value.{Value}
 use Rattle.mdf_layout.specs.declared.sample.Value.TheVariants as value
-use Rattle.script_line.specs.Text.{parts_of, words_of, Begins}
+use Rattle.script_line.specs.Text.{parts_of, words_of, begins_with, is_marked, Begins}
 use Rattle.script_line.specs.Number.{number_of}
-use Rattle.script_line.specs.Value.{begins_with, is_marked, held_in, unsigned_value, negative_in, positive_in, signed_value, value_as, value_of, entry_with, entry_of}
+use Rattle.script_line.specs.Value.{held_in, unsigned_value, negative_in, positive_in, signed_value, value_as, value_of, entry_with, entry_of}
 use Rattle.script_line.specs.Line as said
 use Rattle.script_line.specs.Line.{line_of, is_passed, worded, worded_plan, worded_list}
 use Rattle.script_line.proofs.Parts.{first_part, only_part}
@@ -73,7 +73,7 @@ not_marked (first ∷ word) e =
     no_mark (nat_lt 0 (length (first ∷ word))) (get_or (first ∷ word) k 0 == 63) (ne_eqb (get_or (first ∷ word) k 0) 63 (λ is. absurd (omega (arith, is, digit.1))))
 
 -- the entry that a number is for a channel of unsigned numbers
-pub number_entry_is : (row : FieldRow) (word : List ℕ) (n : ℕ) → row.kind ≡ Unsigned → n < 2 ^ row.bits → number_of word ≡ Some n → entry_of row word ≡ Some (record { value = value.Unsigned n; valid = true })
+pub number_entry_is : (row : FieldRow) (word : List ℕ) (n : ℕ) → row.kind ≡ Unsigned → n < 2 ^ row.bits → number_of word ≡ Some n → entry_of None row word ≡ Some (record { value = value.Unsigned n; valid = true })
 unfolding entry_of value_of unsigned_value
 number_entry_is row word n kind held is =
     ap (λ b. cond b (cond (is_some row.inval) (option_map (entry_with false) (value_of row (take (length word - 1) word))) None) (option_map (entry_with true) (value_of row word))) (not_marked word (digits_of_number word n is).all)
@@ -81,7 +81,7 @@ number_entry_is row word n kind held is =
     ∙ ap (λ o. option_map (entry_with true) (option_and_then (held_in row.bits) o)) is
     ∙ ap (λ b. option_map (entry_with true) (cond b (Some (value.Unsigned n)) None)) (lt-ltb n (2 ^ row.bits) held)
 
-pub begins_entry : (row : FieldRow) (text : List ℕ) (n : ℕ) (words : List (List ℕ)) → row.kind ≡ Unsigned → n < 2 ^ row.bits → Begins number_of text n words → Begins (entry_of row) text (record { value = value.Unsigned n; valid = true }) words
+pub begins_entry : (row : FieldRow) (text : List ℕ) (n : ℕ) (words : List (List ℕ)) → row.kind ≡ Unsigned → n < 2 ^ row.bits → Begins number_of text n words → Begins (entry_of None row) text (record { value = value.Unsigned n; valid = true }) words
 begins_entry row text n words kind held begins = record {
   word = begins.word;
   first = begins.first;
@@ -94,7 +94,7 @@ no_sign word digits =
     let digit = digit_at word 0 digits.all digits.some in
     no_mark (nat_lt 0 (length word)) (get_or word 0 0 == 45) (ne_eqb (get_or word 0 0) 45 (λ is. absurd (omega (arith, is, digit.0))))
 
-positive_entry_is : (row : FieldRow) (word : List ℕ) (n : ℕ) (v : Value) → row.kind ≡ Signed → positive_in row.bits n ≡ Some v → number_of word ≡ Some n → entry_of row word ≡ Some (record { value = v; valid = true })
+positive_entry_is : (row : FieldRow) (word : List ℕ) (n : ℕ) (v : Value) → row.kind ≡ Signed → positive_in row.bits n ≡ Some v → number_of word ≡ Some n → entry_of None row word ≡ Some (record { value = v; valid = true })
 unfolding entry_of value_of signed_value
 positive_entry_is row word n v kind is number =
     let digits = digits_of_number word n number in
@@ -104,7 +104,7 @@ positive_entry_is row word n v kind is number =
     ∙ ap (λ o. option_map (entry_with true) (option_and_then (positive_in row.bits) o)) number
     ∙ ap (option_map (entry_with true)) is
 
-pub begins_positive : (row : FieldRow) (text : List ℕ) (n : ℕ) (v : Value) (words : List (List ℕ)) → row.kind ≡ Signed → positive_in row.bits n ≡ Some v → Begins number_of text n words → Begins (entry_of row) text (record { value = v; valid = true }) words
+pub begins_positive : (row : FieldRow) (text : List ℕ) (n : ℕ) (v : Value) (words : List (List ℕ)) → row.kind ≡ Signed → positive_in row.bits n ≡ Some v → Begins number_of text n words → Begins (entry_of None row) text (record { value = v; valid = true }) words
 begins_positive row text n v words kind is begins = record {
   word = begins.word;
   first = begins.first;
@@ -121,7 +121,7 @@ sign_not_marked (first ∷ word) digits =
     no_mark (nat_lt 0 (length (45 ∷ first ∷ word))) (get_or (45 ∷ first ∷ word) (length (45 ∷ first ∷ word) - 1) 0 == 63)
     (ne_eqb (get_or (45 ∷ first ∷ word) (length (45 ∷ first ∷ word) - 1) 0) 63 (λ is. absurd (omega (arith, is, last, digit.1))))
 
-negative_entry_is : (row : FieldRow) (word : List ℕ) (n : ℕ) (v : Value) → row.kind ≡ Signed → negative_in row.bits n ≡ Some v → number_of word ≡ Some n → entry_of row (45 ∷ word) ≡ Some (record { value = v; valid = true })
+negative_entry_is : (row : FieldRow) (word : List ℕ) (n : ℕ) (v : Value) → row.kind ≡ Signed → negative_in row.bits n ≡ Some v → number_of word ≡ Some n → entry_of None row (45 ∷ word) ≡ Some (record { value = v; valid = true })
 unfolding entry_of value_of signed_value
 negative_entry_is row word n v kind is number =
     let digits = digits_of_number word n number in
@@ -131,7 +131,7 @@ negative_entry_is row word n v kind is number =
     ∙ ap (λ o. option_map (entry_with true) (option_and_then (negative_in row.bits) o)) number
     ∙ ap (option_map (entry_with true)) is
 
-pub begins_negative : (row : FieldRow) (text : List ℕ) (n : ℕ) (v : Value) (words : List (List ℕ)) → row.kind ≡ Signed → get_or text 0 0 ≡ 45 → negative_in row.bits n ≡ Some v → Begins number_of (take (length text - 1) (drop 1 text)) n words → Begins (entry_of row) text (record { value = v; valid = true }) words
+pub begins_negative : (row : FieldRow) (text : List ℕ) (n : ℕ) (v : Value) (words : List (List ℕ)) → row.kind ≡ Signed → get_or text 0 0 ≡ 45 → negative_in row.bits n ≡ Some v → Begins number_of (take (length text - 1) (drop 1 text)) n words → Begins (entry_of None row) text (record { value = v; valid = true }) words
 begins_negative row [] n v words kind sign is begins = absurd (omega (arith, sign))
 begins_negative row (b ∷ text) n v words kind sign is begins =
     let whole : take (length (b ∷ text) - 1) text ≡ text = take_all _ text (omega arith) in

@@ -1,5 +1,5 @@
 -- Texts that separators cut into parts: a script into lines, and a line into words.
-use Rattle.std.specs.Prelude.{ℕ, ◌≡◌, ◌+◌, Bool, true, false, ◌&&◌, nat_lt, nat_le, ◌==◌, List, [], ◌∷◌, length, Option, Some, None}
+use Rattle.std.specs.Prelude.{ℕ, ◌≡◌, ◌+◌, ◌-◌, Bool, true, false, ◌&&◌, nat_lt, nat_le, ◌==◌, List, [], ◌∷◌, length, slice_index, Option, Some, None}
 use Rattle.std.specs.List.{slice_split, list_all}
 use Rattle.std.specs.Char.{is_ascii_graphic}
 use denote.Ref.{Bor}
@@ -34,6 +34,13 @@ is_end (part ∷ parts) = false
 abbrev pub bytes_left : Option (Bor (List ℕ)) → ℕ
 bytes_left None = 0
 bytes_left (Some text) = length text.now + 1
+
+-- the word begins with this byte; it ends with `?`
+abbrev pub begins_with : ℕ → List ℕ → Bool
+begins_with byte word = nat_lt 0 (length word) && slice_index word 0 == byte
+
+abbrev pub is_marked : List ℕ → Bool
+is_marked word = nat_lt 0 (length word) && slice_index word (length word - 1) == 63
 
 -- a word that can be a name: 1 to 64 bytes from 0x21 to 0x7E
 abbrev pub is_name : List ℕ → Bool

@@ -1,5 +1,5 @@
 -- The values of a sample.
-use Rattle.std.specs.Prelude.{ℕ, ◌≡◌, ◌≤◌, ◌-◌, ◌/◌, ◌^◌, Bool, true, false, ◌&&◌, ◌==◌, nat_le, nat_lt, if◌then◌else◌, List, [], ◌∷◌, length, take, drop, slice_index, Option, Some, None, is_some, pos, neg_ℤ}
+use Rattle.std.specs.Prelude.{ℕ, ◌≡◌, ◌≤◌, ◌-◌, ◌/◌, ◌^◌, Bool, true, false, ◌&&◌, ◌==◌, nat_le, nat_lt, if◌then◌else◌, List, [], ◌∷◌, length, take, drop, Option, Some, None, is_some, pos, neg_ℤ}
 use Rattle.std.specs.Option.{option_map, option_and_then}
 use Rattle.std.specs.Result.{result_ok}
 use Rattle.std.specs.List.{list_any}
@@ -11,14 +11,10 @@ use Rattle.mdf_layout.specs.declared.field.FieldRow.{FieldRow}
 use Rattle.mdf_layout.specs.declared.sample.Value.{Value}
 use Rattle.mdf_layout.specs.declared.sample.Value.TheVariants.{Unsigned, Signed, Bytes}
 use Rattle.mdf_layout.specs.declared.sample.Entry.{Entry}
+use Rattle.script_line.specs.Float.{float_bits}
 use Rattle.script_line.specs.Number.{number_of}
-
--- the word begins with this byte; it ends with `?`
-abbrev pub begins_with : ℕ → List ℕ → Bool
-begins_with byte word = nat_lt 0 (length word) && slice_index word 0 == byte
-
-abbrev pub is_marked : List ℕ → Bool
-is_marked word = nat_lt 0 (length word) && slice_index word (length word - 1) == 63
+use Rattle.script_line.specs.Text.{begins_with, is_marked}
+use Rattle.script_line.specs.declared.float.Width.{Width}
 
 -- a number of so many bits
 abbrev pub held_in : ℕ → ℕ → Option Value
@@ -76,19 +72,38 @@ value_as kinds.Virtual bits word = None
 unfoldable pub value_of : FieldRow → List ℕ → Option Value
 value_of row word = value_as row.kind row.bits word
 
+-- the value that a number is for a channel of numbers
+abbrev pub number_value : FieldKind → ℕ → ℕ → Option Value
+number_value kinds.Unsigned bits n = held_in bits n
+number_value kinds.Signed bits n = positive_in bits n
+number_value _ bits n = None
+
+-- the value that a word is for a channel that takes floats of this width: the bits of the float that it says
+abbrev pub float_value : Width → FieldRow → List ℕ → Option Value
+float_value width row word = option_and_then (number_value row.kind row.bits) (float_bits width word)
+
+abbrev pub value_in : Option Width → FieldRow → List ℕ → Option Value
+value_in None row word = value_of row word
+value_in (Some width) row word = float_value width row word
+
 -- the entry that it is: a `?` behind the value says that it is invalid, where the channel has an invalidation bit
 abbrev pub entry_with : Bool → Value → Entry
 entry_with valid value = record { value = value; valid = valid }
 
-unfoldable pub entry_of : FieldRow → List ℕ → Option Entry
-entry_of row word =
+unfoldable pub entry_of : Option Width → FieldRow → List ℕ → Option Entry
+entry_of width row word =
     if is_marked word
-    then (if is_some row.inval then option_map (entry_with false) (value_of row (take (length word - 1) word)) else None)
-    else option_map (entry_with true) (value_of row word)
+    then (if is_some row.inval then option_map (entry_with false) (value_in width row (take (length word - 1) word)) else None)
+    else option_map (entry_with true) (value_in width row word)
 
--- the entries that words are, one for each channel
-unfoldable pub entries_of : List FieldRow → List (List ℕ) → Option (List Entry)
-entries_of [] [] = Some []
-entries_of (row ∷ rows) (word ∷ words) =
-    option_and_then (λ entry. option_map (λ entries. entry ∷ entries) (entries_of rows words)) (entry_of row word)
-entries_of _ _ = None
+-- the width of the first of these channels, if it takes floats; a channel past the end takes none
+abbrev pub first_width : List (Option Width) → Option Width
+first_width [] = None
+first_width (width ∷ widths) = width
+
+-- the entries that words are, one for each channel, of which the first take floats of these widths
+unfoldable pub entries_of : List (Option Width) → List FieldRow → List (List ℕ) → Option (List Entry)
+entries_of widths [] [] = Some []
+entries_of widths (row ∷ rows) (word ∷ words) =
+    option_and_then (λ entry. option_map (λ entries. entry ∷ entries) (entries_of (drop 1 widths) rows words)) (entry_of (first_width widths) row word)
+entries_of widths _ _ = None

@@ -1,9 +1,10 @@
 // The first value of a sample's words.
-ghost use Rattle.std.specs.Prelude.{◌≡◌, true, IfOk, IfSome, MatchOption};
+ghost use Rattle.std.specs.Prelude.{◌≡◌, true, None, IfOk, IfSome, MatchOption};
 ghost use Rattle.script_line.specs.Text.{Begins, Refuses, words_left};
 ghost use Rattle.mdf_layout.specs.declared.field.FieldKind.TheVariants.{Unsigned, Signed};
 ghost use Rattle.script_line.specs.Value.{IsReadable, entry_with, entry_of};
 
+use crate::float::Width;
 use crate::front::leading_number;
 use crate::text::cut;
 use crate::value::{entry_of, is_held, negative_in, positive_in};
@@ -32,7 +33,7 @@ fn valid_entry(value: Value, behind: Option<&[u8]>) -> FirstEntry<'_>
 /// The entry of a channel of unsigned numbers, if the word is one of at most 19 digits.
 fn unsigned_entry<'a>(row: FieldRow, text: &'a [u8]) -> Option<FirstEntry<'a>>
     requires { row.kind ≡ Unsigned }
-    ensures { IfSome result (λ first. Begins (entry_of row) text.now first.entry (words_left first.behind)) }
+    ensures { IfSome result (λ first. Begins (entry_of None row) text.now first.entry (words_left first.behind)) }
 {
     let found = leading_number(text)?;
     if !is_held(found.number, row.bits) {
@@ -45,7 +46,7 @@ fn unsigned_entry<'a>(row: FieldRow, text: &'a [u8]) -> Option<FirstEntry<'a>>
 fn positive_entry<'a>(row: FieldRow, text: &'a [u8]) -> Option<FirstEntry<'a>>
     requires kind { row.kind ≡ Signed }
     requires row { IsReadable row }
-    ensures { IfSome result (λ first. Begins (entry_of row) text.now first.entry (words_left first.behind)) }
+    ensures { IfSome result (λ first. Begins (entry_of None row) text.now first.entry (words_left first.behind)) }
 {
     let found = leading_number(text)?;
     let value = positive_in(row.bits, found.number)?;
@@ -56,7 +57,7 @@ fn positive_entry<'a>(row: FieldRow, text: &'a [u8]) -> Option<FirstEntry<'a>>
 fn negative_entry<'a>(row: FieldRow, text: &'a [u8]) -> Option<FirstEntry<'a>>
     requires kind { row.kind ≡ Signed }
     requires row { IsReadable row }
-    ensures { IfSome result (λ first. Begins (entry_of row) text.now first.entry (words_left first.behind)) }
+    ensures { IfSome result (λ first. Begins (entry_of None row) text.now first.entry (words_left first.behind)) }
 {
     if text.is_empty() || text[0] != b'-' {
         return None;
@@ -69,7 +70,7 @@ fn negative_entry<'a>(row: FieldRow, text: &'a [u8]) -> Option<FirstEntry<'a>>
 /// The entry of a channel of numbers, if the word is one of at most 19 digits that it can have.
 fn number_entry<'a>(row: FieldRow, text: &'a [u8]) -> Option<FirstEntry<'a>>
     requires { IsReadable row }
-    ensures { IfSome result (λ first. Begins (entry_of row) text.now first.entry (words_left first.behind)) }
+    ensures { IfSome result (λ first. Begins (entry_of None row) text.now first.entry (words_left first.behind)) }
 {
     match row.kind {
         FieldKind::Unsigned => unsigned_entry(row, text),
@@ -84,30 +85,48 @@ fn number_entry<'a>(row: FieldRow, text: &'a [u8]) -> Option<FirstEntry<'a>>
 /// The entry of any channel.
 fn any_entry<'a>(
     alloc: Global,
+    width: Option<Width>,
     row: FieldRow,
     text: &'a [u8],
 ) -> Result<Option<FirstEntry<'a>>, Memory>
     requires { IsReadable row }
-    ensures { IfOk result (λ found. MatchOption found (Refuses (entry_of row) text.now) (λ first. Begins (entry_of row) text.now first.entry (words_left first.behind))) }
+    ensures { IfOk result (λ found. MatchOption found (Refuses (entry_of width row) text.now) (λ first. Begins (entry_of width row) text.now first.entry (words_left first.behind))) }
 {
     let (word, behind) = cut(text, b' ');
-    match entry_of(alloc, row, word)? {
+    match entry_of(alloc, width, row, word)? {
         Some(entry) => Ok(Some(FirstEntry { entry, behind })),
         None => Ok(None),
     }
 }
 
-/// The entry that the first word of a text is for a channel, and what stands behind the word.
-pub(crate) fn first_entry<'a>(
+/// The entry of a channel that takes no decimals.
+fn plain_entry<'a>(
     alloc: Global,
     row: FieldRow,
     text: &'a [u8],
 ) -> Result<Option<FirstEntry<'a>>, Memory>
     requires { IsReadable row }
-    ensures { IfOk result (λ found. MatchOption found (Refuses (entry_of row) text.now) (λ first. Begins (entry_of row) text.now first.entry (words_left first.behind))) }
+    ensures { IfOk result (λ found. MatchOption found (Refuses (entry_of None row) text.now) (λ first. Begins (entry_of None row) text.now first.entry (words_left first.behind))) }
 {
     match number_entry(row, text) {
         Some(first) => Ok(Some(first)),
-        None => any_entry(alloc, row, text),
+        None => any_entry(alloc, None, row, text),
+    }
+}
+
+/// The entry that the first word of a text is for a channel, and what stands behind the word. The channel takes floats if it has a
+/// width.
+pub(crate) fn first_entry<'a>(
+    alloc: Global,
+    width: Option<Width>,
+    row: FieldRow,
+    text: &'a [u8],
+) -> Result<Option<FirstEntry<'a>>, Memory>
+    requires { IsReadable row }
+    ensures { IfOk result (λ found. MatchOption found (Refuses (entry_of width row) text.now) (λ first. Begins (entry_of width row) text.now first.entry (words_left first.behind))) }
+{
+    match width {
+        None => plain_entry(alloc, row, text),
+        Some(_) => any_entry(alloc, width, row, text),
     }
 }

@@ -5,6 +5,7 @@
 #![tactic(auto)]
 
 mod first;
+mod float;
 mod front;
 mod kind;
 mod line;
@@ -13,6 +14,7 @@ mod sample;
 mod text;
 mod value;
 
+pub use float::{Width, float_bits};
 pub use kind::ValueType;
 pub use line::{ChannelForm, Line, Marks, line_of};
 pub use number::number_of;

@@ -1,7 +1,7 @@
 ghost use Rattle.std.specs.Prelude.{◌≡◌, ◌∷◌, ◌≤◌, ℕ, length};
-ghost use Rattle.std.specs.List.{list_all};
-ghost use Rattle.std.specs.Char.{is_ascii_graphic};
-ghost use Rattle.script_line.specs.Text.{parts_of, parts_left, bytes_left, is_end, is_name};
+ghost use Rattle.std.specs.List.{list_all, list_any};
+ghost use Rattle.std.specs.Char.{is_ascii_graphic, is_ascii_uppercase};
+ghost use Rattle.script_line.specs.Text.{parts_of, parts_left, begins_with, bytes_left, is_end, is_marked, is_name};
 
 use memchr::memchr;
 
@@ -38,4 +38,25 @@ pub(crate) fn is_name(word: &[u8]) -> bool
     ensures { result ≡ is_name word.now }
 {
     !word.is_empty() && word.len() <= 64 && are_graphic(word)
+}
+
+/// Whether the word begins with this byte.
+pub(crate) fn begins_with(byte: u8, word: &[u8]) -> bool
+    ensures { result ≡ begins_with byte word.now }
+{
+    !word.is_empty() && word[0] == byte
+}
+
+/// Whether the word ends with `?`.
+pub(crate) fn is_marked(word: &[u8]) -> bool
+    ensures { result ≡ is_marked word.now }
+{
+    !word.is_empty() && word[word.len() - 1] == b'?'
+}
+
+/// Whether one of the bytes is a capital letter.
+pub(crate) fn has_capital(word: &[u8]) -> bool
+    ensures { result ≡ list_any is_ascii_uppercase word.now }
+{
+    word.iter().any(|byte| byte.is_ascii_uppercase())
 }

@@ -1,28 +1,14 @@
 // The values of a sample.
 ghost use Rattle.std.specs.Prelude.{◌≡◌, ◌<◌, ◌≤◌, ◌^◌, ◌↔◌, IsTrue, IfOk, Some, None};
-ghost use Rattle.std.specs.List.{list_any};
-ghost use Rattle.std.specs.Char.{is_ascii_uppercase};
-ghost use Rattle.script_line.specs.Value.{begins_with, is_marked, unsigned_value, negative_in, positive_in, signed_value, pairs_of, bytes_of, fixed_value, long_value, value_of, entry_of, IsReadable};
+ghost use Rattle.script_line.specs.Value.{held_in, unsigned_value, negative_in, positive_in, signed_value, pairs_of, bytes_of, fixed_value, long_value, value_of, number_value, float_value, value_in, entry_of, IsReadable};
 
+use crate::float::{Width, float_bits};
 use crate::number::number_of;
+use crate::text::{begins_with, has_capital, is_marked};
 use hex::FromHexError;
 use mdf_layout::{Entry, FieldKind, FieldRow, Value};
 use mdf_num::{Bytes, Memory};
 use std::alloc::Global;
-
-/// Whether the word begins with this byte.
-fn begins_with(byte: u8, word: &[u8]) -> bool
-    ensures { result ≡ begins_with byte word.now }
-{
-    !word.is_empty() && word[0] == byte
-}
-
-/// Whether the word ends with `?`.
-fn is_marked(word: &[u8]) -> bool
-    ensures { result ≡ is_marked word.now }
-{
-    !word.is_empty() && word[word.len() - 1] == b'?'
-}
 
 /// Whether so many bits hold the number.
 pub(crate) fn is_held(number: u64, bits: u32) -> bool
@@ -31,16 +17,23 @@ pub(crate) fn is_held(number: u64, bits: u32) -> bool
     bits >= 64 || number < 1 << bits
 }
 
+/// This number, if so many bits hold it.
+fn held_in(bits: u32, number: u64) -> Option<Value>
+    ensures { result ≡ held_in bits number }
+{
+    if !is_held(number, bits) {
+        return None;
+    }
+    Some(Value::Unsigned(number))
+}
+
 /// The unsigned number of so many bits that a word is.
 #[tactic(auto, unfolding(crate::specs::Value::unsigned_value))]
 fn unsigned_value(bits: u32, word: &[u8]) -> Option<Value>
     ensures { result ≡ unsigned_value bits word.now }
 {
     let number = number_of(word)?;
-    if !is_held(number, bits) {
-        return None;
-    }
-    Some(Value::Unsigned(number))
+    held_in(bits, number)
 }
 
 /// The negative of this number, where that is not 0 and so many bits hold it in two's complement.
@@ -80,13 +73,6 @@ fn signed_value(bits: u32, word: &[u8]) -> Option<Value>
     }
     let number = number_of(word)?;
     positive_in(bits, number)
-}
-
-/// Whether one of the bytes is a capital letter.
-fn has_capital(word: &[u8]) -> bool
-    ensures { result ≡ list_any is_ascii_uppercase word.now }
-{
-    word.iter().any(|byte| byte.is_ascii_uppercase())
 }
 
 /// The bytes that pairs of hexadecimal digits are, whose letters are small.
@@ -155,19 +141,61 @@ fn value_of(alloc: Global, row: FieldRow, word: &[u8]) -> Result<Option<Value>, 
     }
 }
 
-/// The entry that a word is for a channel: its value, and behind it `?` where it is invalid, which only a channel with
-/// an invalidation bit can say.
-#[tactic(auto, unfolding(crate::specs::Value::entry_of))]
-pub(crate) fn entry_of(alloc: Global, row: FieldRow, word: &[u8]) -> Result<Option<Entry>, Memory>
+/// The value that a number is for a channel of numbers.
+fn number_value(row: FieldRow, number: u64) -> Option<Value>
     requires { IsReadable row }
-    ensures { IfOk result (λ entry. entry ≡ entry_of row word.now) }
+    ensures { result ≡ number_value row.kind row.bits number }
+{
+    match row.kind {
+        FieldKind::Unsigned => held_in(row.bits, number),
+        FieldKind::Signed => positive_in(row.bits, number),
+        _ => None,
+    }
+}
+
+/// The value that a word is for a channel that takes floats of this width: the bits of the float that it says.
+fn float_value(width: Width, row: FieldRow, word: &[u8]) -> Option<Value>
+    requires { IsReadable row }
+    ensures { result ≡ float_value width row word.now }
+{
+    let bits = float_bits(width, word)?;
+    number_value(row, bits)
+}
+
+/// The value that a word is for a channel, which takes floats if it has a width.
+fn value_in(
+    alloc: Global,
+    width: Option<Width>,
+    row: FieldRow,
+    word: &[u8],
+) -> Result<Option<Value>, Memory>
+    requires { IsReadable row }
+    ensures { IfOk result (λ value. value ≡ value_in width row word.now) }
+{
+    match width {
+        Some(width) => Ok(float_value(width, row, word)),
+        None => value_of(alloc, row, word),
+    }
+}
+
+/// The entry that a word is for a channel: its value, and behind it `?` if it is invalid, which only a channel with an
+/// invalidation bit can say.
+#[tactic(auto, unfolding(crate::specs::Value::entry_of))]
+pub(crate) fn entry_of(
+    alloc: Global,
+    width: Option<Width>,
+    row: FieldRow,
+    word: &[u8],
+) -> Result<Option<Entry>, Memory>
+    requires { IsReadable row }
+    ensures { IfOk result (λ entry. entry ≡ entry_of width row word.now) }
 {
     let valid = !is_marked(word);
     if !valid && row.inval.is_none() {
         return Ok(None);
     }
     let word = if valid { word } else { &word[..word.len() - 1] };
-    match value_of(alloc, row, word)? {
+    match value_in(alloc, width, row, word)? {
         Some(value) => Ok(Some(Entry { value, valid })),
         None => Ok(None),
     }

@@ -8,4 +8,4 @@ returns-in_err-give_sources g c =
     rw (p.1) (gives_failed _ _ _ _ _ _ c.in_err-give_sources.ensures)
 
 pub returns : goal.returns
-returns g c = gives_behind _ _ _ _ _ _ c.in_ok-give_sources.ensures.ok c.give_sources.ensures.cause.later c.give_line.ensures
+returns g c = gives_behind _ _ _ _ _ _ c.in_ok-give_sources.ensures.ok c.give_sources.ensures.cause.later c.give_totals.ensures

@@ -1,5 +1,5 @@
 -- The floats that words write.
-use Rattle.std.specs.Prelude.{ℕ, Bool, ◌==◌, ◌&&◌, nat_lt, List, length, drop, slice_index, Option, Some, None, to_bits, if◌then◌else◌}
+use Rattle.std.specs.Prelude.{ℕ, List, drop, Option, Some, None, to_bits, if◌then◌else◌}
 use Rattle.std.specs.List.{list_any}
 use Rattle.std.specs.Char.{is_ascii_uppercase}
 use Rattle.std.specs.Option.{option_and_then, option_map}
@@ -8,8 +8,9 @@ use Rattle.std.specs.Float.{Float, Format, binary32, binary64, float_is_finite}
 use Rattle.fast_float.specs.Parse.{parse_float}
 use Rattle.hex.specs.Hex.{decode_sized}
 use Rattle.mdf_format.specs.Number.{le_number}
-use Rattle.acq_lines.specs.declared.float.Width.{Width}
-use Rattle.acq_lines.specs.declared.float.Width.TheVariants.{Single, Double}
+use Rattle.script_line.specs.Text.{begins_with}
+use Rattle.script_line.specs.declared.float.Width.{Width}
+use Rattle.script_line.specs.declared.float.Width.TheVariants.{Single, Double}
 
 abbrev pub format_of : Width → Format
 format_of Single = binary32
@@ -35,11 +36,7 @@ decimal_bits width word = bits_in (format_of width) word
 abbrev pub paired : ℕ → List ℕ → Option ℕ
 paired size digits = if list_any is_ascii_uppercase digits then None else option_map le_number (result_ok (decode_sized digits size))
 
--- the word begins with an `x`
-abbrev pub begins_with_x : List ℕ → Bool
-begins_with_x word = nat_lt 0 (length word) && slice_index word 0 == 120
-
 -- The bits of the float that a word says: behind an `x` they are its bytes, the lowest first; any other word is a number in
 -- decimal, and they are those of the float that is nearest to it.
 abbrev pub float_bits : Width → List ℕ → Option ℕ
-float_bits width word = if begins_with_x word then paired (size_of width) (drop 1 word) else decimal_bits width word
+float_bits width word = if begins_with 120 word then paired (size_of width) (drop 1 word) else decimal_bits width word

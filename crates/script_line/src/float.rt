@@ -1,9 +1,8 @@
 ghost use Rattle.std.specs.Prelude.{◌≡◌, ◌<◌, ◌≤◌};
-ghost use Rattle.std.specs.List.{list_any};
-ghost use Rattle.std.specs.Char.{is_ascii_uppercase};
 ghost use Rattle.std.specs.Float.{binary32, binary64};
-ghost use Rattle.acq_lines.specs.Float.{begins_with_x, bits_in, decimal_bits, float_bits, paired};
+ghost use Rattle.script_line.specs.Float.{bits_in, decimal_bits, float_bits, paired};
 
+use crate::text::{begins_with, has_capital};
 use hex::FromHex;
 use mdf_num::number_of;
 
@@ -53,13 +52,6 @@ fn decimal_bits(width: Width, word: &[u8]) -> Option<u64>
     }
 }
 
-/// Whether one of the bytes is a capital letter.
-fn has_capital(word: &[u8]) -> bool
-    ensures { result ≡ list_any is_ascii_uppercase word.now }
-{
-    word.iter().any(|byte| byte.is_ascii_uppercase())
-}
-
 /// The number that these pairs of hexadecimal digits are, whose letters are small, the lowest byte first, if there are so many.
 fn paired<const N: usize>(digits: &[u8]) -> Option<u64>
     requires some { 0 < N }
@@ -75,21 +67,13 @@ fn paired<const N: usize>(digits: &[u8]) -> Option<u64>
     }
 }
 
-/// Whether the word begins with an `x`.
-fn begins_with_x(word: &[u8]) -> bool
-    ensures { result ≡ begins_with_x word.now }
-{
-    !word.is_empty() && word[0] == b'x'
-}
-
-/// The bits of the float of this width that a word says. Behind an `x` stand its bytes, the lowest first, each as two hexadecimal
-/// digits; any other word is a number in decimal, and they are the bits of the float that is nearest to it. None exactly where
-/// the word is neither, or where the nearest float is not finite, as of `nan`, `inf` and a number that is too large. It takes no
-/// memory.
+/// The bits of the float of this width that a word says. Its bytes stand behind an `x`, the lowest first, each as two hexadecimal
+/// digits. Any other word is a number in decimal, and the float is the one nearest to it. None exactly if the word is neither,
+/// or if the nearest float is not finite, as of `nan`, `inf` and a number that is too large. It takes no memory.
 pub fn float_bits(width: Width, word: &[u8]) -> Option<u64>
     ensures { result ≡ float_bits width word.now }
 {
-    if !begins_with_x(word) {
+    if !begins_with(b'x', word) {
         return decimal_bits(width, word);
     }
     match width {
