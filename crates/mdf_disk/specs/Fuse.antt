@@ -1,5 +1,5 @@
 -- A disk that passes only so many calls on.
-use Rattle.std.specs.Prelude.{ℕ, ◌≡◌, ◌<◌, Result, IsErr}
+use Rattle.std.specs.Prelude.{ℕ, ◌≡◌, ◌-◌, ◌<◌, Result, IsErr}
 use Rattle.mdf_format.specs.Cause.{HasCause}
 use Rattle.mdf_disk.specs.declared.fuse.Fuse.{Fuse}
 
@@ -10,10 +10,9 @@ disk_of fuse = fuse.disk
 abbrev pub left_of : {D : Type 0} → Fuse D → ℕ
 left_of fuse = fuse.left
 
--- where no call was left, this one failed and the disk under it was asked nothing
-abbrev pub IsSpent : {D T E : Type 0} → ℕ → D → D → Result T E → Type 0
-IsSpent left old new result = left ≡ 0 → IsErr result × (new ≡ old)
-
--- where a call was left, this one failed only with a fault of the disk under it
-abbrev pub IsPassed : {T E : Type 0} → ℕ → ℕ → ℕ → Result T E → Type 0
-IsPassed left before now result = 0 < left → HasCause before now result
+-- A call takes one of those that are left. Where none was left, it failed and the disk under it was asked nothing. Where one
+-- was left, it failed only with a fault of that disk.
+pub record Burns {D T E : Type 0} (faults : D → ℕ) (old new : Fuse D) (result : Result T E) : Type 0 where
+  pub counted : left_of new ≡ left_of old - 1
+  pub spent : left_of old ≡ 0 → IsErr result × (disk_of new ≡ disk_of old)
+  pub passed : 0 < left_of old → HasCause (faults (disk_of old)) (faults (disk_of new)) result

@@ -1,5 +1,5 @@
 -- What a disk in memory has.
-use Rattle.std.specs.Prelude.{ℕ, ◌≡◌, ◌⊎◌, List, [], ◌∷◌, ◌++◌, Option, Some, None, IsSome, false, Result, Ok, Err}
+use Rattle.std.specs.Prelude.{ℕ, ◌≡◌, ◌⊎◌, ◌+◌, ◌-◌, ◌^◌, min, Contains, OnOk, List, [], ◌∷◌, ◌++◌, Option, Some, None, IsSome, false, Result, Ok, Err}
 use Rattle.mdf_num.specs.Plan.{Plan}
 use Rattle.mdf_disk.specs.declared.call.Call.{Call}
 use Rattle.mdf_disk.specs.declared.call.Call.TheVariants.{Write, Refused}
@@ -18,6 +18,12 @@ file_of disk = disk.file
 -- which of its calls are to fail, and how many were begun
 abbrev pub plan_of : MemoryDisk → Plan
 plan_of disk = disk.plan
+
+-- one more call is begun, and of those that are to fail none succeeds
+pub record CountsCall {T E : Type 0} (old new : Plan) (result : Result T E) : Type 0 where
+  pub planned : OnOk result (¬ Contains old.failing old.calls)
+  pub failing : new.failing ≡ old.failing
+  pub begun : new.calls ≡ min (old.calls + 1) (2 ^ 64 - 1)
 
 -- A call is recorded as done behind the others, or as one that failed; of one that failed the record may be missing.
 abbrev pub Records : {T E : Type 0} → List Call → List Call → Call → Call → Result T E → Type 0

@@ -61,7 +61,7 @@ impl<D: Disk> Fuse<D> {
 }
 
 impl<D: Disk> Disk for Fuse<D> {
-    ghost use Rattle.mdf_disk.specs.Fuse.{disk_of, left_of, IsSpent, IsPassed};
+    ghost use Rattle.mdf_disk.specs.Fuse.{Burns};
 
     ghost asked = { λ f. first_asked f.refused (D.asked f.disk) };
 
@@ -90,9 +90,7 @@ impl<D: Disk> Disk for Fuse<D> {
         ensures moment { ⟦<Fuse<D> as Disk>⟧.moment self.old ≤ ⟦<Fuse<D> as Disk>⟧.moment self.new }
         ensures cause { HasCause (⟦<Fuse<D> as Disk>⟧.faults self.old) (⟦<Fuse<D> as Disk>⟧.faults self.new) result }
         ensures calm { OnOk result (⟦<Fuse<D> as Disk>⟧.faults self.new ≡ ⟦<Fuse<D> as Disk>⟧.faults self.old) }
-        ensures counted { left_of self.new ≡ left_of self.old - 1 }
-        ensures spent { IsSpent (left_of self.old) (disk_of self.old) (disk_of self.new) result }
-        ensures passed { IsPassed (left_of self.old) (D.faults (disk_of self.old)) (D.faults (disk_of self.new)) result }
+        ensures burns { Burns D.faults self.old self.new result }
     {
         if !spend(&mut self.left) {
             self.refused = Some((name, role));
@@ -109,9 +107,7 @@ impl<D: Disk> Disk for Fuse<D> {
         ensures story { ⟦<Fuse<D> as Disk>⟧.story self.new ≡ ⟦<Fuse<D> as Disk>⟧.story self.old }
         ensures cause { HasCause (⟦<Fuse<D> as Disk>⟧.faults self.old) (⟦<Fuse<D> as Disk>⟧.faults self.new) result }
         ensures calm { OnOk result (⟦<Fuse<D> as Disk>⟧.faults self.new ≡ ⟦<Fuse<D> as Disk>⟧.faults self.old) }
-        ensures counted { left_of self.new ≡ left_of self.old - 1 }
-        ensures spent { IsSpent (left_of self.old) (disk_of self.old) (disk_of self.new) result }
-        ensures passed { IsPassed (left_of self.old) (D.faults (disk_of self.old)) (D.faults (disk_of self.new)) result }
+        ensures burns { Burns D.faults self.old self.new result }
     {
         if !spend(&mut self.left) {
             return Err(self.faults.fail());
@@ -128,9 +124,7 @@ impl<D: Disk> Disk for Fuse<D> {
         ensures story { ⟦<Fuse<D> as Disk>⟧.story self.new ≡ ⟦<Fuse<D> as Disk>⟧.story self.old }
         ensures cause { HasCause (⟦<Fuse<D> as Disk>⟧.faults self.old) (⟦<Fuse<D> as Disk>⟧.faults self.new) result }
         ensures calm { OnOk result (⟦<Fuse<D> as Disk>⟧.faults self.new ≡ ⟦<Fuse<D> as Disk>⟧.faults self.old) }
-        ensures counted { left_of self.new ≡ left_of self.old - 1 }
-        ensures spent { IsSpent (left_of self.old) (disk_of self.old) (disk_of self.new) result }
-        ensures passed { IsPassed (left_of self.old) (D.faults (disk_of self.old)) (D.faults (disk_of self.new)) result }
+        ensures burns { Burns D.faults self.old self.new result }
     {
         if !spend(&mut self.left) {
             return Err(self.faults.fail());
@@ -146,9 +140,7 @@ impl<D: Disk> Disk for Fuse<D> {
         ensures story { Writes (⟦<Fuse<D> as Disk>⟧.story self.old) (⟦<Fuse<D> as Disk>⟧.story self.new) at bytes.now result }
         ensures cause { HasCause (⟦<Fuse<D> as Disk>⟧.faults self.old) (⟦<Fuse<D> as Disk>⟧.faults self.new) result }
         ensures calm { OnOk result (⟦<Fuse<D> as Disk>⟧.faults self.new ≡ ⟦<Fuse<D> as Disk>⟧.faults self.old) }
-        ensures counted { left_of self.new ≡ left_of self.old - 1 }
-        ensures spent { IsSpent (left_of self.old) (disk_of self.old) (disk_of self.new) result }
-        ensures passed { IsPassed (left_of self.old) (D.faults (disk_of self.old)) (D.faults (disk_of self.new)) result }
+        ensures burns { Burns D.faults self.old self.new result }
     {
         if !spend(&mut self.left) {
             return Err(self.faults.fail());
@@ -163,9 +155,7 @@ impl<D: Disk> Disk for Fuse<D> {
         ensures story { Syncs (⟦<Fuse<D> as Disk>⟧.story self.old) (⟦<Fuse<D> as Disk>⟧.story self.new) result }
         ensures cause { HasCause (⟦<Fuse<D> as Disk>⟧.faults self.old) (⟦<Fuse<D> as Disk>⟧.faults self.new) result }
         ensures calm { OnOk result (⟦<Fuse<D> as Disk>⟧.faults self.new ≡ ⟦<Fuse<D> as Disk>⟧.faults self.old) }
-        ensures counted { left_of self.new ≡ left_of self.old - 1 }
-        ensures spent { IsSpent (left_of self.old) (disk_of self.old) (disk_of self.new) result }
-        ensures passed { IsPassed (left_of self.old) (D.faults (disk_of self.old)) (D.faults (disk_of self.new)) result }
+        ensures burns { Burns D.faults self.old self.new result }
     {
         if !spend(&mut self.left) {
             return Err(self.faults.fail());

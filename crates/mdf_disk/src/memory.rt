@@ -160,11 +160,11 @@ impl MemoryDisk {
 }
 
 impl Disk for MemoryDisk {
-    ghost use Rattle.std.specs.Prelude.{◌↔◌, ◌+◌, ◌-◌, ◌^◌, IsOk, IfSome, Contains, min};
+    ghost use Rattle.std.specs.Prelude.{◌↔◌, ◌+◌, IsOk, IfSome};
     ghost use Rattle.mdf_format.specs.Number.{bytes_at};
     ghost use Rattle.mdf_disk.specs.Stays.{Stays};
     ghost use Rattle.mdf_disk.specs.Calls.{Attaches, Patches, Writes, Keeps, Syncs};
-    ghost use Rattle.mdf_disk.specs.Memory.{file_of, calls_of, plan_of, failed_write, Records, IsThere};
+    ghost use Rattle.mdf_disk.specs.Memory.{file_of, calls_of, plan_of, failed_write, CountsCall, Records, IsThere};
     ghost use Rattle.mdf_disk.specs.declared.call.Call.TheVariants.{Attach, Size, Read, Write, Sync};
 
     ghost asked = { λ d. d.asked };
@@ -198,9 +198,7 @@ impl Disk for MemoryDisk {
         ensures there { OnOk result (IsThere role (file_of self.old)) }
         ensures recorded { OnOk result (calls_of self.new ≡ calls_of self.old ++ Attach ∷ []) }
         ensures file { file_of self.new ≡ file_of self.old }
-        ensures planned { OnOk result (¬ Contains (plan_of self.old).failing (plan_of self.old).calls) }
-        ensures failing { (plan_of self.new).failing ≡ (plan_of self.old).failing }
-        ensures begun { (plan_of self.new).calls ≡ min ((plan_of self.old).calls + 1) (2 ^ 64 - 1) }
+        ensures counted { CountsCall (plan_of self.old) (plan_of self.new) result }
     {
         self.asked = Some((name, role));
         let may = self.plan.call();
@@ -227,9 +225,7 @@ impl Disk for MemoryDisk {
         ensures calm { OnOk result (⟦<MemoryDisk as Disk>⟧.faults self.new ≡ ⟦<MemoryDisk as Disk>⟧.faults self.old) }
         ensures recorded { Records (calls_of self.old) (calls_of self.new) Size Size result }
         ensures file { file_of self.new ≡ file_of self.old }
-        ensures planned { OnOk result (¬ Contains (plan_of self.old).failing (plan_of self.old).calls) }
-        ensures failing { (plan_of self.new).failing ≡ (plan_of self.old).failing }
-        ensures begun { (plan_of self.new).calls ≡ min ((plan_of self.old).calls + 1) (2 ^ 64 - 1) }
+        ensures counted { CountsCall (plan_of self.old) (plan_of self.new) result }
     {
         let may = self.plan.call();
         log(&mut self.tape, &mut self.plan, Call::Size)?;
@@ -250,9 +246,7 @@ impl Disk for MemoryDisk {
         ensures calm { OnOk result (⟦<MemoryDisk as Disk>⟧.faults self.new ≡ ⟦<MemoryDisk as Disk>⟧.faults self.old) }
         ensures recorded { Records (calls_of self.old) (calls_of self.new) Read Read result }
         ensures file { file_of self.new ≡ file_of self.old }
-        ensures planned { OnOk result (¬ Contains (plan_of self.old).failing (plan_of self.old).calls) }
-        ensures failing { (plan_of self.new).failing ≡ (plan_of self.old).failing }
-        ensures begun { (plan_of self.new).calls ≡ min ((plan_of self.old).calls + 1) (2 ^ 64 - 1) }
+        ensures counted { CountsCall (plan_of self.old) (plan_of self.new) result }
     {
         let may = self.plan.call();
         log(&mut self.tape, &mut self.plan, Call::Read)?;
@@ -275,9 +269,7 @@ impl Disk for MemoryDisk {
         ensures recorded { Records (calls_of self.old) (calls_of self.new) (Write at bytes.now true)
             (failed_write (file_of self.old) at bytes.now) result }
         ensures file { file_of self.new ≡ file_of self.old }
-        ensures planned { OnOk result (¬ Contains (plan_of self.old).failing (plan_of self.old).calls) }
-        ensures failing { (plan_of self.new).failing ≡ (plan_of self.old).failing }
-        ensures begun { (plan_of self.new).calls ≡ min ((plan_of self.old).calls + 1) (2 ^ 64 - 1) }
+        ensures counted { CountsCall (plan_of self.old) (plan_of self.new) result }
     {
         let may = self.plan.call();
         if self.file.is_some() {
@@ -308,9 +300,7 @@ impl Disk for MemoryDisk {
         ensures calm { OnOk result (⟦<MemoryDisk as Disk>⟧.faults self.new ≡ ⟦<MemoryDisk as Disk>⟧.faults self.old) }
         ensures recorded { Records (calls_of self.old) (calls_of self.new) (Sync true) (Sync false) result }
         ensures file { file_of self.new ≡ file_of self.old }
-        ensures planned { OnOk result (¬ Contains (plan_of self.old).failing (plan_of self.old).calls) }
-        ensures failing { (plan_of self.new).failing ≡ (plan_of self.old).failing }
-        ensures begun { (plan_of self.new).calls ≡ min ((plan_of self.old).calls + 1) (2 ^ 64 - 1) }
+        ensures counted { CountsCall (plan_of self.old) (plan_of self.new) result }
     {
         let may = self.plan.call();
         log(&mut self.tape, &mut self.plan, Call::Sync { done: may })?;

@@ -1,6 +1,7 @@
-ghost use Rattle.std.specs.Prelude.{◌≡◌, ◌≤◌, true, is_some};
+ghost use Rattle.std.specs.Prelude.{◌≡◌, true};
 ghost use Rattle.std.specs.List.{AllByRecursion};
 ghost use Rattle.mdf_disk.specs.Crash.{Adds};
+ghost use Rattle.mdf_disk.specs.Goes.{GoesOn};
 ghost use Rattle.mdf_disk.specs.State.{state_of};
 ghost use Rattle.mdf_model.specs.Measurement.{HasSamples};
 ghost use Rattle.mdf_seal.specs.Seal.{IsBlank};
@@ -48,10 +49,7 @@ pub fn cut<C: Disk>(
     requires blank { IsBlank (C.content out.old) (C.story out.old) }
     ensures ends { CutEnds file (record { from = from; to = to; now = now_ns }) (state_of C.Disk out.old) (state_of C.Disk out.new) result }
     ensures any_moment { Adds (C.story out.old) (C.story out.new) (IsCutImage file (record { from = from; to = to; now = now_ns })) }
-    ensures asked { C.asked out.new ≡ C.asked out.old }
-    ensures attached { C.attached out.new ≡ C.attached out.old }
-    ensures moment { C.moment out.old ≤ C.moment out.new }
-    ensures told { is_some (C.story out.new) ≡ is_some (C.story out.old) }
+    ensures goes_on { GoesOn C.Disk out.old out.new }
 {
     let found = take_standing(alloc, file)?;
     let range = Range::new(from, to);
