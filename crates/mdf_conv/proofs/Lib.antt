@@ -1,5 +1,4 @@
 pub mod Fronts
-mod Lifts
 mod Levels
 pub mod Founds
 pub mod Costs

@@ -1,6 +1,5 @@
 pub mod Left
 pub mod Conv
-pub mod Lift
 pub mod Link
 pub mod Cost
 pub mod Standing

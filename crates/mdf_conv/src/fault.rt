@@ -1,4 +1,4 @@
-use mdf_block::{Kind, What};
+use mdf_block::{Kind, NoteFault, What};
 use thiserror::Error;
 
 /// Why a conversion or a source is refused.
@@ -16,4 +16,23 @@ pub enum ConvFault {
     /// Want of memory. A reader over a span never has it in a fault.
     #[error("want of memory")]
     Memory,
+}
+
+impl From<NoteFault> for ConvFault {
+    ghost use Rattle.mdf_block.specs.Refusal.{Renames};
+    ghost use Rattle.mdf_block.specs.Text.{note_refusal};
+    ghost use Rattle.mdf_conv.specs.Conv.{conv_refusal};
+
+    ghost from_gives = { Renames note_refusal conv_refusal };
+
+    fn from(fault: NoteFault) -> ConvFault {
+        match fault {
+            NoteFault::Bad { at } => ConvFault::Bad { at, want: Kind::Tx },
+            NoteFault::TooMany { at } => ConvFault::TooMany {
+                what: What::Text,
+                at,
+            },
+            NoteFault::Memory => ConvFault::Memory,
+        }
+    }
 }

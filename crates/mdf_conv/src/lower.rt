@@ -3,11 +3,11 @@ ghost use Rattle.mdf_format.specs.declared.kind.Kind.{Kind};
 ghost use Rattle.mdf_format.specs.declared.kind.Kind.TheVariants as kinds;
 ghost use Rattle.mdf_block.specs.Reads.{Looks, Reads};
 ghost use Rattle.mdf_block.specs.Block.{block, is_data, is_named, IsInside, IsFilled};
+ghost use Rattle.mdf_block.specs.Text.{note};
 ghost use Rattle.mdf_conv.specs.Conv.{words, HoldsValues, conv_refusal};
-ghost use Rattle.mdf_conv.specs.Lift.{text_read};
 
 use crate::{Budget, ConvFault};
-use mdf_block::{BlockAt, BlockFault, Kind, Note, NoteFault, What, block_in, kind_in, noted_in};
+use mdf_block::{BlockAt, BlockFault, Kind, Note, block_in, kind_in, noted_in};
 use mdf_num::{Halt, Span, Stop};
 use std::alloc::Global;
 
@@ -53,27 +53,16 @@ pub(crate) fn is_conv_in<P: Span>(span: &mut P, at: u64) -> Result<bool, Stop>
     }
 }
 
-/// A text that was read, with the faults of this crate, and what may still come.
-fn text_read(
-    outcome: Result<(Note, u64), Halt<NoteFault>>,
-    budget: Budget,
-) -> Result<(Note, Budget), Halt<ConvFault>>
-    ensures { result ≡ text_read budget outcome }
+/// A text, with the faults of this crate, and how many bytes of texts may still come.
+fn note_of<P: Span>(
+    alloc: Global,
+    span: &mut P,
+    at: u64,
+    left: u64,
+) -> Result<(Note, u64), Halt<ConvFault>>
+    ensures reads { Reads P.Span span.old span.new true conv_refusal result (λ file. note file at left) }
 {
-    match outcome {
-        Ok((note, text)) => Ok((note, Budget { text, ..budget })),
-        Err(Halt::Fault(NoteFault::Bad { at })) => Err(Halt::Fault(ConvFault::Bad {
-            at,
-            want: Kind::Tx,
-        })),
-        Err(Halt::Fault(NoteFault::TooMany { at })) => Err(Halt::Fault(ConvFault::TooMany {
-            what: What::Text,
-            at,
-        })),
-        Err(Halt::Fault(NoteFault::Memory)) => Err(Halt::Memory),
-        Err(Halt::Failed) => Err(Halt::Failed),
-        Err(Halt::Memory) => Err(Halt::Memory),
-    }
+    noted_in(alloc, span, at, left).map_err(Halt::raised)
 }
 
 /// The text that a link names, where 0 names none, and what may still come.
@@ -81,6 +70,7 @@ fn text_read(
 /// # Errors
 /// `Bad` exactly where an address other than 0 has neither a TXBLOCK nor an MDBLOCK, `TooMany` exactly where the text is
 /// longer than may come; and the span's own.
+#[tactic(auto, unfolding(crate::specs::Conv::words))]
 pub fn words_in<P: Span>(
     alloc: Global,
     span: &mut P,
@@ -89,5 +79,6 @@ pub fn words_in<P: Span>(
 ) -> Result<(Note, Budget), Halt<ConvFault>>
     ensures reads { Reads P.Span span.old span.new true conv_refusal result (λ file. words file at budget) }
 {
-    text_read(noted_in(alloc, span, at, budget.text), budget)
+    let (note, text) = note_of(alloc, span, at, budget.text)?;
+    Ok((note, Budget { text, ..budget }))
 }

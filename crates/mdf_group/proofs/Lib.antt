@@ -1,4 +1,3 @@
-mod Lifts
 mod Rows
 mod Extras
 pub mod Onces

@@ -1,5 +1,4 @@
 pub mod Link
-pub mod Lift
 pub mod Channel
 pub mod Group
 pub mod Standing

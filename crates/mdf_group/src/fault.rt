@@ -1,4 +1,5 @@
 use mdf_block::{Kind, What};
+use mdf_conv::ConvFault;
 use thiserror::Error;
 
 /// Why the groups of a file are refused.
@@ -22,4 +23,21 @@ pub enum GroupFault {
     /// Want of memory. A reader over a span never has it in a fault.
     #[error("want of memory")]
     Memory,
+}
+
+impl From<ConvFault> for GroupFault {
+    ghost use Rattle.mdf_block.specs.Refusal.{Renames};
+    ghost use Rattle.mdf_conv.specs.Conv.{conv_refusal};
+    ghost use Rattle.mdf_group.specs.Link.{group_refusal};
+
+    ghost from_gives = { Renames conv_refusal group_refusal };
+
+    fn from(fault: ConvFault) -> GroupFault {
+        match fault {
+            ConvFault::Bad { at, want } => GroupFault::Bad { at, want },
+            ConvFault::Deep { at } => GroupFault::Deep { at },
+            ConvFault::TooMany { what, at } => GroupFault::TooMany { what, at },
+            ConvFault::Memory => GroupFault::Memory,
+        }
+    }
 }

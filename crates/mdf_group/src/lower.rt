@@ -5,37 +5,13 @@ ghost use Rattle.mdf_block.specs.Block.{block, is_data, IsInside, IsFilled};
 ghost use Rattle.mdf_conv.specs.Conv.{words};
 ghost use Rattle.mdf_conv.specs.Link.{source_of_link, conv_of_link};
 ghost use Rattle.mdf_group.specs.Link.{label, group_refusal};
-ghost use Rattle.mdf_group.specs.Lift.{lifted};
 
 use crate::GroupFault;
 use crate::room::Label;
 use mdf_block::{BlockAt, Kind, Note};
-use mdf_conv::{
-    Budget, ConvFault, Conversion, SourceInfo, block_with, conv_at, source_at, words_at,
-};
+use mdf_conv::{Budget, Conversion, SourceInfo, block_with, conv_at, source_at, words_at};
 use mdf_num::{Halt, Span};
 use std::alloc::Global;
-
-/// What is read below, with the faults of this crate.
-fn lifted<T>(outcome: Result<T, Halt<ConvFault>>) -> Result<T, Halt<GroupFault>>
-    ensures { result ≡ lifted outcome }
-{
-    match outcome {
-        Ok(found) => Ok(found),
-        Err(Halt::Fault(ConvFault::Bad { at, want })) => Err(Halt::Fault(GroupFault::Bad {
-            at,
-            want,
-        })),
-        Err(Halt::Fault(ConvFault::Deep { at })) => Err(Halt::Fault(GroupFault::Deep { at })),
-        Err(Halt::Fault(ConvFault::TooMany { what, at })) => Err(Halt::Fault(GroupFault::TooMany {
-            what,
-            at,
-        })),
-        Err(Halt::Fault(ConvFault::Memory)) => Err(Halt::Memory),
-        Err(Halt::Failed) => Err(Halt::Failed),
-        Err(Halt::Memory) => Err(Halt::Memory),
-    }
-}
 
 /// What was found first, with what is found next.
 pub(crate) fn beside<A: Drop, B>(
@@ -61,7 +37,7 @@ pub(crate) fn block_of<P: Span>(
     ensures inside { IfOk result (IsInside (P.size span.old)) }
     ensures filled { IfOk result (IsFilled want) }
 {
-    lifted(block_with(span, at, want))
+    block_with(span, at, want).map_err(Halt::raised)
 }
 
 /// The text that link `k` of a block names, and what may still come.
@@ -76,7 +52,7 @@ pub(crate) fn words_of<P: Span>(
     requires number { k < block.now.links }
     ensures reads { Reads P.Span span.old span.new true group_refusal result (λ file. words file (link_at file block.now.at k) budget) }
 {
-    lifted(words_at(alloc, span, block, k, budget))
+    words_at(alloc, span, block, k, budget).map_err(Halt::raised)
 }
 
 /// The source that link `k` of a block names, if it names one, and what may still come.
@@ -91,7 +67,7 @@ pub(crate) fn source_of<P: Span>(
     requires number { k < block.now.links }
     ensures reads { Reads P.Span span.old span.new true group_refusal result (λ file. source_of_link file (link_at file block.now.at k) budget) }
 {
-    lifted(source_at(alloc, span, block, k, budget))
+    source_at(alloc, span, block, k, budget).map_err(Halt::raised)
 }
 
 /// The conversion that link `k` of a block names, if it names one, and what may still come.
@@ -106,7 +82,7 @@ pub(crate) fn conv_of<P: Span>(
     requires number { k < block.now.links }
     ensures reads { Reads P.Span span.old span.new true group_refusal result (λ file. conv_of_link file (link_at file block.now.at k) budget) }
 {
-    lifted(conv_at(alloc, span, block, k, budget))
+    conv_at(alloc, span, block, k, budget).map_err(Halt::raised)
 }
 
 /// The name and the source of a channel or of a channel group, and what may still come.

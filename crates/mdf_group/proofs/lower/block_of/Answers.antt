@@ -1,12 +1,12 @@
 use Rattle.mdf_block.specs.Block.{IsInside, IsFilled}
-use Rattle.mdf_group.proofs.Lifts.{reads_lifted, if_ok_lifted}
+use Rattle.mdf_block.proofs.Raised.{reads_raised, if_ok_raised}
+use Rattle.mdf_conv.specs.Conv.{conv_refusal}
+use Rattle.mdf_group.specs.Link.{group_refusal}
 use Rattle.mdf_group.proofs.lower.block_of.Goals as goal
 
-pub returns-clause-reads : goal.returns-clause-reads
-returns-clause-reads g c = rw c.lifted.ensures (reads_lifted _ c.block_with.ensures.reads)
-
-pub returns-clause-inside : goal.returns-clause-inside
-returns-clause-inside g c = rw c.lifted.ensures (if_ok_lifted (IsInside (g.P.Span.size c.args.span.now)) c.block_with.result c.block_with.ensures.inside)
-
-pub returns-clause-filled : goal.returns-clause-filled
-returns-clause-filled g c = rw c.lifted.ensures (if_ok_lifted (IsFilled c.args.want) c.block_with.result c.block_with.ensures.filled)
+pub returns : goal.returns
+returns g c = record {
+  reads = reads_raised _ c.map_err.ensures.cases c.block_with.ensures.reads;
+  inside = if_ok_raised conv_refusal group_refusal (IsInside (g.P.Span.size c.args.span.now)) _ _ c.map_err.ensures.cases c.block_with.ensures.inside;
+  filled = if_ok_raised conv_refusal group_refusal (IsFilled c.args.want) _ _ c.map_err.ensures.cases c.block_with.ensures.filled;
+}

@@ -1,5 +1,5 @@
-use Rattle.mdf_group.proofs.Lifts.{reads_lifted}
+use Rattle.mdf_block.proofs.Raised.{reads_raised}
 use Rattle.mdf_group.proofs.lower.conv_of.Goals as goal
 
 pub returns : goal.returns
-returns g c = record { reads = rw c.lifted.ensures (reads_lifted _ c.conv_at.ensures.reads) }
+returns g c = record { reads = reads_raised _ c.map_err.ensures.cases c.conv_at.ensures.reads }
