@@ -128,5 +128,5 @@ pub has_staged : {D T E : Type 0} (tells : Ghosts D) (place : ℕ) (payload : Li
     → ((file : List ℕ) → IsKept (tells.content old) (tells.story old) file
     → OnErr result (NowHas (tells.story new) (λ moment. length moment.writes ≤ 1)))
     → OnErr result (HasStaged tells place payload old new)
-has_staged tells place payload old new (Ok done) staged in_flight = tt
-has_staged tells place payload old new (Err e) staged in_flight = record { staged = staged; in_flight = in_flight }
+has_staged tells place payload old new (Ok done) each in_flight = tt
+has_staged tells place payload old new (Err e) each in_flight = record { staged = each; in_flight = in_flight }

@@ -5,7 +5,7 @@ ghost use Rattle.mdf_disk.specs.Goes.{OnlyRead};
 ghost use Rattle.mdf_num.specs.Halt.{StopCause};
 ghost use Rattle.mdf_num.specs.Span.{IsTold};
 ghost use Rattle.mdf_pages.specs.Page.{is_kept, first_page, ArePages, AreKept, AreOfOnePage, StillKept};
-ghost use Rattle.mdf_pages.specs.Cause.{ReadCause};
+ghost use Rattle.mdf_pages.specs.Cause.{ReadCause, ReadEnds};
 
 use crate::cache::Cache;
 use crate::read::{PAGE_LEN, read_page};
@@ -104,10 +104,7 @@ impl<D: Disk> Pages<D> {
         ensures first { OnOk result (first_page self.new.cache ≡ Some page) }
         ensures stays { OnOk result (length self.old.cache < 256 → StillKept self.old.cache self.new.cache) }
         ensures size { self.new.size ≡ self.old.size }
-        ensures cause { StopCause true (D.faults self.old.disk) (D.faults self.new.disk) result }
-        ensures reason { IfErr result (ReadCause (D.faults self.old.disk) (D.faults self.new.disk)) }
-        ensures calm { OnOk result (D.faults self.new.disk ≡ D.faults self.old.disk) }
-        ensures only_read { OnlyRead D.Disk self.old.disk self.new.disk }
+        ensures ends { ReadEnds D.Disk self.old.disk self.new.disk result }
     {
         let room = self.cache.take_room(self.alloc);
         let bytes = read_page(self.alloc, &mut self.disk, self.size, page, room)?;
@@ -127,10 +124,7 @@ impl<D: Disk> Pages<D> {
             → IsTrue (is_kept other self.new.cache) }
         ensures stays { OnOk result (length self.old.cache < 256 → StillKept self.old.cache self.new.cache) }
         ensures size { self.new.size ≡ self.old.size }
-        ensures cause { StopCause true (D.faults self.old.disk) (D.faults self.new.disk) result }
-        ensures reason { IfErr result (ReadCause (D.faults self.old.disk) (D.faults self.new.disk)) }
-        ensures calm { OnOk result (D.faults self.new.disk ≡ D.faults self.old.disk) }
-        ensures only_read { OnlyRead D.Disk self.old.disk self.new.disk }
+        ensures ends { ReadEnds D.Disk self.old.disk self.new.disk result }
     {
         if self.cache.touch(page) {
             return Ok(());
@@ -148,10 +142,7 @@ impl<D: Disk> Pages<D> {
             → IsTrue (is_kept other self.new.cache) }
         ensures stays { OnOk result (length self.old.cache < 256 → StillKept self.old.cache self.new.cache) }
         ensures size { self.new.size ≡ self.old.size }
-        ensures cause { StopCause true (D.faults self.old.disk) (D.faults self.new.disk) result }
-        ensures reason { IfErr result (ReadCause (D.faults self.old.disk) (D.faults self.new.disk)) }
-        ensures calm { OnOk result (D.faults self.new.disk ≡ D.faults self.old.disk) }
-        ensures only_read { OnlyRead D.Disk self.old.disk self.new.disk }
+        ensures ends { ReadEnds D.Disk self.old.disk self.new.disk result }
     {
         if self.cache.is_first(page) {
             return Ok(());
@@ -172,10 +163,7 @@ impl<D: Disk> Pages<D> {
             → IsTrue (is_kept other self.new.cache) }
         ensures stays { OnOk result (length self.old.cache < 256 → StillKept self.old.cache self.new.cache) }
         ensures size { self.new.size ≡ self.old.size }
-        ensures cause { StopCause true (D.faults self.old.disk) (D.faults self.new.disk) result }
-        ensures reason { IfErr result (ReadCause (D.faults self.old.disk) (D.faults self.new.disk)) }
-        ensures calm { OnOk result (D.faults self.new.disk ≡ D.faults self.old.disk) }
-        ensures only_read { OnlyRead D.Disk self.old.disk self.new.disk }
+        ensures ends { ReadEnds D.Disk self.old.disk self.new.disk result }
     {
         self.load(at / PAGE_LEN)?;
         Ok(copy_front(self.cache.first(), (at % PAGE_LEN) as usize, buf))
@@ -193,10 +181,7 @@ impl<D: Disk> Pages<D> {
         ensures kept { AreKept at count self.old.cache → self.new.disk ≡ self.old.disk }
         ensures stays { OnOk result (AreOfOnePage at count → length self.old.cache < 256 → StillKept self.old.cache self.new.cache) }
         ensures size { self.new.size ≡ self.old.size }
-        ensures cause { StopCause true (D.faults self.old.disk) (D.faults self.new.disk) result }
-        ensures reason { IfErr result (ReadCause (D.faults self.old.disk) (D.faults self.new.disk)) }
-        ensures calm { OnOk result (D.faults self.new.disk ≡ D.faults self.old.disk) }
-        ensures only_read { OnlyRead D.Disk self.old.disk self.new.disk }
+        ensures ends { ReadEnds D.Disk self.old.disk self.new.disk result }
     {
         let mut word = [0u8; 8];
         let part = &mut word[..count as usize];
@@ -233,9 +218,7 @@ impl<D: Disk> Span for Pages<D> {
         ensures kept { AreKept at (length buf.old) (kept_of self.old) → disk_of self.new ≡ disk_of self.old }
         ensures stays { OnOk result (AreOfOnePage at (length buf.old) → length (kept_of self.old) < 256 → StillKept (kept_of self.old) (kept_of self.new)) }
         ensures few { length (kept_of self.new) ≤ 256 }
-        ensures reason { IfErr result (ReadCause (D.faults (disk_of self.old)) (D.faults (disk_of self.new))) }
-        ensures calm { OnOk result (D.faults (disk_of self.new) ≡ D.faults (disk_of self.old)) }
-        ensures only_read { OnlyRead D.Disk (disk_of self.old) (disk_of self.new) }
+        ensures ends { ReadEnds D.Disk (disk_of self.old) (disk_of self.new) result }
     {
         let mut done = 0;
         while done < buf.len() {
@@ -263,9 +246,7 @@ impl<D: Disk> Span for Pages<D> {
         ensures kept { AreKept at count (kept_of self.old) → disk_of self.new ≡ disk_of self.old }
         ensures stays { OnOk result (AreOfOnePage at count → length (kept_of self.old) < 256 → StillKept (kept_of self.old) (kept_of self.new)) }
         ensures few { length (kept_of self.new) ≤ 256 }
-        ensures reason { IfErr result (ReadCause (D.faults (disk_of self.old)) (D.faults (disk_of self.new))) }
-        ensures calm { OnOk result (D.faults (disk_of self.new) ≡ D.faults (disk_of self.old)) }
-        ensures only_read { OnlyRead D.Disk (disk_of self.old) (disk_of self.new) }
+        ensures ends { ReadEnds D.Disk (disk_of self.old) (disk_of self.new) result }
     {
         let start = at % PAGE_LEN;
         if start + u64::from(count) > PAGE_LEN {

@@ -1,10 +1,8 @@
-ghost use Rattle.std.specs.Prelude.{◌≡◌, ◌*◌, ◌<◌, true, length, IfOk, IfErr, OnOk};
-ghost use Rattle.mdf_disk.specs.Goes.{OnlyRead};
+ghost use Rattle.std.specs.Prelude.{◌≡◌, ◌*◌, ◌<◌, true, length, IfOk, IfErr};
 ghost use Rattle.mdf_num.specs.declared.halt.Stop.TheVariants.{Memory};
-ghost use Rattle.mdf_num.specs.Halt.{StopCause};
 ghost use Rattle.mdf_num.specs.Span.{IsTold};
 ghost use Rattle.mdf_pages.specs.Page.{IsPageOf};
-ghost use Rattle.mdf_pages.specs.Cause.{ReadCause};
+ghost use Rattle.mdf_pages.specs.Cause.{ReadEnds};
 
 use mdf_disk::Disk;
 use mdf_num::{Bytes, Stop};
@@ -41,10 +39,7 @@ pub(crate) fn read_page<D: Disk>(
     requires sized { IsTold (D.content disk.old) size }
     requires within { 65536 * page < size }
     ensures page { IfOk result (IsPageOf (D.content disk.old) size page) }
-    ensures cause { StopCause true (D.faults disk.old) (D.faults disk.new) result }
-    ensures reason { IfErr result (ReadCause (D.faults disk.old) (D.faults disk.new)) }
-    ensures calm { OnOk result (D.faults disk.new ≡ D.faults disk.old) }
-    ensures only_read { OnlyRead D.Disk disk.old disk.new }
+    ensures ends { ReadEnds D.Disk disk.old disk.new result }
 {
     let at = page * PAGE_LEN;
     let count = (size - at).min(PAGE_LEN);

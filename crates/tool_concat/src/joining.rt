@@ -1,6 +1,7 @@
-ghost use Rattle.std.specs.Prelude.{◌≡◌, ◌≤◌, true, is_some, IfErr, IfOk, OnOk};
+ghost use Rattle.std.specs.Prelude.{◌≡◌, true, IfErr, IfOk, OnOk};
 ghost use Rattle.std.specs.List.{AllByRecursion};
 ghost use Rattle.mdf_disk.specs.Crash.{Adds};
+ghost use Rattle.mdf_disk.specs.Goes.{GoesOn};
 ghost use Rattle.mdf_disk.specs.State.{state_of};
 ghost use Rattle.mdf_seal.specs.Seal.{IsBlank};
 ghost use Rattle.tool_sort.specs.Kept.{StandsIn};
@@ -160,10 +161,7 @@ pub fn concat<C: Disk>(
     requires blank { IsBlank (C.content out.old) (C.story out.old) }
     ensures ends { ConcatEnds (record { first = first; second = second; now = now_ns }) (state_of C.Disk out.old) (state_of C.Disk out.new) result }
     ensures any_moment { Adds (C.story out.old) (C.story out.new) (IsConcatImage (record { first = first; second = second; now = now_ns })) }
-    ensures asked { C.asked out.new ≡ C.asked out.old }
-    ensures attached { C.attached out.new ≡ C.attached out.old }
-    ensures moment { C.moment out.old ≤ C.moment out.new }
-    ensures told { is_some (C.story out.new) ≡ is_some (C.story out.old) }
+    ensures goes_on { GoesOn C.Disk out.old out.new }
 {
     let made = made_from(alloc, first, second, now_ns)?;
     match write_made(out, made) {

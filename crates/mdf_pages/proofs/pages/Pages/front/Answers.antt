@@ -39,5 +39,5 @@ returns-clause-filled g c = λ file told.
     length-take count (drop start bytes) ∙ omega (arith, length-drop start bytes, c.copy_front.ensures.count) in
     ap (take count) c.copy_front.ensures.copied
     ∙ take_at (bytes_at count bytes start) (drop count buf) count long
-    ∙ ap (λ (xs : List ℕ). bytes_at count xs start) (is.1 file (c.load.ensures.only_read.content ∙ told))
+    ∙ ap (λ (xs : List ℕ). bytes_at count xs start) (is.1 file (c.load.ensures.ends.only_read.content ∙ told))
     ∙ page_part count c.args.at file within

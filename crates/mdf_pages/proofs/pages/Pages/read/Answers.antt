@@ -13,10 +13,10 @@ put-requires g c =
 pub invariant_of-self : goal.invariant_of-self
 invariant_of-self g c =
     let now = c.args.self.now in
-    let same = sym c.read_page.ensures.only_read.content in
+    let same = sym c.read_page.ensures.ends.only_read.content in
     let fewer = c.take_room-room.ensures in
     record {
-      attached = c.read_page.ensures.only_read.attached ∙ now.attached;
+      attached = c.read_page.ensures.ends.only_read.attached ∙ now.attached;
       sized = subst (λ (told : Option (List ℕ)). IsTold told now.size) same now.sized;
       pages = subst (λ (told : Option (List ℕ)). ArePages told now.size c.take_room-room.new.self) same
           (subst (ArePages (g.D.Disk.content now.disk) now.size) (sym fewer) (pages_taken (g.D.Disk.content now.disk) now.size now.cache now.pages));
@@ -26,12 +26,12 @@ invariant_of-self g c =
 pub invariant_of-self-2 : goal.invariant_of-self-2
 invariant_of-self-2 g c =
     let now = c.args.self.now in
-    let same = sym c.read_page.ensures.only_read.content in
+    let same = sym c.read_page.ensures.ends.only_read.content in
     let less = c.take_room-room.new.self in
     let pages = subst (ArePages (g.D.Disk.content now.disk) now.size) (sym c.take_room-room.ensures)
     (pages_taken (g.D.Disk.content now.disk) now.size now.cache now.pages) in
     record {
-      attached = c.read_page.ensures.only_read.attached ∙ now.attached;
+      attached = c.read_page.ensures.ends.only_read.attached ∙ now.attached;
       sized = subst (λ (told : Option (List ℕ)). IsTold told now.size) same now.sized;
       pages = subst (λ (told : Option (List ℕ)). ArePages told now.size c.put.new.self) same
           (pages_after c.put.result (g.D.Disk.content now.disk) now.size c.args.page c.in_ok-bytes.bytes less c.put.new.self

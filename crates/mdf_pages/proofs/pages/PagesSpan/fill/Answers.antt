@@ -41,8 +41,8 @@ loop-done-preserved g c =
             ],
           );
       size = c.front.ensures.size ∙ loop.invariant.size;
-      calm = c.in_ok-done.ensures.calm ∙ loop.invariant.calm;
-      only_read = read_further g.D.Disk c.args.self.now.disk loop.self.disk c.front.new.self.disk loop.invariant.only_read c.front.ensures.only_read;
+      calm = c.in_ok-done.ensures.ends.calm ∙ loop.invariant.calm;
+      only_read = read_further g.D.Disk c.args.self.now.disk loop.self.disk c.front.new.self.disk loop.invariant.only_read c.front.ensures.ends.only_read;
     }
 
 pub returns-clause-filled : goal.returns-clause-filled

@@ -17,7 +17,7 @@ returns-clause-number g c = λ file told.
     let is = c.load.new.self.pages page bytes (c.first.ensures page c.in_ok-load.ensures.first) in
     let within : start + c.args.count ≤ 65536 = omega arith in
     c.number_within.ensures.number
-    ∙ ap (λ (xs : List ℕ). le_number (bytes_at c.args.count xs start)) (is.1 file (c.load.ensures.only_read.content ∙ told))
+    ∙ ap (λ (xs : List ℕ). le_number (bytes_at c.args.count xs start)) (is.1 file (c.load.ensures.ends.only_read.content ∙ told))
     ∙ ap le_number (page_part c.args.count c.args.at file within)
 
 pub returns-clause-first : goal.returns-clause-first
