@@ -61,6 +61,20 @@ length-body f form place b found =
     ∙ ap (λ (x : BlockAt). x.body_len) (sym found.is)
 
 module _ (form : Form) (f : List ℕ) where
+  no_more : (place : ℕ) (parts : List Part) → ◌≡◌ {A = Read (List Part)} (Ok []) (Ok parts) → ¬ IsOpenPlace f place → AreOpened form f place parts
+  unfolding AreUnits place_after
+  no_more place parts is closed = subst (AreOpened form f place) (ok_injective [] parts is) (record {
+    blocks = [];
+    last = place;
+    units = refl;
+    closed = closed;
+    bytes = refl;
+    inside = tt;
+    number = refl;
+    total = refl;
+    ends = refl;
+  })
+
   one_more : (place : ℕ) (b : BlockAt) (parts : List Part) → IsFoundUnit form f place b → AreOpened form f (place_behind b) parts
       → AreOpened form f place (part_of b ∷ parts)
   unfolding AreUnits place_after
@@ -86,20 +100,8 @@ module _ (form : Form) (f : List ℕ) where
       }
 
   units_found : (most place : ℕ) (parts : List Part) → length f ≤ place + most → opened_from form f most place ≡ Ok parts → AreOpened form f place parts
-  unfolding opened_from AreUnits place_after
-  units_found zero place parts enough is =
-      subst (AreOpened form f place) (ok_injective [] parts is)
-      (record {
-        blocks = [];
-        last = place;
-        units = refl;
-        closed = past_closed f place enough;
-        bytes = refl;
-        inside = tt;
-        number = refl;
-        total = refl;
-        ends = refl;
-      })
+  unfolding opened_from
+  units_found zero place parts enough is = no_more place parts is (past_closed f place enough)
   units_found (suc most) place parts enough is =
       let behind : BlockAt → Read (List Part) = λ b. opened_from form f most (place_behind b) >>= λ rest. Ok (part_of b ∷ rest) in
       elim (chosen (is_open f place) (unit form f place >>= behind) (Ok []) (Ok parts) is) [
@@ -111,19 +113,7 @@ module _ (form : Form) (f : List ℕ) where
             let less : length f ≤ place_behind first.0 + most = omega (arith, enough, later form f place found.unit, at) in
             subst (AreOpened form f place) (ok_injective (part_of first.0 ∷ second.0) parts second.2)
             (one_more place first.0 second.0 found (units_found most (place_behind first.0) second.0 less second.1))
-        | inr closed ↦
-            subst (AreOpened form f place) (ok_injective [] parts closed.1)
-            (record {
-              blocks = [];
-              last = place;
-              units = refl;
-              closed = eqb-false (get_or f place 0) 35 closed.0;
-              bytes = refl;
-              inside = tt;
-              number = refl;
-              total = refl;
-              ends = refl;
-            })
+        | inr closed ↦ no_more place parts closed.1 (eqb-false (get_or f place 0) 35 closed.0)
       ]
 
   -- the first place
