@@ -54,7 +54,7 @@ use Rattle.mdf_carried.proofs.Kept.{IsSuch, fitting, streams_read}
 use Rattle.mdf_carried.proofs.Laid.{TestTells, laid, laid_back, layouts_laid}
 use Rattle.mdf_carried.proofs.Lists.{all_along, from_here, one_on}
 use Rattle.mdf_carried.proofs.Onces.{none_at_first, recoveries_agree}
-use Rattle.mdf_gate.proofs.Blocks.{AreFound, blocks_found}
+use Rattle.mdf_gate.proofs.Opens.{AreFound, blocks_found}
 use Rattle.mdf_carried.proofs.Sessions.{kept_by_parts, session_by_parts}
 use Rattle.mdf_carried.proofs.Splits.{places_are}
 use Rattle.mdf_carried.proofs.Trees.{ident_found}

@@ -48,7 +48,7 @@ use Rattle.mdf_carried.proofs.Rows.{IsRecorded, fronts_many}
 use Rattle.mdf_carried.proofs.Records.{record_of, records_split, back_holds, no_layout}
 use Rattle.mdf_carried.proofs.Holds.{contents_at, group_holds, named_in}
 use Rattle.mdf_carried.proofs.Placed.{RulesAgree, is_recorded}
-use Rattle.mdf_gate.proofs.Blocks.{AreFound, blocks_found}
+use Rattle.mdf_gate.proofs.Opens.{AreFound, blocks_found}
 use Rattle.mdf_carried.proofs.Splits.{places_are}
 use Rattle.mdf_carried.proofs.Laid.{TestTells, groups_laid, layouts_found}
 use Rattle.mdf_carried.proofs.Kept.{IsSuch, fitting, streams_read}

@@ -1,7 +1,6 @@
 pub mod Units
 mod Found
 mod Loops
-pub mod Blocks
 pub mod Opens
 mod Missing
 mod Fronts

@@ -32,7 +32,7 @@ open_gate Bare file place unit =
 open_gate Listed file place unit = first_byte file place (name_of Dl) unit.led.block.named
 
 -- units up to a closed place are one list
-units_once : (form : Form) (file : List ℕ) (place last last' : ℕ) (blocks others : List (List ℕ)) → AreUnits form file place blocks last → AreUnits form file place others last'
+pub units_once : (form : Form) (file : List ℕ) (place last last' : ℕ) (blocks others : List (List ℕ)) → AreUnits form file place blocks last → AreUnits form file place others last'
     → ¬ IsOpenPlace file last → ¬ IsOpenPlace file last' → blocks ≡ others
 unfolding AreUnits
 units_once form file place last last' [] [] are are' closed closed' = refl

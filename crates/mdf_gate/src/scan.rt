@@ -1,29 +1,21 @@
-ghost use Rattle.std.specs.Prelude.{◌≡◌, ◌+◌, ◌≤◌, ◌<◌, ◌^◌, length, true, IfOk, IfErr, OnErr};
+ghost use Rattle.std.specs.Prelude.{◌≡◌, ◌+◌, ◌≤◌, ◌<◌, ◌^◌, length, IfOk, IfErr, OnErr};
 ghost use Rattle.mdf_format.specs.Number.{aligned};
 ghost use Rattle.mdf_format.specs.Form.{form_of};
 ghost use Rattle.mdf_block.specs.Refusal.{Refuses};
-ghost use Rattle.mdf_gate.specs.Units.{is_open, opened_from};
+ghost use Rattle.mdf_gate.specs.Units.{opened_from};
 ghost use Rattle.mdf_gate.specs.Recording.{HasNoOpened};
 ghost use Rattle.mdf_gate.specs.Opened.{IsCountOf};
 ghost use Rattle.mdf_gate.specs.Fault.{HasFault, gate_refusal};
 ghost use Rattle.mdf_gate.specs.Scan.{AreCounted};
 
 use crate::recording::{first_place, form_of};
-use crate::unit::unit_at;
+use crate::unit::{is_open, unit_at};
 use crate::{GateFault, Opened};
 use mdf_block::BlockAt;
 use mdf_format::Form;
 use mdf_num::align8;
 
-/// Whether the gate at a place is open.
-fn is_open(bytes: &[u8], place: u64) -> bool
-    ensures gate { result ≡ is_open bytes.now place }
-    ensures within { result ≡ true → place < length bytes.now }
-{
-    place < bytes.len() as u64 && bytes[place as usize] == b'#'
-}
-
-/// Counts the unit of this data block too, and goes to the place behind it.
+/// Counts the unit of this data block too, and goes to the place after it.
 fn count_unit(count: Opened, unit: BlockAt) -> Opened
     requires there { count.next + 24 ≤ unit.body_at }
     requires short { unit.body_at + unit.body_len ≤ 2 ^ 63 }
@@ -72,7 +64,7 @@ fn scan(bytes: &[u8], form: Form, first: u64) -> Result<Opened, GateFault>
 /// `Version` where its version is not read, `NotRecording` where it is not that of a recording, and `Bad` where no
 /// whole block of the kind stands at the address: the header at 64, the first data group, a data link that is a
 /// place, and at each open place the unit of its form. In form 1 that is a data block. In form 2 it is a list block of 56
-/// bytes with two links, of which the second names the address behind it; then a data block there; and then the first of
+/// bytes with two links, of which the second names the address after it; then a data block there; and then the first of
 /// the links names the next place, or the list block is the one that is told.
 pub fn opened(bytes: &[u8]) -> Result<Opened, GateFault>
     requires { length bytes.now ≤ 2 ^ 63 }

@@ -58,7 +58,7 @@ fn wanted_in<P: Span>(span: &mut P, at: u64, want: Kind) -> Result<BlockAt, Halt
     }
 }
 
-/// Whether a list block has 56 bytes and two links, of which the second names the address behind it.
+/// Whether a list block has 56 bytes and two links, of which the second names the address after it.
 fn is_list_in<P: Span>(span: &mut P, list: &BlockAt) -> Result<bool, Stop>
     requires inside { IsInside (P.size span.old) list.now }
     ensures reads { Looks P.Span span.old span.new P.may_want result (λ file is. is ≡ is_list file list.now) }
@@ -75,7 +75,7 @@ fn is_list_in<P: Span>(span: &mut P, list: &BlockAt) -> Result<bool, Stop>
 ///
 /// # Errors
 /// `Bad` with the place and `Dl` exactly where no whole DLBLOCK of 56 bytes with two links stands there, or the second of
-/// them does not name the address behind it; and the span's own.
+/// them does not name the address after it; and the span's own.
 #[tactic(auto, unfolding(crate::specs::Units::list_block))]
 fn list_in<P: Span>(span: &mut P, place: u64) -> Result<BlockAt, Halt<GateFault>>
     ensures reads { Reads P.Span span.old span.new P.may_want gate_refusal result (λ file. list_block file place) }
@@ -89,17 +89,17 @@ fn list_in<P: Span>(span: &mut P, place: u64) -> Result<BlockAt, Halt<GateFault>
     Ok(list)
 }
 
-/// Whether a place is the next one behind an end: a multiple of 8 not below it.
+/// Whether a place is the next one after an end: the least multiple of 8 that is not below it.
 fn is_next(place: u64, end: u64) -> bool
     ensures { IsTrue result ↔ (place ≡ aligned end) }
 {
     place % 8 == 0 && end <= place && place - end < 8
 }
 
-/// The data block behind a list block, whose first link names the place behind the unit.
+/// The data block after a list block, whose first link names the place after the unit.
 ///
 /// # Errors
-/// `Bad` with the address behind the list block and `Dt` exactly where no whole DTBLOCK stands there, else with the list
+/// `Bad` with the address after the list block and `Dt` exactly where no whole DTBLOCK stands there, else with the list
 /// block and `Dl` where its first link is another; and the span's own.
 fn data_behind_in<P: Span>(span: &mut P, list: &BlockAt) -> Result<BlockAt, Halt<GateFault>>
     requires inside { IsInside (P.size span.old) list.now }
@@ -115,11 +115,11 @@ fn data_behind_in<P: Span>(span: &mut P, list: &BlockAt) -> Result<BlockAt, Halt
     Ok(data)
 }
 
-/// The data block of the unit at an open place: in form 1 the block there, in form 2 the one behind the list block there.
+/// The data block of the unit at an open place: in form 1 the block there, in form 2 the one after the list block there.
 ///
 /// # Errors
 /// `Bad` with what is missing, in this order: in form 2 the list block; the data block; and in form 2 the list block once
-/// more, where its first link does not name the place behind the unit. The span's own.
+/// more, where its first link does not name the place after the unit. The span's own.
 #[tactic(auto, unfolding(crate::specs::Units::unit))]
 fn unit_in<P: Span>(span: &mut P, form: Form, place: u64) -> Result<BlockAt, Halt<GateFault>>
     ensures reads { Reads P.Span span.old span.new P.may_want gate_refusal result (λ file. unit form file place) }
@@ -131,6 +131,17 @@ fn unit_in<P: Span>(span: &mut P, form: Form, place: u64) -> Result<BlockAt, Hal
             let list = list_in(span, place)?;
             data_behind_in(span, &list)
         }
+    }
+}
+
+/// Whether the gate at a place of these bytes is open.
+pub(crate) fn is_open(bytes: &[u8], place: u64) -> bool
+    ensures gate { result ≡ is_open bytes.now place }
+    ensures within { result ≡ true → place < length bytes.now }
+{
+    match is_open_in(&mut SliceSpan::new(bytes), place) {
+        Ok(opened) => opened,
+        Err(_) => unreachable!(),
     }
 }
 
@@ -158,7 +169,7 @@ fn can_reach(end: u64) -> bool
     end < LONGEST
 }
 
-/// Adds the body of the unit at a place to the stream, and answers the place behind it.
+/// Adds the body of the unit at a place to the stream, and answers the place after it.
 fn add_unit(view: &mut DataView, place: u64, unit: &BlockAt) -> Result<u64, Memory>
     requires below { stream_size view.old ≤ place }
     requires ends { unit.now.body_at + unit.now.body_len < 2 ^ 64 }
