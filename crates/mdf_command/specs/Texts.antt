@@ -7,8 +7,6 @@ use Rattle.mdf_format.specs.Cause.{Rose, HasCause}
 use Rattle.mdf_port.specs.Sink.{AppendsFront}
 use Rattle.mdf_port.specs.State.{SinkState}
 use Rattle.mdf_command.specs.declared.report.Piece.{Piece}
-use Rattle.mdf_block.specs.declared.note.Note.{Note}
-use Rattle.mdf_block.specs.declared.note.Note.TheVariants.{Nothing, Plain, Xml}
 use Rattle.mdf_command.specs.declared.report.Piece.TheVariants.{Text, Number, Sum, Name}
 
 -- a line of these pieces, which ends with LF
@@ -28,12 +26,6 @@ shown byte = if nat_lt byte 32 || nat_eq byte 127 then codes "?" else byte ∷ [
 abbrev pub shown_text : List ℕ → List ℕ
 shown_text [] = codes "-"
 shown_text (byte ∷ bytes) = flat_map shown (byte ∷ bytes)
-
--- the text of a name, which is empty where there is none
-abbrev pub text_of : Note → List ℕ
-text_of Nothing = []
-text_of (Plain text) = text
-text_of (Xml text) = text
 
 -- what a part of a line prints
 abbrev pub piece_text : Piece → List ℕ

@@ -1,5 +1,5 @@
 -- What is shown of a file of which as much was read as its counts need.
-use Rattle.std.proofs.Common.{◌≡◌, ℕ, Bool, List, Result, Ok, Err, sym, ◌∙◌, ap, subst}
+use Rattle.std.proofs.Common.{◌≡◌, ℕ, Bool, List, Result, Ok, Err, sym, ◌∙◌, ap, refl, subst}
 use Rattle.mdf_block.specs.Refusal.{Refuses}
 use Rattle.mdf_group.specs.declared.row.GroupRow.{GroupRow}
 use Rattle.mdf_content.specs.declared.wanted.Wanted.TheVariants as wants
@@ -7,7 +7,7 @@ use Rattle.mdf_content.specs.Fault.{read_refusal}
 use Rattle.mdf_disk.specs.State.{DiskState}
 use Rattle.mdf_model.specs.declared.whole.WholeFound.{WholeFound}
 use Rattle.mdf_model.specs.Kept.{found_kept, kept_whole}
-use Rattle.mdf_command.specs.Faults.{READING_LIMIT}
+use Rattle.mdf_command.specs.Faults.{READING_LIMIT, end_status}
 use Rattle.mdf_command.specs.declared.fault.Fault.{Fault}
 use Rattle.mdf_command.specs.declared.fault.Fault.TheVariants as fault
 use Rattle.mdf_inspect.specs.Paged.{PagedComes, PagedFaultComes}
@@ -30,6 +30,11 @@ counted_reading now file read =
     let found = kept_from wants.Values file now read in
     let same : reading_of found.0 ≡ reading_of now = sym (reading_kept found.0) ∙ ap reading_of found.2 in
     subst (λ (shown : Reading). IsReading shown file) same (is_reading file found.0 found.1)
+
+-- the status is that of what was read
+pub same_status : (end : Result WholeFound Fault) → end_status end ≡ end_status (reading_end end)
+same_status (Ok now) = refl
+same_status (Err problem) = refl
 
 module _ (old new : DiskState) where
   fault_shown : (problem : Fault) → PagedFaultComes READING_LIMIT (found_kept wants.Values) old new problem → ReadingFaultComes old new problem

@@ -17,8 +17,9 @@ use Rattle.mdf_attach.specs.Listed.{header_attachments}
 use Rattle.mdf_attach.specs.Shown.{each_of, entry_of}
 use Rattle.mdf_attach.specs.Stands.{AreAttachments, AreFew}
 use Rattle.mdf_attach.specs.Lacks.{AreRefused}
-use Rattle.mdf_command.specs.Texts.{line, numbered, shown_text, text_of, Prints}
-use Rattle.mdf_command.specs.Faults.{INPUT_LIMIT, fault_line, fault_status}
+use Rattle.tool_export.specs.Table.{name_text}
+use Rattle.mdf_command.specs.Texts.{line, numbered, shown_text, Prints}
+use Rattle.mdf_command.specs.Faults.{INPUT_LIMIT, end_status, fault_line}
 use Rattle.mdf_command.specs.Load.{LoadFaultComes}
 use Rattle.mdf_command.specs.Attached.{attach_fault}
 use Rattle.mdf_command.specs.declared.fault.Fault.{Fault}
@@ -34,7 +35,7 @@ says_text says.Unchecked = codes "none"
 -- the line of an attachment: its number, its name, how many bytes it has outside of the file and embedded, and whether its MD5 is right
 abbrev pub attachment_line : ℕ → Entry → List ℕ
 attachment_line number row =
-    line (codes "attachment " ∷ decimal number ∷ codes " " ∷ shown_text (text_of row.name) ∷ codes " size " ∷ decimal row.original
+    line (codes "attachment " ∷ decimal number ∷ codes " " ∷ shown_text (name_text row.name) ∷ codes " size " ∷ decimal row.original
     ∷ codes " embedded " ∷ decimal row.embedded ∷ codes " md5 " ∷ says_text row.verdict ∷ [])
 
 -- what is listed of a file as it is read, or the first reason to refuse it: the identification of a finalized file, and then each
@@ -74,11 +75,7 @@ abbrev pub listing_text : Result (List Entry) Fault → List ℕ
 listing_text (Ok listed) = numbered attachment_line 0 listed
 listing_text (Err fault) = fault_line fault
 
-abbrev pub listing_status : Result (List Entry) Fault → ℕ
-listing_status (Ok listed) = 0
-listing_status (Err fault) = fault_status fault
-
 -- How the command ends, by what the disk of the input and the sink tell before and after.
 abbrev pub EndsListing : DiskState → DiskState → SinkState → SinkState → ℕ → Type 0
 EndsListing disk disk' sink sink' status =
-    (end : Result (List Entry) Fault) × ListingComes disk disk' end × Prints (listing_text end) (listing_status end) sink sink' status
+    (end : Result (List Entry) Fault) × ListingComes disk disk' end × Prints (listing_text end) (end_status end) sink sink' status

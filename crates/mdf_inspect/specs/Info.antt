@@ -5,7 +5,8 @@ use Rattle.std.specs.Fmt.{decimal}
 use Rattle.mdf_disk.specs.State.{DiskState}
 use Rattle.mdf_port.specs.State.{SinkState}
 use Rattle.mdf_group.specs.declared.row.GroupRow.{GroupRow}
-use Rattle.mdf_command.specs.Texts.{line, numbered, shown_text, text_of}
+use Rattle.tool_export.specs.Table.{name_text}
+use Rattle.mdf_command.specs.Texts.{line, numbered, shown_text}
 use Rattle.mdf_inspect.specs.Reading.{EndsReading, Reading}
 
 abbrev pub version_line : ℕ → List ℕ
@@ -14,7 +15,7 @@ version_line version = line (codes "version " ∷ decimal version ∷ [])
 -- the line of a group: its number, its name, and how many channels and samples it has
 abbrev pub group_line : ℕ → GroupRow × ℕ → List ℕ
 group_line number group =
-    line (codes "group " ∷ decimal number ∷ codes " " ∷ shown_text (text_of group.0.name)
+    line (codes "group " ∷ decimal number ∷ codes " " ∷ shown_text (name_text group.0.name)
     ∷ codes " channels " ∷ decimal (length group.0.channels) ∷ codes " samples " ∷ decimal group.1 ∷ [])
 
 -- how many samples the groups have

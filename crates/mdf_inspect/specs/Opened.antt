@@ -8,7 +8,7 @@ use Rattle.mdf_gate.specs.Recording.{HasNoOpened}
 use Rattle.mdf_gate.specs.Fault.{HasFault}
 use Rattle.mdf_gate.specs.declared.answer.Opened.{Opened}
 use Rattle.mdf_command.specs.Texts.{line, Prints}
-use Rattle.mdf_command.specs.Faults.{fault_line, fault_status}
+use Rattle.mdf_command.specs.Faults.{end_status, fault_line}
 use Rattle.mdf_command.specs.Load.{IsLoaded, LoadFaultComes}
 use Rattle.mdf_command.specs.declared.fault.Fault.{Fault}
 use Rattle.mdf_command.specs.declared.fault.Fault.TheVariants as fault
@@ -33,11 +33,7 @@ abbrev pub opened_text : Result Opened Fault → List ℕ
 opened_text (Ok count) = opened_line count
 opened_text (Err fault) = fault_line fault
 
-abbrev pub opened_status : Result Opened Fault → ℕ
-opened_status (Ok count) = 0
-opened_status (Err fault) = fault_status fault
-
 -- How the command ends, by what the disk of the input and the sink tell before and after.
 abbrev pub EndsOpened : DiskState → DiskState → SinkState → SinkState → ℕ → Type 0
 EndsOpened disk disk' sink sink' status =
-    (end : Result Opened Fault) × OpenedComes disk disk' end × Prints (opened_text end) (opened_status end) sink sink' status
+    (end : Result Opened Fault) × OpenedComes disk disk' end × Prints (opened_text end) (end_status end) sink sink' status

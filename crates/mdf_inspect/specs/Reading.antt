@@ -14,7 +14,7 @@ use Rattle.mdf_paged.specs.Groups.{is_strict, shown_groups}
 use Rattle.mdf_disk.specs.State.{DiskState}
 use Rattle.mdf_port.specs.State.{SinkState}
 use Rattle.mdf_command.specs.Texts.{Prints}
-use Rattle.mdf_command.specs.Faults.{READING_LIMIT, fault_line, fault_status}
+use Rattle.mdf_command.specs.Faults.{READING_LIMIT, end_status, fault_line}
 use Rattle.mdf_command.specs.Load.{LoadFaultOf}
 use Rattle.mdf_command.specs.declared.fault.Fault.{Fault}
 use Rattle.mdf_command.specs.declared.fault.Fault.TheVariants as fault
@@ -91,10 +91,6 @@ abbrev pub ReadingComes : DiskState → DiskState → Result Reading Fault → T
 ReadingComes old new (Ok found) = IfRead old (IsReading found)
 ReadingComes old new (Err fault) = ReadingFaultComes old new fault
 
-abbrev pub reading_status : Result Reading Fault → ℕ
-reading_status (Ok found) = 0
-reading_status (Err fault) = fault_status fault
-
 -- what a command prints: this text of what is shown of a file, or why nothing is
 abbrev pub answer_text : (Reading → List ℕ) → Result Reading Fault → List ℕ
 answer_text text (Ok found) = text found
@@ -103,4 +99,4 @@ answer_text text (Err fault) = fault_line fault
 -- How a command that prints this text of a file ends, by what the disk of the input and the sink tell before and after.
 abbrev pub EndsReading : (Reading → List ℕ) → DiskState → DiskState → SinkState → SinkState → ℕ → Type 0
 EndsReading text disk disk' sink sink' status =
-    (end : Result Reading Fault) × ReadingComes disk disk' end × Prints (answer_text text end) (reading_status end) sink sink' status
+    (end : Result Reading Fault) × ReadingComes disk disk' end × Prints (answer_text text end) (end_status end) sink sink' status

@@ -8,9 +8,9 @@ ghost use Rattle.mdf_inspect.specs.Question.{text_for};
 
 use crate::check::give_verdict;
 use crate::info::give_contents;
-use crate::reading::{Counted, read_input, status};
+use crate::reading::{Counted, read_input};
 use crate::shown::Shown;
-use mdf_command::{Fault, status_after};
+use mdf_command::{Fault, status_after, status_of};
 use mdf_disk::Disk;
 use mdf_num::{Bytes, Failed};
 use mdf_paged::PagedMeasurement;
@@ -72,6 +72,6 @@ pub fn run_reading<K: Sink, A: Disk>(
 {
     let (end, first) = read_input::<A, Counted>(alloc, input, first);
     let given = give_end(sink, question, &end);
-    let status = status_after(given, status(&end));
+    let status = status_after(given, status_of(&end));
     Shown { status, first }
 }

@@ -5,21 +5,21 @@ ghost use Rattle.mdf_disk.specs.State.{state_of};
 ghost use Rattle.mdf_disk.specs.declared.role.Role.TheVariants.{Read};
 ghost use Rattle.mdf_port.specs.State.{sink_state};
 ghost use Rattle.mdf_command.specs.Texts.{Gives, numbered};
-ghost use Rattle.mdf_inspect.specs.Attachments.{ListingComes, EndsListing, attachment_line, listing_fault, says_text, listing_text, listing_status};
+ghost use Rattle.mdf_inspect.specs.Attachments.{ListingComes, EndsListing, attachment_line, listing_fault, says_text, listing_text};
 
-use crate::info::text_of;
 use crate::reading::{Reader, read_input};
 use crate::shown::Shown;
 use mdf_attach::{Entry, ListFault, Verdict, list_in};
 use mdf_block::What;
 use mdf_command::Piece::{Name, Number, Text};
-use mdf_command::{Fault, INPUT_LIMIT, give_line, status_after};
+use mdf_command::{Fault, INPUT_LIMIT, give_line, status_after, status_of};
 use mdf_content::ReadFault;
 use mdf_disk::Disk;
 use mdf_model::finalized_in;
 use mdf_num::{Bytes, Failed, Halt, Rows, Span};
 use mdf_port::Sink;
 use std::alloc::Global;
+use tool_export::name_text;
 
 /// The fault of a list of attachments, as one of a reader of files.
 fn read_fault_of(fault: ListFault) -> ReadFault
@@ -111,7 +111,7 @@ fn give_attachment<K: Sink>(sink: &mut K, number: u64, row: &Entry) -> Result<()
             Text(b"attachment "),
             Number(number),
             Text(b" "),
-            Name(text_of(&row.name)),
+            Name(name_text(&row.name)),
             Text(b" size "),
             Number(row.original),
             Text(b" embedded "),
@@ -142,16 +142,6 @@ fn give_end<K: Sink>(sink: &mut K, end: &Result<Rows<Entry>, Fault>) -> Result<(
     }
 }
 
-/// The status with which it ends.
-fn status(end: &Result<Rows<Entry>, Fault>) -> u8
-    ensures { result ≡ listing_status end.now }
-{
-    match end {
-        Ok(_) => 0,
-        Err(fault) => fault.status(),
-    }
-}
-
 /// `attachments IN`: prints the attachments of a finalized file, each with its sizes and whether its MD5 is right, or why they are not
 /// read. The file is read through pages. Answers the program's status, with the disk.
 pub fn run_attachments<K: Sink, A: Disk>(
@@ -169,6 +159,6 @@ pub fn run_attachments<K: Sink, A: Disk>(
 {
     let (end, first) = list(alloc, input, first);
     let given = give_end(sink, &end);
-    let status = status_after(given, status(&end));
+    let status = status_after(given, status_of(&end));
     Shown { status, first }
 }

@@ -2,27 +2,16 @@ ghost use Rattle.std.specs.Prelude.{◌≡◌, ◌<◌, ◌≤◌, ℕ, length, 
 ghost use Rattle.mdf_group.specs.declared.row.GroupRow.{GroupRow};
 ghost use Rattle.mdf_paged.specs.Groups.{Located, groups_of};
 ghost use Rattle.mdf_port.specs.State.{sink_state};
-ghost use Rattle.mdf_command.specs.Texts.{Gives, numbered, text_of};
+ghost use Rattle.mdf_command.specs.Texts.{Gives, numbered};
 ghost use Rattle.mdf_inspect.specs.Info.{contents_text, group_line, total, total_line, version_line};
 ghost use Rattle.mdf_inspect.specs.Reading.{reading_of};
 
-use mdf_block::Note;
 use mdf_command::Piece::{Name, Number, Sum, Text};
 use mdf_command::give_line;
 use mdf_num::Failed;
 use mdf_paged::PagedMeasurement;
 use mdf_port::Sink;
-
-/// The text of a name, which is empty where there is none.
-pub(crate) fn text_of(name: &Note) -> &[u8]
-    ensures { result.now ≡ text_of name.now }
-{
-    match name {
-        Note::Nothing => &[],
-        Note::Plain(text) => text.as_slice(),
-        Note::Xml(text) => text.as_slice(),
-    }
-}
+use tool_export::name_text;
 
 /// Gives the line of a group.
 fn give_group<K: Sink>(sink: &mut K, found: &PagedMeasurement, group: u32) -> Result<(), Failed>
@@ -37,7 +26,7 @@ fn give_group<K: Sink>(sink: &mut K, found: &PagedMeasurement, group: u32) -> Re
             Text(b"group "),
             Number(u64::from(group)),
             Text(b" "),
-            Name(text_of(&row.name)),
+            Name(name_text(&row.name)),
             Text(b" channels "),
             Number(row.channels.len()),
             Text(b" samples "),

@@ -5,10 +5,10 @@ ghost use Rattle.mdf_gate.specs.declared.answer.Opened.{Opened};
 ghost use Rattle.mdf_command.specs.declared.fault.Fault.{Fault};
 ghost use Rattle.mdf_port.specs.State.{sink_state};
 ghost use Rattle.mdf_command.specs.Texts.{Gives};
-ghost use Rattle.mdf_inspect.specs.Opened.{OpenedComes, EndsOpened, opened_text, opened_status};
+ghost use Rattle.mdf_inspect.specs.Opened.{OpenedComes, EndsOpened, opened_text};
 
 use mdf_command::Piece::{Number, Text};
-use mdf_command::{Fault, give_line, load, status_after};
+use mdf_command::{Fault, give_line, load, status_after, status_of};
 use mdf_disk::Disk;
 use mdf_gate::{Opened, opened};
 use mdf_num::{Bytes, Failed};
@@ -45,15 +45,6 @@ fn give_end<K: Sink>(sink: &mut K, end: &Result<Opened, Fault>) -> Result<(), Fa
     }
 }
 
-fn status(end: &Result<Opened, Fault>) -> u8
-    ensures { result ≡ opened_status end.now }
-{
-    match end {
-        Ok(_) => 0,
-        Err(fault) => fault.status(),
-    }
-}
-
 /// `opened IN`: prints how many blocks are opened, or why none are.
 pub fn run_opened<K: Sink, A: Disk>(alloc: Global, input: &Bytes, sink: &mut K, first: &mut A) -> u8
     requires { A.asked first.old ≡ None }
@@ -65,5 +56,5 @@ pub fn run_opened<K: Sink, A: Disk>(alloc: Global, input: &Bytes, sink: &mut K, 
 {
     let end = count(alloc, input, first);
     let given = give_end(sink, &end);
-    status_after(given, status(&end))
+    status_after(given, status_of(&end))
 }

@@ -6,7 +6,6 @@ ghost use Rattle.mdf_content.specs.Fault.{read_refusal};
 ghost use Rattle.mdf_disk.specs.State.{state_of};
 ghost use Rattle.mdf_disk.specs.declared.role.Role.TheVariants.{Read};
 ghost use Rattle.mdf_inspect.specs.Paged.{HaltComes, PagedComes, StopComes};
-ghost use Rattle.mdf_inspect.specs.Reading.{reading_end, reading_status};
 
 use mdf_command::{Fault, READING_LIMIT, open};
 use mdf_content::ReadFault;
@@ -144,15 +143,5 @@ pub(crate) fn read_input<A: Disk, R: Reader>(
     match open(input, &mut first, R::most()) {
         Ok(()) => read_kept::<A, R>(alloc, first),
         Err(fault) => (Err(fault), first),
-    }
-}
-
-/// The status with which a command on a file ends.
-pub fn status(end: &Result<PagedMeasurement, Fault>) -> u8
-    ensures { result ≡ reading_status (reading_end end.now) }
-{
-    match end {
-        Ok(_) => 0,
-        Err(fault) => fault.status(),
     }
 }

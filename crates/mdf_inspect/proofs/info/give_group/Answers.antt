@@ -14,4 +14,4 @@ returns g c = λ d.
     let e = first_of (groups_of all) c.args.group c.requires in
     subst (λ (one : GroupRow × ℕ). Gives (group_line c.args.group one) (sink_state g.K.Sink c.args.sink.now) (sink_state g.K.Sink c.give_line.new.sink) c.give_line.result)
     (sym (group_shown_at all c.args.group c.row-row.result.now d e c.row-row.ensures.row c.requires))
-    (rw (c.text_of.ensures, c.from.ensures, c.len.ensures, c.samples.ensures.count e) at c.give_line.ensures)
+    (rw (c.name_text.ensures, c.from.ensures, c.len.ensures, c.samples.ensures.count e) at c.give_line.ensures)
