@@ -1,4 +1,4 @@
-use mdf_block::{Kind, What};
+use mdf_block::{Kind, NoteFault, What};
 use thiserror::Error;
 
 /// Why the first 64 bytes of a file are refused.
@@ -24,4 +24,23 @@ pub enum HeadFault {
     /// Want of memory. A reader over a span never has it in a fault.
     #[error("want of memory")]
     Memory,
+}
+
+impl From<NoteFault> for HeadFault {
+    ghost use Rattle.mdf_block.specs.Refusal.{Renames};
+    ghost use Rattle.mdf_block.specs.Text.{note_refusal};
+    ghost use Rattle.mdf_head.specs.Head.{head_refusal};
+
+    ghost from_gives = { Renames note_refusal head_refusal };
+
+    fn from(fault: NoteFault) -> HeadFault {
+        match fault {
+            NoteFault::Bad { at } => HeadFault::Bad { at, want: Kind::Tx },
+            NoteFault::TooMany { at } => HeadFault::TooMany {
+                what: What::Text,
+                at,
+            },
+            NoteFault::Memory => HeadFault::Memory,
+        }
+    }
 }

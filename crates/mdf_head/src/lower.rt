@@ -6,7 +6,7 @@ ghost use Rattle.mdf_block.specs.Text.{note};
 ghost use Rattle.mdf_head.specs.Head.{head_refusal};
 
 use crate::HeadFault;
-use mdf_block::{BlockAt, BlockFault, Kind, Note, NoteFault, What, block_in, noted_in};
+use mdf_block::{BlockAt, BlockFault, Kind, Note, block_in, noted_in};
 use mdf_num::{Halt, Span};
 use std::alloc::Global;
 
@@ -43,18 +43,5 @@ pub(crate) fn text_of<P: Span>(
     ensures reads { Reads P.Span span.old span.new true head_refusal result (λ file. note file at left) }
     ensures memory { (f : List ℕ) → P.bytes span.old ≡ Some f → HidesNone P.may_want result (note f at left) }
 {
-    match noted_in(alloc, span, at, left) {
-        Ok(found) => Ok(found),
-        Err(Halt::Fault(NoteFault::Bad { at })) => Err(Halt::Fault(HeadFault::Bad {
-            at,
-            want: Kind::Tx,
-        })),
-        Err(Halt::Fault(NoteFault::TooMany { at })) => Err(Halt::Fault(HeadFault::TooMany {
-            what: What::Text,
-            at,
-        })),
-        Err(Halt::Fault(NoteFault::Memory)) => unreachable!(),
-        Err(Halt::Failed) => Err(Halt::Failed),
-        Err(Halt::Memory) => Err(Halt::Memory),
-    }
+    noted_in(alloc, span, at, left).map_err(Halt::raised)
 }

@@ -1,3 +1,4 @@
+use mdf_block::BlockFault;
 use mdf_format::Kind;
 use thiserror::Error;
 
@@ -16,4 +17,19 @@ pub enum DataFault {
     /// Want of memory. A reader over a span never has it in a fault.
     #[error("want of memory")]
     Memory,
+}
+
+impl From<BlockFault> for DataFault {
+    ghost use Rattle.mdf_block.specs.Block.{block_refusal};
+    ghost use Rattle.mdf_block.specs.Refusal.{Renames};
+    ghost use Rattle.mdf_stream.specs.Link.{data_refusal};
+
+    ghost from_gives = { Renames block_refusal data_refusal };
+
+    fn from(fault: BlockFault) -> DataFault {
+        match fault {
+            BlockFault::Bad { at, want } => DataFault::Bad { at, want },
+            BlockFault::Compressed { at } => DataFault::Compressed { at },
+        }
+    }
 }

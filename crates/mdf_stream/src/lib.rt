@@ -13,7 +13,7 @@ mod view;
 
 pub use fault::DataFault;
 pub use law::{a_range_has_its_bytes, streams_agree};
-pub use link::{add_part, view_data, view_data_in};
+pub use link::{MOST_BLOCKS, add_part, view_data, view_data_in};
 pub use mdf_format::Kind;
 pub use moved::moved_front;
 pub use part::Part;

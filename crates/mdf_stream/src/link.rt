@@ -10,12 +10,12 @@ ghost use Rattle.mdf_stream.specs.Truth.{IsTrueOfLink, IfFault};
 ghost use Rattle.mdf_stream.specs.Stream.{IsStream};
 
 use crate::{DataFault, DataView, Part};
-use mdf_block::{BlockAt, BlockFault, Kind, Walk, block_in, chain_in, is_named_in, link_in};
+use mdf_block::{BlockAt, Kind, Walk, block_in, chain_in, is_named_in, link_in};
 use mdf_num::{Halt, Memory, Rows, SliceSpan, Span};
 use std::alloc::Global;
 
 /// How many blocks a data link may lead to, the DLBLOCKs counted.
-const MOST_BLOCKS: u64 = 1_048_576;
+pub const MOST_BLOCKS: u64 = 1_048_576;
 
 /// How many bytes a stream has fewer than. No file's blocks have as many, so that more count as want of memory.
 const LONGEST: u64 = 1 << 62;
@@ -26,18 +26,7 @@ fn block_of<P: Span>(span: &mut P, at: u64, want: Kind) -> Result<BlockAt, Halt<
     ensures inside { IfOk result (IsInside (P.size span.old)) }
     ensures filled { IfOk result (IsFilled want) }
 {
-    match block_in(span, at, want) {
-        Ok(block) => Ok(block),
-        Err(Halt::Fault(BlockFault::Bad { at, want })) => Err(Halt::Fault(DataFault::Bad {
-            at,
-            want,
-        })),
-        Err(Halt::Fault(BlockFault::Compressed { at })) => {
-            Err(Halt::Fault(DataFault::Compressed { at }))
-        }
-        Err(Halt::Failed) => Err(Halt::Failed),
-        Err(Halt::Memory) => Err(Halt::Memory),
-    }
+    block_in(span, at, want).map_err(Halt::raised)
 }
 
 /// The body of a block.
