@@ -10,8 +10,7 @@ ghost use Rattle.mdf_gate.specs.Fault.{gate_refusal};
 
 use crate::GateFault;
 use mdf_block::{BlockAt, BlockFault, block_in, link_in};
-use mdf_format::Form;
-use mdf_format::Kind;
+use mdf_format::{Form, Kind};
 use mdf_num::{Halt, Memory, SliceSpan, Span, Stop, align8};
 use mdf_stream::DataView;
 use std::alloc::Global;
