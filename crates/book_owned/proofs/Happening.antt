@@ -9,8 +9,9 @@ use Rattle.book_core.specs.declared.event.Event.TheVariants.{Accept, FlushDone, 
 use Rattle.book_owned.specs.Members.{DiskOf, ViewOf}
 use Rattle.book_owned.specs.Marks.{durable}
 use Rattle.book_owned.specs.Account.{Account}
-use Rattle.book_owned.specs.Answers.{AddsMark, AppendAnswers, FlushAnswers}
+use Rattle.book_owned.specs.Answers.{AddsMark, AppendAnswers, FlushAnswers, IsRefusal}
 use Rattle.book_owned.specs.Events.{book_state_of, Happens, AppendEvents, FlushEvents}
+use Rattle.book_owned.specs.declared.answer.Append.{Append}
 use Rattle.book_owned.specs.declared.answer.Append.TheVariants as append
 use Rattle.book_owned.specs.declared.answer.Flush.{Flush}
 use Rattle.book_owned.specs.declared.answer.Flush.TheVariants as flush
@@ -88,3 +89,11 @@ module _ {D V N : Type 0} (disk : DiskOf D) (view : ViewOf V N) (old new : Accou
       ∙ ap (λ state. after_all state (FlushDone ∷ Publish shown ∷ [])) (sym (goes is))
   flush_happens (flush.DiskFault before after) history within showing (fault, marks, same, pending) = fault_happens history marks same fault.stopped
   flush_happens (flush.Stopped mark) history within showing stopped = ap (book_state_of view.count) stopped.same
+
+-- a refusal changes nothing
+pub refused_events : {D V : Type 0} (count : V → ℕ) (book : Account D V) (sample : Sample) (answer : Append) → IsRefusal answer → AppendEvents count book book sample answer
+refused_events count book sample (append.Accepted place) none = absurd none
+refused_events count book sample (append.SessionFull held size limit) is = refl
+refused_events count book sample (append.Stopped mark) is = refl
+refused_events count book sample (append.DiskFault before after) none = absurd none
+refused_events count book sample append.Memory none = absurd none

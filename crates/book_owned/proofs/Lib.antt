@@ -1,6 +1,7 @@
+mod Appends
 mod Backs
 mod Costs
-mod Flushing
+mod Flushes
 mod Fronts
 mod Keeping
 pub mod Lasts

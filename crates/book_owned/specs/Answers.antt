@@ -25,15 +25,22 @@ abbrev pub HasRoom : {D V : Type 0} → Account D V → Sample → Type 0
 HasRoom book sample =
     history_cost book.terms.layouts book.history + cost_of book.terms.layouts sample ≤ book.terms.session_limit
 
--- the pending records and that of the sample pass the block limit
-abbrev pub PassesBlock : {D V : Type 0} → Account D V → Sample → Type 0
-PassesBlock book sample =
-    book.terms.block_limit < history_size book.terms.layouts (drop (durable book.marks) book.history) + encoded_size book.terms.layouts sample
+-- the pending records and so many bytes more pass the block limit
+abbrev pub Passes : {D V : Type 0} → Account D V → ℕ → Type 0
+Passes book size =
+    book.terms.block_limit < history_size book.terms.layouts (drop (durable book.marks) book.history) + size
 
 -- they do not
+abbrev pub Fits : {D V : Type 0} → Account D V → ℕ → Type 0
+Fits book size =
+    history_size book.terms.layouts (drop (durable book.marks) book.history) + size ≤ book.terms.block_limit
+
+-- the pending records and that of the sample
+abbrev pub PassesBlock : {D V : Type 0} → Account D V → Sample → Type 0
+PassesBlock book sample = Passes book (encoded_size book.terms.layouts sample)
+
 abbrev pub FitsBlock : {D V : Type 0} → Account D V → Sample → Type 0
-FitsBlock book sample =
-    history_size book.terms.layouts (drop (durable book.marks) book.history) + encoded_size book.terms.layouts sample ≤ book.terms.block_limit
+FitsBlock book sample = Fits book (encoded_size book.terms.layouts sample)
 
 -- some of the accepted samples are not durable
 abbrev pub HasPending : {D V : Type 0} → Account D V → Type 0
@@ -63,12 +70,16 @@ pub record IsStopped {D V : Type 0} (old new : Account D V) (mark : Mark) : Type
   pub same : new ≡ old
   pub mark_is : mark ≡ last_mark new.marks
 
--- what an append did before it accepted: nothing where the sample's record has room in the block; where it would pass the
--- block limit, a mark was made and samples before it were shown
+-- what was done for so many bytes more: nothing where they have room in the block; where they would pass the block limit, a
+-- mark was made and samples before it were shown
+abbrev pub MakesRoom : {D V N : Type 0} → DiskOf D → ViewOf V N → Account D V → Account D V → ℕ → Type 0
+MakesRoom disk view old new size =
+    (Fits old size × (new.marks ≡ old.marks) × (new.disk ≡ old.disk) × (new.view ≡ old.view))
+    ⊎ (Passes old size × AddsMark disk old new × ShowsUpto view old.view new.view (length old.history))
+
+-- what an append did before it accepted: it made room for the sample's record
 abbrev pub Turns : {D V N : Type 0} → DiskOf D → ViewOf V N → Account D V → Account D V → Sample → Type 0
-Turns disk view old new sample =
-    (FitsBlock old sample × (new.marks ≡ old.marks) × (new.disk ≡ old.disk) × (new.view ≡ old.view))
-    ⊎ (PassesBlock old sample × AddsMark disk old new × ShowsUpto view old.view new.view (length old.history))
+Turns disk view old new sample = MakesRoom disk view old new (encoded_size old.terms.layouts sample)
 
 -- an append
 abbrev pub AppendAnswers : {D V N : Type 0} → DiskOf D → ViewOf V N → Account D V → Account D V → Sample → Append → Type 0

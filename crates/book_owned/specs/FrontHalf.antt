@@ -15,7 +15,7 @@ use Rattle.book_owned.specs.Kept.{IsShowing}
 use Rattle.book_owned.specs.Shared.{IsShared}
 use Rattle.book_owned.specs.Answers.{ShowsUpto}
 use Rattle.book_owned.specs.Events.{Leads, PutLeads}
-use Rattle.book_owned.specs.Halves.{IsCounted, IsPending}
+use Rattle.book_owned.specs.Holds.{IsCounted, IsPending}
 use Rattle.book_owned.specs.declared.answer.Append.{Append}
 use Rattle.book_owned.specs.declared.answer.Append.TheVariants.{Accepted, SessionFull, Stopped, DiskFault, Memory}
 use Rattle.book_owned.specs.declared.answer.Flush.{Flush}
@@ -45,15 +45,15 @@ pub record FrontAccount (V : Type 0) : Type 0 where
   pub terms : FrontTerms
   pub view : V
 
-abbrev pub front_account : {V N : Type 0} → ViewOf V N → InMemory V → Option Buffered → ℕ → Bool → FrontAccount V
-front_account view memory spare from stopped = record {
-  history = memory.history.items;
-  marks = memory.marks.items;
-  stopped = stopped;
-  spare = is_some spare;
-  from = from;
-  terms = record { layouts = memory.shapes; block_limit = memory.block.limit; session_limit = memory.session_limit; which = view.which memory.view };
-  view = memory.view;
+abbrev pub front_account : {V N : Type 0} → ViewOf V N → InMemory V → FrontAccount V
+front_account view front = record {
+  history = front.history.items;
+  marks = front.marks.items;
+  stopped = front.stopped;
+  spare = is_some front.spare;
+  from = front.from;
+  terms = record { layouts = front.shapes; block_limit = front.block.limit; session_limit = front.session_limit; which = view.which front.view };
+  view = front.view;
 }
 
 -- the first mark has no samples, and each later one has more
@@ -61,32 +61,40 @@ pub record AreThroughs (marks : List Mark) : Type 0 where
   pub first : IsSomeAnd (slice_get marks 0) (λ mark. mark.through ≡ 0)
   pub rise : AllPairs (λ mark later. mark.through < later.through) marks
 
--- The spare block is there, and empty, while nothing is handed over but what is durable, or the front is stopped. While it
--- is away there is room for its mark, and for that of the records which came since.
-abbrev pub HasSpare : {V : Type 0} → InMemory V → ℕ → Bool → Option Buffered → Type 0
-HasSpare memory from stopped (Some block) =
-    (block.bytes ≡ []) × (block.limit ≡ memory.block.limit) × (stopped ≡ false → from ≡ durable memory.marks.items)
-HasSpare memory from stopped None =
-    (stopped ≡ false) × (durable memory.marks.items < from) × (1 ≤ memory.marks.spare) × (memory.block.bytes ≢ [] → 2 ≤ memory.marks.spare)
-
--- What is true of a front between two calls. While it goes on the records of the samples that were handed over and are not
--- durable fit into one block, and those of the samples behind them into another; so all of them fit into two, and stay so.
-pub record IsFront {V N : Type 0} (view : ViewOf V N) (memory : InMemory V) (spare : Option Buffered) (from : ℕ) (stopped : Bool) : Type 0 where
-  pub counted : IsCounted memory
-  pub pending : IsPending from stopped memory
-  pub low : durable memory.marks.items ≤ from
-  pub shown : IsShowing view memory.view memory.history.items memory.marks.items
-  pub shared : IsShared view memory.view memory.history.chunks
-  pub sealed : length (joined memory.history.chunks) ≤ durable memory.marks.items
-  pub throughs : AreThroughs memory.marks.items
-  pub has_spare : HasSpare memory from stopped spare
-  pub few : stopped ≡ false → history_size memory.shapes (drop from memory.history.items) ≤ memory.block.limit
-  pub few_handed : stopped ≡ false → history_size memory.shapes (drop (durable memory.marks.items) (take from memory.history.items)) ≤ memory.block.limit
-  pub few_all : history_size memory.shapes (drop (durable memory.marks.items) memory.history.items) ≤ 2 * memory.block.limit
-
 -- the samples behind the last hand-over
 abbrev pub behind : {V : Type 0} → FrontAccount V → List Sample
 behind front = drop front.from front.history
+
+-- What contracts see of what is true of a front between two calls. While it goes on, the records of the samples behind the last
+-- hand-over fit into one block, and with its spare block at home all others are durable; the records of all that are not
+-- durable fit into two.
+pub record IsSteady {V N : Type 0} (view : ViewOf V N) (front : FrontAccount V) : Type 0 where
+  pub throughs : AreThroughs front.marks
+  pub shown : IsShowing view front.view front.history front.marks
+  pub low : durable front.marks ≤ front.from
+  pub within : front.from ≤ length front.history
+  pub settled : front.spare ≡ true → front.stopped ≡ false → front.from ≡ durable front.marks
+  pub few : front.stopped ≡ false → history_size front.terms.layouts (behind front) ≤ front.terms.block_limit
+  pub few_all : history_size front.terms.layouts (drop (durable front.marks) front.history) ≤ 2 * front.terms.block_limit
+
+-- The spare block is empty while it is there. While it is away there is room for its mark, and for that of the records which
+-- came since.
+abbrev pub HasSpare : {V : Type 0} → InMemory V → Option Buffered → Type 0
+HasSpare front (Some block) = (block.bytes ≡ []) × (block.limit ≡ front.block.limit)
+HasSpare front None =
+    (front.stopped ≡ false) × (durable front.marks.items < front.from) × (1 ≤ front.marks.spare) × (front.block.bytes ≢ [] → 2 ≤ front.marks.spare)
+
+-- What is true of what a front holds between two calls. While it goes on, the records of the samples that were handed over
+-- and are not durable fit into one block.
+pub record IsFront {V N : Type 0} (view : ViewOf V N) (front : InMemory V) : Type 0 where
+  pub counted : IsCounted front
+  pub pending : IsPending front
+  pub steady : IsSteady view (front_account view front)
+  pub shared : IsShared view front.view front.history.chunks
+  pub sealed : length (joined front.history.chunks) ≤ durable front.marks.items
+  pub has_spare : HasSpare front front.spare
+  pub few_handed : front.stopped ≡ false
+      → history_size front.shapes (drop (durable front.marks.items) (take front.from front.history.items)) ≤ front.block.limit
 
 -- the cost of the history with the sample is within the session limit
 abbrev pub FrontRoom : {V : Type 0} → FrontAccount V → Sample → Type 0
@@ -157,6 +165,14 @@ FinishTells view old new (written.DiskFault before after block) (flush.Stopped l
 FinishTells view old new written.Nothing (flush.Done through shown note) = DoneTells view old new old.marks through shown note
 FinishTells view old new written.Nothing (flush.DiskFault before after) = ⊥
 FinishTells view old new written.Nothing (flush.Stopped last) = ⊥
+
+-- the samples before there were published, and the note tells of those that are shown
+abbrev pub ShowTells : {V N : Type 0} → ViewOf V N → InMemory V → InMemory V → ℕ → Flush N → Type 0
+ShowTells view front front' upto (flush.Done through shown note) =
+    (through ≡ upto) × (shown ≡ view.count front'.view) × (shown ≤ through)
+    × ShowsUpto view front.view front'.view through × view.tells note (view.which front.view) (take shown front.history.items)
+ShowTells view front front' upto (flush.DiskFault before after) = ⊥
+ShowTells view front front' upto (flush.Stopped mark) = ⊥
 
 -- what the machine holds of a front, where its view counts so, and the events that lead from one to the other
 abbrev pub front_state_of : {V : Type 0} → (V → ℕ) → FrontAccount V → BookState

@@ -5,9 +5,8 @@ pub mod Kept
 pub mod Shared
 pub mod Answers
 pub mod BackHalf
-pub mod Halves
+pub mod Holds
 pub mod Begun
-pub mod Hand
 pub mod Events
 pub mod FrontHalf
 pub mod Split

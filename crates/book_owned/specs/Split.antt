@@ -1,11 +1,14 @@
 -- A book that is split into its halves, and the book of two halves.
-use Rattle.std.specs.Prelude.{◌≡◌, true, false, take}
+use Rattle.std.specs.Prelude.{ℕ, ◌≡◌, true, false, take}
 use Rattle.mdf_gate.specs.Gated.{Gated}
-use Rattle.book_owned.specs.Members.{DiskOf}
+use Rattle.book_owned.specs.Members.{DiskOf, ViewOf}
 use Rattle.book_owned.specs.Marks.{durable}
 use Rattle.book_owned.specs.Account.{Account, Terms}
+use Rattle.book_owned.specs.Answers.{IsFault, Passes}
 use Rattle.book_owned.specs.BackHalf.{BackTerms, back_terms, BackKeeps, FileHolds}
-use Rattle.book_owned.specs.FrontHalf.{FrontTerms, FrontAccount}
+use Rattle.book_owned.specs.FrontHalf.{FrontTerms, FrontAccount, front_account}
+use Rattle.book_owned.specs.declared.fault.Fault.{Fault}
+use Rattle.book_owned.specs.declared.in_memory.InMemory.{InMemory}
 
 -- what the terms say of the front, and of the file
 abbrev pub front_part : Terms → FrontTerms
@@ -66,3 +69,14 @@ book_of_halves disk half file = record {
   disk = file.disk;
   view = half.view;
 }
+
+-- the book of what a front holds and of a file
+abbrev pub book_of : {D V N : Type 0} → DiskOf D → ViewOf V N → InMemory V → Gated D → Account D V
+book_of disk view front file = book_of_halves disk (front_account view front) file
+
+-- the disk failed while room was made for so many bytes
+pub record HasFaultOf {D V : Type 0} (disk : DiskOf D) (old new : Account D V) (size : ℕ) (fault : Fault) : Type 0 where
+  pub fault_is : IsFault disk old new fault.before fault.after
+  pub marks : new.marks ≡ old.marks
+  pub view : new.view ≡ old.view
+  pub passes : Passes old size

@@ -5,13 +5,14 @@ ghost use Rattle.mdf_layout.specs.Record.{SampleFits, encoded_size, cost_of, his
 ghost use Rattle.mdf_layout.specs.Behind.{first_id};
 ghost use Rattle.mdf_layout.specs.Next.{AreNext};
 
-use crate::back::{make_room, refusal, write_pending};
-use crate::front::{accept, last_mark, reserve, show, size_behind};
+use crate::flushing::{flush, make_room};
+use crate::front::{accept, last_mark, reserve, size_behind};
+use crate::handing::refusal;
 use crate::in_memory::InMemory;
-use crate::{Append, Flush, Mark, Marks, Shown};
+use crate::{Append, Back, Flush, Front, Mark, Marks, Shown};
 use mdf_disk::Disk;
 use mdf_gate::{Block, GatedFile};
-use mdf_layout::{NextValues, Reserved, Sample, Samples, Shapes};
+use mdf_layout::{NextValues, Sample, Samples, Shapes};
 use mdf_num::Memory;
 use std::alloc::Global;
 use std::marker::Model;
@@ -20,39 +21,41 @@ use std::thread::Threads;
 
 /// A recording in progress: the accepted samples, and the file that holds them.
 pub struct Book<D: Disk, V: Shown> {
-    pub(crate) front: InMemory<V>,
-    pub(crate) file: GatedFile<D>,
+    pub(crate) front: Front<V>,
+    pub(crate) back: Back<D>,
 }
 
 impl<D: Disk, V: Shown> Model for Book<D, V> {
     ghost use Rattle.book_owned.specs.Account.{Account};
-    ghost use Rattle.book_owned.specs.Halves.{IsBook, account_of};
+    ghost use Rattle.book_owned.specs.Split.{AreHalves, book_of_halves};
 
     ghost Value = { Account D V };
 
-    ghost view = { λ b. account_of D.Disk V.Shown b.front b.file };
+    ghost view = { λ b. book_of_halves D.Disk b.front b.back };
 
-    ghost invariant = { λ b. IsBook D.Disk V.Shown b.front b.file };
+    ghost invariant = { λ b. AreHalves D.Disk b.front b.back };
 }
 
-/// What a book begins with: the buffer of a block, the list of marks with room for one, and where the first values of
-/// variable length go.
+/// What a book begins with: its two blocks, the list of marks with room for one, and where the first values of variable
+/// length go.
 fn buffers(
     alloc: Global,
     shapes: &Shapes,
     block_limit: u32,
-) -> Result<(Block, Marks, NextValues), Memory>
+) -> Result<(Block, Block, Marks, NextValues), Memory>
     requires some { 1 ≤ block_limit }
     requires ids { first_id shapes.now (length shapes.now) ≤ 255 }
     ensures block { IfOk result (λ parts. (parts.0.bytes ≡ []) × (parts.0.limit ≡ block_limit)) }
-    ensures marks { IfOk result (λ parts. (parts.1.items ≡ []) × (1 ≤ parts.1.spare)) }
-    ensures next { IfOk result (λ parts. AreNext shapes.now [] parts.2) }
+    ensures spare { IfOk result (λ parts. (parts.1.bytes ≡ []) × (parts.1.limit ≡ block_limit)) }
+    ensures marks { IfOk result (λ parts. (parts.2.items ≡ []) × (1 ≤ parts.2.spare)) }
+    ensures next { IfOk result (λ parts. AreNext shapes.now [] parts.3) }
 {
     let block = Block::with_limit(alloc, block_limit)?;
+    let spare = Block::with_limit(alloc, block_limit)?;
     let mut marks = Marks::empty(alloc);
     marks.reserve(1)?;
     let next = NextValues::first(alloc, shapes)?;
-    Ok((block, marks, next))
+    Ok((block, spare, marks, next))
 }
 
 impl<D: Disk, V: Shown> Book<D, V> {
@@ -84,25 +87,29 @@ impl<D: Disk, V: Shown> Book<D, V> {
         ensures shown { IfOk result (λ book. IsShowing V.Shown book.view book.history book.marks) }
         ensures handed_back { IfErr result (λ parts. (parts.1 ≡ file) × (parts.2 ≡ view)) }
     {
-        let Ok((block, mut marks, next)) = buffers(alloc, &shapes, block_limit) else {
+        let Ok((block, spare, mut marks, next)) = buffers(alloc, &shapes, block_limit) else {
             return Err((Memory, file, view));
         };
         marks.put(Mark {
             moment: file.moment(),
             through: 0,
         });
+        let memory = InMemory {
+            shapes,
+            history: Samples::empty(alloc),
+            marks,
+            held: 0,
+            block,
+            spare: Some(spare),
+            from: 0,
+            stopped: false,
+            next,
+            session_limit,
+            view,
+        };
         Ok(Book {
-            front: InMemory {
-                shapes,
-                history: Samples::empty(alloc),
-                marks,
-                held: 0,
-                block,
-                next,
-                session_limit,
-                view,
-            },
-            file,
+            front: Front { memory },
+            back: Back { file },
         })
     }
 
@@ -119,21 +126,21 @@ impl<D: Disk, V: Shown> Book<D, V> {
         ensures later { D.faults self.old.disk ≤ D.faults self.new.disk }
         ensures clock { D.moment self.old.disk ≤ D.moment self.new.disk }
     {
-        let size = self.front.shapes.encoded_size(&sample);
-        if let Some(refused) = refusal(&self.front, self.file.failed(), &sample, size) {
+        let size = self.front.memory.shapes.encoded_size(&sample);
+        if let Some(refused) = refusal(&self.front.memory, &sample, size) {
             return refused;
         }
-        let Ok(()) = reserve(&mut self.front) else {
+        let Ok(()) = reserve(&mut self.front.memory) else {
             return Append::Memory;
         };
-        if let Err(fault) = make_room(&mut self.front, &mut self.file, rt, size) {
+        if let Err(fault) = make_room(&mut self.front.memory, &mut self.back, rt, size) {
             return Append::DiskFault {
                 before: fault.before,
                 after: fault.after,
             };
         }
-        let place = self.front.history.len();
-        accept(&mut self.front, sample);
+        let place = self.front.memory.history.len();
+        accept(&mut self.front.memory, sample);
         Append::Accepted { place }
     }
 
@@ -148,15 +155,12 @@ impl<D: Disk, V: Shown> Book<D, V> {
         ensures kept { IsKept self.new.terms (state_of D.Disk self.new.disk) self.new.history self.new.marks }
         ensures shown { IsShowing V.Shown self.new.view self.new.history self.new.marks }
     {
-        if let Some(refused) = self.refusal(&sample) {
-            return refused;
+        if self.front.stopped() {
+            return Append::Stopped {
+                mark: self.front.last_mark(),
+            };
         }
-        let place = self.history_len();
-        let Ok(()) = reserve(&mut self.front) else {
-            return Append::Memory;
-        };
-        accept(&mut self.front, sample);
-        Append::Accepted { place }
+        self.front.put(sample)
     }
 
     /// Why a sample would not be accepted, before room for it is looked for: the book is stopped, or the sample's cost has no
@@ -168,8 +172,7 @@ impl<D: Disk, V: Shown> Book<D, V> {
         ensures refused { IfSome result (λ answer. AppendAnswers D.Disk V.Shown self.now self.now sample.now answer × (accepted_by answer sample.now ≡ [])) }
         ensures before_memory { IfSome result IsRefusal }
     {
-        let size = self.front.shapes.encoded_size(sample);
-        refusal(&self.front, self.file.failed(), sample, size)
+        self.front.refusal(sample)
     }
 
     /// Whether the pending records and those of the sample pass the block limit, so that an append of it hands over first.
@@ -178,8 +181,8 @@ impl<D: Disk, V: Shown> Book<D, V> {
         requires size { encoded_size self.now.terms.layouts sample.now ≤ self.now.terms.block_limit }
         ensures { MatchBool result (PassesBlock self.now sample.now) (FitsBlock self.now sample.now) }
     {
-        let size = self.front.shapes.encoded_size(sample);
-        self.pending() + size > self.front.block.limit() as u64
+        let size = self.front.memory.shapes.encoded_size(sample);
+        self.pending() + size > self.front.memory.block.limit() as u64
     }
 
     /// Makes all accepted samples durable, seals them and publishes them. With nothing pending it makes no call of the disk
@@ -193,19 +196,7 @@ impl<D: Disk, V: Shown> Book<D, V> {
         ensures later { D.faults self.old.disk ≤ D.faults self.new.disk }
         ensures clock { D.moment self.old.disk ≤ D.moment self.new.disk }
     {
-        if self.file.failed() {
-            return Flush::Stopped {
-                mark: last_mark(&self.front.marks),
-            };
-        }
-        if let Err(fault) = write_pending(&mut self.front, &mut self.file) {
-            return Flush::DiskFault {
-                before: fault.before,
-                after: fault.after,
-            };
-        }
-        let through = last_mark(&self.front.marks).through;
-        show(&mut self.front, rt, through)
+        flush(&mut self.front.memory, &mut self.back, rt)
     }
 
     /// Hands everything back, without a call of the disk: the disk, the history, the marks and the view.
@@ -222,17 +213,22 @@ impl<D: Disk, V: Shown> Book<D, V> {
         ensures one_block { self.stopped ≡ false → FitsOne self.terms self.history self.marks }
         ensures shown { IsShowing V.Shown self.view self.history self.marks }
     {
-        let Book { front, file } = self;
+        let Book { front, back } = self;
+        let Front { memory } = front;
         let InMemory {
             shapes: _,
             history,
             marks,
             held: _,
             block: _,
+            spare: _,
+            from: _,
+            stopped: _,
             next: _,
             session_limit: _,
             view,
-        } = front;
+        } = memory;
+        let Back { file } = back;
         (file.into_disk(), history, marks, view)
     }
 
@@ -241,7 +237,7 @@ impl<D: Disk, V: Shown> Book<D, V> {
         requires { SampleFits self.now.terms.layouts sample.now }
         ensures { result ≡ encoded_size self.now.terms.layouts sample.now }
     {
-        self.front.shapes.encoded_size(sample)
+        self.front.size_of(sample)
     }
 
     /// What a sample costs, in bytes.
@@ -250,52 +246,53 @@ impl<D: Disk, V: Shown> Book<D, V> {
         requires room { cost_of self.now.terms.layouts sample.now < 2 ^ 64 }
         ensures { result ≡ cost_of self.now.terms.layouts sample.now }
     {
-        self.front.shapes.cost_of(sample)
+        self.front.cost_of(sample)
     }
 
     /// How many bytes the records of the samples behind the last mark have.
     pub fn pending(&self) -> u64
         ensures { result ≡ history_size self.now.terms.layouts (drop (durable self.now.marks) self.now.history) }
     {
-        if self.file.failed() {
-            return size_behind(&self.front, last_mark(&self.front.marks).through);
+        if self.front.memory.stopped {
+            let through = last_mark(&self.front.memory.marks).through;
+            return size_behind(&self.front.memory, through);
         }
-        self.front.block.len() as u64
+        self.front.pending()
     }
 
     /// What the history costs, in bytes.
     pub fn held(&self) -> u64
         ensures { result ≡ history_cost self.now.terms.layouts self.now.history }
     {
-        self.front.held
+        self.front.held()
     }
 
     /// How many bytes of data a block has at most.
     pub fn block_limit(&self) -> u64
         ensures { result ≡ self.now.terms.block_limit }
     {
-        self.front.block.limit() as u64
+        self.front.block_limit()
     }
 
     /// What the history may cost at most, in bytes.
     pub fn session_limit(&self) -> u64
         ensures { result ≡ self.now.terms.session_limit }
     {
-        self.front.session_limit
+        self.front.session_limit()
     }
 
     /// The last mark.
     pub fn last_mark(&self) -> Mark
         ensures { result ≡ last_mark self.now.marks }
     {
-        last_mark(&self.front.marks)
+        self.front.last_mark()
     }
 
     /// How many samples were accepted.
     pub fn history_len(&self) -> u64
         ensures { result ≡ length self.now.history }
     {
-        self.front.history.len()
+        self.front.history_len()
     }
 
     /// Whether a call was answered by a fault of the disk, which is where its file has failed. While none was, the records of
@@ -305,6 +302,7 @@ impl<D: Disk, V: Shown> Book<D, V> {
         ensures one_block { self.now.stopped ≡ false → FitsOne self.now.terms self.now.history self.now.marks }
         ensures cause { self.now.stopped ≡ true → Rose self.now.terms.faults (D.faults self.now.disk) }
     {
-        self.file.failed()
+        // Both or neither, and the file tells the cause.
+        self.front.stopped() && self.back.file.failed()
     }
 }

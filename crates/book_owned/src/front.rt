@@ -6,8 +6,8 @@ ghost use Rattle.mdf_layout.specs.Record.{SampleFits, encoded_size, cost_of, his
 ghost use Rattle.book_owned.specs.Marks.{last_mark};
 ghost use Rattle.book_owned.specs.Shared.{IsShared};
 ghost use Rattle.book_owned.specs.Answers.{ShowsUpto};
-ghost use Rattle.book_owned.specs.Halves.{IsCounted, IsPut};
-ghost use Rattle.book_owned.specs.Hand.{ShowTells};
+ghost use Rattle.book_owned.specs.Holds.{IsCounted, IsPut};
+ghost use Rattle.book_owned.specs.FrontHalf.{ShowTells};
 
 use crate::in_memory::InMemory;
 use crate::{Flush, Mark, Marks, Shown};

@@ -1,25 +1,19 @@
 ghost use Rattle.std.specs.Prelude.{◌≡◌, ◌+◌, ◌≤◌, ◌<◌, ◌^◌, [], true, false, length, IfSome, IfNone, MatchBool};
 ghost use Rattle.mdf_layout.specs.Record.{SampleFits, encoded_size, cost_of, history_cost, history_size};
 
-use crate::back::refusal;
-use crate::front::{accept, last_mark, reserve, show, size_behind};
+use crate::front::{accept, last_mark, reserve, size_behind};
+use crate::handing::{finish, hand_over, refusal};
 use crate::in_memory::InMemory;
 use crate::{Append, Flush, Handed, Mark, Shown, Written};
-use mdf_gate::Block;
 use mdf_layout::Sample;
 use std::marker::Model;
-use std::mem::replace;
 use std::sync::Wait;
 use std::thread::Threads;
 
-/// The history, the marks and the view of a book whose file is elsewhere. It has two blocks: one that takes records, and a
-/// spare one, which is away while its records are written.
+/// The history, the marks and the view of a book. It has two blocks: one that takes records, and a spare one, which is away
+/// while its records are written.
 pub struct Front<V: Shown> {
     pub(crate) memory: InMemory<V>,
-    pub(crate) spare: Option<Block>,
-    /// How many samples were handed over.
-    pub(crate) from: u64,
-    pub(crate) stopped: bool,
 }
 
 impl<V: Shown> Model for Front<V> {
@@ -27,16 +21,15 @@ impl<V: Shown> Model for Front<V> {
 
     ghost Value = { FrontAccount V };
 
-    ghost view = { λ f. front_account V.Shown f.memory f.spare f.from f.stopped };
+    ghost view = { λ f. front_account V.Shown f.memory };
 
-    ghost invariant = { λ f. IsFront V.Shown f.memory f.spare f.from f.stopped };
+    ghost invariant = { λ f. IsFront V.Shown f.memory };
 }
 
 impl<V: Shown> Front<V> {
     ghost use Rattle.book_owned.specs.Marks.{last_mark, durable};
-    ghost use Rattle.book_owned.specs.Kept.{IsShowing};
     ghost use Rattle.book_owned.specs.Answers.{IsRefusal, accepted_by};
-    ghost use Rattle.book_owned.specs.FrontHalf.{AreThroughs, FrontRoom, FrontFits, FrontPasses, PutTells, HandTells, IsAwaited, FinishTells, FrontPutEvents, FinishEvents, behind};
+    ghost use Rattle.book_owned.specs.FrontHalf.{IsSteady, FrontRoom, FrontFits, FrontPasses, PutTells, HandTells, IsAwaited, FinishTells, FrontPutEvents, FinishEvents, behind};
 
     /// Accepts a sample whose records have room in the block. It never answers `DiskFault`.
     #[inline(always)]
@@ -46,7 +39,7 @@ impl<V: Shown> Front<V> {
         requires room { FrontFits self.old sample }
         ensures tells { PutTells self.old self.new sample result }
         ensures events { FrontPutEvents V.count self.old self.new sample result }
-        ensures shown { IsShowing V.Shown self.new.view self.new.history self.new.marks }
+        ensures steady { IsSteady V.Shown self.new }
     {
         if let Some(refused) = self.refusal(&sample) {
             return refused;
@@ -63,23 +56,9 @@ impl<V: Shown> Front<V> {
     pub fn hand_over(&mut self) -> Handed
         requires spare { self.old.spare ≡ true }
         ensures tells { HandTells self.old self.new result }
-        ensures shown { IsShowing V.Shown self.new.view self.new.history self.new.marks }
+        ensures steady { IsSteady V.Shown self.new }
     {
-        if self.stopped {
-            return Handed::Stopped {
-                mark: last_mark(&self.memory.marks),
-            };
-        }
-        if self.memory.block.is_empty() {
-            return Handed::Nothing;
-        }
-        let Some(spare) = self.spare.take() else {
-            unreachable!()
-        };
-        let block = replace(&mut self.memory.block, spare);
-        let through = self.memory.history.len();
-        self.from = through;
-        Handed::Given { through, block }
+        hand_over(&mut self.memory)
     }
 
     /// Takes in what became of the block that was handed over, or `Nothing` where none was. The block is cleared and is the
@@ -89,32 +68,9 @@ impl<V: Shown> Front<V> {
         requires awaited { IsAwaited self.old written }
         ensures tells { FinishTells V.Shown self.old self.new written result }
         ensures events { FinishEvents V.count self.old self.new written }
-        ensures throughs { AreThroughs self.new.marks }
-        ensures shown { IsShowing V.Shown self.new.view self.new.history self.new.marks }
+        ensures steady { IsSteady V.Shown self.new }
     {
-        match written {
-            Written::Done { mark, mut block } => {
-                self.memory.marks.put(mark);
-                let answer = show(&mut self.memory, rt, mark.through);
-                block.clear();
-                self.spare = Some(block);
-                answer
-            }
-            Written::DiskFault {
-                before,
-                after,
-                mut block,
-            } => {
-                self.stopped = true;
-                block.clear();
-                self.spare = Some(block);
-                Flush::DiskFault { before, after }
-            }
-            Written::Nothing => {
-                let through = last_mark(&self.memory.marks).through;
-                show(&mut self.memory, rt, through)
-            }
-        }
+        finish(&mut self.memory, rt, written)
     }
 
     /// Why a sample would not be accepted, before room for it is looked for: the front is stopped, or the sample's cost has
@@ -127,7 +83,7 @@ impl<V: Shown> Front<V> {
         ensures before_memory { IfSome result IsRefusal }
     {
         let size = self.memory.shapes.encoded_size(sample);
-        refusal(&self.memory, self.stopped, sample, size)
+        refusal(&self.memory, sample, size)
     }
 
     /// Whether the pending records and those of the sample pass the block limit.
@@ -145,7 +101,7 @@ impl<V: Shown> Front<V> {
         ensures is { result ≡ self.now.spare }
         ensures lent { result ≡ false → durable self.now.marks < length self.now.history }
     {
-        self.spare.is_some()
+        self.memory.spare.is_some()
     }
 
     /// How many bytes the record of a sample has.
@@ -169,8 +125,8 @@ impl<V: Shown> Front<V> {
     pub fn pending(&self) -> u64
         ensures { result ≡ history_size self.now.terms.layouts (behind self.now) }
     {
-        if self.stopped {
-            return size_behind(&self.memory, self.from);
+        if self.memory.stopped {
+            return size_behind(&self.memory, self.memory.from);
         }
         self.memory.block.len() as u64
     }
@@ -212,8 +168,9 @@ impl<V: Shown> Front<V> {
 
     /// Whether the book that was split was stopped, or the disk failed since.
     pub fn stopped(&self) -> bool
-        ensures { result ≡ self.now.stopped }
+        ensures stopped { result ≡ self.now.stopped }
+        ensures steady { IsSteady V.Shown self.now }
     {
-        self.stopped
+        self.memory.stopped
     }
 }

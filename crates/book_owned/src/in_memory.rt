@@ -2,7 +2,7 @@ use crate::Marks;
 use mdf_gate::Block;
 use mdf_layout::{NextValues, Samples, Shapes};
 
-/// What a book holds in memory.
+/// What a front holds.
 pub struct InMemory<V> {
     /// The layouts of the groups.
     pub(crate) shapes: Shapes,
@@ -11,8 +11,14 @@ pub struct InMemory<V> {
     pub(crate) marks: Marks,
     /// What the history costs, in bytes.
     pub(crate) held: u64,
-    /// The records of the samples behind the last mark.
+    /// The records of the samples behind the last hand-over.
     pub(crate) block: Block,
+    /// The block that takes records next, which is away while its records are written.
+    pub(crate) spare: Option<Block>,
+    /// How many samples were handed over.
+    pub(crate) from: u64,
+    /// Whether the disk failed.
+    pub(crate) stopped: bool,
     /// Where the next values of variable length go.
     pub(crate) next: NextValues,
     /// What a history may cost at most, in bytes.

@@ -16,7 +16,7 @@ overflow_add-result g c =
       c.encoded_size-size.ensures,
       c.pending.ensures,
       ap (λ a. history_size a.terms.layouts (drop a.from a.history)) c.self.view_is,
-      sum_by-take-drop (encoded_size memory.shapes) memory.history.items c.self.inside.from,
+      sum_by-take-drop (encoded_size memory.shapes) memory.history.items c.self.inside.memory.from,
       history_cost-least memory.shapes memory.history.items,
       counted.held,
       counted.within,

@@ -1,6 +1,6 @@
 use Rattle.std.proofs.Common.{arith}
 use Rattle.mdf_layout.proofs.Costs.{cost_small}
-use Rattle.book_owned.proofs.back.refusal.Goals as goal
+use Rattle.book_owned.proofs.handing.refusal.Goals as goal
 
 pub cost_with-cost-requires-clause-room : goal.cost_with-cost-requires-clause-room
 cost_with-cost-requires-clause-room g c =
