@@ -4,4 +4,5 @@ pub mod Texts
 pub mod Faults
 pub mod Parts
 pub mod Load
+pub mod Asked
 pub mod Attached

@@ -1,6 +1,7 @@
-ghost use Rattle.std.specs.Prelude.{◌≡◌, ◌≤◌, ◌⊎◌, Some, None, true, length, IsOk, OnOk, IfErr, IfSome};
+ghost use Rattle.std.specs.Prelude.{◌≡◌, ◌≤◌, Some, None, true, length, IsOk, OnOk, IfErr, IfSome};
 ghost use Rattle.mdf_disk.specs.State.{state_of};
 ghost use Rattle.mdf_disk.specs.declared.role.Role.TheVariants.{Read};
+ghost use Rattle.mdf_command.specs.Asked.{IsOnlyRead};
 ghost use Rattle.mdf_command.specs.Load.{IsCalm, LoadComes, LoadFaultOf};
 
 use crate::fault::Fault;
@@ -27,9 +28,7 @@ pub fn load<A: Disk>(alloc: Global, input: &Bytes, first: &mut A) -> Result<Byte
     ensures comes { LoadComes (state_of A.Disk first.old) (state_of A.Disk first.new) result }
     ensures attached { IsOk result → A.attached first.new ≡ true }
     ensures calm { OnOk result (IsCalm (state_of A.Disk first.old) (state_of A.Disk first.new)) }
-    ensures asked { (A.asked first.new ≡ None) ⊎ (A.asked first.new ≡ Some (input.now, Read)) }
-    ensures content { A.content first.new ≡ A.content first.old }
-    ensures untouched { A.asked first.new ≡ None → first.new ≡ first.old }
+    ensures input { IsOnlyRead A.Disk (Some input.now) first.old first.new }
 {
     first.attach(input.copy()?, Role::Read)?;
     Ok(read_whole(alloc, first, INPUT_LIMIT)?)
@@ -47,9 +46,7 @@ pub fn open<A: Disk>(input: &Bytes, first: &mut A, most: u64) -> Result<(), Faul
     ensures attached { IsOk result → A.attached first.new ≡ true }
     ensures calm { OnOk result (IsCalm (state_of A.Disk first.old) (state_of A.Disk first.new)) }
     ensures named { OnOk result (A.asked first.new ≡ Some (input.now, Read)) }
-    ensures asked { (A.asked first.new ≡ None) ⊎ (A.asked first.new ≡ Some (input.now, Read)) }
-    ensures content { A.content first.new ≡ A.content first.old }
-    ensures untouched { A.asked first.new ≡ None → first.new ≡ first.old }
+    ensures input { IsOnlyRead A.Disk (Some input.now) first.old first.new }
 {
     let name = input.copy()?;
     first.attach(name, Role::Read)?;

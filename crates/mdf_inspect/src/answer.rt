@@ -1,7 +1,7 @@
-ghost use Rattle.std.specs.Prelude.{◌≡◌, ◌⊎◌, Some, None};
+ghost use Rattle.std.specs.Prelude.{◌≡◌, Some, None};
 ghost use Rattle.mdf_disk.specs.State.{state_of};
-ghost use Rattle.mdf_disk.specs.declared.role.Role.TheVariants.{Read};
 ghost use Rattle.mdf_port.specs.State.{sink_state};
+ghost use Rattle.mdf_command.specs.Asked.{IsOnlyRead};
 ghost use Rattle.mdf_command.specs.Texts.{Gives};
 ghost use Rattle.mdf_inspect.specs.Reading.{EndsReading, answer_text, reading_end, reading_of};
 ghost use Rattle.mdf_inspect.specs.Question.{text_for};
@@ -66,9 +66,7 @@ pub fn run_reading<K: Sink, A: Disk>(
     requires { A.asked first ≡ None }
     ensures ends { EndsReading (text_for question) (state_of A.Disk first) (state_of A.Disk result.first)
         (sink_state K.Sink sink.old) (sink_state K.Sink sink.new) result.status }
-    ensures asked { (A.asked result.first ≡ None) ⊎ (A.asked result.first ≡ Some (input.now, Read)) }
-    ensures content { A.content result.first ≡ A.content first }
-    ensures untouched { A.asked result.first ≡ None → result.first ≡ first }
+    ensures input { IsOnlyRead A.Disk (Some input.now) first result.first }
 {
     let (end, first) = read_input::<A, Counted>(alloc, input, first);
     let given = give_end(sink, question, &end);

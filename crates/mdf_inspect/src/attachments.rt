@@ -1,9 +1,9 @@
-ghost use Rattle.std.specs.Prelude.{◌≡◌, ◌⊎◌, Some, None};
+ghost use Rattle.std.specs.Prelude.{◌≡◌, Some, None};
 ghost use Rattle.mdf_content.specs.Fault.{read_refusal};
 ghost use Rattle.mdf_attach.specs.Listed.{list_refusal};
 ghost use Rattle.mdf_disk.specs.State.{state_of};
-ghost use Rattle.mdf_disk.specs.declared.role.Role.TheVariants.{Read};
 ghost use Rattle.mdf_port.specs.State.{sink_state};
+ghost use Rattle.mdf_command.specs.Asked.{IsOnlyRead};
 ghost use Rattle.mdf_command.specs.Texts.{Gives, numbered};
 ghost use Rattle.mdf_inspect.specs.Attachments.{ListingComes, EndsListing, attachment_line, listing_fault, says_text, listing_text};
 
@@ -79,9 +79,7 @@ fn listing_fault(fault: Fault) -> Fault
 fn list<A: Disk>(alloc: Global, input: &Bytes, first: A) -> (Result<Rows<Entry>, Fault>, A)
     requires { A.asked first ≡ None }
     ensures comes { ListingComes (state_of A.Disk first) (state_of A.Disk result.1) result.0 }
-    ensures asked { (A.asked result.1 ≡ None) ⊎ (A.asked result.1 ≡ Some (input.now, Read)) }
-    ensures content { A.content result.1 ≡ A.content first }
-    ensures untouched { A.asked result.1 ≡ None → result.1 ≡ first }
+    ensures input { IsOnlyRead A.Disk (Some input.now) first result.1 }
 {
     let (end, first) = read_input::<A, Listing>(alloc, input, first);
     match end {
@@ -153,9 +151,7 @@ pub fn run_attachments<K: Sink, A: Disk>(
     requires { A.asked first ≡ None }
     ensures ends { EndsListing (state_of A.Disk first) (state_of A.Disk result.first)
         (sink_state K.Sink sink.old) (sink_state K.Sink sink.new) result.status }
-    ensures asked { (A.asked result.first ≡ None) ⊎ (A.asked result.first ≡ Some (input.now, Read)) }
-    ensures content { A.content result.first ≡ A.content first }
-    ensures untouched { A.asked result.first ≡ None → result.first ≡ first }
+    ensures input { IsOnlyRead A.Disk (Some input.now) first result.first }
 {
     let (end, first) = list(alloc, input, first);
     let given = give_end(sink, &end);

@@ -1,7 +1,7 @@
-ghost use Rattle.std.specs.Prelude.{◌≡◌, ◌⊎◌, Some, None, Result};
+ghost use Rattle.std.specs.Prelude.{◌≡◌, Some, None, Result};
 ghost use Rattle.mdf_disk.specs.State.{state_of};
-ghost use Rattle.mdf_disk.specs.declared.role.Role.TheVariants.{Read};
 ghost use Rattle.mdf_gate.specs.declared.answer.Opened.{Opened};
+ghost use Rattle.mdf_command.specs.Asked.{IsOnlyRead};
 ghost use Rattle.mdf_command.specs.declared.fault.Fault.{Fault};
 ghost use Rattle.mdf_port.specs.State.{sink_state};
 ghost use Rattle.mdf_command.specs.Texts.{Gives};
@@ -19,9 +19,7 @@ use std::alloc::Global;
 fn count<A: Disk>(alloc: Global, input: &Bytes, first: &mut A) -> Result<Opened, Fault>
     requires { A.asked first.old ≡ None }
     ensures comes { OpenedComes (state_of A.Disk first.old) (state_of A.Disk first.new) result }
-    ensures asked { (A.asked first.new ≡ None) ⊎ (A.asked first.new ≡ Some (input.now, Read)) }
-    ensures content { A.content first.new ≡ A.content first.old }
-    ensures untouched { A.asked first.new ≡ None → first.new ≡ first.old }
+    ensures input { IsOnlyRead A.Disk (Some input.now) first.old first.new }
 {
     let bytes = load(alloc, input, first)?;
     Ok(opened(bytes.as_slice())?)
@@ -50,9 +48,7 @@ pub fn run_opened<K: Sink, A: Disk>(alloc: Global, input: &Bytes, sink: &mut K, 
     requires { A.asked first.old ≡ None }
     ensures ends { EndsOpened (state_of A.Disk first.old) (state_of A.Disk first.new)
         (sink_state K.Sink sink.old) (sink_state K.Sink sink.new) result }
-    ensures asked { (A.asked first.new ≡ None) ⊎ (A.asked first.new ≡ Some (input.now, Read)) }
-    ensures content { A.content first.new ≡ A.content first.old }
-    ensures untouched { A.asked first.new ≡ None → first.new ≡ first.old }
+    ensures input { IsOnlyRead A.Disk (Some input.now) first.old first.new }
 {
     let end = count(alloc, input, first);
     let given = give_end(sink, &end);

@@ -1,10 +1,10 @@
-ghost use Rattle.std.specs.Prelude.{◌≡◌, ◌≤◌, ◌⊎◌, ℕ, List, length, true, IfSome, Some, None};
+ghost use Rattle.std.specs.Prelude.{◌≡◌, ◌≤◌, ℕ, List, length, true, IfSome, Some, None};
 ghost use Rattle.mdf_num.specs.Halt.{HaltReason};
 ghost use Rattle.mdf_block.specs.Refusal.{Read as Answer};
 ghost use Rattle.mdf_block.specs.Reads.{Reads};
 ghost use Rattle.mdf_content.specs.Fault.{read_refusal};
 ghost use Rattle.mdf_disk.specs.State.{state_of};
-ghost use Rattle.mdf_disk.specs.declared.role.Role.TheVariants.{Read};
+ghost use Rattle.mdf_command.specs.Asked.{IsOnlyRead};
 ghost use Rattle.mdf_inspect.specs.Paged.{HaltComes, PagedComes, StopComes};
 
 use mdf_command::{Fault, READING_LIMIT, open};
@@ -135,9 +135,7 @@ pub(crate) fn read_input<A: Disk, R: Reader>(
 ) -> (Result<R::Found, Fault>, A)
     requires { A.asked first ≡ None }
     ensures comes { PagedComes R.most R.found (state_of A.Disk first) (state_of A.Disk result.1) result.0 }
-    ensures asked { (A.asked result.1 ≡ None) ⊎ (A.asked result.1 ≡ Some (input.now, Read)) }
-    ensures content { A.content result.1 ≡ A.content first }
-    ensures untouched { A.asked result.1 ≡ None → result.1 ≡ first }
+    ensures input { IsOnlyRead A.Disk (Some input.now) first result.1 }
 {
     let mut first = first;
     match open(input, &mut first, R::most()) {

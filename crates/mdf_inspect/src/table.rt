@@ -1,9 +1,9 @@
-ghost use Rattle.std.specs.Prelude.{◌≡◌, ◌≤◌, ◌⊎◌, length, true, IfErr, IfSome, Some, None};
+ghost use Rattle.std.specs.Prelude.{◌≡◌, ◌≤◌, length, true, IfErr, IfSome, Some, None};
 ghost use Rattle.mdf_format.specs.Cause.{Rose};
 ghost use Rattle.mdf_num.specs.Halt.{HaltReason};
+ghost use Rattle.mdf_command.specs.Asked.{IsOnlyRead};
 ghost use Rattle.mdf_command.specs.Faults.{READING_LIMIT};
 ghost use Rattle.mdf_disk.specs.State.{state_of};
-ghost use Rattle.mdf_disk.specs.declared.role.Role.TheVariants.{Read};
 ghost use Rattle.mdf_port.specs.State.{sink_state};
 ghost use Rattle.mdf_inspect.specs.Export.{EndsExport, PrintsEnd, TableAnswers, TableComes};
 
@@ -104,9 +104,7 @@ fn give_table<S: Sink, A: Disk>(
     ensures comes { TableComes group (state_of A.Disk first) (state_of A.Disk result.1)
         (sink_state S.Sink sink.old) (sink_state S.Sink sink.new) result.0 }
     ensures later { S.faults sink.old ≤ S.faults sink.new }
-    ensures asked { (A.asked result.1 ≡ None) ⊎ (A.asked result.1 ≡ Some (input.now, Read)) }
-    ensures content { A.content result.1 ≡ A.content first }
-    ensures untouched { A.asked result.1 ≡ None → result.1 ≡ first }
+    ensures input { IsOnlyRead A.Disk (Some input.now) first result.1 }
 {
     let mut first = first;
     match open(input, &mut first, READING_LIMIT) {
@@ -143,9 +141,7 @@ pub fn run_export<K: Sink, A: Disk>(
     ensures ends { EndsExport group (state_of A.Disk first) (state_of A.Disk result.first)
         (sink_state K.Sink sink.old) (sink_state K.Sink sink.new) result.status }
     ensures sink_fault { result.status ≡ 6 → Rose (K.faults sink.old) (K.faults sink.new) }
-    ensures asked { (A.asked result.first ≡ None) ⊎ (A.asked result.first ≡ Some (input.now, Read)) }
-    ensures content { A.content result.first ≡ A.content first }
-    ensures untouched { A.asked result.first ≡ None → result.first ≡ first }
+    ensures input { IsOnlyRead A.Disk (Some input.now) first result.first }
 {
     let (end, first) = give_table(alloc, input, group, sink, first);
     let status = report(sink, end);

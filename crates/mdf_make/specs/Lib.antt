@@ -1,4 +1,3 @@
-pub mod Asked
 pub mod Tool
 pub mod Making
 pub mod Finalize

@@ -1,7 +1,7 @@
 ghost use Rattle.std.specs.Prelude.{◌≡◌, Some, None};
 ghost use Rattle.mdf_disk.specs.State.{state_of};
 ghost use Rattle.mdf_port.specs.State.{sink_state};
-ghost use Rattle.mdf_make.specs.Asked.{IsOnlyMade, IsOnlyRead};
+ghost use Rattle.mdf_command.specs.Asked.{IsOnlyMade, IsOnlyRead};
 ghost use Rattle.mdf_make.specs.Attach.{AreNotCarried, Carries, EndsAttach, IsAttachImage, IsOfCarrying, carry_blamed, fault_of_carry};
 ghost use Rattle.mdf_make.specs.Blamed.{BlamesCarried};
 ghost use Rattle.mdf_make.specs.Concat.{AreBothLoaded};

@@ -5,7 +5,7 @@ ghost use Rattle.mdf_disk.specs.State.{state_of};
 ghost use Rattle.mdf_port.specs.State.{sink_state};
 ghost use Rattle.mdf_command.specs.Load.{IsLoaded};
 ghost use Rattle.mdf_command.specs.Texts.{Gives, Prints};
-ghost use Rattle.mdf_make.specs.Asked.{IsOnlyMade, IsOnlyRead};
+ghost use Rattle.mdf_command.specs.Asked.{IsOnlyMade, IsOnlyRead};
 ghost use Rattle.mdf_make.specs.Making.{EndsMaking, LeavesOf, MakeComes, MakingComes, one_input, making_status, making_text, report_line, rest_line, said_lines};
 ghost use Rattle.mdf_make.specs.Tool.{IsImage};
 

@@ -2,7 +2,7 @@ ghost use Rattle.std.specs.Prelude.{◌≡◌, Some, None};
 ghost use Rattle.mdf_disk.specs.State.{state_of};
 ghost use Rattle.mdf_port.specs.State.{sink_state};
 ghost use Rattle.tool_concat.specs.Concat.{IsConcatImage};
-ghost use Rattle.mdf_make.specs.Asked.{IsOnlyMade, IsOnlyRead};
+ghost use Rattle.mdf_command.specs.Asked.{IsOnlyMade, IsOnlyRead};
 ghost use Rattle.mdf_make.specs.Blamed.{BlamesJoined, IsOfJoining, concat_blamed};
 ghost use Rattle.mdf_make.specs.Concat.{AreBothLoaded, AreNotJoined, EndsConcat, Joins, fault_of_concat};
 ghost use Rattle.mdf_make.specs.Making.{LeavesOf};

@@ -2,7 +2,7 @@ ghost use Rattle.std.specs.Prelude.{◌≡◌, Some, None};
 ghost use Rattle.mdf_disk.specs.State.{state_of};
 ghost use Rattle.mdf_port.specs.State.{sink_state};
 ghost use Rattle.mdf_command.specs.Load.{IsLoaded};
-ghost use Rattle.mdf_make.specs.Asked.{IsOnlyMade, IsOnlyRead};
+ghost use Rattle.mdf_command.specs.Asked.{IsOnlyMade, IsOnlyRead};
 ghost use Rattle.mdf_make.specs.Making.{LeavesOf};
 ghost use Rattle.mdf_make.specs.Finalize.{EndsFinalize, Finalizes, IsFinalImage, IsNotFinalized};
 

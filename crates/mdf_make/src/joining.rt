@@ -4,7 +4,7 @@ ghost use Rattle.mdf_disk.specs.Crash.{HoldsSince};
 ghost use Rattle.mdf_disk.specs.State.{state_of};
 ghost use Rattle.mdf_port.specs.State.{sink_state};
 ghost use Rattle.mdf_command.specs.declared.fault.Fault.TheVariants as faults;
-ghost use Rattle.mdf_make.specs.Asked.{IsOnlyMade, IsOnlyRead};
+ghost use Rattle.mdf_command.specs.Asked.{IsOnlyMade, IsOnlyRead};
 ghost use Rattle.mdf_make.specs.Blamed.{BlamesOne, IsOfEnd, IsOfLoaded, joining_blamed, joining_end, unread_blamed};
 ghost use Rattle.mdf_make.specs.Concat.{AreBothLoaded, two_inputs};
 ghost use Rattle.mdf_make.specs.Making.{EndsMaking, LeavesOf, MakeComes, MakingComes};

@@ -32,7 +32,7 @@ use Rattle.mdf_command.specs.declared.command.Union.{Union}
 use Rattle.mdf_command.specs.declared.command.Union.TheVariants.{Concat, Attach}
 use Rattle.mdf_command.specs.declared.command.Origin.TheVariants.{Source, Generated}
 use Rattle.mdf_run.specs.Kept.{AreJoinable, AsksToJoin, HasGroup, IfRecorded, IsCompletable, IsDoneOrLacked, IsDurable, IsListable, IsMeasured, Keeps, OfRecording, RecordsNothing}
-use Rattle.mdf_make.specs.Asked.{AsksOnly, IsOnlyMade, IsOnlyRead}
+use Rattle.mdf_command.specs.Asked.{AsksOnly, IsOnlyMade, IsOnlyRead}
 use Rattle.mdf_run.specs.Asked.{IsUnrecorded, TakesNothing, asked_by, file_asked}
 use Rattle.mdf_run.specs.Ends.{Blames, Does, EndsJoin, EndsMake, EndsShow, HasEnded, IsCaused}
 use Rattle.mdf_run.specs.Told.{Told}

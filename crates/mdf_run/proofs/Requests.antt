@@ -13,7 +13,7 @@ use Rattle.mdf_command.specs.declared.command.Origin.{Origin}
 use Rattle.mdf_command.specs.declared.command.Origin.TheVariants.{Source, Generated}
 use Rattle.mdf_run.proofs.Scripts.{one_number}
 use Rattle.mdf_run.proofs.Words.{same_group, same_range}
-use Rattle.mdf_make.specs.Asked.{AsksOnly}
+use Rattle.mdf_command.specs.Asked.{AsksOnly}
 
 -- the first letter of the first word and the length of the rest tell the commands apart
 abbrev tag : List (List ℕ) → ℕ

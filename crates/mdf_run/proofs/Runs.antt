@@ -6,7 +6,7 @@ use Rattle.mdf_command.specs.declared.command.Aspect.TheVariants.{Opened, Verdic
 use Rattle.mdf_command.specs.declared.command.Product.TheVariants.{Finalized, Sorted, Cut}
 use Rattle.mdf_command.specs.declared.command.Union.TheVariants.{Concat, Attach}
 use Rattle.mdf_command.specs.declared.command.Origin.TheVariants.{Source, Generated}
-use Rattle.mdf_make.specs.Asked.{IsOnlyMade, IsOnlyRead}
+use Rattle.mdf_command.specs.Asked.{IsOnlyMade, IsOnlyRead}
 use Rattle.mdf_run.specs.Asked.{file_asked}
 use Rattle.mdf_run.specs.Ends.{HasEnded}
 use Rattle.mdf_run.specs.Run.{RunBlames, RunKeeps, RunLeaves, RunPrints, RunRecovers, RunSucceeds, TouchesInput, TouchesOutput, TouchesSecond}

@@ -3,7 +3,7 @@ ghost use Rattle.std.specs.Prelude.{◌≡◌, None};
 ghost use Rattle.mdf_port.specs.State.{sink_state};
 ghost use Rattle.mdf_command.specs.Texts.{Prints, usage_line};
 ghost use Rattle.mdf_command.specs.Words.{input_of, output_of, second_of};
-ghost use Rattle.mdf_make.specs.Asked.{IsOnlyMade, IsOnlyRead};
+ghost use Rattle.mdf_command.specs.Asked.{IsOnlyMade, IsOnlyRead};
 ghost use Rattle.mdf_run.specs.Asked.{HasNumbers, TakesNothing, asked_by, file_asked};
 ghost use Rattle.mdf_run.specs.Ends.{HasEnded};
 ghost use Rattle.mdf_run.specs.Told.{told};

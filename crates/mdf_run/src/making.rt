@@ -3,7 +3,7 @@ ghost use Rattle.std.specs.Prelude.{◌≡◌, Some, None};
 ghost use Rattle.mdf_port.specs.State.{sink_state};
 ghost use Rattle.mdf_disk.specs.State.{state_of};
 ghost use Rattle.mdf_command.specs.Words.{IsInRange, made};
-ghost use Rattle.mdf_make.specs.Asked.{IsOnlyMade, IsOnlyRead};
+ghost use Rattle.mdf_command.specs.Asked.{IsOnlyMade, IsOnlyRead};
 ghost use Rattle.mdf_run.specs.Ends.{EndsMake, Leaves};
 
 use mdf_command::Product;

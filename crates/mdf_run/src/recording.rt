@@ -10,7 +10,7 @@ ghost use Rattle.mdf_record.specs.Record.{outcome};
 ghost use Rattle.mdf_record.specs.Recorded.{EndsGenerated, EndsRecord};
 ghost use Rattle.mdf_record.specs.Recovers.{AreRecovered};
 ghost use Rattle.mdf_command.specs.Words.{IsInRange, recorded};
-ghost use Rattle.mdf_make.specs.Asked.{IsOnlyMade};
+ghost use Rattle.mdf_command.specs.Asked.{IsOnlyMade};
 ghost use Rattle.mdf_run.specs.Asked.{TakesNone};
 ghost use Rattle.mdf_run.specs.Ends.{EndsRecording};
 ghost use Rattle.mdf_run.specs.Kept.{IsDurable, Keeps};

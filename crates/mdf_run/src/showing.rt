@@ -2,7 +2,7 @@
 ghost use Rattle.std.specs.Prelude.{◌≡◌, Some, None};
 ghost use Rattle.mdf_port.specs.State.{sink_state};
 ghost use Rattle.mdf_disk.specs.State.{state_of};
-ghost use Rattle.mdf_make.specs.Asked.{IsOnlyRead};
+ghost use Rattle.mdf_command.specs.Asked.{IsOnlyRead};
 ghost use Rattle.mdf_run.specs.Ends.{EndsShow};
 
 use mdf_command::Aspect;

@@ -1,7 +1,8 @@
-ghost use Rattle.std.specs.Prelude.{◌≡◌, ◌≤◌, true, is_some, IfOk, IfErr, IfNone};
+ghost use Rattle.std.specs.Prelude.{◌≡◌, true, IfOk, IfErr, IfNone};
 ghost use Rattle.mdf_block.specs.Refusal.{GivesOf};
 ghost use Rattle.mdf_content.specs.Fault.{read_refusal};
 ghost use Rattle.mdf_disk.specs.Crash.{Adds};
+ghost use Rattle.mdf_disk.specs.Goes.{GoesOn};
 ghost use Rattle.mdf_disk.specs.State.{state_of};
 ghost use Rattle.mdf_seal.specs.Seal.{IsBlank};
 ghost use Rattle.mdf_session.specs.Identified.{IsIdentifiedRecording};
@@ -61,10 +62,7 @@ pub fn finalize<C: Disk>(
     requires blank { IsBlank (C.content out.old) (C.story out.old) }
     ensures ends { FinalizeEnds file now_ns (state_of C.Disk out.old) (state_of C.Disk out.new) result }
     ensures any_moment { Adds (C.story out.old) (C.story out.new) (IsFinalizeImage file now_ns) }
-    ensures asked { C.asked out.new ≡ C.asked out.old }
-    ensures attached { C.attached out.new ≡ C.attached out.old }
-    ensures moment { C.moment out.old ≤ C.moment out.new }
-    ensures told { is_some (C.story out.new) ≡ is_some (C.story out.old) }
+    ensures goes_on { GoesOn C.Disk out.old out.new }
 {
     let session = session_read(alloc, file)?;
     let made = made_of(alloc, session, now_ns)?;

@@ -6,7 +6,7 @@ use Rattle.mdf_inspect.proofs.reading.read_input.Goals as goal
 pub returns-in-Ok-clause-comes : goal.returns-in-Ok-clause-comes
 returns-in-Ok-clause-comes g c =
     paged_from g.R.Reader.most (state_of g.A.Disk c.args.first) (state_of g.A.Disk c.open.new.first) (state_of g.A.Disk c.read_kept.result.1)
-    c.open.ensures.content c.in-Ok.ensures.calm (c.in-Ok.ensures.attached refl) (rw c.most.ensures at c.in-Ok.ensures.short) g.R.Reader.found c.read_kept.result.0 c.read_kept.ensures.comes
+    c.open.ensures.input.content c.in-Ok.ensures.calm (c.in-Ok.ensures.attached refl) (rw c.most.ensures at c.in-Ok.ensures.short) g.R.Reader.found c.read_kept.result.0 c.read_kept.ensures.comes
 
 pub returns-in-Err-clause-comes : goal.returns-in-Err-clause-comes
 returns-in-Err-clause-comes g c =

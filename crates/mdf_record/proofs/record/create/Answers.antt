@@ -56,29 +56,29 @@ returns-in-Ok-made-clause-created g c =
     let made = c.attach.new.self in
     let file = c.in-Ok-made.file in
     let gated = c.in-Ok-made.ensures in
-    let start = gated.created in
+    let begins = gated.created in
     let head_is = c.as_slice.ensures ∙ c.in-Ok.ensures.head in
     record {
       created = record {
-        going = start.going;
-        rests = start.rests;
-        short = omega (arith, start.place, ap length c.as_slice.ensures, c.in-Ok.ensures.short);
-        begun = start.begun;
+        going = begins.going;
+        rests = begins.rests;
+        short = omega (arith, begins.place, ap length c.as_slice.ensures, c.in-Ok.ensures.short);
+        begun = begins.begun;
       };
-      head = subst (λ h. IfSome (disk.story file.disk) (λ _. head_of (disk.story file.disk) file.first ≡ h)) head_is start.head;
+      head = subst (λ h. IfSome (disk.story file.disk) (λ _. head_of (disk.story file.disk) file.first ≡ h)) head_is begins.head;
       asked = gated.goes_on.asked ∙ c.attach.ensures.asked ∙ ap (λ n. Some (n, Create)) c.in-Ok-copy.ensures;
       made = record {
-        attached = start.attached;
-        content = subst (λ h. IfSome (disk.content file.disk) (λ file. file ≡ h ++ 0 ∷ [])) head_is start.content;
+        attached = begins.attached;
+        content = subst (λ h. IfSome (disk.content file.disk) (λ file. file ≡ h ++ 0 ∷ [])) head_is begins.content;
       };
       begun = begun_since (head_file c.args.form c.args.now_ns c.args.rows.now) (disk.story out) (disk.story made) (disk.story file.disk) (disk.content out) (disk.moment out)
           (laws.agrees out) (laws.unattached out (laws.unasked out c.requires.asked)) c.attach.ensures.story
           (subst (λ h. Adds (disk.story made) (disk.story file.disk) (IsBegun h)) head_is gated.any_moment);
       told = gated.goes_on.told ∙ ap is_some c.attach.ensures.story;
-      start = subst (λ n. IfSome (disk.story out) (λ _. n ≡ disk.moment out)) (sym start.start)
+      start = subst (λ n. IfSome (disk.story out) (λ _. n ≡ disk.moment out)) (sym begins.start)
           (one_moment (disk.story out) (disk.story made) (disk.content out) (disk.content made) (disk.moment out) (disk.moment made) (laws.agrees out) (laws.agrees made)
           c.attach.ensures.story);
-      faults = omega (arith, c.attach.ensures.cause.later, start.faults);
+      faults = omega (arith, c.attach.ensures.cause.later, begins.faults);
       readable = c.in-Ok.ensures.readable;
     }
 
