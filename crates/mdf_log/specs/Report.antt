@@ -4,7 +4,7 @@ use Rattle.std.specs.List.{list_any}
 use Rattle.std.specs.Fmt.{decimal}
 use Rattle.mdf_command.specs.Texts.{line, numbered}
 use Rattle.mdf_command.specs.Faults.{fault_line, fault_status}
-use Rattle.mdf_record.specs.Record.{fault_text, live_text, source_line}
+use Rattle.mdf_record.specs.Record.{fault_text, live_text, source_line, totals_line}
 use Rattle.acq_lines.specs.declared.feed.Halt.TheVariants as halts
 use Rattle.mdf_log.specs.declared.end.LogEnd.{LogEnd}
 use Rattle.mdf_log.specs.declared.end.LogEnd.TheVariants.{Closed, Inputs, Refused}
@@ -62,10 +62,6 @@ abbrev pub source_text : ℕ → SourceEnd → List ℕ
 source_text source end =
     source_line source end.accepted
     ++ (bad_line source end.bad ++ (word_line source (codes " failed") (has_failed end) ++ word_line source (codes " cut") (is_cut end)))
-
--- the line on all samples
-abbrev pub totals_line : ℕ → ℕ → List ℕ
-totals_line samples durable = line (codes "samples " ∷ decimal samples ∷ codes " durable " ∷ decimal durable ∷ [])
 
 abbrev pub log_text : LogEnd → List ℕ
 log_text (Inputs sources) = line (codes "sources " ∷ decimal sources ∷ [])

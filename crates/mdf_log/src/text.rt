@@ -3,16 +3,15 @@ ghost use Rattle.std.specs.Prelude.{◌≡◌, ◌++◌};
 ghost use Rattle.std.specs.List.{list_any};
 ghost use Rattle.mdf_port.specs.State.{sink_state};
 ghost use Rattle.mdf_command.specs.Texts.{Gives, Prints, numbered};
-ghost use Rattle.mdf_record.specs.Record.{source_line};
-ghost use Rattle.mdf_log.specs.Report.{bad_line, has_bad, has_failed, is_cut, is_deaf, log_status, log_text, source_text, sources_status, totals_line, was_short, word_line};
+ghost use Rattle.mdf_log.specs.Report.{bad_line, has_bad, has_failed, is_cut, is_deaf, log_status, log_text, source_text, sources_status, was_short, word_line};
 
 use crate::{LogEnd, SourceEnd, Stop};
 use acq_lines::Halt;
-use mdf_command::Piece::{Number, Sum, Text};
+use mdf_command::Piece::{Number, Text};
 use mdf_command::{give_line, status_after};
 use mdf_num::Failed;
 use mdf_port::Sink;
-use mdf_record::give_rest;
+use mdf_record::{give_accepted, give_rest, give_totals};
 
 /// Whether the input of the source failed.
 fn has_failed(end: &SourceEnd) -> bool
@@ -36,21 +35,6 @@ fn was_short(end: &SourceEnd) -> bool
         Stop::Halted(Halt::Input | Halt::Line | Halt::Failed) => false,
         Stop::Halted(Halt::Memory | Halt::Count | Halt::Called) | Stop::Refused => true,
     }
-}
-
-/// Gives the line on how many samples of a source were accepted.
-fn give_accepted<K: Sink>(sink: &mut K, source: u64, accepted: u128) -> Result<(), Failed>
-    ensures { Gives (source_line source accepted) (sink_state K.Sink sink.old) (sink_state K.Sink sink.new) result }
-{
-    give_line(
-        sink,
-        &[
-            Text(b"source "),
-            Number(source),
-            Text(b" accepted "),
-            Sum(accepted),
-        ],
-    )
 }
 
 /// Gives the line on how many lines of a source no rule admits, where there are any.
@@ -99,21 +83,6 @@ fn give_sources<K: Sink>(sink: &mut K, sources: &[SourceEnd]) -> Result<(), Fail
         give_source(sink, source as u64, end)?;
     }
     Ok(())
-}
-
-/// Gives the line on all samples.
-fn give_totals<K: Sink>(sink: &mut K, samples: u128, durable: u128) -> Result<(), Failed>
-    ensures { Gives (totals_line samples durable) (sink_state K.Sink sink.old) (sink_state K.Sink sink.new) result }
-{
-    give_line(
-        sink,
-        &[
-            Text(b"samples "),
-            Sum(samples),
-            Text(b" durable "),
-            Sum(durable),
-        ],
-    )
 }
 
 /// Gives the lines with which a log ends: for each source how many of its samples were accepted, how many of its lines no rule
