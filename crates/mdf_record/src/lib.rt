@@ -6,12 +6,14 @@ mod feeds;
 mod gate;
 mod head;
 mod law;
+mod means;
 mod record;
 mod sources;
 
 pub use feeds::{RecordedFeeds, Setting, record_feeds};
 pub use gate::{Gate, Open};
 pub use law::what_is_recoverable_is_finalizable;
+pub use means::Means;
 pub use record::{
     RecordEnd, Recorded, create, give_rest, read_source, record_script, refused, run_generated,
     run_record,
