@@ -6,13 +6,14 @@ use Rattle.mdf_make.specs.declared.said.Said.{Said}
 use Rattle.tool_concat.specs.Concat.{Differs, Joining, TooWide}
 use Rattle.tool_concat.specs.declared.fault.ConcatFault.{ConcatFault}
 use Rattle.tool_concat.specs.declared.fault.ConcatFault.TheVariants as concat
+use Rattle.mdf_command.specs.Faults.{end_status}
 use Rattle.mdf_command.specs.Load.{IsOver}
 use Rattle.mdf_command.specs.Texts.{Prints}
 use Rattle.mdf_command.specs.declared.fault.Fault.{Fault}
 use Rattle.mdf_command.specs.declared.fault.Fault.TheVariants as fault
 use Rattle.mdf_make.specs.Concat.{AreBothLoaded, IsRefusedWith}
 use Rattle.mdf_make.specs.Attach.{IsOfCarrying}
-use Rattle.mdf_make.specs.Making.{making_status, making_text}
+use Rattle.mdf_make.specs.Making.{making_text}
 use Rattle.mdf_make.specs.declared.blamed.Input.{Input}
 use Rattle.mdf_make.specs.declared.blamed.Input.TheVariants.{First, Second, Both}
 use Rattle.mdf_make.specs.declared.joining.Unjoined.{Unjoined}
@@ -50,7 +51,7 @@ IsOfEnd Blames now disk other blamed (Err problem) = IsOf Blames now disk other 
 -- A command on two inputs prints how it ended, and that input is blamed that the fault is of.
 abbrev pub BlamesOne : (Joining → Option Input → Fault → Type 0) → ℕ → DiskState → DiskState → SinkState → SinkState → ℕ → Option Input → Type 0
 BlamesOne Blames now disk other sink sink' status blamed =
-    (end : Result Said Fault) × Prints (making_text end) (making_status end) sink sink' status × IsOfEnd Blames now disk other blamed end
+    (end : Result Said Fault) × Prints (making_text end) (end_status end) sink sink' status × IsOfEnd Blames now disk other blamed end
 
 -- so `concat`, and so `attach`
 abbrev pub BlamesJoined : ℕ → DiskState → DiskState → SinkState → SinkState → ℕ → Option Input → Type 0

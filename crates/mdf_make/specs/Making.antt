@@ -9,7 +9,7 @@ use Rattle.mdf_seal.specs.Seal.{IsKept}
 use Rattle.mdf_tool.specs.declared.made.Report.{Report}
 use Rattle.mdf_make.specs.declared.said.Said.{Said}
 use Rattle.mdf_command.specs.Texts.{line, Prints}
-use Rattle.mdf_command.specs.Faults.{fault_line, fault_status}
+use Rattle.mdf_command.specs.Faults.{end_status, fault_line}
 use Rattle.mdf_command.specs.Load.{IsCalm, IsLoaded, IsOver, LoadWants}
 use Rattle.mdf_command.specs.declared.fault.Fault.{Fault}
 use Rattle.mdf_command.specs.declared.fault.Fault.TheVariants as fault
@@ -93,11 +93,7 @@ abbrev pub making_text : Result Said Fault → List ℕ
 making_text (Ok said) = said_lines said
 making_text (Err fault) = fault_line fault
 
-abbrev pub making_status : Result Said Fault → ℕ
-making_status (Ok report) = 0
-making_status (Err fault) = fault_status fault
-
 -- How the command ends, by what the disks of the inputs and of the output and the sink tell before and after.
 abbrev pub EndsMaking : {Input : Type 0} → Inputs Input → (Input → List ℕ → Said → Type 0) → (Input → Fault → Type 0) → DiskState → DiskState → SinkState → SinkState → ℕ → Type 0
 EndsMaking inputs Makes Refuses out out' sink sink' status =
-    (end : Result Said Fault) × MakingComes inputs Makes Refuses out out' end × Prints (making_text end) (making_status end) sink sink' status
+    (end : Result Said Fault) × MakingComes inputs Makes Refuses out out' end × Prints (making_text end) (end_status end) sink sink' status

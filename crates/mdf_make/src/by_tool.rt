@@ -3,16 +3,18 @@ ghost use Rattle.std.specs.Prelude.{◌≡◌, Some, None};
 ghost use Rattle.mdf_disk.specs.Crash.{HoldsSince};
 ghost use Rattle.mdf_disk.specs.State.{state_of};
 ghost use Rattle.mdf_port.specs.State.{sink_state};
+ghost use Rattle.mdf_command.specs.Faults.{end_status};
 ghost use Rattle.mdf_command.specs.Load.{IsLoaded};
 ghost use Rattle.mdf_command.specs.Texts.{Gives, Prints};
 ghost use Rattle.mdf_command.specs.Asked.{IsOnlyMade, IsOnlyRead};
-ghost use Rattle.mdf_make.specs.Making.{EndsMaking, LeavesOf, MakeComes, MakingComes, one_input, making_status, making_text, report_line, rest_line, said_lines};
+ghost use Rattle.mdf_make.specs.Making.{EndsMaking, LeavesOf, MakeComes, MakingComes, one_input, making_text, report_line, rest_line, said_lines};
 ghost use Rattle.mdf_make.specs.Tool.{IsImage};
 
+use crate::from::FromOne;
 use crate::said::Said;
 use crate::tool::Tool;
 use mdf_command::Piece::{Number, Text};
-use mdf_command::{Fault, give_line, load, status_after};
+use mdf_command::{Fault, give_line, load, status_after, status_of};
 use mdf_disk::{Disk, Role};
 use mdf_num::{Bytes, Failed};
 use mdf_port::Sink;
@@ -36,12 +38,10 @@ pub(crate) fn make<T: Tool + Drop, C: Disk>(
     tool.make(alloc, file, out)
 }
 
-/// Makes a file of the file of this name, of the other name.
+/// Makes a file of the input.
 fn make_of<T: Tool + Drop, A: Disk, C: Disk>(
-    alloc: Global,
     tool: T,
-    input: &Bytes,
-    output: &Bytes,
+    from: &FromOne<'_>,
     first: &mut A,
     out: &mut C,
 ) -> Result<Said, Fault>
@@ -49,11 +49,11 @@ fn make_of<T: Tool + Drop, A: Disk, C: Disk>(
     requires out { C.asked out.old ≡ None }
     ensures comes { MakingComes (one_input (state_of A.Disk first.old) (state_of A.Disk first.new)) (T.makes tool) (T.refuses tool) (state_of C.Disk out.old) (state_of C.Disk out.new) result }
     ensures any_moment { LeavesOf (IsLoaded (state_of A.Disk first.old)) (λ file. IsImage (T.makes tool file)) (state_of C.Disk out.old) (state_of C.Disk out.new) }
-    ensures input { IsOnlyRead A.Disk (Some input.now) first.old first.new }
-    ensures output { IsOnlyMade C.Disk (Some output.now) out.old out.new }
+    ensures input { IsOnlyRead A.Disk (Some from.now.input.now) first.old first.new }
+    ensures output { IsOnlyMade C.Disk (Some from.now.output.now) out.old out.new }
 {
-    let file = load(alloc, input, first)?;
-    make(alloc, tool, file, output, out)
+    let file = load(from.alloc, from.input, first)?;
+    make(from.alloc, tool, file, from.output, out)
 }
 
 /// Gives the line on the file that was made.
@@ -101,30 +101,18 @@ fn give_end<K: Sink>(sink: &mut K, end: &Result<Said, Fault>) -> Result<(), Fail
     }
 }
 
-/// The status with which a command ends.
-fn status(end: &Result<Said, Fault>) -> u8
-    ensures { result ≡ making_status end.now }
-{
-    match end {
-        Ok(_) => 0,
-        Err(fault) => fault.status(),
-    }
-}
-
 /// Prints how a command ended, and answers the program's status.
 pub(crate) fn report<K: Sink>(sink: &mut K, end: &Result<Said, Fault>) -> u8
-    ensures { Prints (making_text end.now) (making_status end.now) (sink_state K.Sink sink.old) (sink_state K.Sink sink.new) result }
+    ensures { Prints (making_text end.now) (end_status end.now) (sink_state K.Sink sink.old) (sink_state K.Sink sink.new) result }
 {
     let given = give_end(sink, end);
-    status_after(given, status(end))
+    status_after(given, status_of(end))
 }
 
 /// Makes a file of another one, and prints what it holds, or why none was made. Answers the program's status.
 pub(crate) fn run_tool<T: Tool + Drop, K: Sink, A: Disk, C: Disk>(
-    alloc: Global,
     tool: T,
-    input: &Bytes,
-    output: &Bytes,
+    from: &FromOne<'_>,
     sink: &mut K,
     first: &mut A,
     out: &mut C,
@@ -134,9 +122,9 @@ pub(crate) fn run_tool<T: Tool + Drop, K: Sink, A: Disk, C: Disk>(
     ensures ends { EndsMaking (one_input (state_of A.Disk first.old) (state_of A.Disk first.new)) (T.makes tool) (T.refuses tool) (state_of C.Disk out.old) (state_of C.Disk out.new)
         (sink_state K.Sink sink.old) (sink_state K.Sink sink.new) result }
     ensures any_moment { LeavesOf (IsLoaded (state_of A.Disk first.old)) (λ file. IsImage (T.makes tool file)) (state_of C.Disk out.old) (state_of C.Disk out.new) }
-    ensures input { IsOnlyRead A.Disk (Some input.now) first.old first.new }
-    ensures output { IsOnlyMade C.Disk (Some output.now) out.old out.new }
+    ensures input { IsOnlyRead A.Disk (Some from.now.input.now) first.old first.new }
+    ensures output { IsOnlyMade C.Disk (Some from.now.output.now) out.old out.new }
 {
-    let end = make_of(alloc, tool, input, output, first, out);
+    let end = make_of(tool, from, first, out);
     report(sink, &end)
 }

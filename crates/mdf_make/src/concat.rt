@@ -8,6 +8,7 @@ ghost use Rattle.mdf_make.specs.Concat.{AreBothLoaded, AreNotJoined, EndsConcat,
 ghost use Rattle.mdf_make.specs.Making.{LeavesOf};
 
 use crate::blamed::{Input, Verdict};
+use crate::from::FromTwo;
 use crate::joining::{Unjoined, run_pair};
 use crate::pair_tool::PairTool;
 use crate::said::Said;
@@ -80,11 +81,7 @@ impl PairTool for Concatenating {
 /// `concat A B OUT`: makes the sorted file of two finished ones, each group with the records of the first and then those of the
 /// second, and prints what it holds, or why none was made. Answers the program's status, and the input that the fault is of.
 pub fn run_concat<K: Sink, A: Disk, B: Disk, C: Disk>(
-    alloc: Global,
-    input: &Bytes,
-    other: &Bytes,
-    output: &Bytes,
-    now_ns: u64,
+    from: &FromTwo<'_>,
     sink: &mut K,
     first: &mut A,
     second: &mut B,
@@ -93,25 +90,14 @@ pub fn run_concat<K: Sink, A: Disk, B: Disk, C: Disk>(
     requires first { A.asked first.old ≡ None }
     requires second { B.asked second.old ≡ None }
     requires out { C.asked out.old ≡ None }
-    ensures ends { EndsConcat now_ns (state_of A.Disk first.old) (state_of A.Disk first.new) (state_of B.Disk second.old) (state_of B.Disk second.new)
+    ensures ends { EndsConcat from.now.now_ns (state_of A.Disk first.old) (state_of A.Disk first.new) (state_of B.Disk second.old) (state_of B.Disk second.new)
         (state_of C.Disk out.old) (state_of C.Disk out.new) (sink_state K.Sink sink.old) (sink_state K.Sink sink.new) result.status }
-    ensures blames { BlamesJoined now_ns (state_of A.Disk first.old) (state_of B.Disk second.old)
+    ensures blames { BlamesJoined from.now.now_ns (state_of A.Disk first.old) (state_of B.Disk second.old)
         (sink_state K.Sink sink.old) (sink_state K.Sink sink.new) result.status result.blamed }
-    ensures any_moment { LeavesOf (AreBothLoaded now_ns (state_of A.Disk first.old) (state_of B.Disk second.old)) IsConcatImage (state_of C.Disk out.old) (state_of C.Disk out.new) }
-    ensures input { IsOnlyRead A.Disk (Some input.now) first.old first.new }
-    ensures other { IsOnlyRead B.Disk (Some other.now) second.old second.new }
-    ensures output { IsOnlyMade C.Disk (Some output.now) out.old out.new }
+    ensures any_moment { LeavesOf (AreBothLoaded from.now.now_ns (state_of A.Disk first.old) (state_of B.Disk second.old)) IsConcatImage (state_of C.Disk out.old) (state_of C.Disk out.new) }
+    ensures input { IsOnlyRead A.Disk (Some from.now.input.now) first.old first.new }
+    ensures other { IsOnlyRead B.Disk (Some from.now.other.now) second.old second.new }
+    ensures output { IsOnlyMade C.Disk (Some from.now.output.now) out.old out.new }
 {
-    run_pair(
-        alloc,
-        Concatenating,
-        input,
-        other,
-        output,
-        now_ns,
-        sink,
-        first,
-        second,
-        out,
-    )
+    run_pair(Concatenating, from, sink, first, second, out)
 }

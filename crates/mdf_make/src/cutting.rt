@@ -9,6 +9,7 @@ ghost use Rattle.mdf_make.specs.Sort.{IsNotMeasured};
 ghost use Rattle.mdf_make.specs.Cut.{Cuts, EndsCut};
 
 use crate::by_tool::run_tool;
+use crate::from::FromOne;
 use crate::said::Said;
 use crate::tool::Tool;
 use mdf_command::Fault;
@@ -42,31 +43,21 @@ impl Tool for Cutting {
 /// `cut IN OUT FROM TO`: makes the sorted file of a finished one with those records alone whose master has a raw number from
 /// `from` on and below `to`, and prints what it holds, or why none was made. Answers the program's status.
 pub fn run_cut<K: Sink, A: Disk, C: Disk>(
-    alloc: Global,
-    input: &Bytes,
-    output: &Bytes,
+    of: &FromOne<'_>,
     from: i128,
     to: i128,
-    now_ns: u64,
     sink: &mut K,
     first: &mut A,
     out: &mut C,
 ) -> u8
     requires first { A.asked first.old ≡ None }
     requires out { C.asked out.old ≡ None }
-    ensures ends { EndsCut (record { from = from; to = to; now = now_ns }) (state_of A.Disk first.old) (state_of A.Disk first.new) (state_of C.Disk out.old) (state_of C.Disk out.new)
+    ensures ends { EndsCut (record { from = from; to = to; now = of.now.now_ns }) (state_of A.Disk first.old) (state_of A.Disk first.new) (state_of C.Disk out.old) (state_of C.Disk out.new)
         (sink_state K.Sink sink.old) (sink_state K.Sink sink.new) result }
-    ensures any_moment { LeavesOf (IsLoaded (state_of A.Disk first.old)) (λ file. IsCutImage file (record { from = from; to = to; now = now_ns })) (state_of C.Disk out.old) (state_of C.Disk out.new) }
-    ensures input { IsOnlyRead A.Disk (Some input.now) first.old first.new }
-    ensures output { IsOnlyMade C.Disk (Some output.now) out.old out.new }
+    ensures any_moment { LeavesOf (IsLoaded (state_of A.Disk first.old)) (λ file. IsCutImage file (record { from = from; to = to; now = of.now.now_ns })) (state_of C.Disk out.old) (state_of C.Disk out.new) }
+    ensures input { IsOnlyRead A.Disk (Some of.now.input.now) first.old first.new }
+    ensures output { IsOnlyMade C.Disk (Some of.now.output.now) out.old out.new }
 {
-    run_tool(
-        alloc,
-        Cutting { from, to, now_ns },
-        input,
-        output,
-        sink,
-        first,
-        out,
-    )
+    let now_ns = of.now_ns;
+    run_tool(Cutting { from, to, now_ns }, of, sink, first, out)
 }

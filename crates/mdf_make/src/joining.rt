@@ -12,13 +12,13 @@ ghost use Rattle.mdf_make.specs.Tool.{IsImage};
 
 use crate::blamed::{Input, Verdict};
 use crate::by_tool::report;
+use crate::from::FromTwo;
 use crate::pair_tool::PairTool;
 use crate::said::Said;
 use mdf_command::{Fault, load};
 use mdf_disk::{Disk, Role};
 use mdf_num::{Bytes, Failed, Memory};
 use mdf_port::Sink;
-use std::alloc::Global;
 
 /// Why no file was made of two.
 #[derive(Clone, Copy)]
@@ -65,33 +65,27 @@ fn unread(input: Input, fault: Fault) -> Unjoined
 
 /// Makes the file of this name of the bytes of two.
 fn make_joined<T: PairTool + Drop, C: Disk>(
-    alloc: Global,
     tool: T,
+    from: &FromTwo<'_>,
     one: Bytes,
     two: Bytes,
-    output: &Bytes,
-    now_ns: u64,
     out: &mut C,
 ) -> Result<Said, Unjoined>
     requires { C.asked out.old ≡ None }
-    ensures comes { MakeComes (T.makes tool (record { first = one; second = two; now = now_ns })) (T.refuses tool (record { first = one; second = two; now = now_ns }))
+    ensures comes { MakeComes (T.makes tool (record { first = one; second = two; now = from.now.now_ns })) (T.refuses tool (record { first = one; second = two; now = from.now.now_ns }))
         (state_of C.Disk out.old) (state_of C.Disk out.new) (joining_end result) }
-    ensures blames { IfErr result (λ unjoined. IsOfLoaded (T.blames tool) (record { first = one; second = two; now = now_ns }) unjoined.blamed unjoined.fault) }
-    ensures any_moment { HoldsSince (C.story out.new) (C.moment out.old) (IsImage (T.makes tool (record { first = one; second = two; now = now_ns }))) }
-    ensures output { IsOnlyMade C.Disk (Some output.now) out.old out.new }
+    ensures blames { IfErr result (λ unjoined. IsOfLoaded (T.blames tool) (record { first = one; second = two; now = from.now.now_ns }) unjoined.blamed unjoined.fault) }
+    ensures any_moment { HoldsSince (C.story out.new) (C.moment out.old) (IsImage (T.makes tool (record { first = one; second = two; now = from.now.now_ns }))) }
+    ensures output { IsOnlyMade C.Disk (Some from.now.output.now) out.old out.new }
 {
-    out.attach(output.copy()?, Role::Create)?;
-    tool.make(alloc, one, two, now_ns, out)
+    out.attach(from.output.copy()?, Role::Create)?;
+    tool.make(from.alloc, one, two, from.now_ns, out)
 }
 
 /// Makes a file of the files of two names, of a third name.
 fn join<T: PairTool + Drop, A: Disk, B: Disk, C: Disk>(
-    alloc: Global,
     tool: T,
-    input: &Bytes,
-    other: &Bytes,
-    output: &Bytes,
-    now_ns: u64,
+    from: &FromTwo<'_>,
     first: &mut A,
     second: &mut B,
     out: &mut C,
@@ -99,23 +93,23 @@ fn join<T: PairTool + Drop, A: Disk, B: Disk, C: Disk>(
     requires first { A.asked first.old ≡ None }
     requires second { B.asked second.old ≡ None }
     requires out { C.asked out.old ≡ None }
-    ensures comes { MakingComes (two_inputs now_ns (state_of A.Disk first.old) (state_of A.Disk first.new) (state_of B.Disk second.old) (state_of B.Disk second.new))
+    ensures comes { MakingComes (two_inputs from.now.now_ns (state_of A.Disk first.old) (state_of A.Disk first.new) (state_of B.Disk second.old) (state_of B.Disk second.new))
         (T.makes tool) (T.refuses tool) (state_of C.Disk out.old) (state_of C.Disk out.new) (joining_end result) }
-    ensures blames { IsOfEnd (T.blames tool) now_ns (state_of A.Disk first.old) (state_of B.Disk second.old) (joining_blamed result) (joining_end result) }
-    ensures any_moment { LeavesOf (AreBothLoaded now_ns (state_of A.Disk first.old) (state_of B.Disk second.old)) (λ asked. IsImage (T.makes tool asked)) (state_of C.Disk out.old) (state_of C.Disk out.new) }
-    ensures input { IsOnlyRead A.Disk (Some input.now) first.old first.new }
-    ensures other { IsOnlyRead B.Disk (Some other.now) second.old second.new }
-    ensures output { IsOnlyMade C.Disk (Some output.now) out.old out.new }
+    ensures blames { IsOfEnd (T.blames tool) from.now.now_ns (state_of A.Disk first.old) (state_of B.Disk second.old) (joining_blamed result) (joining_end result) }
+    ensures any_moment { LeavesOf (AreBothLoaded from.now.now_ns (state_of A.Disk first.old) (state_of B.Disk second.old)) (λ asked. IsImage (T.makes tool asked)) (state_of C.Disk out.old) (state_of C.Disk out.new) }
+    ensures input { IsOnlyRead A.Disk (Some from.now.input.now) first.old first.new }
+    ensures other { IsOnlyRead B.Disk (Some from.now.other.now) second.old second.new }
+    ensures output { IsOnlyMade C.Disk (Some from.now.output.now) out.old out.new }
 {
-    let one = match load(alloc, input, first) {
+    let one = match load(from.alloc, from.input, first) {
         Ok(one) => one,
         Err(fault) => return Err(unread(Input::First, fault)),
     };
-    let two = match load(alloc, other, second) {
+    let two = match load(from.alloc, from.other, second) {
         Ok(two) => two,
         Err(fault) => return Err(unread(Input::Second, fault)),
     };
-    make_joined(alloc, tool, one, two, output, now_ns, out)
+    make_joined(tool, from, one, two, out)
 }
 
 /// How the command ends.
@@ -141,12 +135,8 @@ fn blamed_of(joined: Result<Said, Unjoined>) -> Option<Input>
 /// Makes a file of two others, and prints what it holds, or why none was made. Answers the program's status, and the input that the
 /// fault is of.
 pub(crate) fn run_pair<T: PairTool + Drop, K: Sink, A: Disk, B: Disk, C: Disk>(
-    alloc: Global,
     tool: T,
-    input: &Bytes,
-    other: &Bytes,
-    output: &Bytes,
-    now_ns: u64,
+    from: &FromTwo<'_>,
     sink: &mut K,
     first: &mut A,
     second: &mut B,
@@ -155,18 +145,16 @@ pub(crate) fn run_pair<T: PairTool + Drop, K: Sink, A: Disk, B: Disk, C: Disk>(
     requires first { A.asked first.old ≡ None }
     requires second { B.asked second.old ≡ None }
     requires out { C.asked out.old ≡ None }
-    ensures ends { EndsMaking (two_inputs now_ns (state_of A.Disk first.old) (state_of A.Disk first.new) (state_of B.Disk second.old) (state_of B.Disk second.new))
+    ensures ends { EndsMaking (two_inputs from.now.now_ns (state_of A.Disk first.old) (state_of A.Disk first.new) (state_of B.Disk second.old) (state_of B.Disk second.new))
         (T.makes tool) (T.refuses tool) (state_of C.Disk out.old) (state_of C.Disk out.new) (sink_state K.Sink sink.old) (sink_state K.Sink sink.new) result.status }
-    ensures blames { BlamesOne (T.blames tool) now_ns (state_of A.Disk first.old) (state_of B.Disk second.old)
+    ensures blames { BlamesOne (T.blames tool) from.now.now_ns (state_of A.Disk first.old) (state_of B.Disk second.old)
         (sink_state K.Sink sink.old) (sink_state K.Sink sink.new) result.status result.blamed }
-    ensures any_moment { LeavesOf (AreBothLoaded now_ns (state_of A.Disk first.old) (state_of B.Disk second.old)) (λ asked. IsImage (T.makes tool asked)) (state_of C.Disk out.old) (state_of C.Disk out.new) }
-    ensures input { IsOnlyRead A.Disk (Some input.now) first.old first.new }
-    ensures other { IsOnlyRead B.Disk (Some other.now) second.old second.new }
-    ensures output { IsOnlyMade C.Disk (Some output.now) out.old out.new }
+    ensures any_moment { LeavesOf (AreBothLoaded from.now.now_ns (state_of A.Disk first.old) (state_of B.Disk second.old)) (λ asked. IsImage (T.makes tool asked)) (state_of C.Disk out.old) (state_of C.Disk out.new) }
+    ensures input { IsOnlyRead A.Disk (Some from.now.input.now) first.old first.new }
+    ensures other { IsOnlyRead B.Disk (Some from.now.other.now) second.old second.new }
+    ensures output { IsOnlyMade C.Disk (Some from.now.output.now) out.old out.new }
 {
-    let joined = join(
-        alloc, tool, input, other, output, now_ns, first, second, out,
-    );
+    let joined = join(tool, from, first, second, out);
     let status = report(sink, &end_of(joined));
     Verdict {
         status,

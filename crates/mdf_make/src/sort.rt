@@ -8,6 +8,7 @@ ghost use Rattle.tool_sort.specs.Sort.{IsSortImage};
 ghost use Rattle.mdf_make.specs.Sort.{EndsSort, IsNotMeasured, Sorts};
 
 use crate::by_tool::run_tool;
+use crate::from::FromOne;
 use crate::said::Said;
 use crate::tool::Tool;
 use mdf_command::Fault;
@@ -37,21 +38,19 @@ impl Tool for Sorting {
 /// `sort IN OUT`: makes the sorted file of a finished one and prints what it holds, or why none was made. Answers the
 /// program's status.
 pub fn run_sort<K: Sink, A: Disk, C: Disk>(
-    alloc: Global,
-    input: &Bytes,
-    output: &Bytes,
-    now_ns: u64,
+    from: &FromOne<'_>,
     sink: &mut K,
     first: &mut A,
     out: &mut C,
 ) -> u8
     requires first { A.asked first.old ≡ None }
     requires out { C.asked out.old ≡ None }
-    ensures ends { EndsSort now_ns (state_of A.Disk first.old) (state_of A.Disk first.new) (state_of C.Disk out.old) (state_of C.Disk out.new)
+    ensures ends { EndsSort from.now.now_ns (state_of A.Disk first.old) (state_of A.Disk first.new) (state_of C.Disk out.old) (state_of C.Disk out.new)
         (sink_state K.Sink sink.old) (sink_state K.Sink sink.new) result }
-    ensures any_moment { LeavesOf (IsLoaded (state_of A.Disk first.old)) (λ file. IsSortImage file now_ns) (state_of C.Disk out.old) (state_of C.Disk out.new) }
-    ensures input { IsOnlyRead A.Disk (Some input.now) first.old first.new }
-    ensures output { IsOnlyMade C.Disk (Some output.now) out.old out.new }
+    ensures any_moment { LeavesOf (IsLoaded (state_of A.Disk first.old)) (λ file. IsSortImage file from.now.now_ns) (state_of C.Disk out.old) (state_of C.Disk out.new) }
+    ensures input { IsOnlyRead A.Disk (Some from.now.input.now) first.old first.new }
+    ensures output { IsOnlyMade C.Disk (Some from.now.output.now) out.old out.new }
 {
-    run_tool(alloc, Sorting { now_ns }, input, output, sink, first, out)
+    let now_ns = from.now_ns;
+    run_tool(Sorting { now_ns }, from, sink, first, out)
 }

@@ -7,7 +7,8 @@ use Rattle.acq_script.specs.Script.{script_of}
 use Rattle.acq_script.specs.declared.script.Script.{Script}
 use Rattle.mdf_command.specs.declared.fault.Fault.{Fault}
 use Rattle.mdf_command.specs.declared.fault.Fault.TheVariants as fault
-use Rattle.mdf_record.specs.Script.{IsNoScript, IsTaken, SCRIPT_LIMIT, SaysScript, ScriptFaultComes}
+use Rattle.mdf_record.specs.Script.{IsNoScript, IsTaken, SaysScript, ScriptFaultComes}
+use Rattle.mdf_command.specs.Faults.{SCRIPT_LIMIT}
 
 -- what holds of it holds of what the source had, where that is told
 whole : (old new : Option (List ℕ)) (text : List ℕ) (P : List ℕ → Type 0) → Consumes old new text → IsAtEnd new → P text → IfSome old P

@@ -6,12 +6,9 @@ use Rattle.mdf_port.specs.Source.{TakesAtMost, TakesFront}
 use Rattle.mdf_port.specs.State.{SourceState}
 use Rattle.acq_script.specs.Script.{WantsIn, script_of}
 use Rattle.acq_script.specs.declared.script.Script.{Script}
+use Rattle.mdf_command.specs.Faults.{SCRIPT_LIMIT}
 use Rattle.mdf_command.specs.declared.fault.Fault.{Fault}
 use Rattle.mdf_command.specs.declared.fault.Fault.TheVariants as fault
-
--- how many bytes a script has at most
-abbrev pub SCRIPT_LIMIT : ℕ
-SCRIPT_LIMIT = 67108864
 
 -- a beginning of what the source had was taken, be it all or nothing, and its count of faults did not fall
 pub record IsTaken (old new : SourceState) : Type 0 where

@@ -7,6 +7,7 @@ mod gate;
 mod head;
 mod law;
 mod lines;
+mod means;
 mod record;
 mod sources;
 
@@ -14,6 +15,7 @@ pub use feeds::{RecordedFeeds, Setting, record_feeds};
 pub use gate::{Gate, Open};
 pub use law::what_is_recoverable_is_finalizable;
 pub use lines::{give_accepted, give_totals};
+pub use means::Means;
 pub use record::{
     RecordEnd, Recorded, create, give_rest, read_source, record_script, refused, run_generated,
     run_record,

@@ -19,6 +19,7 @@ use crate::feeds::{RecordedFeeds, Setting, record_feeds};
 use crate::gate::Gate;
 use crate::head::head_for;
 use crate::lines::{give_accepted, give_totals};
+use crate::means::Means;
 use crate::sources::{Accepted, End, feeds_of};
 use acq_run::{Audience, Seen};
 use acq_script::{Script, generated, read_script};
@@ -26,7 +27,7 @@ use book_owned::{Book, Flush, Marks};
 use book_view::Told;
 use mdf_carried::what_is_carried_is_recovered;
 use mdf_command::Piece::{Number, Text};
-use mdf_command::{Fault, give_line, status_after};
+use mdf_command::{Fault, SCRIPT_LIMIT, give_line, status_after};
 use mdf_disk::{Disk, Role};
 use mdf_format::Form;
 use mdf_gate::GatedFile;
@@ -37,9 +38,6 @@ use mdf_port::{Sink, Source, take_all};
 use std::alloc::Global;
 use std::sync::Wait;
 use std::thread::Threads;
-
-/// How many bytes a script has at most.
-const SCRIPT_LIMIT: u64 = 67_108_864;
 
 /// How a recording ended.
 #[derive(Drop)]
@@ -180,18 +178,17 @@ pub(crate) fn finish<R: Threads + Wait + Sync, C: Disk>(
 
 /// Records the tasks of a script into a file that was just created, and closes the book.
 fn record_into<R: Threads + Wait + Sync, C: Disk + Send, G: Gate + Sync>(
-    rt: &R,
-    alloc: Global,
+    means: &Means<'_, R, G>,
     script: Script,
     file: GatedFile<C>,
-    gate: &G,
 ) -> Recorded<C>
     requires script { IsScript script }
     requires created { IsNewFile C.Disk file }
     ensures recorded { HasRun C.Disk script file (outcome C.Disk result.out result.history.items result.marks.items) result.end }
 {
+    let alloc = means.alloc;
     let Script { plan, lists } = script;
-    let Ok(feeds) = feeds_of(alloc, lists.into_vec(), gate) else {
+    let Ok(feeds) = feeds_of(alloc, lists.into_vec(), means.gate) else {
         return refused(alloc, Fault::Memory, file.into_disk());
     };
     let setting = Setting {
@@ -205,7 +202,7 @@ fn record_into<R: Threads + Wait + Sync, C: Disk + Send, G: Gate + Sync>(
         recorded,
         feeds: _feeds,
         all: _all,
-    } = record_feeds(rt, alloc, setting, file, feeds);
+    } = record_feeds(means.rt, alloc, setting, file, feeds);
     recorded
 }
 
@@ -242,32 +239,30 @@ pub(crate) fn close<R: Wait, C: Disk>(
 
 /// Records a script into a new file of this name, unless there was a fault in its place.
 pub fn record_script<R: Threads + Wait + Sync, C: Disk + Send, G: Gate + Sync>(
-    rt: &R,
-    alloc: Global,
+    means: &Means<'_, R, G>,
     output: &Bytes,
-    now_ns: u64,
     script: Result<Script, Fault>,
     out: C,
-    gate: &G,
 ) -> Recorded<C>
     requires asked { C.asked out ≡ None }
     requires script { IfOk script IsScript }
-    ensures comes { RecordComes (λ said. script ≡ Ok said) (λ fault. script ≡ Err fault) output.now now_ns (state_of C.Disk out)
+    ensures comes { RecordComes (λ said. script ≡ Ok said) (λ fault. script ≡ Err fault) output.now means.now.now_ns (state_of C.Disk out)
         (outcome C.Disk result.out result.history.items result.marks.items) result.end }
     ensures untouched { C.asked result.out ≡ None → result.out ≡ out }
     ensures recovered { AreRecovered (C.moment out) (outcome C.Disk result.out result.history.items result.marks.items) }
 {
     what_is_carried_is_recovered();
+    let alloc = means.alloc;
     match script {
         Ok(script) => match create(
             alloc,
             output,
-            now_ns,
+            means.now_ns,
             &script.plan.rows,
             script.plan.form,
             out,
         ) {
-            Ok(file) => record_into(rt, alloc, script, file, gate),
+            Ok(file) => record_into(means, script, file),
             Err((fault, out)) => refused(alloc, fault, out),
         },
         Err(fault) => refused(alloc, fault, out),
@@ -374,14 +369,11 @@ fn report<K: Sink>(sink: &mut K, end: &RecordEnd) -> u8
 /// `record OUT`: records the script of the source into a new file, and prints how many samples it holds. Answers the
 /// program's status too.
 pub fn run_record<R, S, K, C, G>(
-    rt: &R,
-    alloc: Global,
+    means: &Means<'_, R, G>,
     output: &Bytes,
-    now_ns: u64,
     source: &mut S,
     sink: &mut K,
     out: C,
-    gate: &G,
 ) -> (u8, Recorded<C>)
 where
     R: Threads + Wait + Sync,
@@ -392,14 +384,14 @@ where
     requires { C.asked out ≡ None }
     ensures comes { RecordComes (SaysScript (source_state S.Source source.old) (source_state S.Source source.new))
         (ScriptFaultComes (source_state S.Source source.old) (source_state S.Source source.new))
-        output.now now_ns (state_of C.Disk out) (outcome C.Disk result.1.out result.1.history.items result.1.marks.items) result.1.end }
+        output.now means.now.now_ns (state_of C.Disk out) (outcome C.Disk result.1.out result.1.history.items result.1.marks.items) result.1.end }
     ensures untouched { C.asked result.1.out ≡ None → result.1.out ≡ out }
     ensures recovered { AreRecovered (C.moment out) (outcome C.Disk result.1.out result.1.history.items result.1.marks.items) }
     ensures printed { Prints (record_text result.1.end) (record_status result.1.end)
         (sink_state K.Sink sink.old) (sink_state K.Sink sink.new) result.0 }
 {
-    let script = read_source(alloc, source);
-    let recorded = record_script(rt, alloc, output, now_ns, script, out, gate);
+    let script = read_source(means.alloc, source);
+    let recorded = record_script(means, output, script, out);
     let status = report(sink, &recorded.end);
     (status, recorded)
 }
@@ -417,14 +409,11 @@ fn generate(alloc: Global, samples: u64) -> Result<Script, Fault>
 /// `gen N OUT`: records the generated script of so many samples, at most 1,000,000, into a new file, and prints how many it
 /// holds. Answers the program's status too.
 pub fn run_generated<R, K, C, G>(
-    rt: &R,
-    alloc: Global,
+    means: &Means<'_, R, G>,
     samples: u64,
     output: &Bytes,
-    now_ns: u64,
     sink: &mut K,
     out: C,
-    gate: &G,
 ) -> (u8, Recorded<C>)
 where
     R: Threads + Wait + Sync,
@@ -434,14 +423,14 @@ where
     requires asked { C.asked out ≡ None }
     requires samples { samples ≤ 1000000 }
     ensures comes { RecordComes (λ script. script ≡ generated_script samples) (λ fault. fault ≡ Fault.Memory)
-        output.now now_ns (state_of C.Disk out) (outcome C.Disk result.1.out result.1.history.items result.1.marks.items) result.1.end }
+        output.now means.now.now_ns (state_of C.Disk out) (outcome C.Disk result.1.out result.1.history.items result.1.marks.items) result.1.end }
     ensures untouched { C.asked result.1.out ≡ None → result.1.out ≡ out }
     ensures recovered { AreRecovered (C.moment out) (outcome C.Disk result.1.out result.1.history.items result.1.marks.items) }
     ensures printed { Prints (record_text result.1.end) (record_status result.1.end)
         (sink_state K.Sink sink.old) (sink_state K.Sink sink.new) result.0 }
 {
-    let script = generate(alloc, samples);
-    let recorded = record_script(rt, alloc, output, now_ns, script, out, gate);
+    let script = generate(means.alloc, samples);
+    let recorded = record_script(means, output, script, out);
     let status = report(sink, &recorded.end);
     (status, recorded)
 }

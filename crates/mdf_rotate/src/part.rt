@@ -19,7 +19,7 @@ use mdf_command::Fault;
 use mdf_disk::Disk;
 use mdf_layout::Samples;
 use mdf_num::{Bytes, Memory};
-use mdf_record::{Gate, Recorded, record_script};
+use mdf_record::{Gate, Means, Recorded, record_script};
 use std::alloc::Global;
 use std::sync::Wait;
 use std::thread::Threads;
@@ -87,58 +87,55 @@ fn cut_next(
 
 /// Records the next part of what is left onto a disk.
 fn record_next<R, C, G>(
-    rt: &R,
-    alloc: Global,
+    means: &Means<'_, R, G>,
     output: &Bytes,
-    now_ns: u64,
     number: u64,
     left: Rotation,
     out: C,
-    gate: &G,
 ) -> (Part<C>, Course)
 where
     R: Threads + Wait + Sync,
     C: Disk + Send,
     G: Gate + Sync,
     requires { C.asked out ≡ None }
-    ensures comes { PartComes output.now now_ns number (state_of C.Disk out)
+    ensures comes { PartComes output.now means.now.now_ns number (state_of C.Disk out)
         (outcome C.Disk result.0.out result.0.history.items result.0.marks.items) (Ok left) result.1 }
     ensures untouched { C.asked result.0.out ≡ None → result.0.out ≡ out }
     ensures recovered { AreRecovered (C.moment out) (outcome C.Disk result.0.out result.0.history.items result.0.marks.items) }
 {
-    match cut_next(alloc, output, number, left) {
+    match cut_next(means.alloc, output, number, left) {
         Ok((name, script, rest)) => {
-            let recorded = record_script(rt, alloc, &name, now_ns, Ok(script), out, gate);
+            let recorded = record_script(means, &name, Ok(script), out);
             part_of(recorded, rest)
         }
-        Err(_) => (unused(alloc, out), Err(RotateEnd::Faulted(Fault::Memory))),
+        Err(_) => (
+            unused(means.alloc, out),
+            Err(RotateEnd::Faulted(Fault::Memory)),
+        ),
     }
 }
 
 /// Does with a disk what the course of a rotation says, and answers how it goes on.
 fn go_on<R, C, G>(
-    rt: &R,
-    alloc: Global,
+    means: &Means<'_, R, G>,
     output: &Bytes,
-    now_ns: u64,
     number: u64,
     course: Course,
     out: C,
-    gate: &G,
 ) -> (Part<C>, Course)
 where
     R: Threads + Wait + Sync,
     C: Disk + Send,
     G: Gate + Sync,
     requires { C.asked out ≡ None }
-    ensures comes { PartComes output.now now_ns number (state_of C.Disk out)
+    ensures comes { PartComes output.now means.now.now_ns number (state_of C.Disk out)
         (outcome C.Disk result.0.out result.0.history.items result.0.marks.items) course result.1 }
     ensures untouched { C.asked result.0.out ≡ None → result.0.out ≡ out }
     ensures recovered { AreRecovered (C.moment out) (outcome C.Disk result.0.out result.0.history.items result.0.marks.items) }
 {
     match course {
-        Ok(left) => record_next(rt, alloc, output, now_ns, number, left, out, gate),
-        Err(end) => (unused(alloc, out), Err(end)),
+        Ok(left) => record_next(means, output, number, left, out),
+        Err(end) => (unused(means.alloc, out), Err(end)),
     }
 }
 
@@ -158,14 +155,11 @@ pub(crate) fn leave_all<C: Disk + Drop>(alloc: Global, outs: Vec<C>, parts: &mut
 
 /// Records the parts onto the disks, one behind the other, and answers how the rotation goes on behind the last.
 pub(crate) fn record_all<R, C, G>(
-    rt: &R,
-    alloc: Global,
+    means: &Means<'_, R, G>,
     output: &Bytes,
-    now_ns: u64,
     course: Course,
     outs: Vec<C>,
     parts: &mut Vec<Part<C>>,
-    gate: &G,
 ) -> Course
 where
     R: Threads + Wait + Sync,
@@ -174,14 +168,14 @@ where
     requires none { parts.old.items ≡ [] }
     requires room { length outs.items ≤ vec_capacity parts.old }
     requires asked { All (λ out. C.asked out ≡ None) outs.items }
-    ensures come { PartsCome output.now now_ns 0 (states C.Disk outs.items) (outcomes C.Disk parts.new.items) course result }
+    ensures come { PartsCome output.now means.now.now_ns 0 (states C.Disk outs.items) (outcomes C.Disk parts.new.items) course result }
     ensures untouched { AllZip (λ out part. C.asked part.out ≡ None → part.out ≡ out) outs.items parts.new.items }
     ensures recovered { AllZip (λ disk left. AreRecovered disk.moment left) (states C.Disk outs.items) (outcomes C.Disk parts.new.items) }
 {
     let mut course = course;
     let mut number = 0;
     for out in outs {
-        let (part, next) = go_on(rt, alloc, output, now_ns, number, course, out, gate);
+        let (part, next) = go_on(means, output, number, course, out);
         parts.push_reserved(part);
         course = next;
         number += 1;

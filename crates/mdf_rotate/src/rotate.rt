@@ -12,11 +12,11 @@ use crate::course::{Course, RotateEnd, begin, end_of};
 use crate::part::{Part, leave_all, record_all};
 use crate::report::report;
 use crate::words::output_in;
-use mdf_command::{Fault, run_usage, status_after};
+use mdf_command::{run_unread, run_usage};
 use mdf_disk::Disk;
 use mdf_num::{Bytes, Rows};
 use mdf_port::{Sink, Source};
-use mdf_record::{Gate, read_source};
+use mdf_record::{Gate, Means, read_source};
 use std::alloc::Global;
 use std::sync::Wait;
 use std::thread::Threads;
@@ -42,15 +42,12 @@ fn course_of<S: Source>(alloc: Global, source: &mut S) -> Course
 
 /// Records the script of the source into parts, for which there is room, and prints how that ended. Answers the program's status.
 fn rotate<R, S, K, C, G>(
-    rt: &R,
-    alloc: Global,
+    means: &Means<'_, R, G>,
     output: &Bytes,
-    now_ns: u64,
     source: &mut S,
     sink: &mut K,
     outs: Vec<C>,
     parts: &mut Vec<Part<C>>,
-    gate: &G,
 ) -> u8
 where
     R: Threads + Wait + Sync,
@@ -61,27 +58,24 @@ where
     requires none { parts.old.items ≡ [] }
     requires room { length outs.items ≤ vec_capacity parts.old }
     requires asked { All (λ out. C.asked out ≡ None) outs.items }
-    ensures ends { EndsRotate (source_state S.Source source.old) (source_state S.Source source.new) output.now now_ns (states C.Disk outs.items)
+    ensures ends { EndsRotate (source_state S.Source source.old) (source_state S.Source source.new) output.now means.now.now_ns (states C.Disk outs.items)
         (outcomes C.Disk parts.new.items) (sink_state K.Sink sink.old) (sink_state K.Sink sink.new) result }
     ensures untouched { AllZip (λ out part. C.asked part.out ≡ None → part.out ≡ out) outs.items parts.new.items }
 {
-    let course = course_of(alloc, source);
-    let course = record_all(rt, alloc, output, now_ns, course, outs, parts, gate);
+    let course = course_of(means.alloc, source);
+    let course = record_all(means, output, course, outs, parts);
     report(sink, parts.as_slice(), end_of(course))
 }
 
 /// Does what the words ask for: records the parts, for which there is room, or prints the usage line and leaves the disks. Answers
 /// the program's status.
 fn answer<R, S, K, C, G>(
-    rt: &R,
-    alloc: Global,
+    means: &Means<'_, R, G>,
     words: &Rows<Bytes>,
-    now_ns: u64,
     source: &mut S,
     sink: &mut K,
     outs: Vec<C>,
     parts: &mut Vec<Part<C>>,
-    gate: &G,
 ) -> u8
 where
     R: Threads + Wait + Sync,
@@ -92,15 +86,15 @@ where
     requires none { parts.old.items ≡ [] }
     requires room { length outs.items ≤ vec_capacity parts.old }
     requires asked { All (λ out. C.asked out ≡ None) outs.items }
-    ensures runs { RotateRuns words.now (source_state S.Source source.old) (source_state S.Source source.new) now_ns (states C.Disk outs.items)
+    ensures runs { RotateRuns words.now (source_state S.Source source.old) (source_state S.Source source.new) means.now.now_ns (states C.Disk outs.items)
         (outcomes C.Disk parts.new.items) (sink_state K.Sink sink.old) (sink_state K.Sink sink.new) result }
     ensures untouched { AllZip (λ out part. C.asked part.out ≡ None → part.out ≡ out) outs.items parts.new.items }
     ensures usage { (result ≡ 1) ↔ AsksNoRotation words.now }
 {
     match output_in(words) {
-        Some(output) => rotate(rt, alloc, output, now_ns, source, sink, outs, parts, gate),
+        Some(output) => rotate(means, output, source, sink, outs, parts),
         None => {
-            leave_all(alloc, outs, parts);
+            leave_all(means.alloc, outs, parts);
             run_usage(sink)
         }
     }
@@ -112,10 +106,7 @@ fn give_up<K: Sink>(words: &Rows<Bytes>, sink: &mut K) -> u8
     ensures memory { (output : List ℕ) → AsksToRotate words.now output → Prints (fault_line Memory) 7 (sink_state K.Sink sink.old) (sink_state K.Sink sink.new) result }
 {
     match output_in(words) {
-        Some(_) => {
-            let given = Fault::Memory.give(sink);
-            status_after(given, Fault::Memory.status())
-        }
+        Some(_) => run_unread(sink),
         None => run_usage(sink),
     }
 }
@@ -157,9 +148,13 @@ where
             unused: outs,
         };
     };
-    let status = answer(
-        rt, alloc, words, now_ns, source, sink, outs, &mut parts, gate,
-    );
+    let means = Means {
+        rt,
+        alloc,
+        now_ns,
+        gate,
+    };
+    let status = answer(&means, words, source, sink, outs, &mut parts);
     Rotated {
         status,
         parts,

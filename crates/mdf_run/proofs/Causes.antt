@@ -11,13 +11,13 @@ use Rattle.mdf_gate.specs.declared.answer.Opened.{Opened}
 use Rattle.mdf_attach.specs.declared.entry.Entry.{Entry}
 use Rattle.mdf_make.specs.declared.said.Said.{Said}
 use Rattle.mdf_command.specs.Texts.{Prints, unwritten_status}
-use Rattle.mdf_command.specs.Faults.{fault_line, fault_status, refused_status}
+use Rattle.mdf_command.specs.Faults.{end_status, fault_line, fault_status, refused_status}
 use Rattle.mdf_command.specs.declared.fault.Fault.{Fault}
 use Rattle.mdf_command.specs.declared.fault.Fault.TheVariants as fault
-use Rattle.mdf_make.specs.Making.{EndsMaking, Inputs, MakingComes, making_status, making_text}
-use Rattle.mdf_inspect.specs.Opened.{EndsOpened, OpenedComes, OpenedFaultComes, opened_status, opened_text}
-use Rattle.mdf_inspect.specs.Reading.{EndsReading, Reading, ReadingComes, ReadingFaultComes, answer_text, reading_status}
-use Rattle.mdf_inspect.specs.Attachments.{EndsListing, ListingComes, ListingFaultComes, listing_status, listing_text}
+use Rattle.mdf_make.specs.Making.{EndsMaking, Inputs, MakingComes, making_text}
+use Rattle.mdf_inspect.specs.Opened.{EndsOpened, OpenedComes, OpenedFaultComes, opened_text}
+use Rattle.mdf_inspect.specs.Reading.{EndsReading, Reading, ReadingComes, ReadingFaultComes, answer_text}
+use Rattle.mdf_inspect.specs.Attachments.{EndsListing, ListingComes, ListingFaultComes, listing_text}
 use Rattle.mdf_inspect.specs.Export.{EndsExport, PrintsEnd, TableComes, TableFaultComes}
 use Rattle.mdf_inspect.specs.declared.table.TableEnd.{TableEnd}
 use Rattle.mdf_inspect.specs.declared.table.TableEnd.TheVariants as table
@@ -94,7 +94,7 @@ widened S D K S' D' K' status caused source device sink = record {
 }
 
 module _ (disk disk' : DiskState) (sink sink' : SinkState) (status : ℕ) where
-  opened_coded : (end : Result Opened Fault) → OpenedComes disk disk' end → Coded ⊥ (Rose disk.faults disk'.faults) (opened_status end)
+  opened_coded : (end : Result Opened Fault) → OpenedComes disk disk' end → Coded ⊥ (Rose disk.faults disk'.faults) (end_status end)
   opened_coded (Ok count) comes = done ⊥ (Rose disk.faults disk'.faults)
   opened_coded (Err problem) comes =
       fault_coded ⊥ (Rose disk.faults disk'.faults) problem (λ is. subst (λ p. OpenedFaultComes disk disk' p) is comes)
@@ -102,9 +102,9 @@ module _ (disk disk' : DiskState) (sink sink' : SinkState) (status : ℕ) where
 
   pub opened_caused : EndsOpened disk disk' sink sink' status → IsCaused ⊥ (Rose disk.faults disk'.faults) (Rose sink.faults sink'.faults) status
   opened_caused ends =
-      printed ⊥ (Rose disk.faults disk'.faults) (opened_text ends.0) (opened_status ends.0) sink sink' status (opened_coded ends.0 ends.1) ends.2
+      printed ⊥ (Rose disk.faults disk'.faults) (opened_text ends.0) (end_status ends.0) sink sink' status (opened_coded ends.0 ends.1) ends.2
 
-  reading_coded : (end : Result Reading Fault) → ReadingComes disk disk' end → Coded ⊥ (Rose disk.faults disk'.faults) (reading_status end)
+  reading_coded : (end : Result Reading Fault) → ReadingComes disk disk' end → Coded ⊥ (Rose disk.faults disk'.faults) (end_status end)
   reading_coded (Ok found) comes = done ⊥ (Rose disk.faults disk'.faults)
   reading_coded (Err problem) comes =
       fault_coded ⊥ (Rose disk.faults disk'.faults) problem (λ is. subst (λ p. ReadingFaultComes disk disk' p) is comes)
@@ -113,9 +113,9 @@ module _ (disk disk' : DiskState) (sink sink' : SinkState) (status : ℕ) where
   pub reading_caused : (text : Reading → List ℕ) → EndsReading text disk disk' sink sink' status
       → IsCaused ⊥ (Rose disk.faults disk'.faults) (Rose sink.faults sink'.faults) status
   reading_caused text ends =
-      printed ⊥ (Rose disk.faults disk'.faults) (answer_text text ends.0) (reading_status ends.0) sink sink' status (reading_coded ends.0 ends.1) ends.2
+      printed ⊥ (Rose disk.faults disk'.faults) (answer_text text ends.0) (end_status ends.0) sink sink' status (reading_coded ends.0 ends.1) ends.2
 
-  listing_coded : (end : Result (List Entry) Fault) → ListingComes disk disk' end → Coded ⊥ (Rose disk.faults disk'.faults) (listing_status end)
+  listing_coded : (end : Result (List Entry) Fault) → ListingComes disk disk' end → Coded ⊥ (Rose disk.faults disk'.faults) (end_status end)
   listing_coded (Ok rows) comes = done ⊥ (Rose disk.faults disk'.faults)
   listing_coded (Err problem) comes =
       fault_coded ⊥ (Rose disk.faults disk'.faults) problem (λ is. subst (λ p. ListingFaultComes disk disk' p) is comes)
@@ -123,7 +123,7 @@ module _ (disk disk' : DiskState) (sink sink' : SinkState) (status : ℕ) where
 
   pub listing_caused : EndsListing disk disk' sink sink' status → IsCaused ⊥ (Rose disk.faults disk'.faults) (Rose sink.faults sink'.faults) status
   listing_caused ends =
-      printed ⊥ (Rose disk.faults disk'.faults) (listing_text ends.0) (listing_status ends.0) sink sink' status (listing_coded ends.0 ends.1) ends.2
+      printed ⊥ (Rose disk.faults disk'.faults) (listing_text ends.0) (end_status ends.0) sink sink' status (listing_coded ends.0 ends.1) ends.2
 
   module _ (group : ℕ) (failed : status ≡ 6 → Rose sink.faults sink'.faults) where
     table_caused : (end : TableEnd) (between : SinkState) → TableComes group disk disk' sink between end → PrintsEnd end between sink' status
@@ -152,7 +152,7 @@ module _ (disk disk' : DiskState) (sink sink' : SinkState) (status : ℕ) where
 -- a command that makes a file with a tool that refuses none for the source
 module _ {Input : Type 0} (inputs : Inputs Input) (Makes : Input → List ℕ → Said → Type 0) (Refuses : Input → Fault → Type 0)
     (takes : (input : Input) → ¬ Refuses input fault.Source) (out out' : DiskState) where
-  making_coded : (end : Result Said Fault) → MakingComes inputs Makes Refuses out out' end → Coded ⊥ (inputs.Failed ⊎ Rose out.faults out'.faults) (making_status end)
+  making_coded : (end : Result Said Fault) → MakingComes inputs Makes Refuses out out' end → Coded ⊥ (inputs.Failed ⊎ Rose out.faults out'.faults) (end_status end)
   making_coded (Ok report) comes = done ⊥ (inputs.Failed ⊎ Rose out.faults out'.faults)
   making_coded (Err problem) comes = fault_coded ⊥ (inputs.Failed ⊎ Rose out.faults out'.faults) problem refused
       (λ is. ⊎_elim (λ failed. inl failed.0) inr (subst (λ p. MakingComes inputs Makes Refuses out out' (Err p)) is comes)) where
@@ -164,5 +164,5 @@ module _ {Input : Type 0} (inputs : Inputs Input) (Makes : Input → List ℕ �
   pub making_caused : (sink sink' : SinkState) (status : ℕ) → EndsMaking inputs Makes Refuses out out' sink sink' status
       → IsCaused ⊥ (inputs.Failed ⊎ Rose out.faults out'.faults) (Rose sink.faults sink'.faults) status
   making_caused sink sink' status ends =
-      printed ⊥ (inputs.Failed ⊎ Rose out.faults out'.faults) (making_text ends.0) (making_status ends.0) sink sink' status
+      printed ⊥ (inputs.Failed ⊎ Rose out.faults out'.faults) (making_text ends.0) (end_status ends.0) sink sink' status
       (making_coded ends.0 ends.1) ends.2

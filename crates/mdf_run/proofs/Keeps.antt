@@ -20,7 +20,7 @@ use Rattle.mdf_gate.specs.Images.{IsBegun}
 use Rattle.mdf_record.specs.Head.{script_head}
 use Rattle.mdf_run.specs.Kept.{IsDone, IsDurable, IsReported, Keeps}
 use Rattle.mdf_record.specs.Record.{AreAccepted, CloseComes, IsComplete, Outcome, fault_code, fault_text, live_of, live_text, record_status, record_text, summary_text}
-use Rattle.mdf_record.specs.Script.{SCRIPT_LIMIT}
+use Rattle.mdf_command.specs.Faults.{SCRIPT_LIMIT}
 use Rattle.mdf_record.specs.Recorded.{IsClosed, IsNotBegun, IsRefused, IsUnread, RecordComes}
 use Rattle.mdf_command.specs.Texts.{Prints, unwritten_status}
 use Rattle.mdf_command.specs.declared.fault.Fault.{Fault}

@@ -19,7 +19,7 @@ use Rattle.mdf_session.proofs.Identified.{session_is_identified}
 use Rattle.mdf_carried.specs.Recovers.{IsReadable}
 use Rattle.mdf_record.specs.Recovers.{IsFinalizable}
 use Rattle.mdf_make.specs.declared.said.Said.{Said}
-use Rattle.mdf_command.specs.Faults.{INPUT_LIMIT, READING_LIMIT, fault_line, fault_status, refused_status}
+use Rattle.mdf_command.specs.Faults.{INPUT_LIMIT, READING_LIMIT, end_status, fault_line, fault_status, refused_status}
 use Rattle.mdf_command.specs.Load.{IsLoaded, IsOverOf}
 use Rattle.mdf_command.specs.Texts.{unwritten_status}
 use Rattle.mdf_command.specs.declared.fault.Fault.{Fault}
@@ -30,12 +30,12 @@ use Rattle.tool_complete.specs.Completed.{completed_file, completion, dropped_re
 use Rattle.tool_complete.specs.Flags.{is_mendable, unfinished, unfinished_by}
 use Rattle.mdf_make.specs.Finalize.{IsNotFinalized, RefusesBy}
 use Rattle.mdf_make.specs.Sort.{IsNotMeasured}
-use Rattle.mdf_make.specs.Making.{EndsMaking, Inputs, MakingComes, making_text, making_status, one_input}
+use Rattle.mdf_make.specs.Making.{EndsMaking, Inputs, MakingComes, making_text, one_input}
 use Rattle.tool_export.specs.Export.{HasNoGroup}
 use Rattle.mdf_inspect.specs.Export.{EndsExport, LacksGroup, PrintsEnd, TableComes, TableFaultComes}
 use Rattle.mdf_inspect.specs.declared.table.TableEnd.{TableEnd}
 use Rattle.mdf_inspect.specs.declared.table.TableEnd.TheVariants.{Given, Unwritten, Refused}
-use Rattle.mdf_inspect.specs.Attachments.{AreRefusedWith, EndsListing, ListingComes, ListingFaultComes, listing_status, listing_text}
+use Rattle.mdf_inspect.specs.Attachments.{AreRefusedWith, EndsListing, ListingComes, ListingFaultComes, listing_text}
 use Rattle.mdf_inspect.specs.Paged.{IfReadOf}
 use Rattle.mdf_run.specs.Kept.{HasGroup, IsCompletable, IsDoneOrLacked, IsListable, IsMeasured}
 use Rattle.mdf_run.proofs.Keeps.{was_status}
@@ -70,13 +70,13 @@ module _ {Input : Type 0} (inputs : Inputs Input) (Makes : Input → List ℕ �
   making_fault problem comes = inr (inr (takes comes.0.0 comes.0.1 problem comes.0.2))
 
   making_end : (end : Result Said Fault) → MakingComes inputs Makes Refuses out out' end
-      → (making_status end ≡ 0) ⊎ ((making_status end ≡ 4) ⊎ (making_status end ≡ 7))
+      → (end_status end ≡ 0) ⊎ ((end_status end ≡ 4) ⊎ (end_status end ≡ 7))
   making_end (Ok report) comes = inl refl
   making_end (Err problem) comes = making_fault problem comes
 
   pub making_well : (sink sink' : SinkState) (status : ℕ) → EndsMaking inputs Makes Refuses out out' sink sink' status → IsDoneOrLacked status
   making_well sink sink' status ends =
-      ends_well (making_status ends.0) status (was_status (making_text ends.0) (making_status ends.0) sink sink' status ends.2) (making_end ends.0 ends.1)
+      ends_well (end_status ends.0) status (was_status (making_text ends.0) (end_status ends.0) sink sink' status ends.2) (making_end ends.0 ends.1)
 
 -- what holds of what a disk tells that tells this file
 module _ (disk : DiskState) (file : List ℕ) (told : disk.content ≡ Some file) where
@@ -153,7 +153,7 @@ module _ (disk disk' : DiskState) (file : List ℕ) (told : disk.content ≡ Som
   listing_fault problem comes = absurd comes
 
   listing_end : (end : Result (List Entry) Fault) → ListingComes disk disk' end
-      → (listing_status end ≡ 0) ⊎ ((listing_status end ≡ 4) ⊎ (listing_status end ≡ 7))
+      → (end_status end ≡ 0) ⊎ ((end_status end ≡ 4) ⊎ (end_status end ≡ 7))
   listing_end (Ok rows) comes = inl refl
   listing_end (Err problem) comes = listing_fault problem comes
 
@@ -161,7 +161,7 @@ pub listable_is_listed : (disk disk' : DiskState) (sink sink' : SinkState) (stat
     → EndsListing disk disk' sink sink' status → IfSome content (λ file. IsListable file → length file ≤ INPUT_LIMIT → IsDoneOrLacked status)
 listable_is_listed disk disk' sink sink' status None told ends = tt
 listable_is_listed disk disk' sink sink' status (Some file) told ends = λ listable short.
-    ends_well (listing_status ends.0) status (was_status (listing_text ends.0) (listing_status ends.0) sink sink' status ends.2)
+    ends_well (end_status ends.0) status (was_status (listing_text ends.0) (end_status ends.0) sink sink' status ends.2)
     (listing_end disk disk' file told short listable ends.0 ends.1)
 
 -- a command that makes a file of one input, which it refuses for want of memory alone

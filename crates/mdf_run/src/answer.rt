@@ -8,7 +8,7 @@ ghost use Rattle.mdf_run.specs.Asked.{HasNumbers, TakesNothing, asked_by, file_a
 ghost use Rattle.mdf_run.specs.Ends.{HasEnded};
 ghost use Rattle.mdf_run.specs.Told.{told};
 
-use crate::finished::{Finished, without_recording};
+use crate::finished::{Finished, with_recording, without_recording};
 use crate::making::make;
 use crate::recording::record;
 use crate::showing::show;
@@ -16,25 +16,21 @@ use crate::uniting::unite;
 use mdf_command::{Command, run_usage};
 use mdf_disk::Disk;
 use mdf_inspect::Shown;
-use mdf_make::Verdict;
+use mdf_make::{FromOne, FromTwo, Verdict};
 use mdf_port::{Sink, Source};
-use mdf_record::Gate;
-use std::alloc::Global;
+use mdf_record::{Gate, Means};
 use std::sync::Wait;
 use std::thread::Threads;
 
 /// Does what the words ask for, or prints the usage line where they ask for nothing.
 pub(crate) fn answer<R, S, K, A, B, C, G>(
-    rt: &R,
-    alloc: Global,
+    means: &Means<'_, R, G>,
     command: Option<Command<'_>>,
-    now_ns: u64,
     source: &mut S,
     sink: &mut K,
     first: A,
     second: &mut B,
     out: C,
-    gate: &G,
 ) -> Finished<A, C>
 where
     R: Threads + Wait + Sync,
@@ -49,12 +45,14 @@ where
     requires second { B.asked second.old ≡ None }
     requires out { C.asked out ≡ None }
     ensures ended { HasEnded (asked_by command.entry)
-        (told S.Source K.Sink A.Disk B.Disk C.Disk now_ns source.old source.new sink.old sink.new first second.old second.new out result) }
+        (told S.Source K.Sink A.Disk B.Disk C.Disk means.now.now_ns source.old source.new sink.old sink.new first second.old second.new out result) }
     ensures input { IsOnlyRead A.Disk (file_asked input_of (asked_by command.entry)) first result.first }
     ensures second { IsOnlyRead B.Disk (file_asked second_of (asked_by command.entry)) second.old second.new }
     ensures output { IsOnlyMade C.Disk (file_asked output_of (asked_by command.entry)) out result.out }
     ensures source { TakesNothing (asked_by command.entry) → source.new ≡ source.old }
 {
+    let alloc = means.alloc;
+    let now_ns = means.now_ns;
     match command {
         Some(Command::Show { input, aspect }) => {
             let Shown { status, first } = show(alloc, aspect, input, sink, first);
@@ -69,9 +67,13 @@ where
         ) => {
             let mut first = first;
             let mut out = out;
-            let status = make(
-                alloc, product, input, output, now_ns, sink, &mut first, &mut out,
-            );
+            let from = FromOne {
+                alloc,
+                input,
+                output,
+                now_ns,
+            };
+            let status = make(product, &from, sink, &mut first, &mut out);
             without_recording(alloc, Verdict::of_one(status), first, out)
         }
         Some(
@@ -84,14 +86,20 @@ where
         ) => {
             let mut first = first;
             let mut out = out;
-            let verdict = unite(
-                alloc, union, input, other, output, now_ns, sink, &mut first, second, &mut out,
-            );
+            let from = FromTwo {
+                alloc,
+                input,
+                other,
+                output,
+                now_ns,
+            };
+            let verdict = unite(union, &from, sink, &mut first, second, &mut out);
             without_recording(alloc, verdict, first, out)
         }
-        Some(Command::Record { output, origin }) => record(
-            rt, alloc, origin, output, now_ns, source, sink, first, out, gate,
-        ),
+        Some(Command::Record { output, origin }) => {
+            let (status, recorded) = record(means, origin, output, source, sink, out);
+            with_recording(status, first, recorded)
+        }
         None => {
             let status = run_usage(sink);
             without_recording(alloc, Verdict::of_one(status), first, out)

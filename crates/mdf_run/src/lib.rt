@@ -12,10 +12,9 @@ mod program;
 mod recording;
 mod showing;
 mod uniting;
-mod unread;
 
 pub use finished::Finished;
+pub use mdf_command::run_unread;
 pub use mdf_make::{Input, Verdict};
 pub use mdf_record::{Gate, Open};
 pub use program::run;
-pub use unread::run_unread;

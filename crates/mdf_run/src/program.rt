@@ -19,7 +19,7 @@ use mdf_command::command_of;
 use mdf_disk::Disk;
 use mdf_num::{Bytes, Rows};
 use mdf_port::{Sink, Source};
-use mdf_record::Gate;
+use mdf_record::{Gate, Means};
 use std::alloc::Global;
 use std::sync::Wait;
 use std::thread::Threads;
@@ -73,7 +73,11 @@ where
     ensures source { TouchesSource words.now source.old source.new }
 {
     let command = command_of(words);
-    answer(
-        rt, alloc, command, now_ns, source, sink, first, second, out, gate,
-    )
+    let means = Means {
+        rt,
+        alloc,
+        now_ns,
+        gate,
+    };
+    answer(&means, command, source, sink, first, second, out)
 }

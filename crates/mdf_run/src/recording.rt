@@ -15,28 +15,22 @@ ghost use Rattle.mdf_run.specs.Asked.{TakesNone};
 ghost use Rattle.mdf_run.specs.Ends.{EndsRecording};
 ghost use Rattle.mdf_run.specs.Kept.{IsDurable, Keeps};
 
-use crate::finished::{Finished, with_recording};
 use mdf_command::Origin;
 use mdf_disk::Disk;
 use mdf_num::Bytes;
 use mdf_port::{Sink, Source};
-use mdf_record::{Gate, run_generated, run_record};
-use std::alloc::Global;
+use mdf_record::{Gate, Means, Recorded, run_generated, run_record};
 use std::sync::Wait;
 use std::thread::Threads;
 
 /// Records the script of the source.
-fn record_source<R, S, K, A, C, G>(
-    rt: &R,
-    alloc: Global,
+fn record_source<R, S, K, C, G>(
+    means: &Means<'_, R, G>,
     output: &Bytes,
-    now_ns: u64,
     source: &mut S,
     sink: &mut K,
-    first: A,
     out: C,
-    gate: &G,
-) -> Finished<A, C>
+) -> (u8, Recorded<C>)
 where
     R: Threads + Wait + Sync,
     S: Source,
@@ -44,38 +38,31 @@ where
     C: Disk + Send,
     G: Gate + Sync,
     requires { C.asked out ≡ None }
-    ensures ends { EndsRecord (source_state S.Source source.old) (source_state S.Source source.new) output.now now_ns (state_of C.Disk out)
-        (outcome C.Disk result.out result.history.items result.marks.items)
-        (sink_state K.Sink sink.old) (sink_state K.Sink sink.new) result.status }
+    ensures ends { EndsRecord (source_state S.Source source.old) (source_state S.Source source.new) output.now means.now.now_ns (state_of C.Disk out)
+        (outcome C.Disk result.1.out result.1.history.items result.1.marks.items)
+        (sink_state K.Sink sink.old) (sink_state K.Sink sink.new) result.0 }
     ensures keeps { (text : List ℕ) → S.left source.old ≡ Some text → (script : Script) → script_of text ≡ Ok script
-        → Keeps (C.moment out) now_ns script (state_of C.Disk result.out) result.history.items result.marks.items
-        (sink_state K.Sink sink.old) (sink_state K.Sink sink.new) result.status }
-    ensures recovered { AreRecovered (C.moment out) (outcome C.Disk result.out result.history.items result.marks.items) }
-    ensures durable { IsDurable result.status result.history.items result.marks.items }
-    ensures untouched { C.asked result.out ≡ None → result.out ≡ out }
-    ensures blamed { result.blamed ≡ None }
-    ensures first { result.first ≡ first }
-    ensures usage { result.status ≢ 1 }
-    ensures source_fault { result.status ≡ 2 → Rose (S.faults source.old) (S.faults source.new) }
-    ensures device_fault { result.status ≡ 4 → Rose (C.faults out) (C.faults result.out) }
-    ensures sink_fault { result.status ≡ 6 → Rose (K.faults sink.old) (K.faults sink.new) }
+        → Keeps (C.moment out) means.now.now_ns script (state_of C.Disk result.1.out) result.1.history.items result.1.marks.items
+        (sink_state K.Sink sink.old) (sink_state K.Sink sink.new) result.0 }
+    ensures recovered { AreRecovered (C.moment out) (outcome C.Disk result.1.out result.1.history.items result.1.marks.items) }
+    ensures durable { IsDurable result.0 result.1.history.items result.1.marks.items }
+    ensures untouched { C.asked result.1.out ≡ None → result.1.out ≡ out }
+    ensures usage { result.0 ≢ 1 }
+    ensures source_fault { result.0 ≡ 2 → Rose (S.faults source.old) (S.faults source.new) }
+    ensures device_fault { result.0 ≡ 4 → Rose (C.faults out) (C.faults result.1.out) }
+    ensures sink_fault { result.0 ≡ 6 → Rose (K.faults sink.old) (K.faults sink.new) }
 {
-    let (status, recorded) = run_record(rt, alloc, output, now_ns, source, sink, out, gate);
-    with_recording(status, first, recorded)
+    run_record(means, output, source, sink, out)
 }
 
 /// Records the generated script of so many samples.
-fn record_generated<R, K, A, C, G>(
-    rt: &R,
-    alloc: Global,
+fn record_generated<R, K, C, G>(
+    means: &Means<'_, R, G>,
     samples: u64,
     output: &Bytes,
-    now_ns: u64,
     sink: &mut K,
-    first: A,
     out: C,
-    gate: &G,
-) -> Finished<A, C>
+) -> (u8, Recorded<C>)
 where
     R: Threads + Wait + Sync,
     K: Sink,
@@ -83,38 +70,31 @@ where
     G: Gate + Sync,
     requires asked { C.asked out ≡ None }
     requires samples { samples ≤ 1000000 }
-    ensures ends { EndsGenerated samples output.now now_ns (state_of C.Disk out)
-        (outcome C.Disk result.out result.history.items result.marks.items)
-        (sink_state K.Sink sink.old) (sink_state K.Sink sink.new) result.status }
-    ensures keeps { Keeps (C.moment out) now_ns (generated_script samples) (state_of C.Disk result.out) result.history.items result.marks.items
-        (sink_state K.Sink sink.old) (sink_state K.Sink sink.new) result.status }
-    ensures recovered { AreRecovered (C.moment out) (outcome C.Disk result.out result.history.items result.marks.items) }
-    ensures durable { IsDurable result.status result.history.items result.marks.items }
-    ensures untouched { C.asked result.out ≡ None → result.out ≡ out }
-    ensures blamed { result.blamed ≡ None }
-    ensures first { result.first ≡ first }
-    ensures usage { result.status ≢ 1 }
-    ensures source_fault { result.status ≢ 2 }
-    ensures device_fault { result.status ≡ 4 → Rose (C.faults out) (C.faults result.out) }
-    ensures sink_fault { result.status ≡ 6 → Rose (K.faults sink.old) (K.faults sink.new) }
+    ensures ends { EndsGenerated samples output.now means.now.now_ns (state_of C.Disk out)
+        (outcome C.Disk result.1.out result.1.history.items result.1.marks.items)
+        (sink_state K.Sink sink.old) (sink_state K.Sink sink.new) result.0 }
+    ensures keeps { Keeps (C.moment out) means.now.now_ns (generated_script samples) (state_of C.Disk result.1.out) result.1.history.items result.1.marks.items
+        (sink_state K.Sink sink.old) (sink_state K.Sink sink.new) result.0 }
+    ensures recovered { AreRecovered (C.moment out) (outcome C.Disk result.1.out result.1.history.items result.1.marks.items) }
+    ensures durable { IsDurable result.0 result.1.history.items result.1.marks.items }
+    ensures untouched { C.asked result.1.out ≡ None → result.1.out ≡ out }
+    ensures usage { result.0 ≢ 1 }
+    ensures source_fault { result.0 ≢ 2 }
+    ensures device_fault { result.0 ≡ 4 → Rose (C.faults out) (C.faults result.1.out) }
+    ensures sink_fault { result.0 ≡ 6 → Rose (K.faults sink.old) (K.faults sink.new) }
 {
-    let (status, recorded) = run_generated(rt, alloc, samples, output, now_ns, sink, out, gate);
-    with_recording(status, first, recorded)
+    run_generated(means, samples, output, sink, out)
 }
 
 /// Records the script of this origin into the output.
-pub(crate) fn record<R, S, K, A, C, G>(
-    rt: &R,
-    alloc: Global,
+pub(crate) fn record<R, S, K, C, G>(
+    means: &Means<'_, R, G>,
     origin: Origin,
     output: &Bytes,
-    now_ns: u64,
     source: &mut S,
     sink: &mut K,
-    first: A,
     out: C,
-    gate: &G,
-) -> Finished<A, C>
+) -> (u8, Recorded<C>)
 where
     R: Threads + Wait + Sync,
     S: Source,
@@ -123,20 +103,14 @@ where
     G: Gate + Sync,
     requires asked { C.asked out ≡ None }
     requires numbers { IsInRange (recorded output.now origin) }
-    ensures ends { EndsRecording origin output.now now_ns (source_state S.Source source.old) (source_state S.Source source.new) (state_of C.Disk out)
-        (outcome C.Disk result.out result.history.items result.marks.items)
-        (sink_state K.Sink sink.old) (sink_state K.Sink sink.new) result.status }
-    ensures blamed { result.blamed ≡ None }
-    ensures first { result.first ≡ first }
-    ensures output { IsOnlyMade C.Disk (Some output.now) out result.out }
+    ensures ends { EndsRecording origin output.now means.now.now_ns (source_state S.Source source.old) (source_state S.Source source.new) (state_of C.Disk out)
+        (outcome C.Disk result.1.out result.1.history.items result.1.marks.items)
+        (sink_state K.Sink sink.old) (sink_state K.Sink sink.new) result.0 }
+    ensures output { IsOnlyMade C.Disk (Some output.now) out result.1.out }
     ensures source { TakesNone origin → source.new ≡ source.old }
 {
     match origin {
-        Origin::Source => {
-            record_source(rt, alloc, output, now_ns, source, sink, first, out, gate)
-        }
-        Origin::Generated { samples } => {
-            record_generated(rt, alloc, samples, output, now_ns, sink, first, out, gate)
-        }
+        Origin::Source => record_source(means, output, source, sink, out),
+        Origin::Generated { samples } => record_generated(means, samples, output, sink, out),
     }
 }

@@ -6,5 +6,5 @@ use Rattle.mdf_make.proofs.concat.run_concat.Goals as goal
 
 pub returns-clause-any_moment : goal.returns-clause-any_moment
 returns-clause-any_moment g c =
-    made_leaves (AreBothLoaded c.args.now_ns (state_of g.A.Disk c.args.first.now) (state_of g.B.Disk c.args.second.now)) IsConcatOf
+    made_leaves (AreBothLoaded c.args.from.now.now_ns (state_of g.A.Disk c.args.first.now) (state_of g.B.Disk c.args.second.now)) IsConcatOf
     (state_of g.C.Disk c.args.out.now) (state_of g.C.Disk c.run_pair.new.out) c.run_pair.ensures.any_moment

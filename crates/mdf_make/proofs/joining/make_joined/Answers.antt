@@ -23,7 +23,7 @@ returns-in_err-copy-clause-any_moment g c =
     let disk = g.C.Disk in
     let laws = g.met.C.Disk in
     let out = c.args.out.now in
-    let asked : Joining = record { first = c.args.one; second = c.args.two; now = c.args.now_ns } in
+    let asked : Joining = record { first = c.args.one; second = c.args.two; now = c.args.from.now.now_ns } in
     still_no_mdf (g.T.PairTool.makes c.args.tool asked) (disk.story out) (disk.story out) (disk.content out) (disk.moment out) (laws.agrees out)
     (laws.unattached out (laws.unasked out c.requires)) refl
 
@@ -32,7 +32,7 @@ returns-in_err-attach-clause-any_moment g c =
     let disk = g.C.Disk in
     let laws = g.met.C.Disk in
     let out = c.args.out.now in
-    let asked : Joining = record { first = c.args.one; second = c.args.two; now = c.args.now_ns } in
+    let asked : Joining = record { first = c.args.one; second = c.args.two; now = c.args.from.now.now_ns } in
     still_no_mdf (g.T.PairTool.makes c.args.tool asked) (disk.story out) (disk.story c.attach.new.self) (disk.content out) (disk.moment out) (laws.agrees out)
     (laws.unattached out (laws.unasked out c.requires)) c.attach.ensures.story
 
@@ -41,7 +41,7 @@ returns-clause-comes g c =
     let disk = g.C.Disk in
     let laws = g.met.C.Disk in
     let out = c.args.out.now in
-    let asked : Joining = record { first = c.args.one; second = c.args.two; now = c.args.now_ns } in
+    let asked : Joining = record { first = c.args.one; second = c.args.two; now = c.args.from.now.now_ns } in
     make_ends (g.T.PairTool.makes c.args.tool asked) (g.T.PairTool.refuses c.args.tool asked)
     (state_of disk out) (state_of disk c.attach.new.self) (state_of disk c.make.new.out)
     (laws.agrees out) (laws.unattached out (laws.unasked out c.requires)) c.attach.ensures.story c.attach.ensures.cause.later
@@ -52,7 +52,7 @@ returns-clause-any_moment g c =
     let disk = g.C.Disk in
     let laws = g.met.C.Disk in
     let out = c.args.out.now in
-    let asked : Joining = record { first = c.args.one; second = c.args.two; now = c.args.now_ns } in
+    let asked : Joining = record { first = c.args.one; second = c.args.two; now = c.args.from.now.now_ns } in
     make_leaves (g.T.PairTool.makes c.args.tool asked) (g.T.PairTool.refuses c.args.tool asked)
     (state_of disk out) (state_of disk c.attach.new.self) (state_of disk c.make.new.out)
     (laws.agrees out) (laws.unattached out (laws.unasked out c.requires)) c.attach.ensures.story c.attach.ensures.cause.later

@@ -6,5 +6,5 @@ use Rattle.mdf_make.proofs.sort.run_sort.Goals as goal
 
 pub returns-clause-any_moment : goal.returns-clause-any_moment
 returns-clause-any_moment g c =
-    made_leaves (IsLoaded (state_of g.A.Disk c.args.first.now)) (λ file. IsSorting file c.args.now_ns)
+    made_leaves (IsLoaded (state_of g.A.Disk c.args.first.now)) (λ file. IsSorting file c.args.from.now.now_ns)
     (state_of g.C.Disk c.args.out.now) (state_of g.C.Disk c.run_tool.new.out) c.run_tool.ensures.any_moment

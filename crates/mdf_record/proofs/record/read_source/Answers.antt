@@ -1,7 +1,7 @@
 use Rattle.std.proofs.Common.{◌≤◌, length, sym, ap, subst, arith}
 use Rattle.std.specs.Io.KnownBytes.{Consumes}
 use Rattle.mdf_port.specs.State.{source_state}
-use Rattle.mdf_record.specs.Script.{SCRIPT_LIMIT}
+use Rattle.mdf_command.specs.Faults.{SCRIPT_LIMIT}
 use Rattle.mdf_record.proofs.Texts.{refused_of, says_of}
 use Rattle.mdf_record.proofs.record.read_source.Goals as goal
 

@@ -39,10 +39,10 @@ pub returns-in-Ok-create : goal.returns-in-Ok-create
 returns-in-Ok-create g c =
     let h = c.in-Ok-create.ensures.created in
     record {
-      comes = record_comes g.C.Disk (λ said. c.args.script ≡ Ok said) (λ problem. c.args.script ≡ Err problem) _ c.args.now_ns c.args.out c.in-Ok.script c.in-Ok-create.file _ _
+      comes = record_comes g.C.Disk (λ said. c.args.script ≡ Ok said) (λ problem. c.args.script ≡ Err problem) _ c.args.means.now.now_ns c.args.out c.in-Ok.script c.in-Ok-create.file _ _
           c.in-Ok.is (of_ok IsScript c.args.script c.in-Ok.script c.requires.script c.in-Ok.is) h.readable h.asked h.begun h.head h.told h.start h.faults h.made c.record_into.ensures.recorded;
       untouched = λ none. absurd (was_asked _ _ (c.record_into.ensures.recorded.asked_is ∙ h.asked) none);
-      recovered = run_recovers c.what_is_carried_is_recovered.ensures c.args.now_ns c.in-Ok.script (of_ok IsScript c.args.script c.in-Ok.script c.requires.script c.in-Ok.is).plan h.readable g.C.Disk c.args.out
+      recovered = run_recovers c.what_is_carried_is_recovered.ensures c.args.means.now.now_ns c.in-Ok.script (of_ok IsScript c.args.script c.in-Ok.script c.requires.script c.in-Ok.is).plan h.readable g.C.Disk c.args.out
           c.in-Ok-create.file _ _ h.begun h.head h.told h.start c.record_into.ensures.recorded;
     }
 

@@ -43,7 +43,7 @@ loop-out-preserved g c =
       outs = one_taken done rest later c.args.outs.items out so_far.outs steps;
       number = omega (arith, so_far.number, length-append done (out ∷ []));
       count = one_made done out before after part grown so_far.count;
-      come = part_behind tells done before after out part grown c.args.output.now c.args.now_ns c.args.course c.loop-out.course c.go_on-part.result.1 so_far.come
+      come = part_behind tells done before after out part grown c.args.output.now c.args.means.now.now_ns c.args.course c.loop-out.course c.go_on-part.result.1 so_far.come
           c.loop-out.number so_far.number went.comes;
       untouched = zip_behind (λ o p. tells.asked p.out ≡ None → p.out ≡ o) done before after out part grown so_far.untouched went.untouched;
       recovered = left_behind tells done before after out part grown (λ disk left. AreRecovered disk.moment left) so_far.recovered went.recovered;
@@ -60,7 +60,7 @@ returns g c =
     let all : c.loop-out.yielded ≡ c.args.outs.items = all_taken c.loop-out.yielded left.items c.args.outs.items so_far.outs none in
     let parts = c.loop-out.parts.items in
     record {
-      come = subst (λ outs. PartsCome c.args.output.now c.args.now_ns 0 (states tells outs) (outcomes tells parts) c.args.course c.loop-out.course) all so_far.come;
+      come = subst (λ outs. PartsCome c.args.output.now c.args.means.now.now_ns 0 (states tells outs) (outcomes tells parts) c.args.course c.loop-out.course) all so_far.come;
       untouched = subst (λ outs. AllZip (λ out part. tells.asked part.out ≡ None → part.out ≡ out) outs parts) all so_far.untouched;
       recovered = subst (λ outs. AllZip (λ disk left. AreRecovered disk.moment left) (states tells outs) (outcomes tells parts)) all so_far.recovered;
     }

@@ -17,7 +17,7 @@ returns-in-Ok g c =
         is_part = cut.part;
         is_script = cut.script;
         end = recorded.end;
-        comes = said_of c.in-Ok.script c.in-Ok.name (part_name c.args.output.now c.args.number) cut.name c.args.now_ns (state_of g.C.Disk c.args.out)
+        comes = said_of c.in-Ok.script c.in-Ok.name (part_name c.args.output.now c.args.number) cut.name c.args.means.now.now_ns (state_of g.C.Disk c.args.out)
             (outcome g.C.Disk recorded.out recorded.history.items recorded.marks.items) recorded.end c.record_script-recorded.ensures.comes;
         next_is = part.course;
       });
