@@ -6,8 +6,6 @@
 mod parts;
 mod program;
 mod told;
-mod words;
 
 pub use parts::disks;
 pub use program::start;
-pub use told::Told;

@@ -1,9 +1,8 @@
 ghost use Rattle.std.specs.Prelude.{◌≡◌, ◌≤◌, None, length, All, IfOk};
 
-use crate::told::{Told, tell, tell_file, tell_refused};
-use crate::words::words;
+use crate::told::tell_refused;
 use mdf_disk::Disk;
-use mdf_hostfile::now_ns;
+use mdf_hostfile::{Named, now_ns, read_words, tell, tell_file};
 use mdf_num::{Bytes, Memory, Rows};
 use mdf_port::{StdSink, StdSource};
 use mdf_rotate::{Part, Rotated, run_rotate};
@@ -37,7 +36,7 @@ where
     R: AllocGlobal + Clock + Eprint + Threads + Wait + Sync,
     I: Read,
     O: Write,
-    F: Disk + Told + Send + Drop,
+    F: Disk + Named + Send + Drop,
     requires first { F.Disk.asked first ≡ None }
     requires second { F.Disk.asked second ≡ None }
     requires out { F.Disk.asked out ≡ None }
@@ -83,7 +82,7 @@ where
     R: AllocGlobal + Clock + Eprint + Threads + Wait + Sync,
     I: Read,
     O: Write,
-    F: Disk + Told + Send + Drop,
+    F: Disk + Named + Send + Drop,
     requires some { IfOk outs (λ outs. 1 ≤ length outs.items) }
     requires outs { IfOk outs (λ outs. All (λ out. F.Disk.asked out ≡ None) outs.items) }
 {
@@ -122,7 +121,7 @@ where
     R: Env + AllocGlobal + Clock + Eprint + Threads + Wait + Sync,
     I: Read + Drop,
     O: Write + Drop,
-    F: Disk + Told + Send + Drop,
+    F: Disk + Named + Send + Drop,
     requires first { F.Disk.asked first ≡ None }
     requires second { F.Disk.asked second ≡ None }
     requires out { F.Disk.asked out ≡ None }
@@ -131,7 +130,7 @@ where
 {
     let mut source = StdSource::new(input);
     let mut sink = StdSink::new(output);
-    let status = match words(rt) {
+    let status = match read_words(rt) {
         Ok(words) => {
             if is_rotation(&words) {
                 rotate(rt, &words, &mut source, &mut sink, parts)
