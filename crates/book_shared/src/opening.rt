@@ -118,7 +118,7 @@ fn shared_of<D: Disk, V: Shown>(
 
 impl<D: Disk, V: Shown> SharedBook<D, V> {
     /// Shares a book that has no sample yet among so many sources. `owners` has the source that owns each group, by the number
-    /// of the group. The seats come in the order of the sources. It reserves a second block.
+    /// of the group. The seats come in the order of the sources.
     ///
     /// # Errors
     /// Want of memory, with the book as it was.

@@ -13,5 +13,5 @@ returns g c = record {
   works =
       works_on c.args.seat.now c.in-TheFront.front c.finish.new.self
       (λ old new. FinishTells g.V.Shown old new c.args.written c.finish.result × AreThroughs new.marks)
-      (c.slot_mut.ensures.value ∙ ap (λ slot. (0, slot) ∷ rest c.args.seat.now.me.1) c.in-TheFront.is) (c.finish.ensures.tells, c.finish.ensures.throughs);
+      (c.slot_mut.ensures.value ∙ ap (λ slot. (0, slot) ∷ rest c.args.seat.now.me.1) c.in-TheFront.is) (c.finish.ensures.tells, c.finish.ensures.steady.throughs);
 }
