@@ -1,5 +1,6 @@
-ghost use Rattle.std.specs.Prelude.{◌≡◌, ◌≤◌, true, is_some};
+ghost use Rattle.std.specs.Prelude.{◌≡◌, true};
 ghost use Rattle.mdf_disk.specs.Crash.{Adds};
+ghost use Rattle.mdf_disk.specs.Goes.{GoesOn};
 ghost use Rattle.mdf_disk.specs.State.{state_of};
 ghost use Rattle.mdf_seal.specs.Seal.{IsBlank};
 ghost use Rattle.tool_complete.specs.Complete.{CompleteEnds, IsCompleteImage};
@@ -29,10 +30,7 @@ pub fn complete<C: Disk>(
     requires blank { IsBlank (C.content out.old) (C.story out.old) }
     ensures ends { CompleteEnds file now_ns (state_of C.Disk out.old) (state_of C.Disk out.new) result }
     ensures any_moment { Adds (C.story out.old) (C.story out.new) (IsCompleteImage file now_ns) }
-    ensures asked { C.asked out.new ≡ C.asked out.old }
-    ensures attached { C.attached out.new ≡ C.attached out.old }
-    ensures moment { C.moment out.old ≤ C.moment out.new }
-    ensures told { is_some (C.story out.new) ≡ is_some (C.story out.old) }
+    ensures goes_on { GoesOn C.Disk out.old out.new }
 {
     unfinished_of(file.as_slice())?;
     let whole = completed_of(alloc, file)?;
