@@ -12,5 +12,5 @@ mod told;
 
 pub use feed::{Halt, LineFeed};
 pub use rules::LineRules;
-pub use said::{Said, said_by};
+pub use said::{LineFault, said_by};
 pub use told::give_durable;

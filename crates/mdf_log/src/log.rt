@@ -13,13 +13,12 @@ ghost use Rattle.mdf_log.specs.Tap.{tap_states};
 use crate::parts::{Course, log_parts};
 use crate::tally::Tally;
 use crate::tap::Tap;
-use acq_live::{Halt, LineFeed, LineRules};
+use acq_live::{Halt, LineFeed, LineRules, give_durable};
 use acq_script::Plan;
 use log_disks::Disks;
 use log_report::{LogEnd, SourceEnd, Stop, give_log, log_status, report};
 use log_setup::{floats_of, read_setup, rules_of};
-use mdf_command::Piece::{Number, Sum, Text};
-use mdf_command::{Fault, give_line, status_after};
+use mdf_command::{Fault, status_after};
 use mdf_input::Input;
 use mdf_num::{Bytes, Failed, Memory};
 use mdf_port::{Sink, Source};
@@ -70,16 +69,7 @@ fn feeds_for<'a, S: Input + Drop, K: Sink + Drop>(
 fn tell_last<K: Sink>(told: &mut K, number: u8, accepted: u128, deaf: bool) -> bool
     ensures { TellsOn deaf result (sink_state K.Sink told.old) (sink_state K.Sink told.new) number (accepted ∷ []) }
 {
-    deaf || give_line(
-        told,
-        &[
-            Text(b"source "),
-            Number(u64::from(number)),
-            Text(b" durable "),
-            Sum(accepted),
-        ],
-    )
-    .is_err()
+    deaf || give_durable(told, number, accepted).is_err()
 }
 
 /// Why a source stopped, by what its feed says.
