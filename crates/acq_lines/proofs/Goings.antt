@@ -1,5 +1,5 @@
 -- The single steps of a feed of lines.
-use Rattle.std.proofs.Common.{◌≡◌, ◌∙◌, sym, ap, refl, subst, inl, inr, ℕ, suc, ◌+◌, ◌^◌, ◌≤◌, ◌<◌, Bool, true, false, List, [], ◌∷◌, ◌++◌, length, map, All, Option, Some, None, arith, append-nil, length-append}
+use Rattle.std.proofs.Common.{◌≡◌, ◌∙◌, sym, ap, refl, subst, inl, inr, ℕ, ◌+◌, ◌^◌, ◌≤◌, ◌<◌, Bool, true, false, List, [], ◌∷◌, ◌++◌, length, map, All, Option, Some, None, arith, append-nil, length-append}
 use Rattle.std.specs.Prelude.{◌||◌, ◌==◌, ◌-◌, ◌⊎◌, take}
 use Rattle.std.specs.Option.{option_to_list}
 use Rattle.std.specs.Io.KnownBytes.{Appends, Consumes, IsAtEnd, Keeps}
@@ -10,7 +10,6 @@ use Rattle.mdf_port.specs.declared.source.Source as source
 use Rattle.mdf_port.specs.declared.sink.Sink as sink
 use Rattle.mdf_command.specs.Texts.{Gives}
 use Rattle.std.specs.List.{slice_split}
-use Rattle.std.proofs.lemmas.Bool.{le-leb}
 use Rattle.std.proofs.lemmas.Grind.{get_or_default_zero}
 use Rattle.std.proofs.lemmas.List.Elements.{All-cons, All-nil}
 use Rattle.std.proofs.lemmas.List.Splits.{slice_split_none}
@@ -34,8 +33,6 @@ use Rattle.acq_lines.specs.Wants.{begins_with_sample, is_sample_line, wants_memo
 use Rattle.acq_lines.specs.declared.feed.Halt.{Halt}
 use Rattle.acq_lines.specs.declared.feed.Halt.TheVariants.{Input, Line, Failed, Memory, Count, Called}
 use Rattle.acq_lines.specs.declared.feed.LineFeed.{LineFeed}
-use Rattle.acq_lines.specs.declared.said.Said.{Said}
-use Rattle.acq_lines.specs.declared.said.Said.TheVariants.{Nothing, Sampled, Flush, End, Bad}
 
 -- a flush behind a sample
 abbrev pub flushed : Spot → Spot
@@ -102,23 +99,23 @@ due_by at wanted spot Count cause wants = inr (inr (inr cause))
 due_by at wanted spot Called cause wants = inl cause
 
 -- what stands behind a line that says this
-abbrev pub flush_with : Said → ℕ → Option ℕ → Option ℕ
-flush_with Flush count flushed = Some count
+abbrev pub flush_with : Option (Option Fed) → ℕ → Option ℕ → Option ℕ
+flush_with (Some (Some fed.Flush)) count flushed = Some count
 flush_with _ count flushed = flushed
 
-abbrev pub over_with : Said → Bool → Bool
-over_with End over = true
+abbrev pub over_with : Option (Option Fed) → Bool → Bool
+over_with (Some (Some fed.End)) over = true
 over_with _ over = over
 
-abbrev pub bad_with : Said → ℕ → ℕ
-bad_with Bad bad = bad + 1
+abbrev pub bad_with : Option (Option Fed) → ℕ → ℕ
+bad_with None bad = bad + 1
 bad_with _ bad = bad
 
-abbrev pub count_with : Said → ℕ → ℕ
-count_with (Sampled sample) count = count + 1
+abbrev pub count_with : Option (Option Fed) → ℕ → ℕ
+count_with (Some (Some (fed.Sample sample))) count = count + 1
 count_with _ count = count
 
-abbrev pub passed : Spot → Said → SourceState → Unread → Spot
+abbrev pub passed : Spot → Option (Option Fed) → SourceState → Unread → Spot
 passed spot said input unread = record spot {
   input = input;
   unread = unread;
@@ -142,49 +139,49 @@ hand_committed : (pending : Bool) (feds : List Fed) → AreCommitted pending (ma
 hand_committed pending [] = tt
 hand_committed pending (task ∷ feds) = hand_committed (pending_with pending task) feds
 
-few_fed : (said : Said) → length (feds_for said) ≤ 1
-few_fed Nothing = omega arith
-few_fed (Sampled sample) = omega arith
-few_fed Flush = omega arith
-few_fed End = omega arith
-few_fed Bad = omega arith
+few_fed : (said : Option (Option Fed)) → length (feds_for said) ≤ 1
+few_fed (Some None) = omega arith
+few_fed (Some (Some (fed.Sample sample))) = omega arith
+few_fed (Some (Some fed.Flush)) = omega arith
+few_fed (Some (Some fed.End)) = omega arith
+few_fed None = omega arith
 
-said_alone : (pending : Bool) (said : Said) → AreFlushedMore pending (feds_for said) (feds_in (said ∷ []))
-said_alone pending Nothing = refl
-said_alone pending (Sampled sample) = ([], refl, refl)
-said_alone pending Flush = inl ([], refl, refl)
-said_alone pending End = refl
-said_alone pending Bad = refl
+said_alone : (pending : Bool) (said : Option (Option Fed)) → AreFlushedMore pending (feds_for said) (feds_in (said ∷ []))
+said_alone pending (Some None) = refl
+said_alone pending (Some (Some (fed.Sample sample))) = ([], refl, refl)
+said_alone pending (Some (Some fed.Flush)) = inl ([], refl, refl)
+said_alone pending (Some (Some fed.End)) = refl
+said_alone pending None = refl
 
-said_told : (before : Option ℕ) (n : ℕ) (said : Said) → before ≡ None → [] ++ option_to_list (flush_with said n before) ≡ option_to_list before ++ flushes_behind n (feds_for said)
+said_told : (before : Option ℕ) (n : ℕ) (said : Option (Option Fed)) → before ≡ None → [] ++ option_to_list (flush_with said n before) ≡ option_to_list before ++ flushes_behind n (feds_for said)
 said_told (Some m) n said is = absurd (cc is)
-said_told None n Nothing is = refl
-said_told None n (Sampled sample) is = refl
-said_told None n Flush is = refl
-said_told None n End is = refl
-said_told None n Bad is = refl
+said_told None n (Some None) is = refl
+said_told None n (Some (Some (fed.Sample sample))) is = refl
+said_told None n (Some (Some fed.Flush)) is = refl
+said_told None n (Some (Some fed.End)) is = refl
+said_told None n None is = refl
 
-ended_alone : (over : Bool) (said : Said) → over ≡ false → over_with said over ≡ (over || (is_end said || false))
+ended_alone : (over : Bool) (said : Option (Option Fed)) → over ≡ false → over_with said over ≡ (over || (is_end said || false))
 ended_alone true said is = absurd (cc is)
-ended_alone false Nothing is = refl
-ended_alone false (Sampled sample) is = refl
-ended_alone false Flush is = refl
-ended_alone false End is = refl
-ended_alone false Bad is = refl
+ended_alone false (Some None) is = refl
+ended_alone false (Some (Some (fed.Sample sample))) is = refl
+ended_alone false (Some (Some fed.Flush)) is = refl
+ended_alone false (Some (Some fed.End)) is = refl
+ended_alone false None is = refl
 
-bad_alone : (said : Said) (bad : ℕ) → bad_with said bad ≡ bad + bad_in (said ∷ [])
-bad_alone Nothing bad = omega arith
-bad_alone (Sampled sample) bad = omega arith
-bad_alone Flush bad = omega arith
-bad_alone End bad = omega arith
-bad_alone Bad bad = omega arith
+bad_alone : (said : Option (Option Fed)) (bad : ℕ) → bad_with said bad ≡ bad + bad_in (said ∷ [])
+bad_alone (Some None) bad = omega arith
+bad_alone (Some (Some (fed.Sample sample))) bad = omega arith
+bad_alone (Some (Some fed.Flush)) bad = omega arith
+bad_alone (Some (Some fed.End)) bad = omega arith
+bad_alone None bad = omega arith
 
-count_alone : (said : Said) (count : ℕ) → count_with said count ≡ count + length (samples_of (feds_for said))
-count_alone Nothing count = omega arith
-count_alone (Sampled sample) count = omega arith
-count_alone Flush count = omega arith
-count_alone End count = omega arith
-count_alone Bad count = omega arith
+count_alone : (said : Option (Option Fed)) (count : ℕ) → count_with said count ≡ count + length (samples_of (feds_for said))
+count_alone (Some None) count = omega arith
+count_alone (Some (Some (fed.Sample sample))) count = omega arith
+count_alone (Some (Some fed.Flush)) count = omega arith
+count_alone (Some (Some fed.End)) count = omega arith
+count_alone None count = omega arith
 
 line_handled : (at : Fixed) (spot : Spot) (line : Option (List ℕ)) (unread : Unread)
     → All (MayCome at.rules at.number) (feds_for (said_by at.rules at.number line)) → Reads spot.unread [] (line ∷ []) unread
@@ -218,24 +215,20 @@ line_handled at spot line unread may reads running none room =
     }
 
 -- a line that says this was passed
-pub line_passed : (at : Fixed) (spot : Spot) (line : Option (List ℕ)) (input : SourceState) (unread : Unread) (said kind : Said)
+pub line_passed : (at : Fixed) (spot : Spot) (line : Option (List ℕ)) (input : SourceState) (unread : Unread) (said kind : Option (Option Fed))
     → said ≡ said_by at.rules at.number line → said ≡ kind → All (MayCome at.rules at.number) (feds_for said) → Reads spot.unread [] (line ∷ []) unread → input ≡ spot.input
     → spot.over ≡ false → spot.flushed ≡ None → spot.steps + 2 < 2 ^ 64
     → Handled at spot (feds_for kind) (passed spot kind input unread)
 line_passed at spot line input unread said kind says is may reads same running none room =
     subst (λ (input : SourceState). Handled at spot (feds_for kind) (passed spot kind input unread)) (sym same)
-    (subst (λ (said : Said). Handled at spot (feds_for said) (passed spot said spot.input unread)) (sym says ∙ is)
-    (line_handled at spot line unread (subst (λ (said : Said). All (MayCome at.rules at.number) (feds_for said)) says may) reads running none room))
+    (subst (λ (said : Option (Option Fed)). Handled at spot (feds_for said) (passed spot said spot.input unread)) (sym says ∙ is)
+    (line_handled at spot line unread (subst (λ (said : Option (Option Fed)). All (MayCome at.rules at.number) (feds_for said)) says may) reads running none room))
 
-says_alone : (said : Said) → feds_in (said ∷ []) ≡ feds_for said
-says_alone Nothing = refl
-says_alone (Sampled sample) = refl
-says_alone Flush = refl
-says_alone End = refl
-says_alone Bad = refl
+says_alone : (said : Option (Option Fed)) → feds_in (said ∷ []) ≡ feds_for said
+says_alone said = append-nil (feds_for said)
 
 -- it says just that
-pub line_says : (at : Fixed) (old new : Spot) (line : Option (List ℕ)) (said kind : Said)
+pub line_says : (at : Fixed) (old new : Spot) (line : Option (List ℕ)) (said kind : Option (Option Fed))
     → said ≡ said_by at.rules at.number line → said ≡ kind → Reads old.unread [] (line ∷ []) new.unread → new.input ≡ old.input → SaysJust at old (feds_for kind) new
 line_says at old new line said kind says is reads same = record {
   same = same;
@@ -477,8 +470,8 @@ before_step at spot input unread pending steps count same reads was stepped coun
     (same_step at spot unread pending steps count reads was stepped counted)
 
 -- a line that is too long says no sample
-pub not_long : (rules : Rules) (number : ℕ) (long : Bool) (text : List ℕ) (said : Said) (sample : Sample)
-    → said ≡ said_by rules number (limited long text) → said ≡ Sampled sample → long ≡ false
+pub not_long : (rules : Rules) (number : ℕ) (long : Bool) (text : List ℕ) (said : Option (Option Fed)) (sample : Sample)
+    → said ≡ said_by rules number (limited long text) → said ≡ Some (Some (fed.Sample sample)) → long ≡ false
 not_long rules number true text said sample says is = absurd (cc (says, is))
 not_long rules number false text said sample says is = refl
 

@@ -19,14 +19,12 @@ use Rattle.acq_lines.specs.Act.{Act, AreCommitted, handed_in, pending_behind, pe
 use Rattle.acq_lines.specs.Act as act
 use Rattle.acq_lines.specs.Handled.{ComesNext, EndsWanted, Handled, Hands, InOnePart, Serves}
 use Rattle.acq_lines.specs.Rules.{MayCome, Rules}
-use Rattle.acq_lines.specs.Said.{AreFlushedMore, EndsLast, bad_in, feds_in, is_end, is_ended, said_by, said_in}
+use Rattle.acq_lines.specs.Said.{AreFlushedMore, EndsLast, bad_in, feds_for, feds_in, is_end, is_ended, said_by, said_in}
 use Rattle.acq_lines.specs.Spot.{Fixed, Spot, fixed, spot, spot_before}
 use Rattle.acq_lines.specs.Told.{TellsOn, durable_line, durable_lines}
 use Rattle.acq_lines.specs.declared.feed.Halt.{Halt}
 use Rattle.acq_lines.specs.declared.feed.Halt.TheVariants.{Failed}
 use Rattle.acq_lines.specs.declared.feed.LineFeed.{LineFeed}
-use Rattle.acq_lines.specs.declared.said.Said.{Said}
-use Rattle.acq_lines.specs.declared.said.Said.TheVariants.{Nothing, Sampled, Flush, End, Bad}
 
 -- acts behind acts
 read_more : (some more : List Act) → read_in (some ++ more) ≡ read_in some ++ read_in more
@@ -51,17 +49,13 @@ committed_more pending (act.Hand task ∷ some) more first second = committed_mo
 -- what was said behind what was said
 pub said_more : (rules : Rules) (number : ℕ) (some more : List (Option (List ℕ))) → said_in rules number (some ++ more) ≡ said_in rules number some ++ said_in rules number more
 said_more rules number [] more = refl
-said_more rules number (line ∷ some) more = ap (λ (rest : List Said). said_by rules number line ∷ rest) (said_more rules number some more)
+said_more rules number (line ∷ some) more = ap (λ (rest : List (Option (Option Fed))). said_by rules number line ∷ rest) (said_more rules number some more)
 
-pub feds_more : (some more : List Said) → feds_in (some ++ more) ≡ feds_in some ++ feds_in more
+pub feds_more : (some more : List (Option (Option Fed))) → feds_in (some ++ more) ≡ feds_in some ++ feds_in more
 feds_more [] more = refl
-feds_more (Sampled sample ∷ some) more = ap (λ (rest : List Fed). fed.Sample sample ∷ rest) (feds_more some more)
-feds_more (Flush ∷ some) more = ap (λ (rest : List Fed). fed.Flush ∷ rest) (feds_more some more)
-feds_more (Nothing ∷ some) more = feds_more some more
-feds_more (End ∷ some) more = feds_more some more
-feds_more (Bad ∷ some) more = feds_more some more
+feds_more (said ∷ some) more = ap (λ (rest : List Fed). feds_for said ++ rest) (feds_more some more) ∙ sym (append_assoc (feds_for said) (feds_in some) (feds_in more))
 
-bad_more : (some more : List Said) → bad_in (some ++ more) ≡ bad_in some + bad_in more
+bad_more : (some more : List (Option (Option Fed))) → bad_in (some ++ more) ≡ bad_in some + bad_in more
 bad_more [] more = omega arith
 bad_more (said ∷ some) more = omega (arith, bad_more some more)
 
@@ -73,7 +67,7 @@ pub or_none : (a : Bool) → a ≡ (a || false)
 or_none true = refl
 or_none false = refl
 
-ended_more : (some more : List Said) → is_ended (some ++ more) ≡ (is_ended some || is_ended more)
+ended_more : (some more : List (Option (Option Fed))) → is_ended (some ++ more) ≡ (is_ended some || is_ended more)
 ended_more [] more = refl
 ended_more (said ∷ some) more = ap (λ (rest : Bool). is_end said || rest) (ended_more some more) ∙ or_assoc (is_end said) (is_ended some) (is_ended more)
 
@@ -86,10 +80,10 @@ or_second true b is = refl
 or_second false b is = is
 
 -- nothing stands behind an end, where nothing was said behind one
-last_more : (some more : List Said) → EndsLast some → EndsLast more → (is_ended some ≡ true → more ≡ []) → EndsLast (some ++ more)
+last_more : (some more : List (Option (Option Fed))) → EndsLast some → EndsLast more → (is_ended some ≡ true → more ≡ []) → EndsLast (some ++ more)
 last_more [] more first second none = second
 last_more (said ∷ some) more first second none = (
-  λ is. ap (λ (rest : List Said). rest ++ more) (first.0 is) ∙ none (or_first (is_end said) (is_ended some) is),
+  λ is. ap (λ (rest : List (Option (Option Fed))). rest ++ more) (first.0 is) ∙ none (or_first (is_end said) (is_ended some) is),
   last_more some more first.1 second (λ later. none (or_second (is_end said) (is_ended some) later)),
 )
 

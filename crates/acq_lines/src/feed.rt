@@ -4,7 +4,7 @@ ghost use Rattle.acq_lines.specs.Rules.{rules_of};
 ghost use Rattle.acq_lines.specs.Wants.{wants_memory};
 
 use crate::told::give_durable;
-use crate::{LineRules, LineSource, Said, said_by};
+use crate::{LineFault, LineRules, LineSource, said_by};
 use acq_run::{Fed, Feed};
 use mdf_input::Input;
 use mdf_num::Memory;
@@ -59,14 +59,13 @@ pub struct LineFeed<'a, S: Source, K> {
 }
 
 impl<'a, S: Input + Drop, K: Sink + Drop> LineFeed<'a, S, K> {
-    ghost use Rattle.std.specs.Prelude.{◌≡◌, ◌<◌, ◌+◌, ◌^◌, [], ◌↔◌, Some, None, true, false, All, IfOk, IsTrue, OnErr, take};
+    ghost use Rattle.std.specs.Prelude.{◌≡◌, ◌<◌, ◌+◌, ◌^◌, [], ◌↔◌, Some, None, true, false, All, IfOk, IfErr, IsTrue, take};
     ghost use Rattle.mdf_port.specs.State.{sink_state, source_state};
     ghost use Rattle.acq_run.specs.declared.feed.Fed.TheVariants.{Flush as FlushFed};
     ghost use Rattle.acq_lines.specs.Lines.{FindsLf, IsCut, limited};
     ghost use Rattle.acq_lines.specs.Source.{unread};
     ghost use Rattle.acq_lines.specs.Rules.{MayCome, rules_of};
-    ghost use Rattle.acq_lines.specs.Said.{feds_for, said_by};
-    ghost use Rattle.acq_lines.specs.Wants.{is_sample_line};
+    ghost use Rattle.acq_lines.specs.Said.{LineFaultComes, feds_for, said_by};
     ghost use Rattle.acq_lines.specs.Spot.{fixed, spot, spot_before};
     ghost use Rattle.acq_lines.specs.declared.feed.Halt.TheVariants.{Memory as MemoryHalt};
     ghost use Rattle.acq_lines.specs.Handled.{Goes, HaltsAt, IsAsked, IsDue, IsFresh, Resumes};
@@ -147,53 +146,65 @@ impl<'a, S: Input + Drop, K: Sink + Drop> LineFeed<'a, S, K> {
     }
 
     /// What the next line says, before whose LF so many bytes stand.
-    fn said(&self, count: usize) -> Result<Said, Memory>
+    fn said(&self, count: usize) -> Result<Option<Fed>, LineFault>
         requires { FindsLf (unread self.now.lines).bytes (Some count) }
-        ensures said { IfOk result (λ said. said ≡ said_by (rules_of self.now.rules) self.now.number
+        ensures said { IfOk result (λ fed. said_by (rules_of self.now.rules) self.now.number
+            (limited (unread self.now.lines).long (take count (unread self.now.lines).bytes)) ≡ Some fed) }
+        ensures may { IfOk result (λ fed. All (MayCome (rules_of self.now.rules) self.now.number) (feds_for (Some fed))) }
+        ensures fault { IfErr result (LineFaultComes (rules_of self.now.rules) self.now.number
             (limited (unread self.now.lines).long (take count (unread self.now.lines).bytes))) }
-        ensures may { IfOk result (λ said. All (MayCome (rules_of self.now.rules) self.now.number) (feds_for said)) }
-        ensures wanted { OnErr result (is_sample_line (rules_of self.now.rules)
-            (limited (unread self.now.lines).long (take count (unread self.now.lines).bytes)) ≡ true) }
     {
         said_by(self.alloc, &self.rules, self.number, self.lines.line(count))
     }
 
     /// Passes the next line, before whose LF so many bytes stand, and answers what is handed in for what it says, if something is.
-    fn pass(&mut self, count: usize, said: Said) -> Option<Fed>
+    fn pass(&mut self, count: usize, said: Option<Fed>) -> Option<Fed>
         requires asked { IsAsked self.old }
         requires running { self.old.over ≡ false }
         requires calm { self.old.wanted ≡ false }
         requires room { self.old.steps + 2 < 2 ^ 64 }
         requires found { FindsLf (unread self.old.lines).bytes (Some count) }
-        requires said { said ≡ said_by (rules_of self.old.rules) self.old.number
-            (limited (unread self.old.lines).long (take count (unread self.old.lines).bytes)) }
-        requires may { All (MayCome (rules_of self.old.rules) self.old.number) (feds_for said) }
+        requires said { said_by (rules_of self.old.rules) self.old.number
+            (limited (unread self.old.lines).long (take count (unread self.old.lines).bytes)) ≡ Some said }
+        requires may { All (MayCome (rules_of self.old.rules) self.old.number) (feds_for (Some said)) }
         ensures { Goes K.Sink self.old result self.new }
     {
         self.lines.pass(count);
         self.steps += 1;
         match said {
-            Said::Nothing => None,
-            Said::Sampled(sample) => {
+            None => None,
+            Some(Fed::Sample(sample)) => {
                 self.pending_before = Some(self.pending);
                 self.pending = true;
                 self.count += 1;
                 Some(Fed::Sample(sample))
             }
-            Said::Flush => {
+            Some(Fed::Flush) => {
                 self.pending = false;
                 self.flushed = Some(self.count);
                 Some(Fed::Flush)
             }
-            Said::End => {
+            Some(Fed::End) => {
                 self.over = true;
                 None
             }
-            Said::Bad => {
-                self.bad += 1;
-                None
-            }
         }
+    }
+
+    /// Passes the next line, before whose LF so many bytes stand, as one that no rule admits.
+    fn pass_bad(&mut self, count: usize)
+        requires asked { IsAsked self.old }
+        requires running { self.old.over ≡ false }
+        requires calm { self.old.wanted ≡ false }
+        requires room { self.old.steps + 2 < 2 ^ 64 }
+        requires found { FindsLf (unread self.old.lines).bytes (Some count) }
+        requires said { said_by (rules_of self.old.rules) self.old.number
+            (limited (unread self.old.lines).long (take count (unread self.old.lines).bytes)) ≡ None }
+        ensures { Goes K.Sink self.old None self.new }
+    {
+        self.lines.pass(count);
+        self.steps += 1;
+        self.bad += 1;
     }
 
     /// Handles the next line, before whose LF so many bytes stand.
@@ -207,7 +218,11 @@ impl<'a, S: Input + Drop, K: Sink + Drop> LineFeed<'a, S, K> {
     {
         match self.said(count) {
             Ok(said) => self.pass(count, said),
-            Err(_) => {
+            Err(LineFault::Bad) => {
+                self.pass_bad(count);
+                None
+            }
+            Err(LineFault::Memory) => {
                 self.wanted = true;
                 Some(self.halt(Halt::Memory))
             }

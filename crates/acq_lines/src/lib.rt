@@ -16,6 +16,6 @@ mod told;
 
 pub use feed::{Halt, LineFeed};
 pub use rules::LineRules;
-pub use said::{Said, said_by};
+pub use said::{LineFault, said_by};
 pub use source::{LINE_LIMIT, LineSource};
 pub use told::give_durable;

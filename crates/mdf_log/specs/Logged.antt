@@ -15,7 +15,6 @@ use Rattle.acq_lines.specs.Told.{TellsOn}
 use Rattle.acq_lines.specs.Wants.{wants_memory}
 use Rattle.acq_lines.specs.declared.feed.Halt.{Halt}
 use Rattle.acq_lines.specs.declared.feed.Halt.TheVariants as halts
-use Rattle.acq_lines.specs.declared.said.Said.{Said}
 use Rattle.acq_script.specs.declared.script.Plan.{Plan}
 use Rattle.mdf_command.specs.Texts.{Prints, numbered}
 use Rattle.mdf_command.specs.declared.fault.Fault.{Fault}
@@ -49,7 +48,7 @@ in_order dones = flat_map (λ done. done) dones
 -- Why nothing more came of an input: it is at its end, and no line is left of what was read; a line ended it; it failed, and no line is left; memory
 -- was wanted for a line; or as much was handled, and so much was done, as can be counted. One that was called off has no line left; why it was stands
 -- in `called`.
-abbrev pub HaltsBy : Plan → TapState → TapState → List Said → ℕ → Unread → Halt → Type 0
+abbrev pub HaltsBy : Plan → TapState → TapState → List (Option (Option Fed)) → ℕ → Unread → Halt → Type 0
 HaltsBy plan old new said done rest halts.Input = IsAtEnd new.input.left × (lines_behind rest [] ≡ [])
 HaltsBy plan old new said done rest halts.Line = is_ended said ≡ true
 HaltsBy plan old new said done rest halts.Failed = Rose old.input.faults new.input.faults × (lines_behind rest [] ≡ [])
@@ -58,7 +57,7 @@ HaltsBy plan old new said done rest halts.Count = 2 ^ 64 ≤ length said + done 
 HaltsBy plan old new said done rest halts.Called = lines_behind rest [] ≡ []
 
 -- Why a source stopped: nothing more came, and all that it handed in was done; or something went wrong, and its next was not done, or not asked for.
-abbrev pub StopsBy : Plan → TapState → TapState → List Said → ℕ → Unread → List Fed → Option Fault → Stop → Type 0
+abbrev pub StopsBy : Plan → TapState → TapState → List (Option (Option Fed)) → ℕ → Unread → List Fed → Option Fault → Stop → Type 0
 StopsBy plan old new said done rest refused problem (stops.Halted halt) = (refused ≡ []) × HaltsBy plan old new said done rest halt
 StopsBy plan old new said done rest refused problem stops.Refused = (length refused ≤ 1) × (problem ≢ None)
 

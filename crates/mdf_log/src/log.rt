@@ -16,10 +16,9 @@ use crate::tap::Tap;
 use crate::{
     LogEnd, SourceEnd, Stop, floats_of, give_log, log_status, read_setup, report, rules_of,
 };
-use acq_lines::{Halt, LineFeed, LineRules};
+use acq_lines::{Halt, LineFeed, LineRules, give_durable};
 use acq_script::Plan;
-use mdf_command::Piece::{Number, Sum, Text};
-use mdf_command::{Fault, give_line, status_after};
+use mdf_command::{Fault, status_after};
 use mdf_disk::Disks;
 use mdf_input::Input;
 use mdf_num::{Bytes, Failed, Memory};
@@ -71,16 +70,7 @@ fn feeds_for<'a, S: Input + Drop, K: Sink + Drop>(
 fn tell_last<K: Sink>(told: &mut K, number: u8, accepted: u128, deaf: bool) -> bool
     ensures { TellsOn deaf result (sink_state K.Sink told.old) (sink_state K.Sink told.new) number (accepted ∷ []) }
 {
-    deaf || give_line(
-        told,
-        &[
-            Text(b"source "),
-            Number(u64::from(number)),
-            Text(b" durable "),
-            Sum(accepted),
-        ],
-    )
-    .is_err()
+    deaf || give_durable(told, number, accepted).is_err()
 }
 
 /// Why a source stopped, by what its feed says.
