@@ -7,11 +7,13 @@
 #![tactic(auto)]
 
 mod log;
+mod logging;
 mod part;
 mod parts;
 mod tally;
 mod tap;
 
 pub use log::{Logged, run_log};
+pub use logging::Logging;
 pub use part::log_part;
 pub use tap::Tap;
