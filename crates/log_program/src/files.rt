@@ -1,10 +1,8 @@
 // The files of the machine that a log has.
-use crate::told::tell;
 use mdf_disk::Disks;
-use mdf_hostfile::{FileDisk, SystemFile};
+use mdf_hostfile::{FileDisk, SystemFile, tell_file};
 use std::fs::File;
 use std::rt::Files;
-use std::str;
 
 /// Files of the machine, one for each part. Of one that failed standard error tells when it is taken back.
 #[derive(Drop)]
@@ -33,7 +31,6 @@ impl<'a, R: Files<File = File> + Eprint + Sync> Disks for FileDisks<'a, R> {
     }
 
     fn keep(&mut self, disk: FileDisk<SystemFile<'a, R>>) {
-        let name = str::from_utf8(disk.name().unwrap_or(b"a file")).unwrap_or("a file");
-        tell(self.rt, name, disk.last_error());
+        tell_file(self.rt, &disk);
     }
 }

@@ -4,9 +4,6 @@
 
 mod files;
 mod program;
-mod told;
-mod words;
 
 pub use files::FileDisks;
 pub use program::start;
-pub use told::Told;

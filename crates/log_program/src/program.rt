@@ -1,8 +1,6 @@
-use crate::told::{Told, tell, tell_input};
-use crate::words::words;
-use mdf_command::{Fault, status_after};
+use mdf_command::run_unread;
 use mdf_disk::Disks;
-use mdf_hostfile::now_ns;
+use mdf_hostfile::{Told, now_ns, read_words, tell};
 use mdf_input::Input;
 use mdf_log::{LogWords, Logged, Tap, log_words, run_log, run_log_usage};
 use mdf_num::{Bytes, Memory};
@@ -10,6 +8,7 @@ use mdf_port::Sink;
 use std::alloc::Global;
 use std::process::ExitCode;
 use std::rt::{Clock, Env};
+use std::str;
 use std::sync::Wait;
 use std::thread::Threads;
 
@@ -45,10 +44,13 @@ where
     Ok((setup, taps))
 }
 
-/// The status of a log for which no memory was found.
-fn run_unread<K: Sink>(sink: &mut K) -> u8 {
-    let given = Fault::Memory.give(sink);
-    status_after(given, Fault::Memory.status())
+/// Says why the input of this name failed, if it did.
+fn tell_input<R: Eprint, S: Told>(rt: &R, name: &Bytes, input: &S) {
+    tell(
+        rt,
+        str::from_utf8(name.as_slice()).unwrap_or("an input"),
+        input.error(),
+    );
 }
 
 /// Records what the inputs say, and answers the status.
@@ -98,7 +100,7 @@ where
     F: Fn(Bytes) -> Result<Tap<S, K>, Memory>,
     requires { F.IsAlwaysCallable opener.now }
 {
-    let status = match words(rt) {
+    let status = match read_words(rt) {
         Ok(words) => match log_words(&words) {
             Some(log) => record(rt, &log, sink, disks, opener),
             None => run_log_usage(sink),

@@ -9,9 +9,10 @@ use Rattle.acq_script.specs.Stage.{IsScript}
 use Rattle.acq_script.specs.declared.script.Plan.{Plan}
 use Rattle.acq_script.specs.declared.script.Script.{Script}
 use Rattle.acq_script.specs.declared.script.Task.{Task}
+use Rattle.mdf_command.specs.Faults.{SCRIPT_LIMIT}
 use Rattle.mdf_command.specs.declared.fault.Fault.{Fault}
 use Rattle.mdf_command.specs.declared.fault.Fault.TheVariants as fault
-use Rattle.mdf_log.specs.Setup.{END, IsNoSetup, IsSetup, SETUP_LIMIT, SaysSetup, SetupFaultComes, idle_script}
+use Rattle.mdf_log.specs.Setup.{END, IsNoSetup, IsSetup, SaysSetup, SetupFaultComes, idle_script}
 
 -- what holds of a text that was taken whole holds of what the source had, where that is told
 whole : (old new : Option (List ℕ)) (text : List ℕ) (P : List ℕ → Type 0) → Consumes old new text → IsAtEnd new → P text → IfSome old P
@@ -40,11 +41,11 @@ module _ (text : List ℕ) (script : Script) (says : script_of (text ++ END) ≡
   busy_of (Err problem) busy =
       subst (IsNoSetup text) (sym busy.0) (inr (record { script = script; says = says; busy = busy.1; number_is = refl }))
 
-module _ (old new : SourceState) (text : List ℕ) (takes : Consumes old.left new.left text) (end : IsAtEnd new.left) (short : length text ≤ SETUP_LIMIT)
+module _ (old new : SourceState) (text : List ℕ) (takes : Consumes old.left new.left text) (end : IsAtEnd new.left) (short : length text ≤ SCRIPT_LIMIT)
     (calm : new.faults ≡ old.faults) where
   text_refused : (problem : Fault) → IsNoSetup text problem → SetupFaultComes old new problem
   text_refused (fault.Script number) is = record {
-    cause = (whole old.left new.left text (λ t. IsNoSetup t (fault.Script number) × (length t ≤ SETUP_LIMIT)) takes end (is, short), end, calm);
+    cause = (whole old.left new.left text (λ t. IsNoSetup t (fault.Script number) × (length t ≤ SCRIPT_LIMIT)) takes end (is, short), end, calm);
     taken = (text, takes);
     later = omega (arith, calm);
   }
@@ -54,7 +55,7 @@ module _ (old new : SourceState) (text : List ℕ) (takes : Consumes old.left ne
   -- what an answer says of the text it says of the source
   pub says_of : (answer : Result Plan Fault) → IfOk answer (IsSetup text) → IfOk answer (SaysSetup old new)
   says_of (Ok plan) is = record {
-    text = whole old.left new.left text (λ t. IsSetup t plan × (length t ≤ SETUP_LIMIT)) takes end (is, short);
+    text = whole old.left new.left text (λ t. IsSetup t plan × (length t ≤ SCRIPT_LIMIT)) takes end (is, short);
     end = end;
     taken = (text, takes);
     calm = calm;

@@ -12,12 +12,9 @@ use Rattle.acq_script.specs.declared.script.Script.{Script}
 use Rattle.script_line.specs.declared.float.Width.{Width}
 use Rattle.script_line.specs.declared.float.Width.TheVariants.{Single, Double}
 use Rattle.acq_lines.specs.Rules.{Rules}
+use Rattle.mdf_command.specs.Faults.{SCRIPT_LIMIT}
 use Rattle.mdf_command.specs.declared.fault.Fault.{Fault}
 use Rattle.mdf_command.specs.declared.fault.Fault.TheVariants as fault
-
--- how many bytes a setup has at most
-abbrev pub SETUP_LIMIT : ℕ
-SETUP_LIMIT = 67108864
 
 -- what stands behind a front so that it is a script
 abbrev pub END : List ℕ
@@ -33,7 +30,7 @@ IsSetup text plan = script_of (text ++ END) ≡ Ok (idle_script plan)
 
 -- The source, where it tells its bytes, had the setup of this plan. Nothing of it is left, and it has not failed meanwhile.
 pub record SaysSetup (old new : SourceState) (plan : Plan) : Type 0 where
-  pub text : IfSome old.left (λ text. IsSetup text plan × (length text ≤ SETUP_LIMIT))
+  pub text : IfSome old.left (λ text. IsSetup text plan × (length text ≤ SCRIPT_LIMIT))
   pub end : IsAtEnd new.left
   pub taken : TakesFront old.left new.left
   pub calm : new.faults ≡ old.faults
@@ -55,10 +52,10 @@ IsNoSetup text _ = ⊥
 -- while the source did not fail.
 abbrev pub SetupFaultCause : SourceState → SourceState → Fault → Type 0
 SetupFaultCause old new fault.Source = Rose old.faults new.faults
-SetupFaultCause old new (fault.ScriptOver limit) = (limit ≡ SETUP_LIMIT) × IfSome old.left (λ text. limit < length text)
-SetupFaultCause old new fault.Memory = TakesAtMost old.left new.left SETUP_LIMIT × (new.faults ≡ old.faults)
+SetupFaultCause old new (fault.ScriptOver limit) = (limit ≡ SCRIPT_LIMIT) × IfSome old.left (λ text. limit < length text)
+SetupFaultCause old new fault.Memory = TakesAtMost old.left new.left SCRIPT_LIMIT × (new.faults ≡ old.faults)
 SetupFaultCause old new (fault.Script number) =
-    IfSome old.left (λ text. IsNoSetup text (fault.Script number) × (length text ≤ SETUP_LIMIT)) × IsAtEnd new.left × (new.faults ≡ old.faults)
+    IfSome old.left (λ text. IsNoSetup text (fault.Script number) × (length text ≤ SCRIPT_LIMIT)) × IsAtEnd new.left × (new.faults ≡ old.faults)
 SetupFaultCause old new _ = ⊥
 
 -- The setup is refused only where this holds of the source before and after.

@@ -9,6 +9,7 @@
 mod end;
 mod floats;
 mod log;
+mod logging;
 mod part;
 mod parts;
 mod setup;
@@ -20,6 +21,7 @@ mod words;
 pub use end::{LogEnd, SourceEnd, Stop};
 pub use floats::{floats_of, rules_of};
 pub use log::{Logged, run_log};
+pub use logging::Logging;
 pub use part::log_part;
 pub use setup::read_setup;
 pub use tap::Tap;

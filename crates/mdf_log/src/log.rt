@@ -10,6 +10,7 @@ ghost use Rattle.mdf_log.specs.Logged.{LogRuns};
 ghost use Rattle.mdf_log.specs.Tally.{IsNone};
 ghost use Rattle.mdf_log.specs.Tap.{tap_states};
 
+use crate::logging::Logging;
 use crate::parts::{Course, log_parts};
 use crate::tally::Tally;
 use crate::tap::Tap;
@@ -17,7 +18,6 @@ use crate::{
     LogEnd, SourceEnd, Stop, floats_of, give_log, log_status, read_setup, report, rules_of,
 };
 use acq_lines::{Halt, LineFeed, LineRules, give_durable};
-use acq_script::Plan;
 use mdf_command::{Fault, status_after};
 use mdf_disk::Disks;
 use mdf_input::Input;
@@ -211,11 +211,7 @@ fn give_behind<E: Sink>(sink: &mut E, given: Result<(), Failed>, end: &LogEnd) -
 
 /// Logs over a plan.
 fn log_plan<R, S, K, E, D>(
-    rt: &R,
-    alloc: Global,
-    output: &Bytes,
-    now_ns: u64,
-    plan: &Plan,
+    log: &Logging<'_, R>,
     taps: Vec<Tap<S, K>>,
     sink: &mut E,
     disks: &mut D,
@@ -226,12 +222,14 @@ where
     K: Sink + Send + Drop,
     E: Sink,
     D: Disks,
-    requires plan { IsPlan plan.now }
-    ensures { LogRuns (λ said. said ≡ plan.now) (λ fault. ⊥) output.now now_ns
+    requires plan { IsPlan log.now.plan.now }
+    ensures { LogRuns (λ said. said ≡ log.now.plan.now) (λ fault. ⊥) log.now.output.now log.now.now_ns
         (λ served. D.serves disks.old served disks.new)
         (tap_states S.Source K.Sink taps.items) (tap_states S.Source K.Sink result.taps.items)
         (sink_state E.Sink sink.old) (sink_state E.Sink sink.new) result.end result.status }
 {
+    let alloc = log.alloc;
+    let plan = log.plan;
     let sources = taps.len();
     if sources != usize::from(plan.sources) {
         let sources = plan.sources;
@@ -259,7 +257,7 @@ where
         fault: None,
         given: Ok(()),
     };
-    let course = log_parts(rt, alloc, output, now_ns, plan, &called, first, sink, disks);
+    let course = log_parts(log, &called, first, sink, disks);
     finish(course, ends, left, sink)
 }
 
@@ -289,7 +287,16 @@ where
         (sink_state E.Sink sink.old) (sink_state E.Sink sink.new) result.end result.status }
 {
     match read_setup(alloc, setup) {
-        Ok(plan) => log_plan(rt, alloc, output, now_ns, &plan, taps, sink, disks),
+        Ok(plan) => {
+            let log = Logging {
+                rt,
+                alloc,
+                output,
+                now_ns,
+                plan: &plan,
+            };
+            log_plan(&log, taps, sink, disks)
+        }
         Err(fault) => unbegun(sink, LogEnd::Refused(fault), taps),
     }
 }

@@ -8,6 +8,7 @@ ghost use Rattle.mdf_record.specs.Recovers.{AreRecovered};
 ghost use Rattle.mdf_rotate.specs.Words.{part_name};
 ghost use Rattle.mdf_log.specs.Part.{PartComes};
 
+use crate::logging::Logging;
 use acq_run::Feed;
 use acq_script::Plan;
 use book_rotate::shapes_like;
@@ -68,12 +69,8 @@ fn set<'a>(
 /// Records what the feeds hand in, one for each source of the plan, from wherever they stand into a new file, which has the name of the part
 /// of this number, and closes it when each has ended or its next was not done.
 pub fn log_part<R, C, F>(
-    rt: &R,
-    alloc: Global,
-    output: &Bytes,
-    now_ns: u64,
+    log: &Logging<'_, R>,
     number: u64,
-    plan: &Plan,
     out: C,
     feeds: Vec<F>,
 ) -> RecordedFeeds<C, F>
@@ -82,21 +79,23 @@ where
     C: Disk + Send,
     F: Feed + Send + Drop,
     requires asked { C.asked out ≡ None }
-    requires plan { IsPlan plan.now }
-    requires sources { length feeds.items ≡ plan.now.sources }
-    requires may { AllMayRecord F.hands plan.now 0 feeds.items }
-    ensures comes { PartComes F.hands F.waits F.ends plan.now (part_name output.now number) now_ns (state_of C.Disk out)
+    requires plan { IsPlan log.now.plan.now }
+    requires sources { length feeds.items ≡ log.now.plan.now.sources }
+    requires may { AllMayRecord F.hands log.now.plan.now 0 feeds.items }
+    ensures comes { PartComes F.hands F.waits F.ends log.now.plan.now (part_name log.now.output.now number) log.now.now_ns (state_of C.Disk out)
         (outcome C.Disk result.recorded.out result.recorded.history.items result.recorded.marks.items) feeds.items result.feeds.items result.all.items
         result.recorded.end }
     ensures untouched { C.asked result.recorded.out ≡ None → result.recorded.out ≡ out }
     ensures recovered { AreRecovered (C.moment out) (outcome C.Disk result.recorded.out result.recorded.history.items result.recorded.marks.items) }
 {
     what_is_carried_is_recovered();
-    let Ok((name, setting)) = set(alloc, output, number, plan) else {
+    let alloc = log.alloc;
+    let plan = log.plan;
+    let Ok((name, setting)) = set(alloc, log.output, number, plan) else {
         return unbegun(alloc, Fault::Memory, out, feeds);
     };
-    match create(alloc, &name, now_ns, &plan.rows, plan.form, out) {
-        Ok(file) => record_feeds(rt, alloc, setting, file, feeds),
+    match create(alloc, &name, log.now_ns, &plan.rows, plan.form, out) {
+        Ok(file) => record_feeds(log.rt, alloc, setting, file, feeds),
         Err((fault, out)) => unbegun(alloc, fault, out, feeds),
     }
 }

@@ -9,18 +9,17 @@ ghost use Rattle.mdf_rotate.specs.Text.{part_line, record_of};
 ghost use Rattle.mdf_log.specs.Course.{AreRuled, HasGone, HasRun, IsNextPart, is_called};
 ghost use Rattle.mdf_log.specs.Parts.{durable_of, fault_of, fits_anew, live_of};
 
+use crate::logging::Logging;
 use crate::part::log_part;
 use crate::tally::Tally;
 use acq_lines::{Halt, LineFeed};
-use acq_script::Plan;
 use mdf_command::Fault;
 use mdf_disk::Disks;
 use mdf_input::Input;
-use mdf_num::{Bytes, Failed};
+use mdf_num::Failed;
 use mdf_port::{Sink, Source};
 use mdf_record::{RecordEnd, Recorded, RecordedFeeds};
 use mdf_rotate::{Part, give_part};
-use std::alloc::Global;
 use std::sync::Wait;
 use std::sync::atomic::{AtomicBool, Ordering};
 use std::thread::Threads;
@@ -117,11 +116,7 @@ fn give_next<E: Sink, C>(
 /// Records the next part onto the next disk, prints its line, and gives the disk back. Answers how the log stands then, and whether
 /// it goes on.
 fn next_part<'a, R, S, K, E, D>(
-    rt: &R,
-    alloc: Global,
-    output: &Bytes,
-    now_ns: u64,
-    plan: &Plan,
+    log: &Logging<'_, R>,
     course: Course<'a, S, K>,
     sink: &mut E,
     disks: &mut D,
@@ -132,12 +127,12 @@ where
     K: Sink + Send + Drop,
     E: Sink,
     D: Disks,
-    requires plan { IsPlan plan.now }
-    requires sources { length course.feeds.items ≡ plan.now.sources }
-    requires totals { length course.tally.accepted.items ≡ plan.now.sources }
-    requires ruled { AreRuled plan.now course.feeds.items }
+    requires plan { IsPlan log.now.plan.now }
+    requires sources { length course.feeds.items ≡ log.now.plan.now.sources }
+    requires totals { length course.tally.accepted.items ≡ log.now.plan.now.sources }
+    requires ruled { AreRuled log.now.plan.now course.feeds.items }
     requires room { course.tally.parts + 1 < 2 ^ 64 }
-    ensures { IsNextPart K.Sink plan.now output.now now_ns (λ served. D.serves disks.old served disks.new)
+    ensures { IsNextPart K.Sink log.now.plan.now log.now.output.now log.now.now_ns (λ served. D.serves disks.old served disks.new)
         (sink_state E.Sink sink.old) (sink_state E.Sink sink.new) course.entry result.0 result.1 }
 {
     let Course {
@@ -153,7 +148,7 @@ where
         recorded,
         feeds,
         all,
-    } = log_part(rt, alloc, output, now_ns, number, plan, out, feeds);
+    } = log_part(log, number, out, feeds);
     let Recorded {
         end,
         out,
@@ -196,11 +191,7 @@ fn resume_all<'a, S: Input + Drop, K: Sink + Drop>(feeds: &mut Vec<LineFeed<'a, 
 
 /// Records part after part, each behind one whose session was full for a sample that has room in an empty one, or in which a source was called off though nothing went wrong.
 pub(crate) fn log_parts<'a, R, S, K, E, D>(
-    rt: &R,
-    alloc: Global,
-    output: &Bytes,
-    now_ns: u64,
-    plan: &Plan,
+    log: &Logging<'_, R>,
     called: &AtomicBool,
     first: Course<'a, S, K>,
     sink: &mut E,
@@ -212,18 +203,18 @@ where
     K: Sink + Send + Drop,
     E: Sink,
     D: Disks,
-    requires plan { IsPlan plan.now }
-    requires sources { length first.feeds.items ≡ plan.now.sources }
-    requires ruled { AreRuled plan.now first.feeds.items }
+    requires plan { IsPlan log.now.plan.now }
+    requires sources { length first.feeds.items ≡ log.now.plan.now.sources }
+    requires ruled { AreRuled log.now.plan.now first.feeds.items }
     requires none { first.tally.parts ≡ 0 }
-    requires begins { HasGone K.Sink plan.now output.now now_ns (λ served. D.serves disks.old served disks.old)
+    requires begins { HasGone K.Sink log.now.plan.now log.now.output.now log.now.now_ns (λ served. D.serves disks.old served disks.old)
         (sink_state E.Sink sink.old) (sink_state E.Sink sink.old) first.feeds.items first }
-    ensures { HasRun K.Sink plan.now output.now now_ns (λ served. D.serves disks.old served disks.new)
+    ensures { HasRun K.Sink log.now.plan.now log.now.output.now log.now.now_ns (λ served. D.serves disks.old served disks.new)
         (sink_state E.Sink sink.old) (sink_state E.Sink sink.new) first.entry.feeds.items result }
 {
     let mut course = first;
-    for _ in rt.forever() {
-        let (next, goes_on) = next_part(rt, alloc, output, now_ns, plan, course, sink, disks);
+    for _ in log.rt.forever() {
+        let (next, goes_on) = next_part(log, course, sink, disks);
         course = next;
         if !goes_on || course.tally.parts == u64::MAX {
             return course;

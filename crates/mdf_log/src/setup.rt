@@ -7,13 +7,10 @@ ghost use Rattle.acq_script.specs.Stage.{IsScript};
 ghost use Rattle.mdf_log.specs.Setup.{END, IsNoSetup, IsSetup, SaysSetup, SetupFaultComes, idle_script};
 
 use acq_script::{Plan, Script, Task, read_script};
-use mdf_command::Fault;
+use mdf_command::{Fault, SCRIPT_LIMIT};
 use mdf_num::{Bytes, Rows};
 use mdf_port::{Source, take_all};
 use std::alloc::Global;
-
-/// How many bytes a setup has at most.
-const SETUP_LIMIT: u64 = 67_108_864;
 
 /// Whether no source does anything.
 fn is_idle(lists: &Rows<Rows<Task>>) -> bool
@@ -65,6 +62,6 @@ pub fn read_setup<S: Source>(alloc: Global, source: &mut S) -> Result<Plan, Faul
     ensures plan { IfOk result IsPlan }
     ensures fault { IfErr result (SetupFaultComes (source_state S.Source source.old) (source_state S.Source source.new)) }
 {
-    let text = take_all(alloc, source, SETUP_LIMIT)?;
+    let text = take_all(alloc, source, SCRIPT_LIMIT)?;
     setup_in(alloc, text)
 }

@@ -14,12 +14,12 @@ returns-in_default g c =
     let k = c.unbegun.ensures in
     let laws = g.met.C.Disk g.world.𝓛 g.world.𝓜 g.world.𝓡 ((λ s x. x), (λ x. x), (λ x. x), λ x. x) in
     let feed = g.met.F.Feed g.world.𝓛 g.world.𝓜 g.world.𝓡 ((λ s x. x), (λ x. x), (λ x. x), λ x. x) in
-    let plan = c.args.plan.now in
-    let name = part_name c.args.output.now c.args.number in
-    let none = not_created g.C.Disk name (head_file plan.form c.args.now_ns plan.rows) c.args.out c.requires.asked (laws.agrees c.args.out)
+    let plan = c.args.log.now.plan.now in
+    let name = part_name c.args.log.now.output.now c.args.number in
+    let none = not_created g.C.Disk name (head_file plan.form c.args.log.now.now_ns plan.rows) c.args.out c.requires.asked (laws.agrees c.args.out)
     (laws.unattached c.args.out (laws.unasked c.args.out c.requires.asked)) in
     record {
-      comes = rw (k.end, k.feeds, k.none) (refused_comes g.F.Feed.hands g.F.Feed.waits g.F.Feed.ends feed.hands_none plan name c.args.now_ns (state_of g.C.Disk c.args.out) _
+      comes = rw (k.end, k.feeds, k.none) (refused_comes g.F.Feed.hands g.F.Feed.waits g.F.Feed.ends feed.hands_none plan name c.args.log.now.now_ns (state_of g.C.Disk c.args.out) _
           c.args.feeds.items _ k.history k.marks c.requires.sources (rw k.out none.unmade));
       untouched = λ asked. k.out;
       recovered = rw (k.out, k.history, k.marks) (record {
@@ -33,7 +33,7 @@ record_feeds-requires-clause-created g c κs within = c.in-Ok-create.ensures.cre
 
 pub record_feeds-requires-clause-ready : goal.record_feeds-requires-clause-ready
 record_feeds-requires-clause-ready g c κs within = let set = c.in-Ok.ensures in (
-  c.args.plan.now,
+  c.args.log.now.plan.now,
   record {
     is_plan = c.requires.plan;
     shapes = set.shapes;
@@ -48,7 +48,7 @@ record_feeds-requires-clause-ready g c κs within = let set = c.in-Ok.ensures in
 
 pub returns-in-Ok-create : goal.returns-in-Ok-create
 returns-in-Ok-create g c =
-    let plan = c.args.plan.now in
+    let plan = c.args.log.now.plan.now in
     let set = c.in-Ok.ensures in
     let h = c.in-Ok-create.ensures.created in
     let fed = c.record_feeds.ensures.recorded plan (record {
@@ -61,23 +61,23 @@ returns-in-Ok-create g c =
       count = c.requires.sources;
       may = c.requires.may;
     }) in
-    let made = subst (λ (p : Plan). IsCreated g.C.Disk c.in-Ok.name p.form c.args.now_ns p.rows c.args.out c.in-Ok-create.file) (sym fed.plan_is) h in
+    let made = subst (λ (p : Plan). IsCreated g.C.Disk c.in-Ok.name p.form c.args.log.now.now_ns p.rows c.args.out c.in-Ok-create.file) (sym fed.plan_is) h in
     record {
-      comes = recorded_comes g.C.Disk g.F.Feed.hands g.F.Feed.waits g.F.Feed.ends plan _ c.args.now_ns c.args.out c.in-Ok-create.file _ c.args.feeds.items _ _ _
-          (subst (λ name. IsCreated g.C.Disk name plan.form c.args.now_ns plan.rows c.args.out c.in-Ok-create.file) set.name h) fed;
+      comes = recorded_comes g.C.Disk g.F.Feed.hands g.F.Feed.waits g.F.Feed.ends plan _ c.args.log.now.now_ns c.args.out c.in-Ok-create.file _ c.args.feeds.items _ _ _
+          (subst (λ name. IsCreated g.C.Disk name plan.form c.args.log.now.now_ns plan.rows c.args.out c.in-Ok-create.file) set.name h) fed;
       untouched = λ none. absurd (was_asked _ _ (fed.run.asked_is ∙ h.asked) none);
-      recovered = run_recovers c.what_is_carried_is_recovered.ensures c.args.now_ns fed.script fed.is_script.plan made.readable g.C.Disk c.args.out
+      recovered = run_recovers c.what_is_carried_is_recovered.ensures c.args.log.now.now_ns fed.script fed.is_script.plan made.readable g.C.Disk c.args.out
           c.in-Ok-create.file _ _ made.begun made.head made.told made.start fed.run;
     }
 
 pub returns : goal.returns
 returns g c =
     let k = c.unbegun-in-Err.ensures in
-    let plan = c.args.plan.now in
+    let plan = c.args.log.now.plan.now in
     let feed = g.met.F.Feed g.world.𝓛 g.world.𝓜 g.world.𝓡 ((λ s x. x), (λ x. x), (λ x. x), λ x. x) in
     let none = c.in-Err.ensures.refused in
     record {
-      comes = rw (k.end, k.feeds, k.none, sym c.in-Ok.ensures.name) (refused_comes g.F.Feed.hands g.F.Feed.waits g.F.Feed.ends feed.hands_none plan c.in-Ok.name c.args.now_ns
+      comes = rw (k.end, k.feeds, k.none, sym c.in-Ok.ensures.name) (refused_comes g.F.Feed.hands g.F.Feed.waits g.F.Feed.ends feed.hands_none plan c.in-Ok.name c.args.log.now.now_ns
           (state_of g.C.Disk c.args.out) _ c.args.feeds.items _ k.history k.marks c.requires.sources (rw k.out none.unmade));
       untouched = λ asked. k.out ∙ none.untouched (ap g.C.Disk.asked (sym k.out) ∙ asked);
       recovered = rw (k.out, k.history, k.marks) (record {

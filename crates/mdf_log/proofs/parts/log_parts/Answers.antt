@@ -22,7 +22,7 @@ returns-then-not-goes_on g c =
       | then-not-goes_on-via-then-not-goes_on w ↦ λ on. absurd (cc (w.if-not-goes_on.true, on))
       | then-not-goes_on-via-else-not-goes_on+then-course w ↦ λ on. omega (arith, w.if-course.true)
     ] in
-    run g.K.Sink c.args.plan.now c.args.output.now c.args.now_ns
+    run g.K.Sink c.args.log.now.plan.now c.args.log.now.output.now c.args.log.now.now_ns
     (λ served. g.D.Disks.serves c.args.disks.now served c.loop.disks)
     (λ served. g.D.Disks.serves c.loop.disks served next.new.disks)
     (λ served. g.D.Disks.serves c.args.disks.now served next.new.disks)
@@ -33,7 +33,7 @@ pub loop-preserved : goal.loop-preserved
 loop-preserved g c =
     let next = c.next_part-next in
     record {
-      gone = gone_on g.K.Sink c.args.plan.now c.args.output.now c.args.now_ns
+      gone = gone_on g.K.Sink c.args.log.now.plan.now c.args.log.now.output.now c.args.log.now.now_ns
           (λ served. g.D.Disks.serves c.args.disks.now served c.loop.disks)
           (λ served. g.D.Disks.serves c.loop.disks served next.new.disks)
           (λ served. g.D.Disks.serves c.args.disks.now served next.new.disks)

@@ -11,7 +11,7 @@ use Rattle.mdf_log.proofs.Moving.{handed_count, moves}
 use Rattle.mdf_log.proofs.parts.next_part.Goals as goal
 
 pub log_part-recorded-requires-clause-may : goal.log_part-recorded-requires-clause-may
-log_part-recorded-requires-clause-may g c κs within = may_record g.K.Sink c.args.plan.now c.args.course.feeds.items c.requires.ruled
+log_part-recorded-requires-clause-may g c κs within = may_record g.K.Sink c.args.log.now.plan.now c.args.course.feeds.items c.requires.ruled
 
 pub add-requires-clause-sources : goal.add-requires-clause-sources
 add-requires-clause-sources g c =
@@ -57,7 +57,7 @@ returns g c =
       );
       count = handed_count (Hands g.K.Sink) _ _ _ comes.handed;
       counts = c.add.ensures.count;
-      sources = λ source d n less. moved g.K.Sink c.args.plan.now _ source _ _ _ _ all idle
+      sources = λ source d n less. moved g.K.Sink c.args.log.now.plan.now _ source _ _ _ _ all idle
           (moves (Hands g.K.Sink) Waits Halts _ _ _ _ _ c.args.course.feeds.items c.log_part-recorded.result.feeds.items all recorded.end comes source d idle less)
           (λ within. c.add.ensures.accepted source n idle (omega (arith, within, ap length all_is)) ∙ ap (λ (l : List Driven). get_or c.args.course.tally.accepted.items source n + (get_or l source idle).accepted) all_is)
           (λ past. c.add.ensures.rest source n (omega (arith, past, ap length all_is)));
