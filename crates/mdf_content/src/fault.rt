@@ -1,4 +1,15 @@
-use mdf_block::{Kind, What};
+ghost use Rattle.mdf_block.specs.Block.{block_refusal};
+ghost use Rattle.mdf_block.specs.Refusal.{Renames};
+ghost use Rattle.mdf_stream.specs.Link.{data_refusal};
+ghost use Rattle.mdf_data.specs.Record.{split_refusal};
+ghost use Rattle.mdf_head.specs.Head.{head_refusal};
+ghost use Rattle.mdf_group.specs.Link.{group_refusal};
+ghost use Rattle.mdf_content.specs.Fault.{read_refusal};
+
+use mdf_block::{BlockFault, Kind, What};
+use mdf_data::{DataFault, SplitFault};
+use mdf_group::GroupFault;
+use mdf_head::HeadFault;
 use std::error::Error;
 use std::fmt;
 
@@ -73,3 +84,68 @@ impl fmt::Display for ReadFault {
 }
 
 impl Error for ReadFault {}
+
+impl From<BlockFault> for ReadFault {
+    ghost from_gives = { Renames block_refusal read_refusal };
+
+    fn from(fault: BlockFault) -> ReadFault {
+        match fault {
+            BlockFault::Bad { at, want } => ReadFault::Block { at, want },
+            BlockFault::Compressed { at } => ReadFault::Compressed { at },
+        }
+    }
+}
+
+impl From<HeadFault> for ReadFault {
+    ghost from_gives = { Renames head_refusal read_refusal };
+
+    fn from(fault: HeadFault) -> ReadFault {
+        match fault {
+            HeadFault::Bad { at, want } => ReadFault::Block { at, want },
+            HeadFault::TooMany { what, at } => ReadFault::TooMany { what, at },
+            HeadFault::Memory => ReadFault::Memory,
+        }
+    }
+}
+
+impl From<GroupFault> for ReadFault {
+    ghost from_gives = { Renames group_refusal read_refusal };
+
+    fn from(fault: GroupFault) -> ReadFault {
+        match fault {
+            GroupFault::Bad { at, want } => ReadFault::Block { at, want },
+            GroupFault::TooMany { what, at } => ReadFault::TooMany { what, at },
+            GroupFault::ChannelKind { at, kind } => ReadFault::ChannelKind { at, kind },
+            GroupFault::ChannelType { at, value } => ReadFault::ChannelType { at, value },
+            GroupFault::Deep { at } => ReadFault::Deep { at },
+            GroupFault::Memory => ReadFault::Memory,
+        }
+    }
+}
+
+impl From<DataFault> for ReadFault {
+    ghost from_gives = { Renames data_refusal read_refusal };
+
+    fn from(fault: DataFault) -> ReadFault {
+        match fault {
+            DataFault::Bad { at, want } => ReadFault::Block { at, want },
+            DataFault::Compressed { at } => ReadFault::Compressed { at },
+            DataFault::TooMany { at } => ReadFault::TooMany {
+                what: What::Block,
+                at,
+            },
+            DataFault::Memory => ReadFault::Memory,
+        }
+    }
+}
+
+impl From<SplitFault> for ReadFault {
+    ghost from_gives = { Renames split_refusal read_refusal };
+
+    fn from(fault: SplitFault) -> ReadFault {
+        match fault {
+            SplitFault::UnknownId { id, at } => ReadFault::UnknownId { id, at },
+            SplitFault::Cut { at } => ReadFault::Cut { at },
+        }
+    }
+}
