@@ -12,24 +12,13 @@ use mdf_layout::{Shape, ShapeFault, Shapes, shape_of};
 use mdf_num::{Memory, Rows};
 use std::alloc::Global;
 
-/// An equal text.
-fn copy_of(note: &Note) -> Result<Note, Memory>
-    ensures { IfOk result (λ copy. copy ≡ note.now) }
-{
-    Ok(match note {
-        Note::Nothing => Note::Nothing,
-        Note::Plain(text) => Note::Plain(text.copy()?),
-        Note::Xml(text) => Note::Xml(text.copy()?),
-    })
-}
-
 /// An equal channel, which can be recorded.
 fn channel_like(row: &ChannelRow) -> Result<ChannelRow, Memory>
     requires { IsRecordableChannel row.now }
     ensures { IfOk result (λ copy. copy ≡ row.now) }
 {
-    let name = copy_of(&row.name)?;
-    let unit = copy_of(&row.unit)?;
+    let name = row.name.copy()?;
+    let unit = row.unit.copy()?;
     Ok(ChannelRow {
         at: row.at,
         kind: row.kind,
@@ -69,7 +58,7 @@ fn group_like(alloc: Global, row: &GroupRow) -> Result<GroupRow, Memory>
     requires { IsRecordableGroup row.now }
     ensures { IfOk result (λ copy. copy ≡ row.now) }
 {
-    let name = copy_of(&row.name)?;
+    let name = row.name.copy()?;
     let channels = channels_like(alloc, row.channels.as_slice())?;
     Ok(GroupRow {
         at: row.at,

@@ -3,13 +3,12 @@ ghost use Rattle.std.specs.Prelude.{◌≡◌};
 ghost use Rattle.mdf_command.specs.Faults.{refusal_line, text_line, texts_line, what_text};
 ghost use Rattle.mdf_command.specs.Parts.{parts_line};
 ghost use Rattle.mdf_block.specs.Refusal.{Bad, TooMany};
-ghost use Rattle.mdf_format.specs.Block.{name_of};
 ghost use Rattle.mdf_port.specs.State.{sink_state};
 ghost use Rattle.mdf_command.specs.Texts.{Gives};
 
 use crate::report::Piece::{Number, Text};
 use crate::report::give_line;
-use mdf_block::What;
+use mdf_block::{What, name_of};
 use mdf_format::Kind;
 use mdf_num::Failed;
 use mdf_port::Sink;
@@ -29,27 +28,6 @@ pub enum Parts {
     Block(u64, Kind),
     /// What there is too many of, and where.
     Many(What, u64),
-}
-
-/// The four bytes that name a kind of block.
-fn name_of(kind: Kind) -> &'static [u8]
-    ensures { result.now ≡ name_of kind }
-{
-    match kind {
-        Kind::Hd => b"##HD",
-        Kind::Fh => b"##FH",
-        Kind::Dg => b"##DG",
-        Kind::Cg => b"##CG",
-        Kind::Cn => b"##CN",
-        Kind::Cc => b"##CC",
-        Kind::Si => b"##SI",
-        Kind::Tx => b"##TX",
-        Kind::Md => b"##MD",
-        Kind::Dt => b"##DT",
-        Kind::Dl => b"##DL",
-        Kind::Sd => b"##SD",
-        Kind::At => b"##AT",
-    }
 }
 
 /// The word for what there is too many of.
@@ -95,13 +73,14 @@ fn give_texts<'x, K: Sink>(
 fn give_block<K: Sink>(sink: &mut K, at: u64, want: Kind) -> Result<(), Failed>
     ensures { Gives (refusal_line (Bad at want)) (sink_state K.Sink sink.old) (sink_state K.Sink sink.new) result }
 {
+    let name = name_of(want);
     give_line(
         sink,
         &[
             Text(b"block at "),
             Number(at),
             Text(b" is not "),
-            Text(name_of(want)),
+            Text(&name),
         ],
     )
 }
