@@ -13,7 +13,6 @@ use Rattle.mdf_gate.specs.Gated.{Gated, Buffered, RestsOn}
 use Rattle.mdf_gate.specs.Images.{head_of}
 use Rattle.book_owned.specs.Members.{DiskOf}
 use Rattle.book_owned.specs.Kept.{MarksHold, StartHolds}
-use Rattle.book_owned.specs.declared.fault.Fault.{Fault}
 use Rattle.book_owned.specs.declared.mark.Mark.{Mark}
 use Rattle.book_owned.specs.declared.written.Written.{Written}
 use Rattle.book_owned.specs.declared.written.Written.TheVariants as written
@@ -89,10 +88,3 @@ WriteAnswers disk old new through block (written.Done mark back) =
 WriteAnswers disk old new through block (written.DiskFault before after back) =
     (new.failed ≡ true) × (before ≡ disk.faults old.disk) × (after ≡ disk.faults new.disk) × Rose before after × (back ≡ block)
 WriteAnswers disk old new through block written.Nothing = ⊥
-
--- the disk failed, and these are its counts of faults
-pub record IsWriteFault {D : Type 0} (disk : DiskOf D) (file file' : Gated D) (fault : Fault) : Type 0 where
-  pub failed : file'.failed ≡ true
-  pub before_is : fault.before ≡ disk.faults file.disk
-  pub after_is : fault.after ≡ disk.faults file'.disk
-  pub rose : Rose fault.before fault.after

@@ -101,14 +101,19 @@ abbrev pub FrontRoom : {V : Type 0} → FrontAccount V → Sample → Type 0
 FrontRoom front sample =
     history_cost front.terms.layouts front.history + cost_of front.terms.layouts sample ≤ front.terms.session_limit
 
--- the pending records and that of the sample pass the block limit, or do not
+-- the pending records and so many bytes more pass the block limit, or do not
+abbrev pub FrontPassesWith : {V : Type 0} → FrontAccount V → ℕ → Type 0
+FrontPassesWith front size = front.terms.block_limit < history_size front.terms.layouts (behind front) + size
+
+abbrev pub FrontFitsWith : {V : Type 0} → FrontAccount V → ℕ → Type 0
+FrontFitsWith front size = history_size front.terms.layouts (behind front) + size ≤ front.terms.block_limit
+
+-- the pending records and that of the sample
 abbrev pub FrontPasses : {V : Type 0} → FrontAccount V → Sample → Type 0
-FrontPasses front sample =
-    front.terms.block_limit < history_size front.terms.layouts (behind front) + encoded_size front.terms.layouts sample
+FrontPasses front sample = FrontPassesWith front (encoded_size front.terms.layouts sample)
 
 abbrev pub FrontFits : {V : Type 0} → FrontAccount V → Sample → Type 0
-FrontFits front sample =
-    history_size front.terms.layouts (behind front) + encoded_size front.terms.layouts sample ≤ front.terms.block_limit
+FrontFits front sample = FrontFitsWith front (encoded_size front.terms.layouts sample)
 
 -- a put
 abbrev pub PutTells : {V : Type 0} → FrontAccount V → FrontAccount V → Sample → Append → Type 0

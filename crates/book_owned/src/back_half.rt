@@ -4,8 +4,7 @@ ghost use Rattle.mdf_layout.specs.declared.sample.Sample.{Sample};
 ghost use Rattle.book_owned.specs.declared.mark.Mark.{Mark};
 ghost use Rattle.book_owned.specs.BackHalf.{back_terms, BackKeeps, FileHolds, IsHanded, WriteKeeps, WriteAnswers};
 
-use crate::Written;
-use crate::back::write_block;
+use crate::{Mark, Written};
 use mdf_disk::Disk;
 use mdf_gate::{Block, GatedFile};
 use std::marker::Model;
@@ -43,13 +42,18 @@ impl<D: Disk> Back<D> {
             → All (λ mark. mark.through ≤ from) marks
             → WriteKeeps D.Disk layouts most self.new samples marks through result }
     {
-        match write_block(&mut self.file, through, &mut block) {
-            Ok(mark) => Written::Done { mark, block },
-            Err(fault) => Written::DiskFault {
-                before: fault.before,
-                after: fault.after,
+        let before = self.file.faults();
+        let Ok(()) = self.file.append(&mut block) else {
+            return Written::DiskFault {
+                before,
+                after: self.file.faults(),
                 block,
-            },
-        }
+            };
+        };
+        let mark = Mark {
+            moment: self.file.moment(),
+            through,
+        };
+        Written::Done { mark, block }
     }
 }

@@ -29,7 +29,7 @@ impl<V: Shown> Model for Front<V> {
 impl<V: Shown> Front<V> {
     ghost use Rattle.book_owned.specs.Marks.{last_mark, durable};
     ghost use Rattle.book_owned.specs.Answers.{IsRefusal, accepted_by};
-    ghost use Rattle.book_owned.specs.FrontHalf.{IsSteady, FrontRoom, FrontFits, FrontPasses, PutTells, HandTells, IsAwaited, FinishTells, FrontPutEvents, FinishEvents, behind};
+    ghost use Rattle.book_owned.specs.FrontHalf.{IsSteady, FrontRoom, FrontFits, FrontPasses, FrontFitsWith, FrontPassesWith, PutTells, HandTells, IsAwaited, FinishTells, FrontPutEvents, FinishEvents, behind};
 
     /// Accepts a sample whose records have room in the block. It never answers `DiskFault`.
     #[inline(always)]
@@ -41,13 +41,28 @@ impl<V: Shown> Front<V> {
         ensures events { FrontPutEvents V.count self.old self.new sample result }
         ensures steady { IsSteady V.Shown self.new }
     {
-        if let Some(refused) = self.refusal(&sample) {
+        let size = self.size_of(&sample);
+        self.put_sized(sample, size)
+    }
+
+    /// `put` of a sample whose record has this size, in bytes.
+    #[inline(always)]
+    pub fn put_sized(&mut self, sample: Sample, size: u64) -> Append
+        requires fits { SampleFits self.old.terms.layouts sample }
+        requires size_is { size ≡ encoded_size self.old.terms.layouts sample }
+        requires size { encoded_size self.old.terms.layouts sample ≤ self.old.terms.block_limit }
+        requires room { FrontFits self.old sample }
+        ensures tells { PutTells self.old self.new sample result }
+        ensures events { FrontPutEvents V.count self.old self.new sample result }
+        ensures steady { IsSteady V.Shown self.new }
+    {
+        if let Some(refused) = refusal(&self.memory, &sample, size) {
             return refused;
         }
-        let place = self.history_len();
         let Ok(()) = reserve(&mut self.memory) else {
             return Append::Memory;
         };
+        let place = self.memory.history.len();
         accept(&mut self.memory, sample);
         Append::Accepted { place }
     }
@@ -92,8 +107,16 @@ impl<V: Shown> Front<V> {
         requires size { encoded_size self.now.terms.layouts sample.now ≤ self.now.terms.block_limit }
         ensures { MatchBool result (FrontPasses self.now sample.now) (FrontFits self.now sample.now) }
     {
-        let size = self.memory.shapes.encoded_size(sample);
-        self.pending() + size > self.memory.block.limit() as u64
+        self.passes_with(self.size_of(sample))
+    }
+
+    /// Whether the pending records and so many bytes more pass the block limit.
+    pub fn passes_with(&self, size: u64) -> bool
+        requires small { size ≤ self.now.terms.block_limit }
+        ensures { MatchBool result (FrontPassesWith self.now size) (FrontFitsWith self.now size) }
+    {
+        let limit = self.memory.block.limit() as u64;
+        self.pending() + size > limit
     }
 
     /// Whether it has its spare block: false just between a block that was handed over and what became of it.

@@ -10,7 +10,6 @@
 #![tactic(auto)]
 
 mod answer;
-mod back;
 mod back_half;
 mod book;
 mod fault;

@@ -1,17 +1,34 @@
-use Rattle.std.proofs.Common.{sym, subst, take}
-use Rattle.book_owned.specs.BackHalf.{BackKeeps, FileHolds, WriteKeeps}
+use Rattle.std.proofs.Common.{◌≡◌, ◌+◌, ◌<◌, refl, sym, subst, take, arith}
+use Rattle.book_owned.specs.BackHalf.{BackKeeps, FileHolds}
+use Rattle.book_owned.proofs.Backs.{back_keeps, back_holds, back_marked}
+use Rattle.book_owned.proofs.Turning.{rises_told, told_on}
 use Rattle.book_owned.proofs.back_half.Back.write.Goals as goal
-use Rattle.book_owned.proofs.back_half.Back.write.Goals.{in-Ok, in-Err}
+
+pub returns-in_default-clause-keeps : goal.returns-in_default-clause-keeps
+returns-in_default-clause-keeps g c = λ layouts most samples marks from keeps holds handed few.
+    let file = c.self.inside.file in
+    let before = subst (λ f. BackKeeps g.D.Disk layouts f (take c.args.through samples) marks) (sym c.self.view_is) keeps in
+    let held = subst (λ f. FileHolds g.D.Disk layouts most f (take from samples)) (sym c.self.view_is) holds in
+    back_keeps g.D.Disk layouts most file c.append.new.self c.args.block samples from c.args.through c.requires.some handed held
+    marks few before c.append.ensures.goes_on.disk.told c.append.ensures.any_moment c.append.ensures.goes_on.disk.moment c.append.ensures.goes_on.head c.append.ensures.goes_on.start
 
 pub returns-clause-keeps : goal.returns-clause-keeps
 returns-clause-keeps g c = λ layouts most samples marks from keeps holds handed few.
-    let through = c.args.through in
-    let before = subst (λ f. BackKeeps g.D.Disk layouts f (take through samples) marks) (sym c.self.view_is) keeps in
+    let file = c.self.inside.file in
+    let before = subst (λ f. BackKeeps g.D.Disk layouts f (take c.args.through samples) marks) (sym c.self.view_is) keeps in
     let held = subst (λ f. FileHolds g.D.Disk layouts most f (take from samples)) (sym c.self.view_is) holds in
-    let kept = c.write_block.ensures.keeps layouts most samples marks from before held handed few in
-    elim c.match-write_block.branch [
-      | in-Ok w ↦
-          let marked = w.in-Ok.ensures.marked layouts most samples marks from before held handed few in
-          subst (WriteKeeps g.D.Disk layouts most c.write_block.new.file samples marks through) (sym w.result-is) (kept, marked.0, marked.1)
-      | in-Err w ↦ subst (WriteKeeps g.D.Disk layouts most c.write_block.new.file samples marks through) (sym w.result-is) kept
-    ]
+    let story = g.D.Disk.story file.disk in
+    let then = g.D.Disk.moment file.disk in
+    let now = g.D.Disk.moment c.append.new.self.disk in
+    let rises = told_on story story (now ≡ then + 4) (then < now) refl (λ four. omega (arith, four)) c.in-Ok.ensures.ok.calls in (
+      back_keeps g.D.Disk layouts most file c.append.new.self c.args.block samples from c.args.through c.requires.some handed held
+          marks few before c.append.ensures.goes_on.disk.told c.append.ensures.any_moment c.append.ensures.goes_on.disk.moment c.append.ensures.goes_on.head c.append.ensures.start,
+      back_marked g.D.Disk layouts most file c.append.new.self c.args.block samples from c.args.through c.requires.some handed held
+          marks few before c.append.ensures.goes_on.disk.told c.append.ensures.any_moment c.append.ensures.goes_on.disk.moment c.append.ensures.goes_on.head c.append.ensures.goes_on.start
+          c.in-Ok.ensures.ok.going c.in-Ok.ensures.ok.place c.in-Ok.ensures.ok.rests
+          (record { moment = c.moment.result; through = c.args.through }) c.moment.ensures.moment refl
+          (rises_told _ _ c.append.ensures.goes_on.disk.told (then < now) rises) c.moment.ensures.leaves,
+      back_holds g.D.Disk layouts most file c.append.new.self c.args.block samples from c.args.through c.requires.some handed held
+          marks few before c.append.ensures.goes_on.disk.told c.append.ensures.any_moment c.append.ensures.goes_on.disk.moment c.append.ensures.goes_on.head c.append.ensures.goes_on.start
+          c.in-Ok.ensures.ok.going c.in-Ok.ensures.ok.place c.in-Ok.ensures.ok.rests,
+    )

@@ -3,9 +3,9 @@ use Rattle.mdf_layout.specs.Record.{cost_of, encoded_size, history_size}
 use Rattle.book_owned.specs.FrontHalf.{FrontFits, IsFront}
 use Rattle.book_owned.proofs.Fronts.{front_put, front_reserved}
 use Rattle.book_owned.proofs.Putting.{room_for}
-use Rattle.book_owned.proofs.front_half.Front.put.Given as given
-use Rattle.book_owned.proofs.front_half.Front.put.Goals as goal
-use Rattle.book_owned.proofs.front_half.Front.put.Goals.{After-reserve}
+use Rattle.book_owned.proofs.front_half.Front.put_sized.Given as given
+use Rattle.book_owned.proofs.front_half.Front.put_sized.Goals as goal
+use Rattle.book_owned.proofs.front_half.Front.put_sized.Goals.{After-reserve}
 
 -- the front with what was reserved
 reserved : (g : given.Over) (c : After-reserve g) → IsFront g.V.Shown c.reserve.new.front
@@ -15,7 +15,7 @@ reserved g c =
 
 -- it goes on, and the sample's records have room in the block
 goes : (g : given.Over) (c : After-reserve g) → c.self.inside.memory.stopped ≡ false
-goes g c = ap (λ a. a.stopped) c.self.view_is ∙ c.in_default.ensures.none.0
+goes g c = c.in_default.ensures.going
 
 fits : (g : given.Over) (c : After-reserve g)
     → history_size c.self.inside.memory.shapes (drop c.self.inside.memory.from c.self.inside.memory.history.items) + encoded_size c.self.inside.memory.shapes c.args.sample
