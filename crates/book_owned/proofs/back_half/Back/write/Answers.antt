@@ -18,16 +18,16 @@ returns-clause-keeps g c = λ layouts most samples marks from keeps holds handed
     let before = subst (λ f. BackKeeps g.D.Disk layouts f (take c.args.through samples) marks) (sym c.self.view_is) keeps in
     let held = subst (λ f. FileHolds g.D.Disk layouts most f (take from samples)) (sym c.self.view_is) holds in
     let story = g.D.Disk.story file.disk in
-    let then = g.D.Disk.moment file.disk in
+    let earlier = g.D.Disk.moment file.disk in
     let now = g.D.Disk.moment c.append.new.self.disk in
-    let rises = told_on story story (now ≡ then + 4) (then < now) refl (λ four. omega (arith, four)) c.in-Ok.ensures.ok.calls in (
+    let rises = told_on story story (now ≡ earlier + 4) (earlier < now) refl (λ four. omega (arith, four)) c.in-Ok.ensures.ok.calls in (
       back_keeps g.D.Disk layouts most file c.append.new.self c.args.block samples from c.args.through c.requires.some handed held
-          marks few before c.append.ensures.goes_on.disk.told c.append.ensures.any_moment c.append.ensures.goes_on.disk.moment c.append.ensures.goes_on.head c.append.ensures.start,
+          marks few before c.append.ensures.goes_on.disk.told c.append.ensures.any_moment c.append.ensures.goes_on.disk.moment c.append.ensures.goes_on.head c.append.ensures.goes_on.start,
       back_marked g.D.Disk layouts most file c.append.new.self c.args.block samples from c.args.through c.requires.some handed held
           marks few before c.append.ensures.goes_on.disk.told c.append.ensures.any_moment c.append.ensures.goes_on.disk.moment c.append.ensures.goes_on.head c.append.ensures.goes_on.start
           c.in-Ok.ensures.ok.going c.in-Ok.ensures.ok.place c.in-Ok.ensures.ok.rests
           (record { moment = c.moment.result; through = c.args.through }) c.moment.ensures.moment refl
-          (rises_told _ _ c.append.ensures.goes_on.disk.told (then < now) rises) c.moment.ensures.leaves,
+          (rises_told _ _ c.append.ensures.goes_on.disk.told (earlier < now) rises) c.moment.ensures.leaves,
       back_holds g.D.Disk layouts most file c.append.new.self c.args.block samples from c.args.through c.requires.some handed held
           marks few before c.append.ensures.goes_on.disk.told c.append.ensures.any_moment c.append.ensures.goes_on.disk.moment c.append.ensures.goes_on.head c.append.ensures.goes_on.start
           c.in-Ok.ensures.ok.going c.in-Ok.ensures.ok.place c.in-Ok.ensures.ok.rests,
