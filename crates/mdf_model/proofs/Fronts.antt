@@ -2,11 +2,11 @@
 use Rattle.std.proofs.Common.{◌≡◌, ◌<◌, ◌≤◌, ℕ, Bool, List, length, Option, Some, Ok, Err, refl, sym, ◌∙◌, ap, arith}
 use Rattle.std.proofs.lemmas.List.{length-take-le}
 use Rattle.std.proofs.lemmas.Bool.{le-leb, lt-leb}
-use Rattle.std.specs.Prelude.{nat_le, ◌&&◌, ◌||◌, codes, if◌then◌else◌}
+use Rattle.std.specs.Prelude.{false, true, None, IsSome, nat_le, ◌&&◌, ◌||◌, codes, if◌then◌else◌}
 use Rattle.std.specs.Str.{bytes_eq}
 use Rattle.mdf_format.specs.Number.{le_number, bytes_at}
 use Rattle.mdf_num.specs.Span.{IsTold}
-use Rattle.mdf_block.specs.Refusal.{NotMdf, Version, Read}
+use Rattle.mdf_block.specs.Refusal.{Refusal, NotMdf, Version, Read, Refuses, Fails}
 use Rattle.mdf_block.proofs.Parts.{bytes_at-bytes_at}
 use Rattle.mdf_head.specs.declared.identity.Ident.{Ident}
 use Rattle.mdf_head.specs.Ident.{identify}
@@ -57,3 +57,8 @@ front_is file long =
 -- a file that is told is as long as the span says
 pub told_length : (told : Option (List ℕ)) (size : ℕ) (file : List ℕ) → IsTold told size → told ≡ Some file → length file ≡ size
 told_length told size file whole is = rw is at whole
+
+-- a fault that stands for a refusal is the reason to refuse
+pub fails_refuses : {A : Type 0} (refusal : Option Refusal) (read : Read A) → IsSome refusal → Fails refusal read → Refuses refusal read
+fails_refuses (Some refusal) read some is = is
+fails_refuses None read none is = let wrong : false ≡ true = none in cc

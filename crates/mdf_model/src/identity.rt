@@ -1,6 +1,5 @@
-ghost use Rattle.std.specs.Prelude.{false, IfErr};
-ghost use Rattle.mdf_num.specs.Halt.{HaltCause};
-ghost use Rattle.mdf_block.specs.Refusal.{Gives, IsPlain};
+ghost use Rattle.std.specs.Prelude.{◌≤◌, length, IfOk, IfErr, IsSome};
+ghost use Rattle.mdf_block.specs.Refusal.{GivesOf};
 ghost use Rattle.mdf_block.specs.Reads.{Reads};
 ghost use Rattle.mdf_head.specs.Ident.{identify};
 ghost use Rattle.mdf_content.specs.Fault.{read_refusal};
@@ -11,15 +10,18 @@ use mdf_head::{Ident, IdentFault, ident};
 use mdf_num::{Halt, Span};
 
 /// What the first 64 bytes say, with the faults of reading.
-fn ident_of(front: &[u8]) -> Result<Ident, Halt<ReadFault>>
-    ensures found { Gives read_refusal result (identify front.now) }
-    ensures plain { IfErr result (IsPlain read_refusal) }
-    ensures cause { HaltCause false 0 0 result }
+///
+/// # Errors
+/// `NotMdf`, then `Version`, as `ident` of mdf_head.
+pub fn identity_of(bytes: &[u8]) -> Result<Ident, ReadFault>
+    ensures exact { GivesOf read_refusal result (identify bytes.now) }
+    ensures plain { IfErr result (λ fault. IsSome (read_refusal fault)) }
+    ensures long { IfOk result (λ _. 64 ≤ length bytes.now) }
 {
-    match ident(front) {
+    match ident(bytes) {
         Ok(id) => Ok(id),
-        Err(IdentFault::NotMdf) => Err(Halt::Fault(ReadFault::NotMdf)),
-        Err(IdentFault::Version { ver }) => Err(Halt::Fault(ReadFault::Version { ver })),
+        Err(IdentFault::NotMdf) => Err(ReadFault::NotMdf),
+        Err(IdentFault::Version { ver }) => Err(ReadFault::Version { ver }),
     }
 }
 
@@ -35,8 +37,10 @@ pub fn identity_in<P: Span>(span: &mut P) -> Result<Ident, Halt<ReadFault>>
     }
     let mut front = [0u8; 64];
     span.fill(0, &mut front)?;
-    let id = ident_of(&front)?;
-    Ok(id)
+    match identity_of(&front) {
+        Ok(id) => Ok(id),
+        Err(fault) => Err(Halt::Fault(fault)),
+    }
 }
 
 /// The identification of a finalized file. It takes no memory of its own.

@@ -12,7 +12,7 @@ mod tree;
 mod wanted;
 mod whole;
 
-pub use identity::{finalized_in, identity_in};
+pub use identity::{finalized_in, identity_in, identity_of};
 pub use law::{
     a_refusal_is_true, links_passed_over_are_counted, measurements_agree,
     refused_data_has_no_measurement, strict_is_valid, what_is_found_is_read,

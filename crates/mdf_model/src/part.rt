@@ -30,17 +30,6 @@ pub struct Measure {
     pub(crate) count: u64,
 }
 
-/// An equal text.
-fn copied(note: &Note) -> Result<Note, Memory>
-    ensures { IfOk result (λ copy. copy ≡ note.now) }
-{
-    Ok(match note {
-        Note::Nothing => Note::Nothing,
-        Note::Plain(bytes) => Note::Plain(bytes.copy()?),
-        Note::Xml(bytes) => Note::Xml(bytes.copy()?),
-    })
-}
-
 /// Whether the records of the group are samples.
 fn holds_samples(row: &GroupRow) -> bool
     ensures { result ≡ holds_samples row.now }
@@ -57,7 +46,7 @@ fn add_measure(
 ) -> Result<(), Memory>
     ensures { OnOk result (all.new.items ≡ all.old.items ++ measure_of comment.now row contents ∷ []) }
 {
-    let comment = copied(comment)?;
+    let comment = comment.copy()?;
     let Contents {
         shape,
         count,

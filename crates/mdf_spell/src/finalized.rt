@@ -13,11 +13,8 @@ use mdf_vlsd::ValueStream;
 use std::alloc::Global;
 
 /// The identification of a finalized file: version 4.10, and no flags.
-pub const FINALIZED_IDENT: [u8; 64] = [
-    77, 68, 70, 32, 32, 32, 32, 32, 52, 46, 49, 48, 32, 32, 32, 32, 109, 100, 102, 52, 114, 101,
-    99, 32, 0, 0, 0, 0, 154, 1, 0, 0, 0, 0, 0, 0, 0, 0, 0, 0, 0, 0, 0, 0, 0, 0, 0, 0, 0, 0, 0, 0,
-    0, 0, 0, 0, 0, 0, 0, 0, 0, 0, 0, 0,
-];
+pub const FINALIZED_IDENT: [u8; 64] =
+    *b"MDF     4.10    mdf4rec \0\0\0\0\x9a\x01\0\0\0\0\0\0\0\0\0\0\0\0\0\0\0\0\0\0\0\0\0\0\0\0\0\0\0\0\0\0\0\0\0\0";
 
 /// The front of a finalized file: its blocks up to the first one of data, and the links of its channels of variable length to
 /// groups of values, where they name such.
