@@ -296,8 +296,8 @@ module _ {F L : Type 0} (hands : F → List Fed → F → Type 0) (waits : F →
     heard = hears_none follower;
   }
 
-  module _ (table : TableId) (old mid : Place) (n : ℕ) (feed feed' : F) (follower follower' : L) (has : HasLed hands hears old mid n feed feed' follower follower')
-      (ready : IsReady table old (λ feds. (later : F) × hands feed feds later)) where
+  module _ (table : TableId) {Follows : ℕ → List Sample → Type 0} (old mid : Place) (n : ℕ) (feed feed' : F) (follower follower' : L) (has : HasLed hands hears old mid n feed feed' follower follower')
+      (ready : IsReady table old (λ feds. (later : F) × hands feed feds later) Follows) where
     -- the feed has ended, and was left
     pub led_all : (now left : F) → hands feed' [] now × ends now → hands now [] left → (ends now → ends left) → HasWorked hands waits ends hears old mid n Done feed left follower follower'
     unfolding all_done

@@ -239,33 +239,26 @@ module _ {F L : Type 0} (hands : F → List Fed → F → Type 0) (waits : F →
         (λ later. inr (all_asked (suc first) olds news all.1 closes.1 n later))
         (some_of (asks n new.seat.know) _ there)
 
-  -- the workers may begin
-  pub all_ready : (owners : List ℕ) (terms : Terms) → ((group : ℕ) → slice_index basis.owners group ≡ slice_index owners group) → basis.terms ≡ terms
-      → (first : ℕ) (workers : List (Worker F L)) → seats_of workers ≡ new_seats table basis first (length workers)
-      → AllMayHand hands owners terms first (feeds_of workers) → All (λ (w : Worker F L). IsReady table w.seat (CanHand hands w.feed)) workers
-  all_ready owners terms alike same first [] seats may k d within = absurd (omega (arith, within))
-  all_ready owners terms alike same first (worker ∷ workers) seats may zero d within =
-      subst (λ (s : Place). IsReady table s (CanHand hands worker.feed)) (sym (first_seat first worker workers seats)) (record {
-        table_is = refl;
-        fits = λ feds can k d less. may_same basis.owners owners alike first basis.terms (get_or feds k d)
-            (subst (λ t. MayFeed owners t first (get_or feds k d)) (sym same) ((may.0 feds can).0 k d less));
-        few = λ feds can. (may.0 feds can).1;
-      })
-  all_ready owners terms alike same first (worker ∷ workers) seats may (suc k) d within =
-      all_ready owners terms alike same (suc first) workers (later_seats first worker workers seats) may.1 k d (omega (arith, within))
-
-  -- what followers know at the beginning, and in the end
   module _ (follows : L → ℕ → List Sample → Type 0) where
-    pub all_follow : (terms : Terms) → basis.terms ≡ terms → (first : ℕ) (workers : List (Worker F L)) → seats_of workers ≡ new_seats table basis first (length workers)
-        → All (λ (l : L). follows l terms.which []) (followers_of workers)
-        → All (λ (w : Worker F L). follows w.follower w.seat.know.basis.terms.which w.seat.know.seen) workers
-    all_follow terms same first [] seats all k d within = absurd (omega (arith, within))
-    all_follow terms same first (worker ∷ workers) seats all zero d within =
-        subst (λ (s : Place). follows worker.follower s.know.basis.terms.which s.know.seen) (sym (first_seat first worker workers seats))
-        (subst (λ (t : Terms). follows worker.follower t.which []) (sym same) (all 0 worker.follower (omega arith)))
-    all_follow terms same first (worker ∷ workers) seats all (suc k) d within =
-        all_follow terms same (suc first) workers (later_seats first worker workers seats) (λ j e less. all (suc j) e (omega (arith, less))) k d (omega (arith, within))
+    -- the workers may begin
+    pub all_ready : (owners : List ℕ) (terms : Terms) → ((group : ℕ) → slice_index basis.owners group ≡ slice_index owners group) → basis.terms ≡ terms
+        → (first : ℕ) (workers : List (Worker F L)) → seats_of workers ≡ new_seats table basis first (length workers)
+        → AllMayHand hands owners terms first (feeds_of workers) → All (λ (l : L). follows l terms.which []) (followers_of workers)
+        → All (λ (w : Worker F L). IsReady table w.seat (CanHand hands w.feed) (follows w.follower)) workers
+    all_ready owners terms alike same first [] seats may all k d within = absurd (omega (arith, within))
+    all_ready owners terms alike same first (worker ∷ workers) seats may all zero d within =
+        subst (λ (s : Place). IsReady table s (CanHand hands worker.feed) (follows worker.follower)) (sym (first_seat first worker workers seats)) (record {
+          table_is = refl;
+          fits = λ feds can k d less. may_same basis.owners owners alike first basis.terms (get_or feds k d)
+              (subst (λ t. MayFeed owners t first (get_or feds k d)) (sym same) ((may.0 feds can).0 k d less));
+          few = λ feds can. (may.0 feds can).1;
+          follows = subst (λ (t : Terms). follows worker.follower t.which []) (sym same) (all 0 worker.follower (omega arith));
+        })
+    all_ready owners terms alike same first (worker ∷ workers) seats may all (suc k) d within =
+        all_ready owners terms alike same (suc first) workers (later_seats first worker workers seats) may.1
+        (λ j e less. all (suc j) e (omega (arith, less))) k d (omega (arith, within))
 
+    -- and their followers follow to the end
     module _ (stays : (l : L) (which : ℕ) (seen more : List Sample) → follows l which seen → IsPrefix seen more → follows l which more)
         {D V : Type 0} (book : Account D V) where
       pub still_follow : (first : ℕ) (olds news : List (Worker F L)) → AllDriven first olds news → Closes basis book (seats_of news)

@@ -1,6 +1,7 @@
 -- Sources that are about to work.
 use Rattle.std.specs.Prelude.{ℕ, ◌≡◌, ◌<◌, ◌^◌, List, length, All}
 use Rattle.atomic_table.specs.Seated.{TableId}
+use Rattle.mdf_layout.specs.declared.sample.Sample.{Sample}
 use Rattle.book_shared.specs.Place.{Place}
 use Rattle.acq_run.specs.Tasks.{MayFeed}
 use Rattle.acq_run.specs.Works.{HasWorked}
@@ -13,11 +14,12 @@ use Rattle.acq_run.specs.declared.work.Worker.{Worker}
 abbrev pub CanHand : {F : Type 0} → (F → List Fed → F → Type 0) → F → List Fed → Type 0
 CanHand {F} hands feed feds = (later : F) × hands feed feds later
 
--- a seat at this book, whose source may hand in all that its feed can hand in
-pub record IsReady (table : TableId) (seat : Place) (Can : List Fed → Type 0) : Type 0 where
+-- A seat at this book. Its source may hand in all that its feed can hand in, and its follower follows what the seat has seen.
+pub record IsReady (table : TableId) (seat : Place) (Can : List Fed → Type 0) (Follows : ℕ → List Sample → Type 0) : Type 0 where
   pub table_is : seat.table ≡ table
   pub fits : (feds : List Fed) → Can feds → All (MayFeed seat.know.basis.owners seat.know.basis.terms seat.number) feds
   pub few : (feds : List Fed) → Can feds → length feds < 2 ^ 64
+  pub follows : Follows seat.know.basis.terms.which seat.know.seen
 
 -- it has not worked
 pub record IsIdle {F L : Type 0} (worker : Worker F L) : Type 0 where

@@ -78,8 +78,7 @@ pub fn drive_with<R: Threads + Wait + Sync, D: Disk, V: Shown, F: Feed, L: Follo
     feed: &mut F,
     follower: &mut L,
 ) -> Driven
-    requires ready { IsReady book.now.table seat.old (CanHand F.hands feed.old) }
-    requires follows { L.follows follower.old seat.old.know.basis.terms.which seat.old.know.seen }
+    requires ready { IsReady book.now.table seat.old (CanHand F.hands feed.old) (L.follows follower.old) }
     ensures worked { HasWorked F.hands F.waits F.ends L.hears seat.old seat.new result.accepted result.ended feed.old feed.new follower.old follower.new }
     ensures follows { L.follows follower.new seat.new.know.basis.terms.which seat.new.know.seen }
     ensures counted { CountsFaults D.Disk V.Shown seat.new.know result.ended }
@@ -113,8 +112,7 @@ pub fn drive<R: Threads + Wait + Sync, D: Disk, V: Shown, F: Feed, L: Follower<V
     book: &SharedBook<D, V>,
     worker: &mut Worker<F, L>,
 )
-    requires ready { IsReady book.now.table worker.old.seat (CanHand F.hands worker.old.feed) }
-    requires follows { L.follows worker.old.follower worker.old.seat.know.basis.terms.which worker.old.seat.know.seen }
+    requires ready { IsReady book.now.table worker.old.seat (CanHand F.hands worker.old.feed) (L.follows worker.old.follower) }
     ensures worked { HasWorkedOn F.hands F.waits F.ends L.hears worker.old worker.new }
     ensures follows { L.follows worker.new.follower worker.new.seat.know.basis.terms.which worker.new.seat.know.seen }
     ensures counted { CountsFaults D.Disk V.Shown worker.new.seat.know worker.new.ended }

@@ -23,8 +23,7 @@ pub fn drive_all<R: Threads + Wait + Sync, D: Disk + Send, F: Feed + Send>(
     book: &SharedBook<D, Audience>,
     workers: &mut [Worker<F, Watcher>],
 )
-    requires ready { All (λ worker. IsReady book.now.table worker.seat (CanHand F.hands worker.feed)) workers.old }
-    requires follow { All (λ worker. Watches worker.follower worker.seat.know.basis.terms.which worker.seat.know.seen) workers.old }
+    requires ready { All (λ worker. IsReady book.now.table worker.seat (CanHand F.hands worker.feed) (Watches worker.follower)) workers.old }
     ensures worked { (k : ℕ) (d : _) → k < length workers.old
         → HasWorkedOn F.hands F.waits F.ends Hears (slice_index_or workers.old k d) (slice_index_or workers.new k d) }
     ensures follow { (k : ℕ) (d : _) → k < length workers.old
@@ -37,8 +36,7 @@ pub fn drive_all<R: Threads + Wait + Sync, D: Disk + Send, F: Feed + Send>(
         workers,
         threads,
         &|_place: usize, worker: &mut Worker<F, Watcher>|
-            requires ready { IsReady book.now.table worker.old.seat (CanHand F.hands worker.old.feed) }
-            requires follows { Watches worker.old.follower worker.old.seat.know.basis.terms.which worker.old.seat.know.seen }
+            requires ready { IsReady book.now.table worker.old.seat (CanHand F.hands worker.old.feed) (Watches worker.old.follower) }
             ensures worked { HasWorkedOn F.hands F.waits F.ends Hears worker.old worker.new }
             ensures follows { Watches worker.new.follower worker.new.seat.know.basis.terms.which worker.new.seat.know.seen }
         { drive(rt, book, worker) },

@@ -22,7 +22,7 @@ use Rattle.book_owned.specs.declared.answer.Append.{Append}
 use Rattle.book_owned.specs.declared.answer.Append.TheVariants as append
 use Rattle.book_owned.specs.declared.answer.Flush.{Flush}
 use Rattle.book_owned.specs.declared.answer.Flush.TheVariants as flush
-use Rattle.book_shared.specs.Basis.{Device, free, resting, written, settled}
+use Rattle.book_shared.specs.Basis.{Device, free, resting, written, settled, last_word}
 use Rattle.book_shared.specs.Causes.{IsAmong}
 use Rattle.book_shared.specs.Rule.{lends_block, KeepsAll, IsWrittenBy}
 use Rattle.book_shared.specs.Plays.{Here, at_device, held_of, settled_by, given, given_device, MakesMark, Finishes, Holds}
@@ -287,7 +287,7 @@ module _ {D V N : Type 0} (disk : DiskOf D) (view : ViewOf V N) (y : View) (n p 
             ap (λ (v : View). given_device v.device then_now.0.spare) took_then.rest,
           )
 
-      pub word_then : (word : ℕ) → word ≡ n.0.met → (word ≡ q.0.met) × (word ≤ 18446744073709551613)
+      pub word_then : (word : ℕ) → word ≡ n.0.met → (word ≡ q.0.met) × (word < last_word)
       word_then word is = (is ∙ ap (λ (v : View). v.met) (sym (again ∙ same)) ∙ sym (ap (λ (x : Here D V). x.0.met) came_in), omega (arith, is, both.took.low))
 
       pub tried_end : (word : ℕ) (x : Here D V)

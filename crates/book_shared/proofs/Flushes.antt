@@ -20,7 +20,7 @@ use Rattle.book_owned.specs.declared.written.Written.{Written}
 use Rattle.book_owned.specs.declared.written.Written.TheVariants.{Done, DiskFault, Nothing}
 use Rattle.book_owned.specs.declared.answer.Flush.{Flush}
 use Rattle.book_owned.specs.declared.answer.Flush.TheVariants as flush
-use Rattle.book_shared.specs.Basis.{Basis, Device, free, resting, writing, written, settled}
+use Rattle.book_shared.specs.Basis.{Basis, Device, free, resting, writing, written, settled, last_word}
 use Rattle.book_shared.specs.Rule.{lends_block, AreOwn, KeepsAll, IsWrittenBy}
 use Rattle.book_shared.specs.Plays.{Here, recount, at_device, held_of, settled_by, given, given_device, Stays, Does, Holds}
 use Rattle.book_shared.specs.Place.{IsSingle}
@@ -264,7 +264,7 @@ module _ {D V N : Type 0} (disk : DiskOf D) (view : ViewOf V N) (y : View) (n p 
       ap (λ (v : View). given_device v.device finished_now.0.spare) took_settled.rest,
     )
 
-    pub word_now : (word : ℕ) → word ≡ n.0.met → (word ≡ q.0.met) × (word ≤ 18446744073709551613)
+    pub word_now : (word : ℕ) → word ≡ n.0.met → (word ≡ q.0.met) × (word < last_word)
     word_now word is = (is ∙ ap (λ (v : View). v.met) (sym same) ∙ sym (ap (λ (x : Here D V). x.0.met) brought), omega (arith, is, both.took.low))
 
     pub flushed_end : (word : ℕ) (x : Here D V)
@@ -458,7 +458,7 @@ module _ {D V : Type 0} (v : View) (m : Here D V) where
     lacks_handed count front same lacks =
         subst (λ (f : FrontAccount V). Lacks f.history f.marks count) (sym turned.tells.8) (subst (λ (f : FrontAccount V). Lacks f.history f.marks count) same lacks)
 
-pub turned_word : {D V : Type 0} (v : View) (m : Here D V) (what : Handed) (word : ℕ) → HasTurned v m what → word ≡ m.0.met → word ≤ 18446744073709551613
+pub turned_word : {D V : Type 0} (v : View) (m : Here D V) (what : Handed) (word : ℕ) → HasTurned v m what → word ≡ m.0.met → word < last_word
 turned_word v m what word turned is = omega (arith, is, turned.took.low)
 
 pub turned_sources : {D V : Type 0} (v : View) (m : Here D V) (what : Handed) → HasTurned v m what → 0 < length v.mine → 0 < length m.0.mine

@@ -1,5 +1,6 @@
 -- A round of an append: the sample is put, or a full block is handed over.
 use Rattle.std.proofs.Common.{◌≡◌, ℕ, ◌+◌, ◌<◌, ◌≤◌, ◌⊎◌, true, false, [], ◌∷◌, ◌++◌, drop, refl, sym, ap, ◌∙◌, subst, inl, inr, ⊎_elim, arith}
+use Rattle.std.proofs.Math.Seq.{drop-length}
 use Rattle.std.specs.Prelude.{slice_index, Some}
 use mathlib.Core.List.{IsPrefix}
 use Rattle.atomic_table.specs.Table.{rest}
@@ -17,7 +18,7 @@ use Rattle.book_owned.specs.declared.view.Shown.{Ghosts as ViewOf}
 use Rattle.book_owned.specs.declared.written.Written.{Written}
 use Rattle.book_shared.specs.Basis.{Basis, free, resting, writing}
 use Rattle.book_shared.specs.Plays.{Here, at_device, given, given_device, held_of, Holds}
-use Rattle.book_shared.specs.Place.{IsSingle}
+use Rattle.book_shared.specs.Place.{IsSingle, MayAppend}
 use Rattle.book_shared.specs.Turns.{OnlyDue, Took, Works}
 use Rattle.book_shared.specs.Told.{Announces, MarksThrough, Puts, WasBlocked, IsOneTurn}
 use Rattle.book_shared.specs.Causes.{IsAmong}
@@ -35,19 +36,27 @@ use Rattle.book_shared.proofs.Following.{Follows, first_later, follows_self, fol
 use Rattle.book_shared.proofs.Flushes.{ended_so, stays_resting, both_of, follows_wrote}
 use Rattle.book_shared.proofs.Appending.{append_does, tried_on}
 
--- what an append asks of a sample
-abbrev pub MayAppend : View → Sample → Type 0
-MayAppend v sample =
-    IsSingle v (slice_index v.basis.owners sample.group) × SampleFits v.basis.terms.layouts sample × (encoded_size v.basis.terms.layouts sample ≤ v.basis.terms.block_limit)
-
--- of the same sample, and of a seat that goes on
+-- a seat that goes on may append the same sample
 pub may_later : (v y : View) (sample back : Sample) → Follows v y → back ≡ sample → MayAppend v sample → MayAppend y back
-may_later v y sample back on same (single, fits, size) =
-    subst (λ s. MayAppend y s) (sym same) (
-      subst (λ (b : Basis). IsSingle y (slice_index b.owners sample.group)) (sym on.basis_is) (on.single (slice_index v.basis.owners sample.group) single),
-      subst (λ (b : Basis). SampleFits b.terms.layouts sample) (sym on.basis_is) fits,
-      subst (λ (b : Basis). encoded_size b.terms.layouts sample ≤ b.terms.block_limit) (sym on.basis_is) size,
-    )
+may_later v y sample back on same may =
+    subst (λ s. MayAppend y s) (sym same) record {
+      owns = subst (λ (b : Basis). IsSingle y (slice_index b.owners sample.group)) (sym on.basis_is) (on.single (slice_index v.basis.owners sample.group) may.owns);
+      fits = subst (λ (b : Basis). SampleFits b.terms.layouts sample) (sym on.basis_is) may.fits;
+      size = subst (λ (b : Basis). encoded_size b.terms.layouts sample ≤ b.terms.block_limit) (sym on.basis_is) may.size;
+    }
+
+-- with a full block there is something to hand out
+pub hands_some : {D V : Type 0} (v : View) (m n : Here D V) (sample : Sample) → HasFull v m sample → MayAppend v sample → n.0 ≡ m.0
+    → Works m n (λ old new. HandTells old new handed.Nothing) → ⊥
+hands_some v m n sample full may same works =
+    let front = full.seized.front in
+    let all = (turned_now v m n handed.Nothing full.seized same works).tells.2 in
+    let passes =
+    subst (λ (t : FrontTerms). t.block_limit < history_size t.layouts (drop front.from front.history) + encoded_size t.layouts sample)
+    full.seized.took.meets.terms full.passes in
+    let none = ap (λ k. history_size v.basis.terms.layouts (drop k front.history)) all
+    ∙ ap (history_size v.basis.terms.layouts) (drop-length front.history) in
+    omega (arith, passes, none, may.size)
 
 -- a full block was handed out
 module _ {D V : Type 0} (v : View) (m n : Here D V) (sample : Sample) (full : HasFull v m sample) where
@@ -74,11 +83,10 @@ module _ {D V : Type 0} (v : View) (m n : Here D V) (sample : Sample) (full : Ha
         )
 
     pub both_full : (disk : DiskOf D) (word : ℕ) (p : Here D V) (word' : ℕ) (answer : Written) → HasWritten disk n word turned_full.new p word' answer → MayAppend v sample
-        → (y : View) × HasBoth disk y p answer × IsSingle y (slice_index y.basis.owners sample.group) × SampleFits y.basis.terms.layouts sample
-        × (encoded_size y.basis.terms.layouts sample ≤ y.basis.terms.block_limit) × WasFull y sample
+        → (y : View) × HasBoth disk y p answer × MayAppend y sample × WasFull y sample
     both_full disk word p word' answer wrote may =
         let later = may_later v (writes_full word) sample sample (follows_wrote v n through block turned_full word) refl may in
-        (writes_full word, both_of v n through block turned_full word disk p word' answer wrote, later.0, later.1, later.2, was_full word)
+        (writes_full word, both_of v n through block turned_full word disk p word' answer wrote, later, was_full word)
 
     pub tried_full : {N : Type 0} (disk : DiskOf D) (view : ViewOf V N) (word : ℕ) (p : Here D V) (word' : ℕ) (answer : Written) (x : View) (result : Try)
         → HasWritten disk n word turned_full.new p word' answer → IsSingle v (slice_index v.basis.owners sample.group)
@@ -93,6 +101,9 @@ module _ {D V : Type 0} (v : View) (m n : Here D V) (sample : Sample) (full : Ha
 -- a seat that announces a sample has to append it
 pub wants_it : (v : View) (sample : Sample) → IsAmong (wanted v (Some sample)).due sample
 wants_it v sample = any_last (λ x. x ≡ sample) v.due (sample ∷ []) (inl refl)
+
+pub may_want : (v : View) (sample : Sample) → MayAppend v sample → MayAppend (wanted v (Some sample)) sample
+may_want v sample may = record { owns = may.owns; fits = may.fits; size = may.size }
 
 -- one sample more is due, or none
 pub only_same : (v u : View) (sample : Sample) → u.due ≡ v.due → OnlyDue v u sample
@@ -129,9 +140,8 @@ module _ {D V : Type 0} (v : View) (m n : Here D V) (sample : Sample) (seized : 
     })
 
     abbrev pub full_may : MayAppend v sample
-        → (w : View) × HasFull w n back × IsSingle w (slice_index w.basis.owners back.group) × SampleFits w.basis.terms.layouts back
-        × (encoded_size w.basis.terms.layouts back ≤ w.basis.terms.block_limit)
-    full_may may = let same_one = may_later v v sample back (follows_self v) back_full may in (v, full_now, same_one.0, same_one.1, same_one.2)
+        → (w : View) × HasFull w n back × MayAppend w back
+    full_may may = (v, full_now, may_later v v sample back (follows_self v) back_full may)
 
   -- or was answered
   module _ (answer : Append) (works : Works m n (λ old new. Puts old new sample (Answered answer))) where

@@ -18,7 +18,7 @@ use Rattle.book_owned.specs.Marks.{durable}
 use Rattle.book_owned.specs.FrontHalf.{FrontAccount}
 use Rattle.book_owned.specs.Split.{front_part}
 use Rattle.book_owned.specs.declared.mark.Mark.{Mark}
-use Rattle.book_shared.specs.Basis.{Basis, Turn, idle, holding, Device, free, resting, handed, writing, written, settled}
+use Rattle.book_shared.specs.Basis.{Basis, Turn, idle, holding, Device, free, resting, handed, writing, written, settled, last_word}
 use Rattle.book_shared.specs.Rule.{World, total, asks, has, AskedOf, DueOf, holds_turn, holds_device, lends_block, has_back, has_answer, blocks_out, backs_out, AreOwn, AreOfSources, Names, IsAnswer, Answers, Awaits, KnowsDevice, Knows, TurnsCount, SeatsKnow, Has, KeepsAll, HoldsAll, IsResting, Stands, FrontHome, BackHome, SlotsHold, Runs}
 use Rattle.book_shared.specs.Plays.{Slot, Here, looked, taking, told_device, Meets, AreFrom, Looks, Wins, Takes, Tells}
 use Rattle.book_shared.specs.declared.half.Answer.{Answer}
@@ -30,7 +30,7 @@ use Rattle.book_shared.proofs.Lists.{own_same, none_of, names_none, one_if, lend
 
 -- the turns and the device after a step of one seat
 pub turns_moved : (word word' device device' : ℕ) (views : List View) (j : ℕ) (v u : View) → TurnsCount word device views → get_elem? views j ≡ some v
-    → word' < 18446744073709551615 → holds_turn u.turn + word % 2 ≡ holds_turn v.turn + word' % 2
+    → word' ≤ last_word → holds_turn u.turn + word % 2 ≡ holds_turn v.turn + word' % 2
     → 2 * u.turns + (word + word % 2) ≡ 2 * v.turns + (word' + word' % 2)
     → holds_device u.device + device ≡ holds_device v.device + device' → device' ≤ 1 → TurnsCount word' device' (set views j u)
 turns_moved word word' device device' views j v u count at few held taken device_held one = record {
@@ -372,7 +372,7 @@ module _ {D V : Type 0} where
 
   -- the table after the winning exchange
   taken_runs : (disk : DiskOf D) (basis : Basis) (s : State (Slot D V) View) (run : Runs disk basis s) (id : ℕ) (v : View) (device : Device) (home : FrontHome {D = D} {V = V} basis run.shared s.homes)
-      → get_elem? s.views id ≡ some v → run.shared.word % 2 ≡ 0 → run.shared.word < 18446744073709551614 → 0 < length v.mine → TellsWell disk basis run.shared v device
+      → get_elem? s.views id ≡ some v → run.shared.word % 2 ≡ 0 → run.shared.word < last_word → 0 < length v.mine → TellsWell disk basis run.shared v device
       → Runs disk basis record { words = slice_set s.words 0 (run.shared.word + 1); homes = slice_set s.homes 0 none; views = slice_set s.views id (taking v device (run.shared.word + 1) home.front) }
   taken_runs disk basis s run id v device home at even low some_mine well =
       let w = run.shared in
@@ -412,7 +412,7 @@ module _ {D V : Type 0} where
       × Takes (step slots 0 word (word + 1) told) (seat_of v carried) (slice_index s.words 0) (seat_of u (carried_after carried a))
 
   wins : (disk : DiskOf D) (basis : Basis) (slots id : ℕ) (v : View) (carried : List (ℕ × Slot D V)) (word : ℕ) (told : Home (Slot D V)) (s : State (Slot D V) View) (run : Runs disk basis s)
-      → get_elem? s.views id ≡ some v → word % 2 ≡ 0 → word < 18446744073709551614 → 0 < length v.mine → Tells v told → slice_index s.words 0 ≡ word
+      → get_elem? s.views id ≡ some v → word % 2 ≡ 0 → word < last_word → 0 < length v.mine → Tells v told → slice_index s.words 0 ≡ word
       → Goes disk basis slots id v carried word told s (word + 1)
   wins disk basis slots id v carried word told s run at even low some_mine tells found =
       let n = slice_index s.words 0 in
@@ -453,7 +453,7 @@ module _ {D V : Type 0} where
         (omega (arith, is, know.met), omega (arith, is, run.turns.few), met),
       )
 
-  pub exchanges : (disk : DiskOf D) (basis : Basis) (slots id : ℕ) (me : Here D V) (word : ℕ) (told : Home (Slot D V)) → word % 2 ≡ 0 → word < 18446744073709551614 → 0 < length me.0.mine
+  pub exchanges : (disk : DiskOf D) (basis : Basis) (slots id : ℕ) (me : Here D V) (word : ℕ) (told : Home (Slot D V)) → word % 2 ≡ 0 → word < last_word → 0 < length me.0.mine
       → Tells me.0 told → Allows (Runs disk basis) slots id me 0 (λ n. either (n == word) (word + 1) n) (Takes (step slots 0 word (word + 1) told) me)
   exchanges disk basis slots id me word told even low some_mine tells s run wide at few =
       exchanged (slice_index s.words 0) word (word + 1) (Goes disk basis slots id me.0 me.1 word told s)

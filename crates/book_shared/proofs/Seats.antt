@@ -3,6 +3,7 @@ use Rattle.std.proofs.Common.{◌≡◌, ℕ, ◌%◌, ◌<◌, ◌≤◌, List,
 use Rattle.std.specs.Prelude.{◌==◌, slice_index}
 use Rattle.std.proofs.lemmas.Bool.{cases_lt, cases_eq, eq-eqb, ne_eqb}
 use Rattle.std.proofs.lemmas.List.{get_or_past}
+use Rattle.book_shared.specs.Basis.{last_word}
 
 -- a group that is not there is as if the source 0 owned it
 pub owner_past : (owners : List ℕ) (group number : ℕ) → length owners ≤ group → (number == 0) ≡ (slice_index owners group == number)
@@ -14,5 +15,5 @@ owner_past owners group number past =
 pub even_of : (word : ℕ) → (word % 2 ≡ 1 → ⊥) → word % 2 ≡ 0
 even_of word odd = ⊎_elim (λ less. omega (arith, less)) (λ more. absurd (odd (omega (arith, more)))) (cases_lt (word % 2) 1)
 
-pub low_of : (word : ℕ) → word < 18446744073709551615 → (word ≡ 18446744073709551614 → ⊥) → word < 18446744073709551614
-low_of word low last = ⊎_elim (λ less. less) (λ more. absurd (last (omega (arith, low, more)))) (cases_lt word 18446744073709551614)
+pub low_of : (word : ℕ) → word ≤ last_word → (word ≡ last_word → ⊥) → word < last_word
+low_of word low last = ⊎_elim (λ less. less) (λ more. absurd (last (omega (arith, low, more)))) (cases_lt word last_word)

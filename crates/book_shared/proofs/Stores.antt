@@ -17,7 +17,7 @@ use Rattle.book_owned.specs.Members.{DiskOf}
 use Rattle.book_owned.specs.Marks.{durable}
 use Rattle.book_owned.specs.FrontHalf.{FrontAccount}
 use Rattle.book_owned.specs.Split.{front_part}
-use Rattle.book_shared.specs.Basis.{Basis, Held, Turn, holding, Device, free, resting, handed, writing, written, settled}
+use Rattle.book_shared.specs.Basis.{Basis, Held, Turn, holding, Device, free, resting, handed, writing, written, settled, last_word}
 use Rattle.book_shared.specs.Causes.{MarksCaused}
 use Rattle.book_shared.specs.Rule.{World, AskedOf, DueOf, holds_turn, holds_device, lends_block, has_back, has_answer, blocks_out, AreOwn, AreOfSources, Names, Answers, KnowsDevice, Knows, TurnsCount, SeatsKnow, KeepsAll, HoldsAll, IsResting, Stands, BackHome, SlotsHold, Runs}
 use Rattle.book_shared.specs.Plays.{Slot, Here, recount, given_device, given, AreFrom, Stays, Hands, Finishes, Does, Returns, Holds, Gives}
@@ -238,7 +238,7 @@ module _ {D V : Type 0} (disk : DiskOf D) (basis : Basis) (w : World) (device : 
 
 -- the table after the store
 given_runs : {D V : Type 0} (disk : DiskOf D) (basis : Basis) (s : State (Slot D V) View) (run : Runs disk basis s) (asks : Bool) (id : ℕ) (v : View) (held : Held) (front : FrontAccount V)
-    → get_elem? s.views id ≡ some v → v.turn ≡ holding held → Names run.shared v (holding held) → run.shared.word ≤ 18446744073709551613 → Returns asks v held front
+    → get_elem? s.views id ≡ some v → v.turn ≡ holding held → Names run.shared v (holding held) → run.shared.word < last_word → Returns asks v held front
     → Runs disk basis record { words = slice_set s.words 0 (run.shared.word + 1); homes = slice_set s.homes 0 (some (slot_front front)); views = slice_set s.views id (given asks v (run.shared.word + 1) front) }
 given_runs disk basis s run asks id v held front at turn_is names low back_is =
     let w = run.shared in
@@ -304,7 +304,7 @@ module _ {D V : Type 0} where
   abbrev pub holds_front : FrontAccount V → List (ℕ × Slot D V)
   holds_front front = (0, slot_front front) ∷ []
 
-  stores : (disk : DiskOf D) (basis : Basis) (slots id : ℕ) (asks : Bool) (v : View) (front : FrontAccount V) → v.met ≤ 18446744073709551613 → Holds asks v front
+  stores : (disk : DiskOf D) (basis : Basis) (slots id : ℕ) (asks : Bool) (v : View) (front : FrontAccount V) → v.met < last_word → Holds asks v front
       → Allows (Runs disk basis) slots id (seat_of v (holds_front front)) 0 (λ _. v.met + 1) (λ _. Gives asks (step slots 0 (v.met + 1) 0 none) (seat_of v (holds_front front)) (v.met + 1))
   stores disk basis slots id asks v front low has_turn s run wide at few =
       let know = run.seats.each id v at in
@@ -318,7 +318,7 @@ module _ {D V : Type 0} where
       )
 
   pub stores_front : (disk : DiskOf D) (basis : Basis) (slots id : ℕ) (asks : Bool) (me : Here D V) (word : ℕ) (front : FrontAccount V) → me.1 ≡ (0, TheFront front) ∷ [] → word ≡ me.0.met
-      → word ≤ 18446744073709551613 → Holds asks me.0 front
+      → word < last_word → Holds asks me.0 front
       → Allows (Runs disk basis) slots id me 0 (λ _. word + 1) (λ _. Gives asks (step slots 0 (word + 1) 0 none) me (word + 1))
   stores_front disk basis slots id asks me word front carried met low has_turn =
       subst (λ k. Allows (Runs disk basis) slots id me 0 (λ _. k + 1) (λ _. Gives asks (step slots 0 (k + 1) 0 none) me (k + 1))) (sym met)

@@ -3,13 +3,15 @@ use Rattle.std.proofs.Common.{◌≡◌, ℕ, ◌+◌, ◌%◌, ◌<◌, true, L
 use Rattle.std.specs.Prelude.{MatchBool}
 use Rattle.std.specs.Prelude.{Option as Opt, Some, None}
 use Rattle.std.proofs.lemmas.Bool.{eq-eqb}
+use Rattle.atomic_table.specs.Lent.{seat_with}
 use Rattle.atomic_table.specs.Table.{step, rest}
 use Rattle.mdf_gate.specs.Gated.{Gated}
 use Rattle.book_owned.specs.FrontHalf.{FrontAccount, HandTells}
 use Rattle.book_owned.specs.declared.handed.Handed.{Handed}
-use Rattle.book_shared.specs.Basis.{Device, resting}
+use Rattle.book_shared.specs.Basis.{Device, resting, last_word}
 use Rattle.book_shared.specs.Plays.{Slot, Here, looked, at_device, taking, told_device, Meets, Wins, Takes}
-use Rattle.book_shared.specs.Turns.{TellsBy, said_of, told_by, Took, Waited, Works, Writes}
+use Rattle.book_shared.specs.Turns.{TellsBy, said_of, told_by, Took, Waited, Works}
+use Rattle.book_shared.specs.Chairs.{Chair, WorksOn, WritesOn}
 use Rattle.book_shared.specs.Rounds.{HasSeized, HasTurned}
 use Rattle.book_shared.specs.declared.half.Answer.{Answer}
 use Rattle.book_shared.specs.declared.half.Half.TheVariants.{TheFront, TheBack, Told, Due, Out}
@@ -72,7 +74,7 @@ module _ {D V : Type 0} where
       subst (λ b. MatchBool b (Wins st (seat_of (looked v word) carried) n) (n ≡ seat_of (looked (looked v word) found) carried)) (eq-eqb found word same) both.2
 
   pub took_now : (v : View) (carried : List (ℕ × Slot D V)) (m n : Here D V) (word found : ℕ) (told : Opt Answer) → m ≡ seat_of (looked v word) carried
-      → Takes (step 2 0 word (word + 1) (said_of told)) m found n → found ≡ word → word % 2 ≡ 0 → word < 18446744073709551614
+      → Takes (step 2 0 word (word + 1) (said_of told)) m found n → found ≡ word → word % 2 ≡ 0 → word < last_word
       → (word + 1 ≡ n.0.met) × ((front : FrontAccount V) × (n.1 ≡ (0, TheFront front) ∷ carried) × Took v n.0 (told_by v.device told) front)
   took_now v carried m n word found told is takes same even low =
       let won = won_now v carried m n word found told is takes same in
@@ -98,10 +100,13 @@ module _ {D V : Type 0} where
       omega (arith, ap (λ (x : Here D V). x.0.steps) (won_now v carried m n word found told is takes same).1)
 
   -- the front in its slot was worked on
-  pub works_on : (v : View) (carried : List (ℕ × Slot D V)) (first then : FrontAccount V) (does : FrontAccount V → FrontAccount V → Type 0)
-      → carried ≡ (0, TheFront first) ∷ rest carried → does first then → Works (seat_of v carried) (seat_of v ((0, slot_front then) ∷ rest carried)) does
-  works_on v carried first then does is done =
-      λ old held. (then, refl, subst (λ front. does front then) (ap (λ (c : List (ℕ × Slot D V)). front_in c first) (sym is ∙ held)) done)
+  pub works_on : (seat : Chair D V) (first then : FrontAccount V) (does : FrontAccount V → FrontAccount V → Type 0)
+      → seat.me.1 ≡ (0, TheFront first) ∷ rest seat.me.1 → does first then → WorksOn seat (seat_with seat 0 (slot_front then)) does
+  works_on seat first then does is done = record {
+    table_is = refl;
+    view_is = refl;
+    does = λ old held. (then, refl, subst (λ front. does front then) (ap (λ (c : List (ℕ × Slot D V)). front_in c first) (sym is ∙ held)) done);
+  }
 
   abbrev back_of : Slot D V → Gated D → Gated D
   back_of (TheFront front) other = other
@@ -115,10 +120,13 @@ module _ {D V : Type 0} where
   back_at (x ∷ xs) other = back_of x.1 other
 
   -- and so was the back
-  pub writes_on : (v : View) (carried : List (ℕ × Slot D V)) (first then : Gated D) (does : Gated D → Gated D → Type 0)
-      → carried ≡ (1, TheBack first) ∷ rest carried → does first then → Writes (seat_of v carried) (seat_of v ((1, slot_back then) ∷ rest carried)) does
-  writes_on v carried first then does is done =
-      λ old held. (then, refl, subst (λ back. does back then) (ap (λ (c : List (ℕ × Slot D V)). back_at c first) (sym is ∙ held)) done)
+  pub writes_on : (seat : Chair D V) (first then : Gated D) (does : Gated D → Gated D → Type 0)
+      → seat.me.1 ≡ (1, TheBack first) ∷ rest seat.me.1 → does first then → WritesOn seat (seat_with seat 1 (slot_back then)) does
+  writes_on seat first then does is done = record {
+    table_is = refl;
+    view_is = refl;
+    does = λ old held. (then, refl, subst (λ back. does back then) (ap (λ (c : List (ℕ × Slot D V)). back_at c first) (sym is ∙ held)) done);
+  }
 
   -- the turn was taken after some steps that took nothing, and what was carried before lies behind the front
   pub seized_later : (v u w : View) (carried carried' now : List (ℕ × Slot D V)) (told : Opt Answer) → Waited v u → carried ≡ carried'

@@ -1,9 +1,13 @@
 -- What no call of a shared book changes, and what a seat holds of it.
-use Rattle.std.specs.Prelude.{ℕ, Bool, List}
+use Rattle.std.specs.Prelude.{ℕ, ◌-◌, ◌^◌, Bool, List}
 use Rattle.mdf_layout.specs.declared.sample.Sample.{Sample}
 use Rattle.book_owned.specs.Account.{Terms}
 use Rattle.book_owned.specs.declared.mark.Mark.{Mark}
 use Rattle.book_shared.specs.declared.half.Answer.{Answer}
+
+-- the greatest even turn word: from it no turn is taken any more
+abbrev pub last_word : ℕ
+last_word = 2 ^ 64 - 2
 
 -- the source that owns each group, how many sources there are, the terms of the book, and the marks that it began with
 pub record Basis : Type 0 where

@@ -7,6 +7,7 @@ pub mod Fixed
 pub mod Ends
 pub mod Place
 pub mod Turns
+pub mod Chairs
 pub mod Told
 pub mod Seats
 pub mod Covers

@@ -13,7 +13,7 @@ use Rattle.book_owned.specs.BackHalf.{back_terms}
 use Rattle.book_owned.specs.FrontHalf.{FrontAccount}
 use Rattle.book_owned.specs.Split.{front_part, back_part}
 use Rattle.book_owned.specs.declared.mark.Mark.{Mark}
-use Rattle.book_shared.specs.Basis.{Basis, Held, Turn, idle, holding, Device, free, resting, handed, writing, written, settled}
+use Rattle.book_shared.specs.Basis.{Basis, Held, Turn, idle, holding, Device, free, resting, handed, writing, written, settled, last_word}
 use Rattle.book_shared.specs.Causes.{HandsOver, IsAmong}
 use Rattle.book_shared.specs.Rule.{AreOwn, AreOld, times_in, holds_device, lends_block, IsAnswer, KeepsAll, HoldsAll}
 use Rattle.book_shared.specs.declared.half.Answer.{Answer}
@@ -195,7 +195,7 @@ Tells v (some Out) = ⊥
 module _ {D V : Type 0} where
   -- a load: the word that it met is no smaller than the one before
   abbrev pub Looks : Step (Slot D V) → Here D V → ℕ → Here D V → Type 0
-  Looks st m r n = (n ≡ (looked m.0 r, m.1)) × (m.0.met ≤ r) × AreOld m.0.seen m.0.kept m.0.olds × (r < 18446744073709551615)
+  Looks st m r n = (n ≡ (looked m.0 r, m.1)) × (m.0.met ≤ r) × AreOld m.0.seen m.0.kept m.0.olds × (r ≤ last_word)
 
   -- an exchange that won: the front is out with the seat, and what the seat knew is so of it
   abbrev pub Wins : Step (Slot D V) → Here D V → Here D V → Type 0
@@ -204,7 +204,7 @@ module _ {D V : Type 0} where
 
   -- an exchange: it won where it met the word that it named, and else it was a load
   abbrev pub Takes : Step (Slot D V) → Here D V → ℕ → Here D V → Type 0
-  Takes st m r n = (m.0.met ≤ r) × (r < 18446744073709551615) × MatchBool (r == st.first) (Wins st m n) (n ≡ (looked m.0 r, m.1))
+  Takes st m r n = (m.0.met ≤ r) × (r ≤ last_word) × MatchBool (r == st.first) (Wins st m n) (n ≡ (looked m.0 r, m.1))
 
   -- a store, which gives back the front that the seat has in its slot
   abbrev pub Gives : Bool → Step (Slot D V) → Here D V → ℕ → Here D V → Type 0

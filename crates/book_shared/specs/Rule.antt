@@ -15,7 +15,7 @@ use Rattle.book_owned.specs.BackHalf.{BackKeeps, FileHolds, back_terms}
 use Rattle.book_owned.specs.FrontHalf.{FrontAccount}
 use Rattle.book_owned.specs.Split.{front_part, back_part}
 use Rattle.book_owned.specs.declared.mark.Mark.{Mark}
-use Rattle.book_shared.specs.Basis.{Basis, Turn, idle, holding, Device, free, resting, handed, writing, written, settled}
+use Rattle.book_shared.specs.Basis.{Basis, Turn, idle, holding, Device, free, resting, handed, writing, written, settled, last_word}
 use Rattle.book_shared.specs.Causes.{AnyOf, IsAmong, MarksCaused, times_of}
 use Rattle.book_shared.specs.declared.half.Answer.{Answer}
 use Rattle.book_shared.specs.declared.half.Answer.TheVariants.{Marked, Faulted}
@@ -157,7 +157,7 @@ pub record Knows (basis : Basis) (w : World) (v : View) : Type 0 where
 -- Of the words: the first counts the takings and the givings, so it is odd just while one seat holds the front; the second is
 -- 1 just while one seat has the device.
 pub record TurnsCount (word device : ℕ) (views : List View) : Type 0 where
-  pub few : word < 18446744073709551615
+  pub few : word ≤ last_word
   pub held : total (λ v. holds_turn v.turn) views ≡ word % 2
   pub taken : 2 * total (λ v. v.turns) views ≡ word + word % 2
   pub device_held : total (λ v. holds_device v.device) views ≡ device

@@ -12,7 +12,7 @@ use Rattle.book_owned.specs.BackHalf.{back_terms, BackKeeps, FileHolds, IsHanded
 use Rattle.book_owned.specs.FrontHalf.{FrontAccount}
 use Rattle.book_owned.specs.declared.mark.Mark.{Mark}
 use Rattle.book_owned.specs.declared.written.Written.{Written}
-use Rattle.book_shared.specs.Basis.{Device, Held, free, resting, writing, written, idle, holding}
+use Rattle.book_shared.specs.Basis.{Device, Held, free, resting, writing, written, idle, holding, last_word}
 use Rattle.book_shared.specs.Causes.{IsAmong}
 use Rattle.book_shared.specs.Rule.{AreOwn, IsAnswer}
 use Rattle.book_shared.specs.Plays.{Here, Slot, Meets, held_of}
@@ -54,7 +54,7 @@ pub record Took {V : Type 0} (v u : View) (device : Device) (front : FrontAccoun
   }
   pub meets : Meets v front
   pub odd : u.met % 2 ≡ 1
-  pub low : u.met ≤ 18446744073709551613
+  pub low : u.met < last_word
 
 -- Turns were taken and given back. In the last the front had a history that goes on from what the seat had seen, and these samples were
 -- accepted behind it: the one history is now what the seat has seen, and its own samples are those before and these.
@@ -86,7 +86,7 @@ OnlyDue v u sample = (other : Sample) → IsAmong u.due other → IsAmong v.due 
 pub record IsBusy (v u : View) (word : ℕ) : Type 0 where
   pub waited : Waited v u
   pub met : u.met ≡ word
-  pub cause : ((u.steps ≡ v.steps + 1) × ((word % 2 ≡ 1) ⊎ (word ≡ 18446744073709551614))) ⊎ ((u.steps ≡ v.steps + 2) × (u.prior < word))
+  pub cause : ((u.steps ≡ v.steps + 1) × ((word % 2 ≡ 1) ⊎ (word ≡ last_word))) ⊎ ((u.steps ≡ v.steps + 2) × (u.prior < word))
 
 -- the seat has no turn and not the device, is still a seat of one source, and of the same book
 pub record Rests (v u : View) : Type 0 where

@@ -1,8 +1,7 @@
 //! An append of a shared book over the seat at the table, round by round.
-ghost use Rattle.std.specs.Prelude.{◌≡◌, ◌+◌, ◌<◌, ◌≤◌, [], slice_index};
-ghost use Rattle.mdf_layout.specs.Record.{SampleFits, encoded_size};
-ghost use Rattle.book_shared.specs.Basis.{free};
-ghost use Rattle.book_shared.specs.Place.{IsSingle};
+ghost use Rattle.std.specs.Prelude.{◌≡◌, ◌+◌, ◌<◌, ◌≤◌, slice_index};
+ghost use Rattle.book_shared.specs.Chairs.{GivesBack, HoldsNothing, TakesNoTurn, TakesOneTurn};
+ghost use Rattle.book_shared.specs.Place.{IsSingle, MayAppend};
 ghost use Rattle.book_shared.specs.Rounds.{HasBoth, HasFull, HasTried, IsOneRound, round_answer, WasFull};
 ghost use Rattle.book_shared.specs.Told.{Announces, Appends, AppendsFront, IsOneTurn};
 ghost use Rattle.book_shared.specs.Turns.{HasTurnsFor, OnlyDue, Rests};
@@ -45,12 +44,9 @@ impl<D: Disk, V: Shown> SharedBook<D, V> {
     ) -> Try
         requires table { seat.old.table_id ≡ self.now.table }
         requires word { word ≡ seat.old.me.0.met }
-        requires both { (y : View) × HasBoth D.Disk y seat.old.me written × IsSingle y (slice_index y.basis.owners sample.group)
-            × SampleFits y.basis.terms.layouts sample × (encoded_size y.basis.terms.layouts sample ≤ y.basis.terms.block_limit) × WasFull y sample }
-        ensures table { seat.new.table_id ≡ seat.old.table_id }
-        ensures no_turn { seat.new.me.1 ≡ [] }
-        ensures turns { seat.new.me.0.turns ≡ seat.old.me.0.turns }
-        ensures due { seat.new.me.0.due ≡ seat.old.me.0.due }
+        requires both { (y : View) × HasBoth D.Disk y seat.old.me written × MayAppend y sample × WasFull y sample }
+        ensures seat { GivesBack seat.old seat.new }
+        ensures counts { TakesNoTurn seat.old.me.0 seat.new.me.0 }
         ensures tried { (y : View) → HasBoth D.Disk y seat.old.me written → IsSingle y (slice_index y.basis.owners sample.group) → HasTried D.Disk V.Shown y seat.new.me.0 sample result }
     {
         let told = answer_of(&written);
@@ -70,12 +66,9 @@ impl<D: Disk, V: Shown> SharedBook<D, V> {
     ) -> Try
         requires table { seat.old.table_id ≡ self.now.table }
         requires word { word ≡ seat.old.me.0.met }
-        requires full { (v : View) × HasFull v seat.old.me sample × IsSingle v (slice_index v.basis.owners sample.group)
-            × SampleFits v.basis.terms.layouts sample × (encoded_size v.basis.terms.layouts sample ≤ v.basis.terms.block_limit) }
-        ensures table { seat.new.table_id ≡ seat.old.table_id }
-        ensures no_turn { seat.new.me.1 ≡ [] }
-        ensures turns { seat.new.me.0.turns ≡ seat.old.me.0.turns + 1 }
-        ensures due { seat.new.me.0.due ≡ seat.old.me.0.due }
+        requires full { (v : View) × HasFull v seat.old.me sample × MayAppend v sample }
+        ensures seat { GivesBack seat.old seat.new }
+        ensures counts { TakesOneTurn seat.old.me.0 seat.new.me.0 }
         ensures tried { (v : View) → HasFull v seat.old.me sample → IsSingle v (slice_index v.basis.owners sample.group) → HasTried D.Disk V.Shown v seat.new.me.0 sample result }
     {
         match self.hand_out(seat) {
@@ -95,14 +88,9 @@ impl<D: Disk, V: Shown> SharedBook<D, V> {
         seat: &mut Chair<D, V>,
         sample: Sample,
     ) -> Try
-        requires table { seat.old.table_id ≡ self.now.table }
-        requires no_turn { seat.old.me.1 ≡ [] }
-        requires no_device { seat.old.me.0.device ≡ free }
-        requires owns { IsSingle seat.old.me.0 (slice_index seat.old.me.0.basis.owners sample.group) }
-        requires fits { SampleFits seat.old.me.0.basis.terms.layouts sample }
-        requires size { encoded_size seat.old.me.0.basis.terms.layouts sample ≤ seat.old.me.0.basis.terms.block_limit }
-        ensures table { seat.new.table_id ≡ seat.old.table_id }
-        ensures no_turn { seat.new.me.1 ≡ [] }
+        requires seat { HoldsNothing self.now.table seat.old }
+        requires may { MayAppend seat.old.me.0 sample }
+        ensures seat { GivesBack seat.old seat.new }
         ensures turns { seat.new.me.0.turns ≤ seat.old.me.0.turns + 2 }
         ensures due { OnlyDue seat.old.me.0 seat.new.me.0 sample }
         ensures tried { HasTried D.Disk V.Shown seat.old.me.0 seat.new.me.0 sample result }
@@ -130,14 +118,9 @@ impl<D: Disk, V: Shown> SharedBook<D, V> {
         seat: &mut Chair<D, V>,
         sample: Sample,
     ) -> Try
-        requires table { seat.old.table_id ≡ self.now.table }
-        requires no_turn { seat.old.me.1 ≡ [] }
-        requires no_device { seat.old.me.0.device ≡ free }
-        requires owns { IsSingle seat.old.me.0 (slice_index seat.old.me.0.basis.owners sample.group) }
-        requires fits { SampleFits seat.old.me.0.basis.terms.layouts sample }
-        requires size { encoded_size seat.old.me.0.basis.terms.layouts sample ≤ seat.old.me.0.basis.terms.block_limit }
-        ensures table { seat.new.table_id ≡ seat.old.table_id }
-        ensures no_turn { seat.new.me.1 ≡ [] }
+        requires seat { HoldsNothing self.now.table seat.old }
+        requires may { MayAppend seat.old.me.0 sample }
+        ensures seat { GivesBack seat.old seat.new }
         ensures turns { seat.new.me.0.turns ≤ seat.old.me.0.turns + 3 }
         ensures due { OnlyDue seat.old.me.0 seat.new.me.0 sample }
         ensures one { IsOneRound seat.old.me.0 seat.new.me.0 sample result }
@@ -164,14 +147,9 @@ impl<D: Disk, V: Shown> SharedBook<D, V> {
         seat: &mut Chair<D, V>,
         sample: Sample,
     ) -> Append
-        requires table { seat.old.table_id ≡ self.now.table }
-        requires no_turn { seat.old.me.1 ≡ [] }
-        requires no_device { seat.old.me.0.device ≡ free }
-        requires owns { IsSingle seat.old.me.0 (slice_index seat.old.me.0.basis.owners sample.group) }
-        requires fits { SampleFits seat.old.me.0.basis.terms.layouts sample }
-        requires size { encoded_size seat.old.me.0.basis.terms.layouts sample ≤ seat.old.me.0.basis.terms.block_limit }
-        ensures table { seat.new.table_id ≡ seat.old.table_id }
-        ensures no_turn { seat.new.me.1 ≡ [] }
+        requires seat { HoldsNothing self.now.table seat.old }
+        requires may { MayAppend seat.old.me.0 sample }
+        ensures seat { GivesBack seat.old seat.new }
         ensures turns { HasTurnsFor 3 seat.old.me.0 seat.new.me.0 }
         ensures due { OnlyDue seat.old.me.0 seat.new.me.0 sample }
         ensures one { IsOneTurn seat.old.me.0 seat.new.me.0 sample }

@@ -1,5 +1,5 @@
 //! The calls of a shared book that make one step at its table each, and those that work on what is out with a seat.
-ghost use Rattle.std.specs.Prelude.{ℕ, ◌≡◌, ◌+◌, ◌%◌, ◌<◌, ◌≤◌, ◌⊎◌, [], ◌∷◌, true, false, length, take, None, Some, unwrap_or, IfOk, IfErr};
+ghost use Rattle.std.specs.Prelude.{ℕ, ◌≡◌, ◌+◌, ◌%◌, ◌<◌, ◌≤◌, [], ◌∷◌, true, false, length, take, None, Some, unwrap_or, IfOk, IfErr};
 ghost use Rattle.std.specs.Option.{option_copied};
 ghost use mathlib.Core.Option.{none, some};
 ghost use Rattle.atomic_table.specs.Table.{step, rest};
@@ -9,11 +9,12 @@ ghost use Rattle.mdf_layout.specs.declared.sample.Sample.{Sample};
 ghost use Rattle.book_owned.specs.BackHalf.{back_terms};
 ghost use Rattle.book_owned.specs.FrontHalf.{FrontAccount, AreThroughs, HandTells, IsAwaited, FinishTells};
 ghost use Rattle.book_owned.specs.Split.{back_part};
-ghost use Rattle.book_shared.specs.Basis.{free, resting, handed, writing, written};
+ghost use Rattle.book_shared.specs.Basis.{free, resting, handed, written, last_word};
 ghost use Rattle.book_shared.specs.Plays.{looked, at_device, given, settled_by, Holds, Takes, BringsOut};
 ghost use Rattle.book_shared.specs.Rounds.{wanted, TakesFor};
-ghost use Rattle.book_shared.specs.Rule.{IsAnswer, KeepsAll, IsWrittenBy};
-ghost use Rattle.book_shared.specs.Turns.{Took, IsBusy, MayTake, Works, Writes, WritesOut, TellsBy, said_of, told_by};
+ghost use Rattle.book_shared.specs.Rule.{KeepsAll, IsWrittenBy};
+ghost use Rattle.book_shared.specs.Chairs.{MayTakeDevice, MayTakeTurn, TakesNoTurn, WorksOn, WritesOn};
+ghost use Rattle.book_shared.specs.Turns.{Took, IsBusy, MayTake, WritesOut, said_of, told_by};
 ghost use Rattle.book_shared.specs.Told.{Puts, FlushesNow};
 ghost use Rattle.book_shared.specs.declared.half.Answer.{Answer};
 ghost use Rattle.book_shared.specs.declared.half.Half.TheVariants.{TheFront, TheBack, Told};
@@ -47,7 +48,7 @@ const LONGEST_NAP: u64 = 5000;
 const NAPS: u64 = 2;
 
 /// The greatest even turn word. From it no turn is taken any more.
-const LAST: u64 = 18446744073709551614;
+const LAST: u64 = u64::MAX - 1;
 
 /// Sleeps for so many microseconds, or until another wakes who sleeps on this word; not at all where it is no longer what was seen.
 fn park<R: Wait>(rt: &R, word: &AtomicU64, seen: u64, nap: u64) {
@@ -103,7 +104,7 @@ impl<D: Disk, V: Shown> SharedBook<D, V> {
         ensures table { seat.new.table_id ≡ seat.old.table_id }
         ensures looked { seat.new.me ≡ (looked seat.old.me.0 result, seat.old.me.1) }
         ensures later { seat.old.me.0.met ≤ result }
-        ensures low { result < 18446744073709551615 }
+        ensures low { result ≤ last_word }
     {
         self.table.shared.load::<Look>(seat, 0)
     }
@@ -111,11 +112,9 @@ impl<D: Disk, V: Shown> SharedBook<D, V> {
     /// An exchange of an even turn word for the next odd one, by a seat that has no block out to be written. Where it wins, the
     /// front is out with the seat.
     fn take_calm(&self, seat: &mut Chair<D, V>, word: u64) -> u64
-        requires table { seat.old.table_id ≡ self.now.table }
+        requires may { MayTakeTurn self.now.table seat.old None }
         requires even { word % 2 ≡ 0 }
-        requires low { word < 18446744073709551614 }
-        requires some_source { 0 < length seat.old.me.0.mine }
-        requires calm { (seat.old.me.0.device ≡ free) ⊎ (seat.old.me.0.device ≡ resting) }
+        requires low { word < last_word }
         ensures table { seat.new.table_id ≡ seat.old.table_id }
         ensures takes { Takes (step 2 0 word (word + 1) none) seat.old.me result seat.new.me }
     {
@@ -126,12 +125,9 @@ impl<D: Disk, V: Shown> SharedBook<D, V> {
 
     /// The same by a seat that has the back out, and tells what its write led to.
     fn take_told(&self, seat: &mut Chair<D, V>, word: u64, answer: Answer) -> u64
-        requires table { seat.old.table_id ≡ self.now.table }
+        requires may { MayTakeTurn self.now.table seat.old (Some answer) }
         requires even { word % 2 ≡ 0 }
-        requires low { word < 18446744073709551614 }
-        requires some_source { 0 < length seat.old.me.0.mine }
-        requires writing { seat.old.me.0.device ≡ writing }
-        requires answer { IsAnswer (length seat.old.me.0.seen) answer }
+        requires low { word < last_word }
         ensures table { seat.new.table_id ≡ seat.old.table_id }
         ensures takes { Takes (step 2 0 word (word + 1) (some (Told answer))) seat.old.me result seat.new.me }
     {
@@ -141,21 +137,16 @@ impl<D: Disk, V: Shown> SharedBook<D, V> {
             .shared
             .compare_exchange_with::<Take>(seat, 0, word, word + 1, &said);
         match said {
-            Half::Told(_answer) => found,
-            Half::Due(_sample) => unreachable!(),
-            Half::Out => found,
-            Half::TheFront(_front) => unreachable!(),
-            Half::TheBack(_back) => unreachable!(),
+            Half::Told(_) => found,
+            _ => unreachable!(),
         }
     }
 
     /// Either of them.
     fn take(&self, seat: &mut Chair<D, V>, word: u64, told: Option<Answer>) -> u64
-        requires table { seat.old.table_id ≡ self.now.table }
+        requires may { MayTakeTurn self.now.table seat.old told }
         requires even { word % 2 ≡ 0 }
-        requires low { word < 18446744073709551614 }
-        requires some_source { 0 < length seat.old.me.0.mine }
-        requires tells { TellsBy seat.old.me.0 told }
+        requires low { word < last_word }
         ensures table { seat.new.table_id ≡ seat.old.table_id }
         ensures takes { Takes (step 2 0 word (word + 1) (said_of told)) seat.old.me result seat.new.me }
     {
@@ -168,9 +159,7 @@ impl<D: Disk, V: Shown> SharedBook<D, V> {
     /// Takes the turn by one load and at most one exchange, and answers the word that it made. At `Err` the turn was not
     /// taken, and this is the word that was met.
     pub(crate) fn try_take(&self, seat: &mut Chair<D, V>, told: Option<Answer>) -> Result<u64, u64>
-        requires table { seat.old.table_id ≡ self.now.table }
-        requires some_source { 0 < length seat.old.me.0.mine }
-        requires tells { TellsBy seat.old.me.0 told }
+        requires may { MayTakeTurn self.now.table seat.old told }
         ensures table { seat.new.table_id ≡ seat.old.table_id }
         ensures took { IfOk result (λ word. (word ≡ seat.new.me.0.met)
             × ((front : FrontAccount V) × (seat.new.me.1 ≡ (0, TheFront front) ∷ seat.old.me.1) × Took seat.old.me.0 seat.new.me.0 (told_by seat.old.me.0.device told) front)) }
@@ -206,9 +195,7 @@ impl<D: Disk, V: Shown> SharedBook<D, V> {
 
     /// Takes the turn, and waits for it where another seat has it. Answers the word that it made.
     pub(crate) fn seize<R: Wait>(&self, rt: &R, seat: &mut Chair<D, V>, told: Option<Answer>) -> u64
-        requires table { seat.old.table_id ≡ self.now.table }
-        requires some_source { 0 < length seat.old.me.0.mine }
-        requires tells { TellsBy seat.old.me.0 told }
+        requires may { MayTakeTurn self.now.table seat.old told }
         ensures table { seat.new.table_id ≡ seat.old.table_id }
         ensures word { result ≡ seat.new.me.0.met }
         ensures took { (front : FrontAccount V) × (seat.new.me.1 ≡ (0, TheFront front) ∷ seat.old.me.1) × Took seat.old.me.0 seat.new.me.0 (told_by seat.old.me.0.device told) front }
@@ -227,7 +214,7 @@ impl<D: Disk, V: Shown> SharedBook<D, V> {
     pub(crate) fn give(&self, seat: &mut Chair<D, V>, word: u64, asked: bool)
         requires table { seat.old.table_id ≡ self.now.table }
         requires word { word ≡ seat.old.me.0.met }
-        requires low { word ≤ 18446744073709551613 }
+        requires low { word < last_word }
         requires returns { (front : FrontAccount V) × (seat.old.me.1 ≡ (0, TheFront front) ∷ []) × Holds asked seat.old.me.0 front }
         ensures table { seat.new.table_id ≡ seat.old.table_id }
         ensures given { (front : FrontAccount V) → seat.old.me.1 ≡ (0, TheFront front) ∷ [] → seat.new.me ≡ (given asked seat.old.me.0 (word + 1) front, []) }
@@ -241,10 +228,7 @@ impl<D: Disk, V: Shown> SharedBook<D, V> {
 
     /// An exchange of the device's word, for a flush.
     fn take_free(&self, seat: &mut Chair<D, V>) -> u64
-        requires table { seat.old.table_id ≡ self.now.table }
-        requires no_turn { seat.old.me.1 ≡ [] }
-        requires no_device { seat.old.me.0.device ≡ free }
-        requires some_source { 0 < length seat.old.me.0.mine }
+        requires may { MayTakeDevice self.now.table seat.old }
         ensures table { seat.new.table_id ≡ seat.old.table_id }
         ensures takes { TakesFor None seat.old.me result seat.new.me }
     {
@@ -255,10 +239,7 @@ impl<D: Disk, V: Shown> SharedBook<D, V> {
 
     /// The same for a sample that the seat has to append, and announces.
     fn take_due(&self, seat: &mut Chair<D, V>, sample: &Sample) -> u64
-        requires table { seat.old.table_id ≡ self.now.table }
-        requires no_turn { seat.old.me.1 ≡ [] }
-        requires no_device { seat.old.me.0.device ≡ free }
-        requires some_source { 0 < length seat.old.me.0.mine }
+        requires may { MayTakeDevice self.now.table seat.old }
         ensures table { seat.new.table_id ≡ seat.old.table_id }
         ensures takes { TakesFor (Some sample.now) seat.old.me result seat.new.me }
     {
@@ -268,20 +249,14 @@ impl<D: Disk, V: Shown> SharedBook<D, V> {
             .shared
             .compare_exchange_with::<TakeDevice>(seat, 1, 0, 1, &said);
         match said {
-            Half::Due(_sample) => found,
-            Half::TheFront(_front) => unreachable!(),
-            Half::TheBack(_back) => unreachable!(),
-            Half::Told(_answer) => unreachable!(),
-            Half::Out => unreachable!(),
+            Half::Due(_) => found,
+            _ => unreachable!(),
         }
     }
 
     /// Either of them. True where the seat has the device then.
     fn take_device(&self, seat: &mut Chair<D, V>, due: Option<&Sample>) -> bool
-        requires table { seat.old.table_id ≡ self.now.table }
-        requires no_turn { seat.old.me.1 ≡ [] }
-        requires no_device { seat.old.me.0.device ≡ free }
-        requires some_source { 0 < length seat.old.me.0.mine }
+        requires may { MayTakeDevice self.now.table seat.old }
         ensures table { seat.new.table_id ≡ seat.old.table_id }
         ensures took { result ≡ true → seat.new.me ≡ (at_device (wanted seat.old.me.0 (option_copied due.entry)) resting, seat.old.me.1) }
         ensures kept { result ≡ false → seat.new.me ≡ seat.old.me }
@@ -317,10 +292,7 @@ impl<D: Disk, V: Shown> SharedBook<D, V> {
         due: Option<&Sample>,
         accepted: u64,
     )
-        requires table { seat.old.table_id ≡ self.now.table }
-        requires no_turn { seat.old.me.1 ≡ [] }
-        requires no_device { seat.old.me.0.device ≡ free }
-        requires some_source { 0 < length seat.old.me.0.mine }
+        requires may { MayTakeDevice self.now.table seat.old }
         ensures table { seat.new.table_id ≡ seat.old.table_id }
         ensures seized { seat.new.me ≡ (at_device (wanted seat.old.me.0 (option_copied due.entry)) resting, seat.old.me.1) }
     {
@@ -372,8 +344,7 @@ impl<D: Disk, V: Shown> SharedBook<D, V> {
             × IsWrittenBy D.Disk seat.old.me.0.basis back seat.old.me.0.seen seat.old.me.0.kept answer
             × (back_terms D.Disk back ≡ back_part seat.old.me.0.basis.terms) }
         ensures table { seat.new.table_id ≡ seat.old.table_id }
-        ensures turns { seat.new.me.0.turns ≡ seat.old.me.0.turns }
-        ensures due { seat.new.me.0.due ≡ seat.old.me.0.due }
+        ensures counts { TakesNoTurn seat.old.me.0 seat.new.me.0 }
         ensures back_in { (back : Gated D) (front : FrontAccount V) → seat.old.me.1 ≡ (0, TheFront front) ∷ (1, TheBack back) ∷ []
             → seat.new.me ≡ (at_device seat.old.me.0 (settled_by seat.old.me.0.device), (0, TheFront front) ∷ []) }
     {
@@ -386,17 +357,12 @@ impl<D: Disk, V: Shown> SharedBook<D, V> {
     pub(crate) fn try_out(&self, seat: &mut Chair<D, V>, sample: Sample) -> Try
         requires table { seat.old.table_id ≡ self.now.table }
         requires front { (front : FrontAccount V) × (seat.old.me.1 ≡ (0, TheFront front) ∷ rest seat.old.me.1) × MayTake front sample }
-        ensures table { seat.new.table_id ≡ seat.old.table_id }
-        ensures view { seat.new.me.0 ≡ seat.old.me.0 }
-        ensures works { Works seat.old.me seat.new.me (λ old new. Puts old new sample result) }
+        ensures works { WorksOn seat.old seat.new (λ old new. Puts old new sample result) }
     {
-        match seat.slot_mut(&self.table.shared, 0) {
-            Half::TheFront(front) => put_in(front, sample),
-            Half::TheBack(_back) => unreachable!(),
-            Half::Told(_answer) => unreachable!(),
-            Half::Due(_sample) => unreachable!(),
-            Half::Out => unreachable!(),
-        }
+        let Half::TheFront(front) = seat.slot_mut(&self.table.shared, 0) else {
+            unreachable!()
+        };
+        put_in(front, sample)
     }
 
     /// Answers a flush by the front that is out with the seat, where that needs no write.
@@ -408,34 +374,24 @@ impl<D: Disk, V: Shown> SharedBook<D, V> {
     ) -> Result<Flush<V::Note>, u64>
         requires table { seat.old.table_id ≡ self.now.table }
         requires front { (front : FrontAccount V) × (seat.old.me.1 ≡ (0, TheFront front) ∷ rest seat.old.me.1) }
-        ensures table { seat.new.table_id ≡ seat.old.table_id }
-        ensures view { seat.new.me.0 ≡ seat.old.me.0 }
-        ensures works { Works seat.old.me seat.new.me (λ old new. FlushesNow V.Shown old new (unwrap_or through (length old.history)) result) }
+        ensures works { WorksOn seat.old seat.new (λ old new. FlushesNow V.Shown old new (unwrap_or through (length old.history)) result) }
     {
-        match seat.slot_mut(&self.table.shared, 0) {
-            Half::TheFront(front) => flush_in(front, rt, through),
-            Half::TheBack(_back) => unreachable!(),
-            Half::Told(_answer) => unreachable!(),
-            Half::Due(_sample) => unreachable!(),
-            Half::Out => unreachable!(),
-        }
+        let Half::TheFront(front) = seat.slot_mut(&self.table.shared, 0) else {
+            unreachable!()
+        };
+        flush_in(front, rt, through)
     }
 
     /// Hands the pending records of the front out that is out with the seat.
     pub(crate) fn hand_out(&self, seat: &mut Chair<D, V>) -> Handed
         requires table { seat.old.table_id ≡ self.now.table }
         requires front { (front : FrontAccount V) × (seat.old.me.1 ≡ (0, TheFront front) ∷ rest seat.old.me.1) × (front.spare ≡ true) }
-        ensures table { seat.new.table_id ≡ seat.old.table_id }
-        ensures view { seat.new.me.0 ≡ seat.old.me.0 }
-        ensures works { Works seat.old.me seat.new.me (λ old new. HandTells old new result) }
+        ensures works { WorksOn seat.old seat.new (λ old new. HandTells old new result) }
     {
-        match seat.slot_mut(&self.table.shared, 0) {
-            Half::TheFront(front) => front.hand_over(),
-            Half::TheBack(_back) => unreachable!(),
-            Half::Told(_answer) => unreachable!(),
-            Half::Due(_sample) => unreachable!(),
-            Half::Out => unreachable!(),
-        }
+        let Half::TheFront(front) = seat.slot_mut(&self.table.shared, 0) else {
+            unreachable!()
+        };
+        front.hand_over()
     }
 
     /// Tells the front that is out with the seat what became of the block that it handed out.
@@ -447,17 +403,12 @@ impl<D: Disk, V: Shown> SharedBook<D, V> {
     ) -> Flush<V::Note>
         requires table { seat.old.table_id ≡ self.now.table }
         requires front { (front : FrontAccount V) × (seat.old.me.1 ≡ (0, TheFront front) ∷ rest seat.old.me.1) × IsAwaited front written }
-        ensures table { seat.new.table_id ≡ seat.old.table_id }
-        ensures view { seat.new.me.0 ≡ seat.old.me.0 }
-        ensures works { Works seat.old.me seat.new.me (λ old new. FinishTells V.Shown old new written result × AreThroughs new.marks) }
+        ensures works { WorksOn seat.old seat.new (λ old new. FinishTells V.Shown old new written result × AreThroughs new.marks) }
     {
-        match seat.slot_mut(&self.table.shared, 0) {
-            Half::TheFront(front) => front.finish(rt, written),
-            Half::TheBack(_back) => unreachable!(),
-            Half::Told(_answer) => unreachable!(),
-            Half::Due(_sample) => unreachable!(),
-            Half::Out => unreachable!(),
-        }
+        let Half::TheFront(front) = seat.slot_mut(&self.table.shared, 0) else {
+            unreachable!()
+        };
+        front.finish(rt, written)
     }
 
     /// Writes a block by the back that is out with the seat.
@@ -465,16 +416,11 @@ impl<D: Disk, V: Shown> SharedBook<D, V> {
         requires table { seat.old.table_id ≡ self.now.table }
         requires back { (back : Gated D) × (seat.old.me.1 ≡ (1, TheBack back) ∷ rest seat.old.me.1) × (back.failed ≡ false)
             × (1 ≤ length block.bytes) × (back.place + length block.bytes + 88 < 4611686018427387904) }
-        ensures table { seat.new.table_id ≡ seat.old.table_id }
-        ensures view { seat.new.me.0 ≡ seat.old.me.0 }
-        ensures writes { Writes seat.old.me seat.new.me (λ old new. WritesOut D.Disk old new through block result) }
+        ensures writes { WritesOn seat.old seat.new (λ old new. WritesOut D.Disk old new through block result) }
     {
-        match seat.slot_mut(&self.table.shared, 1) {
-            Half::TheBack(back) => back.write(through, block),
-            Half::TheFront(_front) => unreachable!(),
-            Half::Told(_answer) => unreachable!(),
-            Half::Due(_sample) => unreachable!(),
-            Half::Out => unreachable!(),
-        }
+        let Half::TheBack(back) = seat.slot_mut(&self.table.shared, 1) else {
+            unreachable!()
+        };
+        back.write(through, block)
     }
 }

@@ -11,10 +11,7 @@ pub(crate) fn front_of<F, B>(half: Half<F, B>) -> F
 {
     match half {
         Half::TheFront(front) => front,
-        Half::TheBack(_back) => unreachable!(),
-        Half::Told(_answer) => unreachable!(),
-        Half::Due(_sample) => unreachable!(),
-        Half::Out => unreachable!(),
+        _ => unreachable!(),
     }
 }
 
@@ -25,9 +22,6 @@ pub(crate) fn back_of<F, B>(half: Half<F, B>) -> B
 {
     match half {
         Half::TheBack(back) => back,
-        Half::TheFront(_front) => unreachable!(),
-        Half::Told(_answer) => unreachable!(),
-        Half::Due(_sample) => unreachable!(),
-        Half::Out => unreachable!(),
+        _ => unreachable!(),
     }
 }

@@ -1,11 +1,11 @@
 //! The calls of a shared book over the seat at the table, turn by turn.
 ghost use Rattle.std.specs.Prelude.{ℕ, ◌≡◌, ◌+◌, ◌<◌, ◌≤◌, [], ◌∷◌, true, false, length, slice_index, IfOk, IfErr};
 ghost use Rattle.std.specs.Option.{option_copied};
-ghost use Rattle.mdf_layout.specs.Record.{SampleFits, encoded_size};
 ghost use Rattle.book_owned.specs.FrontHalf.{FrontAccount};
 ghost use Rattle.book_owned.specs.declared.handed.Handed.TheVariants as given_out;
-ghost use Rattle.book_shared.specs.Basis.{idle, free, resting};
-ghost use Rattle.book_shared.specs.Place.{IsSingle};
+ghost use Rattle.book_shared.specs.Basis.{idle, free, resting, last_word};
+ghost use Rattle.book_shared.specs.Chairs.{GivesBack, HoldsNothing, MayTakeDevice, TakesNoTurn, TakesOneTurn};
+ghost use Rattle.book_shared.specs.Place.{IsSingle, MayAppend};
 ghost use Rattle.book_shared.specs.Plays.{at_device, given, given_device, Holds};
 ghost use Rattle.book_shared.specs.Rounds.{wanted, HasTaken, HasSeized, HasPending, HasHanded, HasWritten, HasBoth, HasSeen, HasFlushed, IsTried, Lacks, answered};
 ghost use Rattle.book_shared.specs.Rule.{AreOwn};
@@ -48,15 +48,12 @@ impl<D: Disk, V: Shown> SharedBook<D, V> {
     pub(crate) fn try_turn(&self, seat: &mut Chair<D, V>, word: u64, sample: Sample) -> Try
         requires table { seat.old.table_id ≡ self.now.table }
         requires word { word ≡ seat.old.me.0.met }
-        requires taken { (v : View) × HasTaken v seat.old.me × IsSingle v (slice_index v.basis.owners sample.group)
-            × SampleFits v.basis.terms.layouts sample × (encoded_size v.basis.terms.layouts sample ≤ v.basis.terms.block_limit) }
-        ensures table { seat.new.table_id ≡ seat.old.table_id }
-        ensures no_turn { seat.new.me.1 ≡ [] }
+        requires taken { (v : View) × HasTaken v seat.old.me × MayAppend v sample }
+        ensures seat { GivesBack seat.old seat.new }
         ensures had { HadTurn result }
         ensures steps { seat.new.me.0.steps ≡ seat.old.me.0.steps }
-        ensures turns { seat.new.me.0.turns ≡ seat.old.me.0.turns }
+        ensures counts { TakesNoTurn seat.old.me.0 seat.new.me.0 }
         ensures rounds { seat.new.me.0.rounds ≡ seat.old.me.0.rounds }
-        ensures due { seat.new.me.0.due ≡ seat.old.me.0.due }
         ensures tried { (v : View) → HasTaken v seat.old.me → IsSingle v (slice_index v.basis.owners sample.group) → IsTried V v seat.new.me.0 sample result }
     {
         let answer = self.try_out(seat, sample);
@@ -66,15 +63,10 @@ impl<D: Disk, V: Shown> SharedBook<D, V> {
 
     /// `try_append`, over the seat at the table.
     pub(crate) fn try_at(&self, seat: &mut Chair<D, V>, sample: Sample) -> Try
-        requires table { seat.old.table_id ≡ self.now.table }
-        requires no_turn { seat.old.me.1 ≡ [] }
+        requires seat { HoldsNothing self.now.table seat.old }
         requires calm { seat.old.me.0.turn ≡ idle }
-        requires no_device { seat.old.me.0.device ≡ free }
-        requires owns { IsSingle seat.old.me.0 (slice_index seat.old.me.0.basis.owners sample.group) }
-        requires fits { SampleFits seat.old.me.0.basis.terms.layouts sample }
-        requires size { encoded_size seat.old.me.0.basis.terms.layouts sample ≤ seat.old.me.0.basis.terms.block_limit }
-        ensures table { seat.new.table_id ≡ seat.old.table_id }
-        ensures no_turn { seat.new.me.1 ≡ [] }
+        requires may { MayAppend seat.old.me.0 sample }
+        ensures seat { GivesBack seat.old seat.new }
         ensures rests { Rests seat.old.me.0 seat.new.me.0 }
         ensures tries { Tries seat.old.me.0 seat.new.me.0 sample result }
         ensures steps { HadTurn result → seat.new.me.0.steps ≡ seat.old.me.0.steps + 2 }
@@ -94,12 +86,11 @@ impl<D: Disk, V: Shown> SharedBook<D, V> {
     pub(crate) fn end_round(&self, seat: &mut Chair<D, V>, word: u64, asked: bool)
         requires table { seat.old.table_id ≡ self.now.table }
         requires word { word ≡ seat.old.me.0.met }
-        requires low { word ≤ 18446744073709551613 }
+        requires low { word < last_word }
         requires returns { (front : FrontAccount V) × (seat.old.me.1 ≡ (0, TheFront front) ∷ []) × Holds asked seat.old.me.0 front
             × (given_device seat.old.me.0.device front.spare ≡ resting) }
         ensures table { seat.new.table_id ≡ seat.old.table_id }
-        ensures turns { seat.new.me.0.turns ≡ seat.old.me.0.turns }
-        ensures due { seat.new.me.0.due ≡ seat.old.me.0.due }
+        ensures counts { TakesNoTurn seat.old.me.0 seat.new.me.0 }
         ensures ended { (front : FrontAccount V) → seat.old.me.1 ≡ (0, TheFront front) ∷ []
             → seat.new.me ≡ (at_device (given asked seat.old.me.0 (word + 1) front) free, []) }
     {
@@ -116,10 +107,7 @@ impl<D: Disk, V: Shown> SharedBook<D, V> {
         due: Option<&Sample>,
         accepted: u64,
     ) -> u64
-        requires table { seat.old.table_id ≡ self.now.table }
-        requires no_turn { seat.old.me.1 ≡ [] }
-        requires no_device { seat.old.me.0.device ≡ free }
-        requires some_source { 0 < length seat.old.me.0.mine }
+        requires may { MayTakeDevice self.now.table seat.old }
         ensures table { seat.new.table_id ≡ seat.old.table_id }
         ensures word { result ≡ seat.new.me.0.met }
         ensures seized { HasSeized (wanted seat.old.me.0 (option_copied due.entry)) seat.new.me }
@@ -139,7 +127,7 @@ impl<D: Disk, V: Shown> SharedBook<D, V> {
     ) -> (u64, Written)
         requires table { seat.old.table_id ≡ self.now.table }
         requires word { word ≡ seat.old.me.0.met }
-        requires low { word ≤ 18446744073709551613 }
+        requires low { word < last_word }
         requires some_source { 0 < length seat.old.me.0.mine }
         requires handed { HasHanded seat.old.me (given_out.Given through block) }
         ensures table { seat.new.table_id ≡ seat.old.table_id }
@@ -164,10 +152,8 @@ impl<D: Disk, V: Shown> SharedBook<D, V> {
         requires table { seat.old.table_id ≡ self.now.table }
         requires word { word ≡ seat.old.me.0.met }
         requires both { (y : View) × HasBoth D.Disk y seat.old.me written }
-        ensures table { seat.new.table_id ≡ seat.old.table_id }
-        ensures no_turn { seat.new.me.1 ≡ [] }
-        ensures turns { seat.new.me.0.turns ≡ seat.old.me.0.turns }
-        ensures due { seat.new.me.0.due ≡ seat.old.me.0.due }
+        ensures seat { GivesBack seat.old seat.new }
+        ensures counts { TakesNoTurn seat.old.me.0 seat.new.me.0 }
         ensures flushed { (y : View) → HasBoth D.Disk y seat.old.me written → (number : ℕ) → IsSingle y number → HasFlushed D.Disk V.Shown y seat.new.me.0 result }
         ensures wrote { (y : View) → HasBoth D.Disk y seat.old.me written → (count : ℕ) → Lacks y.seen y.kept count → FlushesFor count seat.new.me.0 result }
     {
@@ -187,10 +173,8 @@ impl<D: Disk, V: Shown> SharedBook<D, V> {
         requires table { seat.old.table_id ≡ self.now.table }
         requires word { word ≡ seat.old.me.0.met }
         requires pending { (v : View) × HasPending v seat.old.me × (0 < length v.mine) }
-        ensures table { seat.new.table_id ≡ seat.old.table_id }
-        ensures no_turn { seat.new.me.1 ≡ [] }
-        ensures turns { seat.new.me.0.turns ≡ seat.old.me.0.turns + 1 }
-        ensures due { seat.new.me.0.due ≡ seat.old.me.0.due }
+        ensures seat { GivesBack seat.old seat.new }
+        ensures counts { TakesOneTurn seat.old.me.0 seat.new.me.0 }
         ensures flushed { (v : View) → HasPending v seat.old.me → (number : ℕ) → IsSingle v number → HasFlushed D.Disk V.Shown v seat.new.me.0 result }
         ensures wrote { (front : FrontAccount V) → seat.old.me.1 ≡ (0, TheFront front) ∷ [] → (count : ℕ) → Lacks front.history front.marks count
             → FlushesFor count seat.new.me.0 result }
@@ -211,15 +195,11 @@ impl<D: Disk, V: Shown> SharedBook<D, V> {
         rt: &R,
         seat: &mut Chair<D, V>,
     ) -> Result<Flush<V::Note>, u64>
-        requires table { seat.old.table_id ≡ self.now.table }
-        requires no_turn { seat.old.me.1 ≡ [] }
-        requires no_device { seat.old.me.0.device ≡ free }
+        requires seat { HoldsNothing self.now.table seat.old }
         requires single { (number : ℕ) × IsSingle seat.old.me.0 number }
-        ensures table { seat.new.table_id ≡ seat.old.table_id }
-        ensures no_turn { seat.new.me.1 ≡ [] }
-        ensures turns { seat.new.me.0.turns ≡ seat.old.me.0.turns + 1 }
+        ensures seat { GivesBack seat.old seat.new }
+        ensures counts { TakesOneTurn seat.old.me.0 seat.new.me.0 }
         ensures rounds { seat.new.me.0.rounds ≡ seat.old.me.0.rounds }
-        ensures due { seat.new.me.0.due ≡ seat.old.me.0.due }
         ensures flushed { IfOk result (λ answer. HasFlushed D.Disk V.Shown seat.old.me.0 seat.new.me.0 answer) }
         ensures first { IfOk result (λ answer. FlushesFirst seat.old.me.0 seat.new.me.0 answer) }
         ensures seen { IfErr result (λ accepted. HasSeen seat.old.me.0 seat.new.me.0 accepted) }
@@ -238,14 +218,11 @@ impl<D: Disk, V: Shown> SharedBook<D, V> {
         seat: &mut Chair<D, V>,
         accepted: u64,
     ) -> Flush<V::Note>
-        requires table { seat.old.table_id ≡ self.now.table }
-        requires no_turn { seat.old.me.1 ≡ [] }
-        requires no_device { seat.old.me.0.device ≡ free }
+        requires seat { HoldsNothing self.now.table seat.old }
         requires single { (number : ℕ) × IsSingle seat.old.me.0 number }
         requires accepted { accepted ≡ length seat.old.me.0.seen }
         requires own { AreOwn seat.old.me.0.basis.owners seat.old.me.0.seen seat.old.me.0.mine }
-        ensures table { seat.new.table_id ≡ seat.old.table_id }
-        ensures no_turn { seat.new.me.1 ≡ [] }
+        ensures seat { GivesBack seat.old seat.new }
         ensures turns { seat.new.me.0.turns ≤ seat.old.me.0.turns + 2 }
         ensures due { seat.new.me.0.due ≡ seat.old.me.0.due }
         ensures flushed { HasFlushed D.Disk V.Shown seat.old.me.0 seat.new.me.0 result }
@@ -267,12 +244,9 @@ impl<D: Disk, V: Shown> SharedBook<D, V> {
         rt: &R,
         seat: &mut Chair<D, V>,
     ) -> Flush<V::Note>
-        requires table { seat.old.table_id ≡ self.now.table }
-        requires no_turn { seat.old.me.1 ≡ [] }
-        requires no_device { seat.old.me.0.device ≡ free }
+        requires seat { HoldsNothing self.now.table seat.old }
         requires single { (number : ℕ) × IsSingle seat.old.me.0 number }
-        ensures table { seat.new.table_id ≡ seat.old.table_id }
-        ensures no_turn { seat.new.me.1 ≡ [] }
+        ensures seat { GivesBack seat.old seat.new }
         ensures turns { seat.new.me.0.turns ≤ seat.old.me.0.turns + 3 }
         ensures due { seat.new.me.0.due ≡ seat.old.me.0.due }
         ensures flushed { HasFlushed D.Disk V.Shown seat.old.me.0 seat.new.me.0 result }

@@ -1,7 +1,7 @@
 //! A shared book and its calls.
 ghost use Rattle.std.specs.Prelude.{◌≡◌, ◌+◌, ◌≤◌, slice_index};
 ghost use Rattle.mdf_layout.specs.Record.{SampleFits, encoded_size};
-ghost use Rattle.book_shared.specs.Place.{IsSingle};
+ghost use Rattle.book_shared.specs.Place.{KeepsSeat};
 ghost use Rattle.book_shared.specs.Turns.{HasTurnsFor, OnlyDue};
 ghost use Rattle.book_shared.specs.Told.{Announces, Appends, Tries, Flushes, FlushesFirst, FlushesSeen, HadTurn, Asks, IsNoted, IsOneFlush, IsOneTurn, AppendsFront, TriesFront, FlushesFront};
 
@@ -68,7 +68,7 @@ impl<D: Disk, V: Shown> SharedBook<D, V> {
         requires owns { slice_index seat.old.know.basis.owners sample.group ≡ seat.old.number }
         requires fits { SampleFits seat.old.know.basis.terms.layouts sample }
         requires size { encoded_size seat.old.know.basis.terms.layouts sample ≤ seat.old.know.basis.terms.block_limit }
-        ensures seat { (seat.new.table ≡ seat.old.table) × (seat.new.number ≡ seat.old.number) × (seat.new.know.basis ≡ seat.old.know.basis) × IsSingle seat.new.know seat.new.number }
+        ensures seat { KeepsSeat seat.old seat.new }
         ensures appends { Appends seat.old.know seat.new.know sample result }
         ensures turns { HasTurnsFor 3 seat.old.know seat.new.know }
         ensures one { IsOneTurn seat.old.know seat.new.know sample }
@@ -90,7 +90,7 @@ impl<D: Disk, V: Shown> SharedBook<D, V> {
         requires owns { slice_index seat.old.know.basis.owners sample.group ≡ seat.old.number }
         requires fits { SampleFits seat.old.know.basis.terms.layouts sample }
         requires size { encoded_size seat.old.know.basis.terms.layouts sample ≤ seat.old.know.basis.terms.block_limit }
-        ensures seat { (seat.new.table ≡ seat.old.table) × (seat.new.number ≡ seat.old.number) × (seat.new.know.basis ≡ seat.old.know.basis) × IsSingle seat.new.know seat.new.number }
+        ensures seat { KeepsSeat seat.old seat.new }
         ensures tries { Tries seat.old.know seat.new.know sample result }
         ensures steps { HadTurn result → seat.new.know.steps ≡ seat.old.know.steps + 2 }
         ensures turns { HadTurn result → seat.new.know.turns ≡ seat.old.know.turns + 1 }
@@ -110,7 +110,7 @@ impl<D: Disk, V: Shown> SharedBook<D, V> {
     /// they were durable then, or another has written them while it waited for the device.
     pub fn flush<R: Threads + Wait + Sync>(&self, rt: &R, seat: &mut SourceSeat) -> Flush<V::Note>
         requires table { seat.old.table ≡ self.now.table }
-        ensures seat { (seat.new.table ≡ seat.old.table) × (seat.new.number ≡ seat.old.number) × (seat.new.know.basis ≡ seat.old.know.basis) × IsSingle seat.new.know seat.new.number }
+        ensures seat { KeepsSeat seat.old seat.new }
         ensures flushes { Flushes seat.old.know seat.new.know result }
         ensures turns { seat.new.know.turns ≤ seat.old.know.turns + 3 }
         ensures one { IsOneFlush seat.old.know seat.new.know }

@@ -6,7 +6,7 @@ pub loop-init : goal.loop-init
 loop-init g c = record {
   led = led_first g.F.Feed.hands g.F.Feed.waits g.F.Feed.ends g.met.F.Feed.hands_none g.met.F.Feed.hands_more g.L.Follower.hears g.met.L.Follower.hears_none g.met.L.Follower.hears_more
       c.args.seat.now c.args.feed.now c.args.follower.now;
-  follows = c.requires.follows;
+  follows = c.requires.ready.follows;
 }
 
 pub returns-in-End : goal.returns-in-End

@@ -17,14 +17,14 @@ returns-in-Sample g c =
     let result = c.appended.result in
     let seat = c.append.ensures.seat in
     let appends = c.append.ensures.appends in
-    let single = subst (IsSingle u) seat.1 seat.3 in
+    let single = subst (IsSingle u) seat.number_is seat.single in
     record {
-      seat = record { table_is = seat.0; number_is = seat.1 };
+      seat = record { table_is = seat.table_is; number_is = seat.number_is };
       turns = record { some = appends.1.turns; few = c.append.ensures.turns };
       due = append_due v u c.args.task sample c.in-Sample.is c.append.ensures.due;
       done = append_done v u source single sample c.append.ensures.asked c.args.task answer result c.in-Sample.is c.appended.ensures appends;
-      ended = append_ended v u source single sample c.append.ensures.asked g.D.Disk g.V.Shown number seat.1 c.args.task answer result c.in-Sample.is c.appended.ensures appends c.append.ensures.front;
-      counted = append_counted v u source single sample c.append.ensures.asked g.D.Disk g.V.Shown number seat.1 answer result c.appended.ensures c.append.ensures.front;
+      ended = append_ended v u source single sample c.append.ensures.asked g.D.Disk g.V.Shown number seat.number_is c.args.task answer result c.in-Sample.is c.appended.ensures appends c.append.ensures.front;
+      counted = append_counted v u source single sample c.append.ensures.asked g.D.Disk g.V.Shown number seat.number_is answer result c.appended.ensures c.append.ensures.front;
       follows = follows_on v u appends.0 _ appends.1 g.L.Follower.follows g.met.L.Follower.stays follower c.requires.follows;
       heard = any_ok ((shown : List ℕ) × (length shown ≡ flushes_of (c.args.task ∷ [])) × g.L.Follower.hears follower shown follower) result
           ([], ap (λ t. flushes_of (t ∷ [])) (sym c.in-Sample.is), g.met.L.Follower.hears_none follower);
@@ -51,11 +51,11 @@ returns-in-Done g c =
     let seat = c.in-Done.ensures.seat in
     let flushes = c.in-Done.ensures.flushes in
     record {
-      seat = record { table_is = seat.0; number_is = seat.1 };
+      seat = record { table_is = seat.table_is; number_is = seat.number_is };
       turns = flush_turns v u flushes.1.turns (omega (arith, c.in-Done.ensures.turns)) flushes.1.kept;
       due = flush_due v u c.args.task c.in-Done.ensures.due;
       done = subst (λ t. Does v u source (t ∷ []) 0) (sym c.in-Flush.is)
-          (flush_done g.D.Disk g.V.Shown v u source (subst (IsSingle u) seat.1 seat.3) c.in-Done.through c.in-Done.shown c.in-Done.note flushes c.in-Done.ensures.asked);
+          (flush_done g.D.Disk g.V.Shown v u source (subst (IsSingle u) seat.number_is seat.single) c.in-Done.through c.in-Done.shown c.in-Done.note flushes c.in-Done.ensures.asked);
       ended = tt;
       counted = tt;
       follows = c.follow.ensures.follows u.basis.terms.which u.seen
@@ -71,9 +71,9 @@ returns-in-Stopped g c =
     let source = c.args.seat.now.number in
     let seat = c.in-Stopped.ensures.seat in
     let flushes = c.in-Stopped.ensures.flushes in
-    let stopped = flush_stopped g.D.Disk g.V.Shown v u source (subst (IsSingle u) seat.1 seat.3) c.in-Stopped.mark flushes c.in-Stopped.ensures.asked c.in-Stopped.ensures.front in
+    let stopped = flush_stopped g.D.Disk g.V.Shown v u source (subst (IsSingle u) seat.number_is seat.single) c.in-Stopped.mark flushes c.in-Stopped.ensures.asked c.in-Stopped.ensures.front in
     record {
-      seat = record { table_is = seat.0; number_is = seat.1 };
+      seat = record { table_is = seat.table_is; number_is = seat.number_is };
       turns = flush_turns v u flushes.1.turns (omega (arith, c.in-Stopped.ensures.turns)) flushes.1.kept;
       due = flush_due v u c.args.task c.in-Stopped.ensures.due;
       done = tt;
@@ -92,9 +92,9 @@ returns-in-DiskFault g c =
     let seat = c.in-DiskFault.ensures.seat in
     let flushes = c.in-DiskFault.ensures.flushes in
     let front = c.in-DiskFault.ensures.front in
-    let failed = flush_failed g.D.Disk g.V.Shown v u source (subst (IsSingle u) seat.1 seat.3) c.in-DiskFault.before c.in-DiskFault.after flushes c.in-DiskFault.ensures.asked front in
+    let failed = flush_failed g.D.Disk g.V.Shown v u source (subst (IsSingle u) seat.number_is seat.single) c.in-DiskFault.before c.in-DiskFault.after flushes c.in-DiskFault.ensures.asked front in
     record {
-      seat = record { table_is = seat.0; number_is = seat.1 };
+      seat = record { table_is = seat.table_is; number_is = seat.number_is };
       turns = flush_turns v u flushes.1.turns (omega (arith, c.in-DiskFault.ensures.turns)) flushes.1.kept;
       due = flush_due v u c.args.task c.in-DiskFault.ensures.due;
       done = tt;

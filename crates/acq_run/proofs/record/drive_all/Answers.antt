@@ -19,11 +19,9 @@ returns-clause-follow g c k d less =
 
 pub for_each_mut-requires-clause-accepts : goal.for_each_mut-requires-clause-accepts
 for_each_mut-requires-clause-accepts g c κs outlives i p less is = (
-  subst (λ worker. IsReady c.args.book.now.table worker.seat (CanHand g.F.Feed.hands worker.feed)) (sym is) (c.requires.ready i p.now less),
-  (
-    subst (λ worker. Watches worker.follower worker.seat.know.basis.terms.which worker.seat.know.seen) (sym is) (c.requires.follow i p.now less),
-    search rules,
-  ),
+  subst (λ worker. IsReady c.args.book.now.table worker.seat (CanHand g.F.Feed.hands worker.feed) (Watches worker.follower)) (sym is)
+      (c.requires.ready i p.now less),
+  search rules,
 )
 
 pub for_each_mut-requires-sync-F : goal.for_each_mut-requires-sync-F

@@ -10,7 +10,7 @@ use Rattle.acq_run.specs.Ran.{AllHeard, AllMayHand, AllRan, AskedFor, DueFor}
 use Rattle.acq_run.specs.Workers.{CanHand, IsReady}
 use Rattle.acq_run.proofs.Groups.{handed_count, handed_may, ran_owned}
 use Rattle.acq_run.proofs.Owning.{owned_same}
-use Rattle.acq_run.proofs.Gathering.{all_follow, all_ready, followers_of, handed_in, have_worked, seated, seats_count, worked_count, worked_follow, worked_asked, worked_due, worked_ended, worked_handed, worked_numbers, worked_of_table, worked_ran, worked_seen, HaveWorked}
+use Rattle.acq_run.proofs.Gathering.{all_ready, followers_of, handed_in, have_worked, seated, seats_count, worked_count, worked_follow, worked_asked, worked_due, worked_ended, worked_handed, worked_numbers, worked_of_table, worked_ran, worked_seen, HaveWorked}
 use Rattle.acq_run.proofs.Telling.{worked_heard}
 use Rattle.acq_run.specs.Watching.{Hears, Watches}
 use Rattle.acq_run.specs.Stays.{watches_on}
@@ -30,10 +30,13 @@ drive_all-requires-clause-ready g c κs within =
     let workers = c.seat_all.new.workers.items in
     let owners = c.args.owners.now in
     let terms = c.args.book.terms in
-    subst (All (λ w. IsReady book.table w.seat (CanHand g.F.Feed.hands w.feed))) (sym c.as_mut_slice.ensures.value)
-    (all_ready g.F.Feed.hands g.F.Feed.waits g.F.Feed.ends Hears book.table book.basis owners terms shared.owners_are shared.terms_are 0 workers
-    (seated g.F.Feed.hands g.F.Feed.waits g.F.Feed.ends Hears book.table book.basis workers c.in-Ok-begin.begun.1.items _ c.seat_all.ensures.seats c.in-Ok-begin.ensures.seats)
-    (subst (AllMayHand g.F.Feed.hands owners terms 0) (sym c.seat_all.ensures.feeds) c.requires.may))
+    subst (All (λ w. IsReady book.table w.seat (CanHand g.F.Feed.hands w.feed) (Watches w.follower))) (sym c.as_mut_slice.ensures.value)
+    (all_ready g.F.Feed.hands g.F.Feed.waits g.F.Feed.ends Hears book.table book.basis Watches owners terms
+    shared.owners_are shared.terms_are 0 workers
+    (seated g.F.Feed.hands g.F.Feed.waits g.F.Feed.ends Hears book.table book.basis workers c.in-Ok-begin.begun.1.items _
+    c.seat_all.ensures.seats c.in-Ok-begin.ensures.seats)
+    (subst (AllMayHand g.F.Feed.hands owners terms 0) (sym c.seat_all.ensures.feeds) c.requires.may)
+    (subst (All (λ l. Watches l terms.which [])) (sym c.seat_all.ensures.followers) c.requires.follow))
 
 -- what the workers did
 all_worked : (g : given.Over) (c : After-drive_all g)
@@ -95,17 +98,6 @@ returns-clause-worked g c =
           seats all c.part_all.new.feeds.items c.part_all.new.followers.items c.part_all.ensures.seats c.part_all.ensures.driven c.part_all.ensures.feeds c.part_all.ensures.followers
           c.close.ensures.seats);
     }
-
-pub drive_all-requires-clause-follow : goal.drive_all-requires-clause-follow
-drive_all-requires-clause-follow g c κs within =
-    let book = c.in-Ok-begin.begun.0 in
-    let workers = c.seat_all.new.workers.items in
-    let terms = c.args.book.terms in
-    let follows = Watches in
-    subst (All (λ w. follows w.follower w.seat.know.basis.terms.which w.seat.know.seen)) (sym c.as_mut_slice.ensures.value)
-    (all_follow g.F.Feed.hands g.F.Feed.waits g.F.Feed.ends Hears book.table book.basis follows terms c.in-Ok-begin.ensures.shared.terms_are 0 workers
-    (seated g.F.Feed.hands g.F.Feed.waits g.F.Feed.ends Hears book.table book.basis workers c.in-Ok-begin.begun.1.items _ c.seat_all.ensures.seats c.in-Ok-begin.ensures.seats)
-    (subst (All (λ l. follows l terms.which [])) (sym c.seat_all.ensures.followers) c.requires.follow))
 
 pub returns-clause-followers : goal.returns-clause-followers
 returns-clause-followers g c =

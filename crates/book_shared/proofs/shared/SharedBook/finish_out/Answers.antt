@@ -8,8 +8,10 @@ use Rattle.book_shared.proofs.shared.SharedBook.finish_out.Goals as goal
 pub slot_mut-requires : goal.slot_mut-requires
 slot_mut-requires g c = (search rules, (TheFront c.requires.front.0, c.requires.front.1))
 
-pub returns-clause-works : goal.returns-clause-works
-returns-clause-works g c =
-    works_on c.args.seat.now.me.0 c.args.seat.now.me.1 c.in-TheFront.front c.finish.new.self
-    (λ old new. FinishTells g.V.Shown old new c.args.written c.finish.result × AreThroughs new.marks)
-    (c.slot_mut.ensures.value ∙ ap (λ slot. (0, slot) ∷ rest c.args.seat.now.me.1) c.in-TheFront.is) (c.finish.ensures.tells, c.finish.ensures.steady.throughs)
+pub returns : goal.returns
+returns g c = record {
+  works =
+      works_on c.args.seat.now c.in-TheFront.front c.finish.new.self
+      (λ old new. FinishTells g.V.Shown old new c.args.written c.finish.result × AreThroughs new.marks)
+      (c.slot_mut.ensures.value ∙ ap (λ slot. (0, slot) ∷ rest c.args.seat.now.me.1) c.in-TheFront.is) (c.finish.ensures.tells, c.finish.ensures.steady.throughs);
+}

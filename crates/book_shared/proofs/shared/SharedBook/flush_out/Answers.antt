@@ -9,8 +9,10 @@ use Rattle.book_shared.proofs.shared.SharedBook.flush_out.Goals as goal
 pub slot_mut-requires : goal.slot_mut-requires
 slot_mut-requires g c = (search rules, (TheFront c.requires.front.0, c.requires.front.1))
 
-pub returns-clause-works : goal.returns-clause-works
-returns-clause-works g c =
-    works_on c.args.seat.now.me.0 c.args.seat.now.me.1 c.in-TheFront.front c.flush_in.new.front
-    (λ old new. FlushesNow g.V.Shown old new (unwrap_or c.args.through (length old.history)) c.flush_in.result)
-    (c.slot_mut.ensures.value ∙ ap (λ slot. (0, slot) ∷ rest c.args.seat.now.me.1) c.in-TheFront.is) c.flush_in.ensures.flushes
+pub returns : goal.returns
+returns g c = record {
+  works =
+      works_on c.args.seat.now c.in-TheFront.front c.flush_in.new.front
+      (λ old new. FlushesNow g.V.Shown old new (unwrap_or c.args.through (length old.history)) c.flush_in.result)
+      (c.slot_mut.ensures.value ∙ ap (λ slot. (0, slot) ∷ rest c.args.seat.now.me.1) c.in-TheFront.is) c.flush_in.ensures.flushes;
+}

@@ -8,7 +8,9 @@ use Rattle.book_shared.proofs.shared.SharedBook.hand_out.Goals as goal
 pub slot_mut-requires : goal.slot_mut-requires
 slot_mut-requires g c = (search rules, (TheFront c.requires.front.0, c.requires.front.1))
 
-pub returns-clause-works : goal.returns-clause-works
-returns-clause-works g c =
-    works_on c.args.seat.now.me.0 c.args.seat.now.me.1 c.in-TheFront.front c.hand_over.new.self (λ old new. HandTells old new c.hand_over.result)
-    (c.slot_mut.ensures.value ∙ ap (λ slot. (0, slot) ∷ rest c.args.seat.now.me.1) c.in-TheFront.is) c.hand_over.ensures.tells
+pub returns : goal.returns
+returns g c = record {
+  works =
+      works_on c.args.seat.now c.in-TheFront.front c.hand_over.new.self (λ old new. HandTells old new c.hand_over.result)
+      (c.slot_mut.ensures.value ∙ ap (λ slot. (0, slot) ∷ rest c.args.seat.now.me.1) c.in-TheFront.is) c.hand_over.ensures.tells;
+}

@@ -8,5 +8,5 @@ pub compare_exchange-requires : goal.compare_exchange-requires
 compare_exchange-requires g c = (
   search rules,
   search rules,
-  exchanges g.D.Disk (basis_of g.D.Disk c.self.inside.table.shared.key) _ _ _ c.args.word none c.requires.even c.requires.low c.requires.some_source c.requires.calm,
+  exchanges g.D.Disk (basis_of g.D.Disk c.self.inside.table.shared.key) _ _ _ c.args.word none c.requires.even c.requires.low c.requires.may.some_source c.requires.may.tells,
 )

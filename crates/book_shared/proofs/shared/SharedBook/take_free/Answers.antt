@@ -9,5 +9,5 @@ pub compare_exchange-requires : goal.compare_exchange-requires
 compare_exchange-requires g c = (
   search rules,
   search rules,
-  device_exchanges g.D.Disk (basis_of g.D.Disk c.self.inside.table.shared.key) _ _ c.args.seat.now.me none None refl c.requires.no_device c.requires.some_source,
+  device_exchanges g.D.Disk (basis_of g.D.Disk c.self.inside.table.shared.key) _ _ c.args.seat.now.me none None refl c.requires.may.empty.no_device c.requires.may.some_source,
 )

@@ -9,6 +9,6 @@ pub compare_exchange_with-found-requires : goal.compare_exchange_with-found-requ
 compare_exchange_with-found-requires g c = (
   search rules,
   search rules,
-  exchanges g.D.Disk (basis_of g.D.Disk c.self.inside.table.shared.key) _ _ _ c.args.word (some (Told c.args.answer)) c.requires.even c.requires.low c.requires.some_source
-      (c.requires.writing, c.requires.answer),
+  exchanges g.D.Disk (basis_of g.D.Disk c.self.inside.table.shared.key) _ _ _ c.args.word (some (Told c.args.answer)) c.requires.even c.requires.low c.requires.may.some_source
+      c.requires.may.tells,
 )
