@@ -62,15 +62,16 @@ fn put_in<V: Shown>(front: &mut Front<V>, sample: Sample) -> Try
     requires size { encoded_size front.old.terms.layouts sample ≤ front.old.terms.block_limit }
     ensures puts { Puts front.old front.new sample result }
 {
-    if !front.passes_block(&sample) {
-        return Try::Answered(front.put(sample));
+    let size = front.size_of(&sample);
+    if !front.passes_with(size) {
+        return Try::Answered(front.put_sized(sample, size));
     }
     if let Some(answer) = front.refusal(&sample) {
         return Try::Answered(answer);
     }
     Try::NeedsFlush {
         held: front.pending(),
-        size: front.size_of(&sample),
+        size,
         limit: front.block_limit(),
         sample,
     }
