@@ -4,7 +4,7 @@ ghost use Rattle.acq_script.specs.Plan.{IsPlan};
 ghost use Rattle.acq_lines.specs.Rules.{rules_of};
 ghost use Rattle.mdf_log.specs.Setup.{floats_in, rules_in, width_of, widths_of};
 
-use acq_lines::{LineRules, Width};
+use acq_lines::LineRules;
 use acq_script::Plan;
 use mdf_group::{ChannelRow, GroupRow};
 use mdf_num::{Memory, Rows};
