@@ -20,14 +20,14 @@ use Rattle.acq_run.specs.declared.feed.Fed.{Fed}
 use Rattle.acq_run.specs.declared.feed.Fed.TheVariants as fed
 use Rattle.acq_lines.specs.Lines.{FindsLf, Reads, Unread, closed, limited, lines_behind}
 use Rattle.acq_lines.specs.Source.{Fills, unpassed}
-use Rattle.acq_lines.proofs.Parts.{passed as line_passed_by, reads_more}
+use Rattle.acq_lines.proofs.Parts.{passed as line_passed_by}
 use Rattle.acq_lines.specs.Act.{Act, AreCommitted, handed_in, pending_behind, pending_with, read_in}
 use Rattle.acq_lines.specs.Act as act
 use Rattle.acq_lines.specs.Handled.{ComesNext, EndsWanted, Goes, Halts, HaltsAt, Handled, Hands, InOnePart, IsDue, MayRead, Resumes, ResumesFrom, SaysJust, Serves, Stops, StopsWell, Waits}
 use Rattle.acq_lines.specs.Rules.{MayCome, Rules}
 use Rattle.acq_lines.specs.Said.{AreFlushedMore, bad_in, feds_for, feds_in, is_end, said_by, said_in}
 use Rattle.acq_lines.specs.Spot.{Fixed, Spot, before, fixed, spot, spot_before}
-use Rattle.acq_lines.specs.Steps.{consumes_none, ends_more, feds_more, none_handled, on_with, or_none, said_more, serves_more, tells_none}
+use Rattle.acq_lines.specs.Steps.{consumes_none, ends_more, feds_more, none_handled, on_with, or_none, said_more, serves_more, tells_none, reads_more}
 use Rattle.acq_lines.specs.Told.{TellsOn, durable_line}
 use Rattle.acq_lines.specs.Wants.{begins_with_sample, is_sample_line, wants_memory}
 use Rattle.acq_lines.specs.declared.feed.Halt.{Halt}

@@ -109,14 +109,6 @@ grown old more bytes is = record {
       ∙ ap (λ (before : List ℕ). closed old.long (slice_split lf (before ++ later))) (sym is);
 }
 
--- one step behind another
-pub reads_more : (first second third : Unread) (xs ys : List ℕ) (lines more : List (Option (List ℕ))) → Reads first xs lines second → Reads second ys more third → Reads first (xs ++ ys) (lines ++ more) third
-reads_more first second third xs ys lines more one two = record {
-  each = λ later.
-      ap (lines_behind first) (append_assoc xs ys later) ∙ one.each (ys ++ later) ∙ ap (λ (rest : List (Option (List ℕ))). lines ++ rest) (two.each later)
-      ∙ sym (append_assoc lines more (lines_behind third later));
-}
-
 -- the part of a buffer behind its first bytes
 pub range_rest : (items : List ℕ) (start end n : ℕ) → start + n ≤ end → slice_range items (start + n) end ≡ drop n (slice_range items start end)
 range_rest items start end n inside =

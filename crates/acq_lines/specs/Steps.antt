@@ -13,8 +13,7 @@ use Rattle.mdf_port.specs.declared.sink.Sink as sink
 use Rattle.acq_run.specs.Feeds.{flushes_behind, samples_of}
 use Rattle.acq_run.specs.declared.feed.Fed.{Fed}
 use Rattle.acq_run.specs.declared.feed.Fed.TheVariants as fed
-use Rattle.acq_lines.specs.Lines.{Reads}
-use Rattle.acq_lines.proofs.Parts.{reads_more}
+use Rattle.acq_lines.specs.Lines.{Reads, Unread, lines_behind}
 use Rattle.acq_lines.specs.Act.{Act, AreCommitted, handed_in, pending_behind, pending_with, read_in}
 use Rattle.acq_lines.specs.Act as act
 use Rattle.acq_lines.specs.Handled.{ComesNext, EndsWanted, Handled, Hands, InOnePart, Serves}
@@ -25,6 +24,15 @@ use Rattle.acq_lines.specs.Told.{TellsOn, durable_line, durable_lines}
 use Rattle.acq_lines.specs.declared.feed.Halt.{Halt}
 use Rattle.acq_lines.specs.declared.feed.Halt.TheVariants.{Failed}
 use Rattle.acq_lines.specs.declared.feed.LineFeed.{LineFeed}
+
+-- what was read of lines in two steps, one after the other
+pub reads_more : (first second third : Unread) (xs ys : List ℕ) (lines more : List (Option (List ℕ))) → Reads first xs lines second
+    → Reads second ys more third → Reads first (xs ++ ys) (lines ++ more) third
+reads_more first second third xs ys lines more one two = record {
+  each = λ later.
+      ap (lines_behind first) (append_assoc xs ys later) ∙ one.each (ys ++ later) ∙ ap (λ (rest : List (Option (List ℕ))). lines ++ rest) (two.each later)
+      ∙ sym (append_assoc lines more (lines_behind third later));
+}
 
 -- acts behind acts
 read_more : (some more : List Act) → read_in (some ++ more) ≡ read_in some ++ read_in more

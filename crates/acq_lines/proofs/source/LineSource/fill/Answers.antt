@@ -3,7 +3,8 @@ use Rattle.std.proofs.lemmas.List.{length-take-le}
 use Rattle.std.proofs.lemmas.Result.{err_from_is_err_and}
 use Rattle.std.specs.Io.KnownBytes.{Consumes, Keeps}
 use Rattle.acq_lines.specs.Source.{unread}
-use Rattle.acq_lines.proofs.Parts.{back_long, grown, lent_more, lent_none, reads_more, same}
+use Rattle.acq_lines.specs.Steps.{reads_more}
+use Rattle.acq_lines.proofs.Parts.{back_long, grown, lent_more, lent_none, same}
 use Rattle.acq_lines.proofs.source.LineSource.fill.Goals as goal
 
 pub returns-in_err-count-clause-stays : goal.returns-in_err-count-clause-stays
