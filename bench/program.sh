@@ -1,6 +1,6 @@
 # What a bench of the program begins with: `top` is the repository, `work` a folder of the bench's own under out/, `runs` how often a
 # program is timed (the bench's first word, or what it set before), `program` the built program, or the one that the variable PROGRAM names,
-# `setting` that of the C library that mdf4rec makes for most commands, if the bench set none before, and `tuned` that program with it.
+# `setting` that of the C library that mdf4rec makes for the bench's `command`, or for most commands if it named none, and `tuned` that program with it.
 
 top="$(cd "$here/../.." && pwd)"
 runs="${1:-${runs:-5}}"
@@ -15,7 +15,8 @@ else
     MDF4REC_PROVE=1 "$top/mdf4rec" opened "$top/examples/two_blocks.mf4" > "$work/said" # builds the program where it is stale
     program="$top/crates/mdf_cli/out/mdf_cli"
 fi
-setting="${setting:-glibc.malloc.hugetlb=1}"
+. "$top/.ci/memory"
+setting="$(memory_settings mdf4rec "${command-}")"
 tuned=(env "GLIBC_TUNABLES=$setting" "$program")
 
 # Prints both numbers and their ratio.

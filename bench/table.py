@@ -25,7 +25,6 @@ from dataclasses import dataclass, field
 BENCH = os.path.dirname(os.path.abspath(__file__))
 TOP = os.path.dirname(BENCH)
 TWINS = {"record": "record/twin.c", "read": "read.c", "made": "made.c", "export": "export/twin.c", "peak": "peak.c"}
-SETTINGS = {"concat": "glibc.malloc.mmap_threshold=131072"}  # of the C library, as the script mdf4rec makes them, but for pages of 2 MB
 KEPT = ["0", "9223372036854775808"]  # all masters that are not negative
 
 
@@ -184,10 +183,18 @@ class Bench:
             return sum(int(count) for count, name in each if name != "total")
 
     def peak(self, row, words, size):
-        setting = ["env", f"GLIBC_TUNABLES={SETTINGS[row.name]}"] if words == row.ours and row.name in SETTINGS else []
+        settings = settings_of(row.name) if words == row.ours else ""
+        setting = ["env", f"GLIBC_TUNABLES={settings}"] if settings else []
         self.run(row, [*setting, self.programs["peak"], *self.command(words, size)], "held")
         with open(self.path("held"), encoding="utf8") as said:
             return int(said.read())
+
+
+def settings_of(command):
+    """The settings of the C library with which mdf4rec runs a command, without pages of 2 MB."""
+    script = '. "$0/.ci/memory"; memory_settings mdf4rec "$1"'
+    said = subprocess.run(["bash", "-c", script, TOP, command], check=True, capture_output=True, text=True).stdout
+    return ":".join(part for part in said.strip().split(":") if "hugetlb" not in part)
 
 
 def millions(counts):

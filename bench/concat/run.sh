@@ -14,7 +14,7 @@
 set -euo pipefail
 
 here="$(cd "$(dirname "$0")" && pwd)"
-setting=glibc.malloc.hugetlb=1:glibc.malloc.mmap_threshold=131072 # that of mdf4rec for concat
+command=concat
 . "$here/../program.sh"
 
 before() { rm -f "$work/made.mf4"; }

@@ -16,7 +16,7 @@ here="$(cd "$(dirname "$0")" && pwd)"
 runs=5
 . "$here/../program.sh"
 waits="${2:-20}"
-export GLIBC_TUNABLES=glibc.malloc.hugetlb=1 # as mdf4rec does
+export GLIBC_TUNABLES="$setting" # as mdf4rec does
 
 "${CC:-cc}" -O2 -shared -fPIC -o "$work/slow.so" "$here/slow.c" -ldl
 record() {

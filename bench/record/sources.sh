@@ -15,7 +15,7 @@ set -euo pipefail
 here="$(cd "$(dirname "$0")" && pwd)"
 runs=21
 . "$here/../program.sh"
-export GLIBC_TUNABLES=glibc.malloc.hugetlb=1 # as mdf4rec does
+export GLIBC_TUNABLES="$setting" # as mdf4rec does
 
 python3 "$here/sources.py" 1 > "$work/one.txt"
 python3 "$here/sources.py" 4 1000 > "$work/runs.txt"

@@ -12,6 +12,7 @@
 set -euo pipefail
 
 here="$(cd "$(dirname "$0")" && pwd)"
+command=sort
 . "$here/../program.sh"
 
 before() { rm -f "$work/made.mf4"; }

@@ -10,8 +10,6 @@ mod seats;
 #[cfg(test)]
 mod tasks;
 #[cfg(test)]
-mod told;
-#[cfg(test)]
 mod turns;
 #[cfg(test)]
 mod workers;

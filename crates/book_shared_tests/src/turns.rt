@@ -9,7 +9,6 @@ use crate::books::sample;
 use crate::gates::{Gate, LOOKS, Step};
 use crate::seats::{Begun, Seats, Shared, begin, close};
 use crate::tasks::{Task, assert_admitted, feed, step, tell_try};
-use crate::told::is_told;
 use book_owned::{Append, Flush};
 use book_shared::{SourceSeat, Try};
 use mdf_layout::Sample;
@@ -19,6 +18,7 @@ use std::process::Abort;
 use std::sync::{Arc, Wait};
 use std::test::Fail;
 use std::thread::{Threads, join};
+use test_rig::is_told;
 
 /// Lets the first seat of a book do these tasks, and closes the book. Tells the answers and the end.
 fn fed<R>(rt: &R, begun: Begun, tasks: &[Task]) -> Result<String, Memory>

@@ -6,7 +6,6 @@ ghost use Rattle.book_shared_tests.specs.Words.{AreGroups};
 
 use crate::books::{TestDisk, fits, listed, recording, sample};
 use crate::gates::{Gate, LOOKS, Step, wait_for};
-use crate::told::is_told;
 use acq_run::{Audience, Driven, Fed, Feed, Gathered, ScriptFeed, Unshared, Watcher, record_live};
 use book_owned::Book;
 use mdf_layout::{Samples, Shapes};
@@ -18,6 +17,7 @@ use std::sync::atomic::Ordering::SeqCst;
 use std::sync::{Arc, Wait};
 use std::test::Fail;
 use std::thread::Threads;
+use test_rig::is_told;
 
 /// What two sources tell each other, and whether one waited for it in vain.
 #[derive(Drop)]

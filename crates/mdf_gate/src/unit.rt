@@ -19,6 +19,7 @@ use std::alloc::Global;
 const LONGEST: u64 = 1 << 62;
 
 /// Whether the gate at a place is open. Past the end of the file every place is closed.
+#[inline(always)]
 fn is_open_in<P: Span>(span: &mut P, place: u64) -> Result<bool, Stop>
     ensures reads { Looks P.Span span.old span.new P.may_want result (λ file opened. opened ≡ is_open file place) }
     ensures within { IfOk result (λ opened. opened ≡ true → place < P.size span.old) }
@@ -42,6 +43,7 @@ fn none_at(at: u64, want: Kind) -> Halt<GateFault>
 ///
 /// # Errors
 /// `Bad` exactly where no whole block of the kind stands there; and the span's own.
+#[inline(always)]
 #[tactic(auto, unfolding(crate::specs::Units::wanted))]
 fn wanted_in<P: Span>(span: &mut P, at: u64, want: Kind) -> Result<BlockAt, Halt<GateFault>>
     ensures reads { Reads P.Span span.old span.new P.may_want gate_refusal result (λ file. wanted file at want) }
@@ -119,6 +121,7 @@ fn data_behind_in<P: Span>(span: &mut P, list: &BlockAt) -> Result<BlockAt, Halt
 /// # Errors
 /// `Bad` with what is missing, in this order: in form 2 the list block; the data block; and in form 2 the list block once
 /// more, where its first link does not name the place after the unit. The span's own.
+#[inline(always)]
 #[tactic(auto, unfolding(crate::specs::Units::unit))]
 fn unit_in<P: Span>(span: &mut P, form: Form, place: u64) -> Result<BlockAt, Halt<GateFault>>
     ensures reads { Reads P.Span span.old span.new P.may_want gate_refusal result (λ file. unit form file place) }

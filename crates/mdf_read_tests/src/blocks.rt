@@ -1,12 +1,9 @@
-use crate::files::{Piece, file_of, put, put_number};
 use crate::span::span_over;
-use crate::told::{
-    Stopped, Told, all_are_told, both_shown, is_told, shown, stops_are_told, three_shown,
-};
 use mdf_block::{Draft, Kind, block_at, kind_at, note_at, note_in};
 use mdf_num::{Bytes, Memory, Span, Stop};
 use std::alloc::Global;
 use std::test::Fail;
+use test_rig::{Piece, Stopped, Told, all_are_told, both_shown, file_of, is_told, put, put_number, shown, stops_are_told, three_shown};
 
 // A file that ends behind a block at 64: its name, the size and the number of links that it says, and how many bytes
 // follow its header. All of these are 0 but one, whose place and value stand here.
@@ -128,10 +125,10 @@ const DATA: &[(Looked, &str)] = &[
 struct Looked(Said, u64, Kind);
 
 // A file that says so: 64 bytes of nothing, the header of a block, and what follows it.
-fn said(alloc: Global, block: &Said) -> Result<Vec<u8>, Memory> {
+fn said(alloc: Global, block: &Said) -> Result<Vec<u8>, Fail> {
     let (name, size, links, count, (place, value)) = *block;
     if count > 1000 || place > 1000 {
-        return Err(Memory);
+        return Err(Fail::new(Memory));
     }
     let mut file = vec![in alloc; 0u8; 88 + count]?;
     put(file.as_mut_slice(), 64, name);
@@ -142,24 +139,24 @@ fn said(alloc: Global, block: &Said) -> Result<Vec<u8>, Memory> {
 }
 
 impl Told for Looked {
-    fn told(&self, alloc: Global) -> Result<String, Memory> {
+    fn told(&self, alloc: Global) -> Result<String, Fail> {
         let file = said(alloc, &self.0)?;
         shown(alloc, &block_at(file.as_slice(), self.1, self.2))
     }
 }
 
 #[test]
-fn blocks_are_told(rt: HostRuntime) -> Result<(), Memory> {
+fn blocks_are_told(rt: HostRuntime) -> Result<(), Fail> {
     all_are_told(&rt, BLOCKS)
 }
 
 #[test]
-fn data_is_told(rt: HostRuntime) -> Result<(), Memory> {
+fn data_is_told(rt: HostRuntime) -> Result<(), Fail> {
     all_are_told(&rt, DATA)
 }
 
 #[test]
-fn a_block_stands_on_a_multiple_of_8(rt: HostRuntime) -> Result<(), Memory> {
+fn a_block_stands_on_a_multiple_of_8(rt: HostRuntime) -> Result<(), Fail> {
     let mut bytes = [0u8; 28];
     put(&mut bytes, 4, b"##DT");
     bytes[12] = 24;
@@ -208,7 +205,7 @@ const NOTES: &[(Noted, &str)] = &[
 struct Noted(Piece, u64, u64);
 
 impl Told for Noted {
-    fn told(&self, alloc: Global) -> Result<String, Memory> {
+    fn told(&self, alloc: Global) -> Result<String, Fail> {
         let file = file_of(alloc, 160, &[self.0])?;
         let mut left = self.2;
         let answer = note_at(alloc, file.as_slice(), self.1, &mut left);
@@ -217,7 +214,7 @@ impl Told for Noted {
 }
 
 #[test]
-fn texts_are_told(rt: HostRuntime) -> Result<(), Memory> {
+fn texts_are_told(rt: HostRuntime) -> Result<(), Fail> {
     all_are_told(&rt, NOTES)
 }
 
@@ -225,7 +222,7 @@ fn texts_are_told(rt: HostRuntime) -> Result<(), Memory> {
 struct TextReader;
 
 impl Stopped for TextReader {
-    fn told(&self, alloc: Global, calls: u64, stop: Stop) -> Result<String, Memory> {
+    fn told(&self, alloc: Global, calls: u64, stop: Stop) -> Result<String, Fail> {
         let file = file_of(alloc, 96, &[TX])?;
         let mut span = span_over(file.as_slice(), calls, stop);
         let mut left = 10;
@@ -235,7 +232,7 @@ impl Stopped for TextReader {
 }
 
 #[test]
-fn a_span_that_stops_stops_the_reader(rt: HostRuntime) -> Result<(), Memory> {
+fn a_span_that_stops_stops_the_reader(rt: HostRuntime) -> Result<(), Fail> {
     stops_are_told(&rt, &TextReader, 6, "Err(Failed) 10 1", "Err(Memory) 10 0")?;
     is_told(
         &rt,
@@ -251,7 +248,7 @@ const DRAFTED: &[Piece] = &[
 ];
 
 // A text, and an entry of the history that names the end of the draft and the text.
-fn drafted(alloc: Global) -> Result<Bytes, Memory> {
+fn drafted(alloc: Global) -> Result<Bytes, Fail> {
     let text = Bytes::from_slice(alloc, b"hello")?;
     let entry = Bytes::from_slice(alloc, &[7; 16])?;
     let mut draft = Draft::new(alloc);
@@ -263,7 +260,7 @@ fn drafted(alloc: Global) -> Result<Bytes, Memory> {
 }
 
 #[test]
-fn a_draft_reads_back(rt: HostRuntime) -> Result<(), Memory> {
+fn a_draft_reads_back(rt: HostRuntime) -> Result<(), Fail> {
     let want = file_of(rt.alloc(), 152, DRAFTED)?;
     let bytes = drafted(rt.alloc())?;
     assert!(rt; bytes.as_slice() == want.as_slice());

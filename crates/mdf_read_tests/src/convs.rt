@@ -1,9 +1,9 @@
-use crate::files::{Piece, file_of, put, put_number};
 use crate::span::span_over;
-use crate::told::{Stopped, Told, all_are_told, both_shown, is_told, stops_are_told, three_shown};
 use mdf_conv::{Budget, read_conv, read_conv_in, read_source, read_source_in};
-use mdf_num::{Memory, Span, Stop};
+use mdf_num::{Span, Stop};
 use std::alloc::Global;
+use std::test::Fail;
+use test_rig::{Piece, Stopped, Told, all_are_told, both_shown, file_of, is_told, put, put_number, stops_are_told, three_shown};
 
 // The body of a conversion without numbers, and one with two.
 const PLAIN: [u8; 24] = [
@@ -134,7 +134,7 @@ fn blocks_of(file: &File) -> Blocks {
 }
 
 /// The bytes of a file.
-fn bytes_of(alloc: Global, file: &File) -> Result<Vec<u8>, Memory> {
+fn bytes_of(alloc: Global, file: &File) -> Result<Vec<u8>, Fail> {
     let (size, pieces) = blocks_of(file);
     file_of(alloc, size, pieces)
 }
@@ -213,7 +213,7 @@ fn budget_of(text: u64, conversions: u64) -> Budget {
 struct Converted(File, u64, u64, u64);
 
 impl Told for Converted {
-    fn told(&self, alloc: Global) -> Result<String, Memory> {
+    fn told(&self, alloc: Global) -> Result<String, Fail> {
         let bytes = bytes_of(alloc, &self.0)?;
         let mut budget = budget_of(self.2, self.3);
         let answer = read_conv(alloc, bytes.as_slice(), self.1, &mut budget);
@@ -222,7 +222,7 @@ impl Told for Converted {
 }
 
 #[test]
-fn conversions_are_told(rt: HostRuntime) -> Result<(), Memory> {
+fn conversions_are_told(rt: HostRuntime) -> Result<(), Fail> {
     all_are_told(&rt, CONVS)
 }
 
@@ -231,7 +231,7 @@ fn conversions_are_told(rt: HostRuntime) -> Result<(), Memory> {
 struct Roomed(u64);
 
 impl Told for Roomed {
-    fn told(&self, alloc: Global) -> Result<String, Memory> {
+    fn told(&self, alloc: Global) -> Result<String, Fail> {
         let bytes = bytes_of(alloc, &File::Outer)?;
         let mut budget = Budget {
             conversion_bytes: self.0,
@@ -250,7 +250,7 @@ const ROOMED: &[(Roomed, &str)] = &[
 ];
 
 #[test]
-fn conversions_of_more_bytes_than_may_come_want_memory(rt: HostRuntime) -> Result<(), Memory> {
+fn conversions_of_more_bytes_than_may_come_want_memory(rt: HostRuntime) -> Result<(), Fail> {
     all_are_told(&rt, ROOMED)
 }
 
@@ -282,7 +282,7 @@ const SOURCES: &[(Sourced, &str)] = &[
 struct Sourced(File, u64, u64, u64);
 
 impl Told for Sourced {
-    fn told(&self, alloc: Global) -> Result<String, Memory> {
+    fn told(&self, alloc: Global) -> Result<String, Fail> {
         let bytes = bytes_of(alloc, &self.0)?;
         let mut budget = budget_of(self.2, self.3);
         let answer = read_source(alloc, bytes.as_slice(), self.1, &mut budget);
@@ -291,7 +291,7 @@ impl Told for Sourced {
 }
 
 #[test]
-fn sources_are_told(rt: HostRuntime) -> Result<(), Memory> {
+fn sources_are_told(rt: HostRuntime) -> Result<(), Fail> {
     all_are_told(&rt, SOURCES)
 }
 
@@ -308,7 +308,7 @@ fn claiming(links: u64) -> [u8; 152] {
 struct Hostile(u64, u64);
 
 impl Told for Hostile {
-    fn told(&self, alloc: Global) -> Result<String, Memory> {
+    fn told(&self, alloc: Global) -> Result<String, Fail> {
         let bytes = claiming(self.0);
         let conv = read_conv(alloc, &bytes, 64, &mut Budget::of_file()).err();
         let source = read_source(alloc, &bytes, self.1, &mut Budget::of_file()).err();
@@ -342,12 +342,12 @@ const HOSTILE: &[(Hostile, &str)] = &[
 ];
 
 #[test]
-fn hostile_numbers_are_refused(rt: HostRuntime) -> Result<(), Memory> {
+fn hostile_numbers_are_refused(rt: HostRuntime) -> Result<(), Fail> {
     all_are_told(&rt, HOSTILE)
 }
 
 // A conversion at 64 with so many links, all of them 0.
-fn unlinked(alloc: Global, links: u32) -> Result<Vec<u8>, Memory> {
+fn unlinked(alloc: Global, links: u32) -> Result<Vec<u8>, Fail> {
     let links = links as usize;
     let mut file = vec![in alloc; 0u8; 112 + 8 * links]?;
     put(file.as_mut_slice(), 64, b"##CC");
@@ -357,7 +357,7 @@ fn unlinked(alloc: Global, links: u32) -> Result<Vec<u8>, Memory> {
 }
 
 // How many references there are, the last one, and how many conversions may still come.
-fn unlinked_told(alloc: Global, links: u32) -> Result<String, Memory> {
+fn unlinked_told(alloc: Global, links: u32) -> Result<String, Fail> {
     let bytes = unlinked(alloc, links)?;
     let mut budget = Budget::of_file();
     let answer = read_conv(alloc, bytes.as_slice(), 64, &mut budget);
@@ -369,7 +369,7 @@ fn unlinked_told(alloc: Global, links: u32) -> Result<String, Memory> {
 }
 
 #[test]
-fn a_million_empty_references_are_read(rt: HostRuntime) -> Result<(), Memory> {
+fn a_million_empty_references_are_read(rt: HostRuntime) -> Result<(), Fail> {
     is_told(
         &rt,
         unlinked_told(rt.alloc(), 1_000_004),
@@ -382,7 +382,7 @@ struct ConvReader;
 
 // Why nothing is answered, whether all may still come, and how many faults the span counts.
 impl Stopped for ConvReader {
-    fn told(&self, alloc: Global, calls: u64, stop: Stop) -> Result<String, Memory> {
+    fn told(&self, alloc: Global, calls: u64, stop: Stop) -> Result<String, Fail> {
         let bytes = bytes_of(alloc, &File::Outer)?;
         let mut budget = Budget::of_file();
         let mut span = span_over(bytes.as_slice(), calls, stop);
@@ -396,7 +396,7 @@ impl Stopped for ConvReader {
 struct SourceReader;
 
 impl Stopped for SourceReader {
-    fn told(&self, alloc: Global, calls: u64, stop: Stop) -> Result<String, Memory> {
+    fn told(&self, alloc: Global, calls: u64, stop: Stop) -> Result<String, Fail> {
         let bytes = bytes_of(alloc, &File::Source)?;
         let mut budget = Budget::of_file();
         let mut span = span_over(bytes.as_slice(), calls, stop);
@@ -411,7 +411,7 @@ const FAILED: &str = "Some(Failed) (true, 1)";
 const MEMORY: &str = "Some(Memory) (true, 0)";
 
 #[test]
-fn a_span_that_stops_stops_the_readers(rt: HostRuntime) -> Result<(), Memory> {
+fn a_span_that_stops_stops_the_readers(rt: HostRuntime) -> Result<(), Fail> {
     stops_are_told(&rt, &ConvReader, 30, FAILED, MEMORY)?;
     stops_are_told(&rt, &SourceReader, 16, FAILED, MEMORY)
 }

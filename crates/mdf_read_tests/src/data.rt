@@ -1,17 +1,15 @@
 ghost use Rattle.std.specs.Prelude.{◌≡◌, ◌≤◌, length, IfOk};
 ghost use Rattle.mdf_stream.specs.Parts.{stream_size, ArePartsInside};
 
-use crate::files::{Piece, file_of, put_number, set_link};
 use crate::span::span_over;
-use crate::told::{
-    Stopped, Told, all_are_told, both_shown, is_told, shown, stops_are_told, three_shown,
-};
 use mdf_block::Kind;
 use mdf_data::{
     DataView, Known, Places, Size, Splitter, places_alone, places_in, view_data, view_data_in,
 };
 use mdf_num::{Memory, Rows, SliceSpan, Span, Stop};
 use std::alloc::Global;
+use std::test::Fail;
+use test_rig::{Piece, Stopped, Told, all_are_told, both_shown, file_of, is_told, put_number, set_link, shown, stops_are_told, three_shown};
 
 const EIGHT: Known = Known {
     id: 1,
@@ -114,7 +112,7 @@ const LOOPS: &[(Viewed, &str)] = &[
 struct Viewed(&'static [Piece], u64, Kind);
 
 impl Told for Viewed {
-    fn told(&self, alloc: Global) -> Result<String, Memory> {
+    fn told(&self, alloc: Global) -> Result<String, Fail> {
         let file = file_of(alloc, 352, self.0)?;
         let answer = view_data(alloc, file.as_slice(), self.1, self.2);
         shown(alloc, &answer)
@@ -122,12 +120,12 @@ impl Told for Viewed {
 }
 
 #[test]
-fn links_to_data_are_told(rt: HostRuntime) -> Result<(), Memory> {
+fn links_to_data_are_told(rt: HostRuntime) -> Result<(), Fail> {
     all_are_told(&rt, VIEWS)
 }
 
 #[test]
-fn loops_of_lists_are_too_many(rt: HostRuntime) -> Result<(), Memory> {
+fn loops_of_lists_are_too_many(rt: HostRuntime) -> Result<(), Fail> {
     all_are_told(&rt, LOOPS)
 }
 
@@ -198,10 +196,10 @@ const RECORDS: &[(Split, &str)] = &[
 struct Split(u8, &'static [Known], &'static [u8]);
 
 // The places of its records, where those of these groups are counted alone.
-fn counted_told(alloc: Global, split: &Split, counted: &[bool]) -> Result<String, Memory> {
+fn counted_told(alloc: Global, split: &Split, counted: &[bool]) -> Result<String, Fail> {
     let Split(id_size, known, body) = *split;
     if body.len() > 1000 || known.len() > 1000 || !matches!(id_size, 1 | 2 | 4 | 8) {
-        return Err(Memory);
+        return Err(Fail::new(Memory));
     }
     let mut view = DataView::empty(alloc);
     view.add(0, body.len() as u64)?;
@@ -211,13 +209,13 @@ fn counted_told(alloc: Global, split: &Split, counted: &[bool]) -> Result<String
 }
 
 impl Told for Split {
-    fn told(&self, alloc: Global) -> Result<String, Memory> {
+    fn told(&self, alloc: Global) -> Result<String, Fail> {
         counted_told(alloc, self, &[])
     }
 }
 
 #[test]
-fn records_are_told(rt: HostRuntime) -> Result<(), Memory> {
+fn records_are_told(rt: HostRuntime) -> Result<(), Fail> {
     all_are_told(&rt, RECORDS)
 }
 
@@ -243,13 +241,13 @@ const THREE: Split = Split(1, &[EIGHT, TWO], b"\x02aa\x01bbbbbbbb\x02cc");
 struct Counted(&'static [bool], Split);
 
 impl Told for Counted {
-    fn told(&self, alloc: Global) -> Result<String, Memory> {
+    fn told(&self, alloc: Global) -> Result<String, Fail> {
         counted_told(alloc, &self.1, self.0)
     }
 }
 
 #[test]
-fn records_are_counted_alone(rt: HostRuntime) -> Result<(), Memory> {
+fn records_are_counted_alone(rt: HostRuntime) -> Result<(), Fail> {
     all_are_told(&rt, COUNTED)
 }
 
@@ -260,7 +258,7 @@ const ONE_PART: &[Piece] = &[(64, b"##DL", &[0, 104], b""), (104, b"##DT", &[], 
 struct ViewReader;
 
 impl Stopped for ViewReader {
-    fn told(&self, alloc: Global, calls: u64, stop: Stop) -> Result<String, Memory> {
+    fn told(&self, alloc: Global, calls: u64, stop: Stop) -> Result<String, Fail> {
         let file = file_of(alloc, 160, ONE_PART)?;
         let mut span = span_over(file.as_slice(), calls, stop);
         let answer = view_data_in(alloc, &mut span, 64, Kind::Dt);
@@ -269,7 +267,7 @@ impl Stopped for ViewReader {
 }
 
 #[test]
-fn a_span_that_stops_stops_the_reader(rt: HostRuntime) -> Result<(), Memory> {
+fn a_span_that_stops_stops_the_reader(rt: HostRuntime) -> Result<(), Fail> {
     stops_are_told(&rt, &ViewReader, 8, "Err(Failed)", "Err(Memory)")?;
     is_told(
         &rt,
@@ -293,7 +291,7 @@ const NUMBERS: &[(Changed, &str)] = &[
 struct Changed(usize, u64);
 
 impl Told for Changed {
-    fn told(&self, alloc: Global) -> Result<String, Memory> {
+    fn told(&self, alloc: Global) -> Result<String, Fail> {
         let mut file = file_of(alloc, 160, ONE_PART)?;
         put_number(file.as_mut_slice(), self.0, self.1);
         let answer = view_data(alloc, file.as_slice(), 64, Kind::Dt);
@@ -302,7 +300,7 @@ impl Told for Changed {
 }
 
 #[test]
-fn a_list_with_a_huge_number_is_bad(rt: HostRuntime) -> Result<(), Memory> {
+fn a_list_with_a_huge_number_is_bad(rt: HostRuntime) -> Result<(), Fail> {
     all_are_told(&rt, NUMBERS)
 }
 
@@ -336,7 +334,7 @@ fn bytes_told(
     view: &DataView,
     at: u64,
     len: usize,
-) -> Result<String, Memory>
+) -> Result<String, Fail>
     requires inside { ArePartsInside (length bytes.now) view.now }
 {
     if at > 100 || len > 100 || at + len as u64 > view.len() {
@@ -351,17 +349,17 @@ fn bytes_told(
 struct Bytewise(u64, usize);
 
 impl Told for Bytewise {
-    fn told(&self, alloc: Global) -> Result<String, Memory> {
+    fn told(&self, alloc: Global) -> Result<String, Fail> {
         let file = file_of(alloc, 216, PARTS)?;
         match view_data(alloc, file.as_slice(), 64, Kind::Dt) {
             Ok(view) => bytes_told(alloc, file.as_slice(), &view, self.0, self.1),
-            Err(_) => Err(Memory),
+            Err(_) => Err(Fail::new(Memory)),
         }
     }
 }
 
 #[test]
-fn bytes_are_read_across_parts(rt: HostRuntime) -> Result<(), Memory> {
+fn bytes_are_read_across_parts(rt: HostRuntime) -> Result<(), Fail> {
     all_are_told(&rt, READS)
 }
 
@@ -369,9 +367,9 @@ fn bytes_are_read_across_parts(rt: HostRuntime) -> Result<(), Memory> {
 struct Added(u64);
 
 impl Told for Added {
-    fn told(&self, alloc: Global) -> Result<String, Memory> {
+    fn told(&self, alloc: Global) -> Result<String, Fail> {
         if self.0 > 1 {
-            return Err(Memory);
+            return Err(Fail::new(Memory));
         }
         let mut view = DataView::empty(alloc);
         view.add(4, 3)?;
@@ -394,14 +392,14 @@ const ADDED: &[(Added, &str)] = &[
 ];
 
 #[test]
-fn parts_that_are_added_are_read(rt: HostRuntime) -> Result<(), Memory> {
+fn parts_that_are_added_are_read(rt: HostRuntime) -> Result<(), Fail> {
     all_are_told(&rt, ADDED)
 }
 
 // A block of one byte at 64, and at 96 a DLBLOCK that names it so many times.
-fn crowded_file(alloc: Global, count: usize) -> Result<Vec<u8>, Memory> {
+fn crowded_file(alloc: Global, count: usize) -> Result<Vec<u8>, Fail> {
     if count > 1 << 20 {
-        return Err(Memory);
+        return Err(Fail::new(Memory));
     }
     let mut file = file_of(
         alloc,
@@ -420,7 +418,7 @@ fn crowded_file(alloc: Global, count: usize) -> Result<Vec<u8>, Memory> {
 struct Crowd(usize);
 
 impl Told for Crowd {
-    fn told(&self, alloc: Global) -> Result<String, Memory> {
+    fn told(&self, alloc: Global) -> Result<String, Fail> {
         let file = crowded_file(alloc, self.0)?;
         let size = match view_data(alloc, file.as_slice(), 96, Kind::Dt) {
             Ok(view) => Ok(view.len()),
@@ -436,7 +434,7 @@ const CROWDS: &[(Crowd, &str)] = &[
 ];
 
 #[test]
-fn a_million_parts_of_one_byte_are_a_stream(rt: HostRuntime) -> Result<(), Memory> {
+fn a_million_parts_of_one_byte_are_a_stream(rt: HostRuntime) -> Result<(), Fail> {
     all_are_told(&rt, CROWDS)
 }
 
@@ -553,11 +551,11 @@ const SPLITS: &[(Answered, &str)] = &[
     ),
 ];
 
-fn splitter_of(alloc: Global, id_size: u8, known: &[Known]) -> Result<Splitter, Memory>
+fn splitter_of(alloc: Global, id_size: u8, known: &[Known]) -> Result<Splitter, Fail>
     ensures { IfOk result (λ splitter. splitter.place ≡ 0) }
 {
     if known.len() > 1000 || !matches!(id_size, 1 | 2 | 4 | 8) {
-        return Err(Memory);
+        return Err(Fail::new(Memory));
     }
     Ok(Splitter::new(id_size, Rows::from_vec(known.to_vec(alloc)?)))
 }
@@ -567,7 +565,7 @@ fn answers_told(
     bytes: &[u8],
     view: &DataView,
     splitter: &mut Splitter,
-) -> Result<String, Memory>
+) -> Result<String, Fail>
     requires inside { ArePartsInside (length bytes.now) view.now }
     requires within { splitter.old.place ≤ stream_size view.now }
 {
@@ -585,7 +583,7 @@ fn two_blocks(
     alloc: Global,
     first: &'static [u8],
     second: &'static [u8],
-) -> Result<Vec<u8>, Memory> {
+) -> Result<Vec<u8>, Fail> {
     file_of(
         alloc,
         256,
@@ -598,23 +596,23 @@ fn two_blocks(
 }
 
 // The first three answers about the file of two blocks.
-fn split_told(alloc: Global, file: &[u8], id_size: u8, known: &[Known]) -> Result<String, Memory> {
+fn split_told(alloc: Global, file: &[u8], id_size: u8, known: &[Known]) -> Result<String, Fail> {
     let mut splitter = splitter_of(alloc, id_size, known)?;
     match view_data(alloc, file, 64, Kind::Dt) {
         Ok(view) => answers_told(alloc, file, &view, &mut splitter),
-        Err(_) => Err(Memory),
+        Err(_) => Err(Fail::new(Memory)),
     }
 }
 
 impl Told for Answered {
-    fn told(&self, alloc: Global) -> Result<String, Memory> {
+    fn told(&self, alloc: Global) -> Result<String, Fail> {
         let file = two_blocks(alloc, self.2, self.3)?;
         split_told(alloc, file.as_slice(), self.0, self.1)
     }
 }
 
 #[test]
-fn the_splitter_is_told(rt: HostRuntime) -> Result<(), Memory> {
+fn the_splitter_is_told(rt: HostRuntime) -> Result<(), Fail> {
     all_are_told(&rt, SPLITS)
 }
 
@@ -622,11 +620,11 @@ fn the_splitter_is_told(rt: HostRuntime) -> Result<(), Memory> {
 struct PlaceReader;
 
 impl Stopped for PlaceReader {
-    fn told(&self, alloc: Global, calls: u64, stop: Stop) -> Result<String, Memory> {
+    fn told(&self, alloc: Global, calls: u64, stop: Stop) -> Result<String, Fail> {
         let mut span = span_over(b"\x02aa\x01bbbbbbbb", calls, stop);
         let len = span.len();
         if len > 1000 {
-            return Err(Memory);
+            return Err(Fail::new(Memory));
         }
         let mut view = DataView::empty(alloc);
         view.add(0, len)?;
@@ -636,7 +634,7 @@ impl Stopped for PlaceReader {
 }
 
 #[test]
-fn a_span_that_stops_stops_the_places(rt: HostRuntime) -> Result<(), Memory> {
+fn a_span_that_stops_stops_the_places(rt: HostRuntime) -> Result<(), Fail> {
     stops_are_told(&rt, &PlaceReader, 2, "Err(Failed)", "Err(Memory)")?;
     is_told(
         &rt,
@@ -674,37 +672,37 @@ const ALONE: &[(Alone, &str)] = &[
 struct Alone(u64, Size, u64);
 
 // The places, with one more at the end.
-fn alone_and_one(alloc: Global, row: &Alone) -> Result<Places, Memory> {
+fn alone_and_one(alloc: Global, row: &Alone) -> Result<Places, Fail> {
     if row.0 > 1000 || row.2 > 1000 {
-        return Err(Memory);
+        return Err(Fail::new(Memory));
     }
     let mut places = places_alone(alloc, row.0, row.1, row.2);
     places.push(77)?;
     Ok(places)
 }
 
-fn places_told(alloc: Global, places: &Places) -> Result<String, Memory> {
+fn places_told(alloc: Global, places: &Places) -> Result<String, Fail> {
     let count = places.len();
     let found = (count, places.get(0), places.get(1), places.get(count));
     both_shown(alloc, places, &found)
 }
 
 impl Told for Alone {
-    fn told(&self, alloc: Global) -> Result<String, Memory> {
+    fn told(&self, alloc: Global) -> Result<String, Fail> {
         let places = alone_and_one(alloc, self)?;
         places_told(alloc, &places)
     }
 }
 
 #[test]
-fn places_without_ids_are_told(rt: HostRuntime) -> Result<(), Memory> {
+fn places_without_ids_are_told(rt: HostRuntime) -> Result<(), Fail> {
     all_are_told(&rt, ALONE)
 }
 
 // Places around the last one that takes 4 bytes; one that is smaller follows one that is not.
 const FAR: &[u64] = &[4_294_967_295, 4_294_967_296, 5];
 
-fn far(alloc: Global) -> Result<Places, Memory> {
+fn far(alloc: Global) -> Result<Places, Fail> {
     let mut places = Places::empty(alloc);
     for place in FAR {
         places.push(*place)?;
@@ -718,7 +716,7 @@ fn step_of(places: Places) -> Option<u64> {
 }
 
 // How many they are, each and the one past the end, and the steps of these and of places without ids.
-fn far_line(alloc: Global, places: &Places) -> Result<String, Memory> {
+fn far_line(alloc: Global, places: &Places) -> Result<String, Fail> {
     let found = (places.get(0), places.get(1), places.get(2), places.get(3));
     let steps = (
         places.step(),
@@ -728,13 +726,13 @@ fn far_line(alloc: Global, places: &Places) -> Result<String, Memory> {
     three_shown(alloc, &places.len(), &found, &steps)
 }
 
-fn far_told(alloc: Global) -> Result<String, Memory> {
+fn far_told(alloc: Global) -> Result<String, Fail> {
     let places = far(alloc)?;
     far_line(alloc, &places)
 }
 
 #[test]
-fn places_past_four_bytes_are_kept(rt: HostRuntime) -> Result<(), Memory> {
+fn places_past_four_bytes_are_kept(rt: HostRuntime) -> Result<(), Fail> {
     is_told(
         &rt,
         far_told(rt.alloc()),

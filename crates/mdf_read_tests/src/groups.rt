@@ -1,10 +1,10 @@
-use crate::files::{Piece, file_of, put_number, put_numbers};
 use crate::span::span_over;
-use crate::told::{Stopped, Told, all_are_told, both_shown, shown, stops_are_told};
 use mdf_conv::Budget;
 use mdf_group::{read_groups, read_groups_in};
-use mdf_num::{Memory, Span, Stop};
+use mdf_num::{Span, Stop};
 use std::alloc::Global;
+use std::test::Fail;
+use test_rig::{Piece, Stopped, Told, all_are_told, both_shown, file_of, put_number, put_numbers, shown, stops_are_told};
 
 // How many bytes a file has, and its blocks.
 type Blocks = (usize, &'static [Piece]);
@@ -73,7 +73,7 @@ enum File {
 }
 
 impl File {
-    fn bytes(&self, alloc: Global) -> Result<Vec<u8>, Memory> {
+    fn bytes(&self, alloc: Global) -> Result<Vec<u8>, Fail> {
         let (size, pieces) = match self {
             File::TwoGroups => TWO_GROUPS,
             File::Straight => STRAIGHT,
@@ -227,14 +227,14 @@ const LOOPS: &[(Grouped, &str)] = &[
 struct Grouped(File, &'static [(usize, u64)], u64, u64);
 
 // The file with its numbers set.
-fn bytes_of(alloc: Global, row: &Grouped) -> Result<Vec<u8>, Memory> {
+fn bytes_of(alloc: Global, row: &Grouped) -> Result<Vec<u8>, Fail> {
     let mut bytes = row.0.bytes(alloc)?;
     put_numbers(bytes.as_mut_slice(), row.1);
     Ok(bytes)
 }
 
 impl Told for Grouped {
-    fn told(&self, alloc: Global) -> Result<String, Memory> {
+    fn told(&self, alloc: Global) -> Result<String, Fail> {
         let bytes = bytes_of(alloc, self)?;
         let mut budget = Budget {
             text: self.2,
@@ -247,12 +247,12 @@ impl Told for Grouped {
 }
 
 #[test]
-fn files_are_told(rt: HostRuntime) -> Result<(), Memory> {
+fn files_are_told(rt: HostRuntime) -> Result<(), Fail> {
     all_are_told(&rt, TOLD)
 }
 
 #[test]
-fn loops_are_too_many(rt: HostRuntime) -> Result<(), Memory> {
+fn loops_are_too_many(rt: HostRuntime) -> Result<(), Fail> {
     all_are_told(&rt, LOOPS)
 }
 
@@ -261,7 +261,7 @@ fn loops_are_too_many(rt: HostRuntime) -> Result<(), Memory> {
 struct Counted(u64);
 
 impl Told for Counted {
-    fn told(&self, alloc: Global) -> Result<String, Memory> {
+    fn told(&self, alloc: Global) -> Result<String, Fail> {
         let mut bytes = File::TwoGroups.bytes(alloc)?;
         put_number(bytes.as_mut_slice(), SECOND_CONVERSION, 728);
         let mut budget = Budget {
@@ -276,7 +276,7 @@ impl Told for Counted {
 const COUNTED: &[(Counted, &str)] = &[(Counted(351), "Some(Memory)"), (Counted(352), "None")];
 
 #[test]
-fn a_conversion_counts_for_each_channel(rt: HostRuntime) -> Result<(), Memory> {
+fn a_conversion_counts_for_each_channel(rt: HostRuntime) -> Result<(), Fail> {
     all_are_told(&rt, COUNTED)
 }
 
@@ -285,7 +285,7 @@ struct GroupReader;
 
 // Why nothing is answered, whether all may still come, and how many faults the span counts.
 impl Stopped for GroupReader {
-    fn told(&self, alloc: Global, calls: u64, stop: Stop) -> Result<String, Memory> {
+    fn told(&self, alloc: Global, calls: u64, stop: Stop) -> Result<String, Fail> {
         let bytes = File::TwoGroups.bytes(alloc)?;
         let mut budget = Budget::of_file();
         let mut span = span_over(bytes.as_slice(), calls, stop);
@@ -296,7 +296,7 @@ impl Stopped for GroupReader {
 }
 
 #[test]
-fn a_span_that_stops_stops_the_reader(rt: HostRuntime) -> Result<(), Memory> {
+fn a_span_that_stops_stops_the_reader(rt: HostRuntime) -> Result<(), Fail> {
     stops_are_told(
         &rt,
         &GroupReader,

@@ -1,9 +1,9 @@
-use crate::files::{Piece, file_of};
 use crate::span::span_over;
-use crate::told::{Stopped, Told, all_are_told, both_shown, shown, stops_are_told, three_shown};
 use mdf_head::{ident, read_head, read_head_in};
-use mdf_num::{Memory, Span, Stop};
+use mdf_num::{Span, Stop};
 use std::alloc::Global;
+use std::test::Fail;
+use test_rig::{Piece, Stopped, Told, all_are_told, both_shown, file_of, shown, stops_are_told, three_shown};
 
 // The body of a header, and that of an entry of the history.
 const HEADER: [u8; 32] = [
@@ -69,7 +69,7 @@ const TOLD: &[(Headed, &str)] = &[
 struct Headed(&'static [Piece], u64);
 
 impl Told for Headed {
-    fn told(&self, alloc: Global) -> Result<String, Memory> {
+    fn told(&self, alloc: Global) -> Result<String, Fail> {
         let file = file_of(alloc, 352, self.0)?;
         let mut left = self.1;
         let answer = read_head(alloc, file.as_slice(), &mut left);
@@ -78,7 +78,7 @@ impl Told for Headed {
 }
 
 #[test]
-fn headers_are_told(rt: HostRuntime) -> Result<(), Memory> {
+fn headers_are_told(rt: HostRuntime) -> Result<(), Fail> {
     all_are_told(&rt, TOLD)
 }
 
@@ -87,7 +87,7 @@ struct HeadReader;
 
 // What is answered, what may still come, and how many faults the span then counts.
 impl Stopped for HeadReader {
-    fn told(&self, alloc: Global, calls: u64, stop: Stop) -> Result<String, Memory> {
+    fn told(&self, alloc: Global, calls: u64, stop: Stop) -> Result<String, Fail> {
         let file = file_of(alloc, 352, WHOLE)?;
         let mut span = span_over(file.as_slice(), calls, stop);
         let mut left = 100;
@@ -97,7 +97,7 @@ impl Stopped for HeadReader {
 }
 
 #[test]
-fn a_span_that_stops_stops_the_reader(rt: HostRuntime) -> Result<(), Memory> {
+fn a_span_that_stops_stops_the_reader(rt: HostRuntime) -> Result<(), Fail> {
     stops_are_told(
         &rt,
         &HeadReader,
@@ -145,13 +145,13 @@ const IDENTIFIED: &[(Named, &str)] = &[
 struct Named(&'static [u8; 8], u16, usize);
 
 impl Told for Named {
-    fn told(&self, alloc: Global) -> Result<String, Memory> {
+    fn told(&self, alloc: Global) -> Result<String, Fail> {
         let bytes = first(self.0, self.1);
         shown(alloc, &ident(&bytes[..bytes.len().min(self.2)]))
     }
 }
 
 #[test]
-fn identifications_are_told(rt: HostRuntime) -> Result<(), Memory> {
+fn identifications_are_told(rt: HostRuntime) -> Result<(), Fail> {
     all_are_told(&rt, IDENTIFIED)
 }

@@ -1,8 +1,9 @@
-use crate::told::{Told, all_are_told};
 use mdf_disk::{Disk, MemoryDisk, Role};
 use mdf_num::{Bytes, Memory, Numbers, Span};
 use mdf_pages::Pages;
 use std::alloc::Global;
+use std::test::Fail;
+use test_rig::{Told, all_are_told};
 
 // Two pages of zeros and one that is a byte shorter, but for three bytes: the last of the first page, the first of the second
 // page, and the last.
@@ -10,11 +11,11 @@ const SIZE: usize = 196_607;
 
 const LAST: usize = 196_606;
 
-fn file(alloc: Global, size: usize) -> Result<Vec<u8>, Memory> {
+fn file(alloc: Global, size: usize) -> Result<Vec<u8>, Fail> {
     Ok(vec![in alloc; 0u8; size]?)
 }
 
-fn marked(alloc: Global) -> Result<Vec<u8>, Memory> {
+fn marked(alloc: Global) -> Result<Vec<u8>, Fail> {
     let mut bytes = file(alloc, SIZE)?;
     if bytes.len() > LAST {
         bytes[65_535] = 1;
@@ -25,16 +26,16 @@ fn marked(alloc: Global) -> Result<Vec<u8>, Memory> {
 }
 
 /// Pages of a disk with these bytes, of whose calls some fail.
-fn pages_of(alloc: Global, bytes: Vec<u8>, failing: &[u64]) -> Result<Pages<MemoryDisk>, Memory> {
+fn pages_of(alloc: Global, bytes: Vec<u8>, failing: &[u64]) -> Result<Pages<MemoryDisk>, Fail> {
     let mut disk = MemoryDisk::holding(alloc, Bytes::from_vec(bytes));
     disk.fail_at(Numbers::from_vec(failing.to_vec(alloc)?));
     let name = Bytes::from_slice(alloc, b"f")?;
     let Ok(()) = disk.attach(name, Role::Read) else {
-        return Err(Memory);
+        return Err(Fail::new(Memory));
     };
     match Pages::begin(alloc, disk) {
         Ok(pages) => Ok(pages),
-        Err(_) => Err(Memory),
+        Err(_) => Err(Fail::new(Memory)),
     }
 }
 
@@ -44,7 +45,7 @@ fn push_number(
     pages: &mut Pages<MemoryDisk>,
     at: u64,
     count: u8,
-) -> Result<(), Memory> {
+) -> Result<(), Fail> {
     let size = pages.len();
     if count == 0 {
         return Ok(());
@@ -73,7 +74,7 @@ fn pages_told(
     pages: &mut Pages<MemoryDisk>,
     reads: &[(u64, u8)],
     asked: &[u64],
-) -> Result<String, Memory> {
+) -> Result<String, Fail> {
     let mut text = format!(in alloc; "")?;
     for (at, count) in reads {
         push_number(&mut text, pages, *at, *count)?;
@@ -91,7 +92,7 @@ fn disk_told(
     pages: Pages<MemoryDisk>,
     reads: &[(u64, u8)],
     asked: &[u64],
-) -> Result<String, Memory> {
+) -> Result<String, Fail> {
     let mut pages = pages;
     let told = pages_told(alloc, &mut pages, reads, asked);
     let calls = pages.into_disk().calls();
@@ -104,7 +105,7 @@ fn disk_told(
 struct Reads(&'static [(u64, u8)], &'static [u64]);
 
 impl Told for Reads {
-    fn told(&self, alloc: Global) -> Result<String, Memory> {
+    fn told(&self, alloc: Global) -> Result<String, Fail> {
         let pages = pages_of(alloc, marked(alloc)?, self.1)?;
         disk_told(alloc, pages, self.0, &[0, 1, 2, 3])
     }
@@ -141,14 +142,14 @@ const READS: &[(Reads, &str)] = &[
 ];
 
 #[test]
-fn pages_are_read_once(rt: HostRuntime) -> Result<(), Memory> {
+fn pages_are_read_once(rt: HostRuntime) -> Result<(), Fail> {
     all_are_told(&rt, READS)
 }
 
 /// A file of 257 pages that is read page by page, and then these places again.
 struct Full(&'static [(u64, u8)]);
 
-fn each_page(alloc: Global) -> Result<Vec<(u64, u8)>, Memory> {
+fn each_page(alloc: Global) -> Result<Vec<(u64, u8)>, Fail> {
     let mut reads = Vec::new(alloc);
     for page in 0u64..257 {
         reads.push((page * 65_536, 1))?;
@@ -161,7 +162,7 @@ fn full_told(
     pages: Pages<MemoryDisk>,
     reads: &[(u64, u8)],
     again: &[(u64, u8)],
-) -> Result<String, Memory> {
+) -> Result<String, Fail> {
     let mut pages = pages;
     let first = pages_told(alloc, &mut pages, reads, &[]);
     let told = disk_told(alloc, pages, again, &[0, 1, 2, 256]);
@@ -170,7 +171,7 @@ fn full_told(
 }
 
 impl Told for Full {
-    fn told(&self, alloc: Global) -> Result<String, Memory> {
+    fn told(&self, alloc: Global) -> Result<String, Fail> {
         let reads = each_page(alloc)?;
         let pages = pages_of(alloc, file(alloc, 257 * 65_536)?, &[])?;
         full_told(alloc, pages, reads.as_slice(), self.0)
@@ -187,6 +188,6 @@ const FULL: &[(Full, &str)] = &[
 ];
 
 #[test]
-fn pages_that_are_used_stay(rt: HostRuntime) -> Result<(), Memory> {
+fn pages_that_are_used_stay(rt: HostRuntime) -> Result<(), Fail> {
     all_are_told(&rt, FULL)
 }

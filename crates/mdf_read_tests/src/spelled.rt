@@ -1,10 +1,11 @@
-use crate::files::{Piece, file_of};
 use mdf_block::{Draft, Kind, Link};
 use mdf_conv::Budget;
 use mdf_group::{DataRow, GroupRow, read_groups};
-use mdf_num::{Bytes, Memory, Rows};
+use mdf_num::{Bytes, Rows};
 use mdf_tree::{Counted, place_group};
 use std::alloc::Global;
+use std::test::Fail;
+use test_rig::{Piece, file_of};
 
 // The bodies of a channel group, of a group of values, and of two channels, the second of variable length.
 const GROUP: &[u8; 32] =
@@ -61,7 +62,7 @@ const TREE: &[Piece] = &[
 ];
 
 // Places groups with the numbers that they have, where the group of values is block 20.
-fn place_groups(alloc: Global, draft: &mut Draft, groups: &[GroupRow]) -> Result<(), Memory> {
+fn place_groups(alloc: Global, draft: &mut Draft, groups: &[GroupRow]) -> Result<(), Fail> {
     for (i, row) in groups.iter().enumerate() {
         let counted = Counted {
             id: row.id,
@@ -76,7 +77,7 @@ fn place_groups(alloc: Global, draft: &mut Draft, groups: &[GroupRow]) -> Result
 }
 
 // A file of this data group alone, behind 64 zero bytes.
-fn written(alloc: Global, row: &DataRow) -> Result<Bytes, Memory> {
+fn written(alloc: Global, row: &DataRow) -> Result<Bytes, Fail> {
     let mut draft = Draft::new(alloc);
     let links = vec![in alloc; Link::Nothing, Link::Block(1), Link::Nothing, Link::Nothing]?;
     let body = Bytes::from_slice(alloc, &[row.id_size, 0, 0, 0, 0, 0, 0, 0])?;
@@ -86,11 +87,11 @@ fn written(alloc: Global, row: &DataRow) -> Result<Bytes, Memory> {
 }
 
 // Whether a row is written as it stands in the file.
-fn is_row_kept(alloc: Global, row: &DataRow, file: &[u8]) -> Result<bool, Memory> {
+fn is_row_kept(alloc: Global, row: &DataRow, file: &[u8]) -> Result<bool, Fail> {
     Ok(written(alloc, row)?.as_slice() == file)
 }
 
-fn are_rows_kept(alloc: Global, rows: &Rows<DataRow>, file: &[u8]) -> Result<bool, Memory> {
+fn are_rows_kept(alloc: Global, rows: &Rows<DataRow>, file: &[u8]) -> Result<bool, Fail> {
     match rows.get(0) {
         Some(row) => is_row_kept(alloc, row, file),
         None => Ok(false),
@@ -98,14 +99,14 @@ fn are_rows_kept(alloc: Global, rows: &Rows<DataRow>, file: &[u8]) -> Result<boo
 }
 
 // Whether the rows that are read of the tree are written as it stands, so that they are read back equal.
-fn is_file_kept(alloc: Global, file: &[u8]) -> Result<bool, Memory> {
+fn is_file_kept(alloc: Global, file: &[u8]) -> Result<bool, Fail> {
     match read_groups(alloc, file, 64, &mut Budget::of_file()) {
         Ok(rows) => are_rows_kept(alloc, &rows, file),
         Err(_) => Ok(false),
     }
 }
 
-fn is_kept(alloc: Global) -> Result<bool, Memory> {
+fn is_kept(alloc: Global) -> Result<bool, Fail> {
     let file = file_of(alloc, 1464, TREE)?;
     is_file_kept(alloc, file.as_slice())
 }
@@ -113,7 +114,7 @@ fn is_kept(alloc: Global) -> Result<bool, Memory> {
 #[test]
 fn a_tree_with_sources_and_nested_conversions_is_written_as_it_was_read(
     rt: HostRuntime,
-) -> Result<(), Memory> {
+) -> Result<(), Fail> {
     assert!(rt; is_kept(rt.alloc())?);
     Ok(())
 }

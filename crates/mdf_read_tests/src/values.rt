@@ -1,10 +1,11 @@
-use crate::told::{Told, all_are_told, is_told, shown, three_shown};
-use mdf_num::{Bytes, Memory};
+use mdf_num::Bytes;
 use mdf_vlsd::{Streams, ValueStream};
 use std::alloc::Global;
+use std::test::Fail;
+use test_rig::{Told, all_are_told, is_told, shown, three_shown};
 
 // The offsets of three values, and the stream of them.
-fn three_values(alloc: Global) -> Result<([u64; 3], ValueStream), Memory> {
+fn three_values(alloc: Global) -> Result<([u64; 3], ValueStream), Fail> {
     let mut stream = ValueStream::empty(alloc);
     let first = stream.push(b"")?;
     let second = stream.push(b"ab")?;
@@ -13,25 +14,25 @@ fn three_values(alloc: Global) -> Result<([u64; 3], ValueStream), Memory> {
 }
 
 // Those, what stands at the offsets, and how long the stream is in a list.
-fn three_told(alloc: Global) -> Result<String, Memory> {
+fn three_told(alloc: Global) -> Result<String, Fail> {
     let (offsets, stream) = three_values(alloc)?;
     let values = offsets_told(alloc, &stream, offsets)?;
     let streams = listed(alloc, stream)?;
     values_told(alloc, values.as_str(), &streams)
 }
 
-fn listed(alloc: Global, stream: ValueStream) -> Result<Streams, Memory> {
+fn listed(alloc: Global, stream: ValueStream) -> Result<Streams, Fail> {
     let mut streams = Streams::empty(alloc);
     streams.push(stream)?;
     Ok(streams)
 }
 
-fn values_told(alloc: Global, values: &str, streams: &Streams) -> Result<String, Memory> {
+fn values_told(alloc: Global, values: &str, streams: &Streams) -> Result<String, Fail> {
     let len = streams.get(0).map(|stream| stream.len());
     Ok(format!(in alloc; "{values} {len:?}")?)
 }
 
-fn offsets_told(alloc: Global, stream: &ValueStream, offsets: [u64; 3]) -> Result<String, Memory> {
+fn offsets_told(alloc: Global, stream: &ValueStream, offsets: [u64; 3]) -> Result<String, Fail> {
     let values = [
         stream.value_at(offsets[0]),
         stream.value_at(offsets[1]),
@@ -41,7 +42,7 @@ fn offsets_told(alloc: Global, stream: &ValueStream, offsets: [u64; 3]) -> Resul
 }
 
 #[test]
-fn offsets_and_stream_of_variable_values(rt: HostRuntime) -> Result<(), Memory> {
+fn offsets_and_stream_of_variable_values(rt: HostRuntime) -> Result<(), Fail> {
     is_told(
         &rt,
         three_told(rt.alloc()),
@@ -53,7 +54,7 @@ fn offsets_and_stream_of_variable_values(rt: HostRuntime) -> Result<(), Memory> 
 struct Offset(&'static [u8], u64);
 
 impl Told for Offset {
-    fn told(&self, alloc: Global) -> Result<String, Memory> {
+    fn told(&self, alloc: Global) -> Result<String, Fail> {
         let stream = ValueStream::from_bytes(Bytes::from_slice(alloc, self.0)?);
         shown(alloc, &stream.value_at(self.1))
     }
@@ -79,6 +80,6 @@ const OFFSETS: &[(Offset, &str)] = &[
 ];
 
 #[test]
-fn offsets_where_no_value_stands(rt: HostRuntime) -> Result<(), Memory> {
+fn offsets_where_no_value_stands(rt: HostRuntime) -> Result<(), Fail> {
     all_are_told(&rt, OFFSETS)
 }

@@ -9,7 +9,6 @@ ghost use Rattle.book_owned.specs.Begun.{IsNewFile};
 
 use crate::disks::{failing_at, image, name};
 use crate::layouts::{sample, word_row};
-use crate::told::is_told;
 use crate::views::WantsOnce;
 use book_owned::{Append, Book, Marks, NoView, Shown};
 use mdf_disk::{Disk, MemoryDisk, Role};
@@ -22,6 +21,7 @@ use std::process::Abort;
 use std::sync::Wait;
 use std::test::Fail;
 use std::thread::Threads;
+use test_rig::is_told;
 
 // A head without history: the header at 64, the data group at 168, and the first place at 232. All other bytes are 0.
 const HEAD: &[(usize, &[u8])] = &[

@@ -1,12 +1,12 @@
 //! Disks in memory: what a crash leaves, calls that fail, and files that are read.
 ghost use Rattle.std.specs.Prelude.{◌≡◌, None, IfOk};
 
-use crate::told::{Told, all_are_told};
 use mdf_disk::{Disk, LoadFault, MemoryDisk, Role, read_whole};
 use mdf_num::{Bytes, Failed, Memory, Numbers};
 use std::alloc::Global;
 use std::process::Abort;
 use std::test::Fail;
+use test_rig::{Told, all_are_told};
 
 pub fn name(alloc: Global) -> Result<Bytes, Memory> {
     Bytes::from_slice(alloc, b"file")

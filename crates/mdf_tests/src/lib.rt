@@ -18,6 +18,4 @@ mod scripts;
 #[cfg(test)]
 mod seals;
 #[cfg(test)]
-mod told;
-#[cfg(test)]
 mod views;

@@ -2,12 +2,12 @@ ghost use Rattle.std.specs.Prelude.{◌≡◌, ◌≤◌, IfOk};
 ghost use Rattle.book_core.specs.Machine.{accepted_in};
 
 use crate::layouts::sample;
-use crate::told::is_told;
 use book_core::{Event, State, run_events, step};
 use mdf_layout::Samples;
 use mdf_num::{Memory, Rows};
 use std::alloc::Global;
 use std::test::Fail;
+use test_rig::is_told;
 
 /// A book at its beginning, with room for a sample.
 fn begun(alloc: Global) -> Result<State, Memory>

@@ -2,12 +2,12 @@
 ghost use Rattle.std.specs.Prelude.{◌<◌, ◌^◌, length, All, IfOk};
 ghost use Rattle.mdf_layout.specs.Values.{IsRowPlaced};
 
-use crate::told::{Told, all_are_told};
 use mdf_layout::{Entry, FieldKind, FieldRow, are_apart, decode, first_bad};
 use mdf_num::{Bytes, Memory, Rows};
 use mdf_vlsd::ValueStream;
 use std::alloc::Global;
 use std::test::Fail;
+use test_rig::{Told, all_are_told};
 
 /// A channel: its kind, whether it is big-endian, its first byte, its first bit in that byte, the number of its bits, and
 /// the position of its invalidation bit.

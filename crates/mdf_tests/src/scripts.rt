@@ -1,4 +1,3 @@
-use crate::told::is_told;
 use acq_script::{Plan, Script, ScriptFault, Task, generated, read_script};
 use mdf_block::Note;
 use mdf_group::{ChannelRow, GroupRow};
@@ -7,6 +6,7 @@ use mdf_num::{Memory, Rows};
 use std::alloc::Global;
 use std::process::Abort;
 use std::test::Fail;
+use test_rig::is_told;
 
 // Whole scripts, whose lines end in `/`, each with what is told of it.
 const SCRIPTS: &str = " => line 1

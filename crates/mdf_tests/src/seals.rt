@@ -1,12 +1,12 @@
 ghost use Rattle.std.specs.Prelude.{◌≡◌, ◌≤◌, length, None, IfOk};
 
 use crate::disks::{images_are, name};
-use crate::told::{Told, all_are_told};
 use mdf_disk::{Disk, Fuse, MemoryDisk, Role};
 use mdf_num::{Bytes, Failed, Memory, Pieces};
 use mdf_seal::write_sealed;
 use std::alloc::Global;
 use std::test::Fail;
+use test_rig::{Told, all_are_told};
 
 /// The file `abc`, in three pieces, one of them empty.
 fn pieces(alloc: Global) -> Result<Pieces, Memory>
