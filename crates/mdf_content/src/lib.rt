@@ -21,7 +21,7 @@ pub use fault::ReadFault;
 pub use found::{DataFound, Found, data_found_in};
 pub use layouts::{layout_in, layouts_in};
 pub use mdf_block::{Kind, What};
-pub use records::{count_at, counted_in, record_size, records_in};
+pub use records::{count_at, counted_in, known_groups, record_size, records_in};
 pub use room::Room;
 pub use streams::streams_in;
 pub use taken::fetch_from;

@@ -59,8 +59,11 @@ fn known_of(group: &GroupRow) -> Known
     }
 }
 
-/// What the splitter knows of groups.
-fn known_groups(alloc: Global, groups: &[GroupRow]) -> Result<Rows<Known>, Memory>
+/// What a splitter knows of groups: the id of each, and how long its records are.
+///
+/// # Errors
+/// Out of memory.
+pub fn known_groups(alloc: Global, groups: &[GroupRow]) -> Result<Rows<Known>, Memory>
     ensures { IfOk result (λ known. known ≡ map known_of groups.now) }
 {
     let mut known = Rows::empty(alloc);

@@ -32,7 +32,7 @@ pub use next::NextValues;
 pub use reading::{DecodeFault, Missing, Values, decode, decode_in};
 pub use reserved::Reserved;
 pub use row::{ChannelNumbers, field_row, rules_are_tested};
-pub use rule::first_bad;
+pub use rule::{first_bad, is_variable};
 pub use sample::{Entries, Entry, Sample, Value};
 pub use samples::Samples;
 pub use shape::{Shape, ShapeFault, shape_of};

@@ -43,8 +43,8 @@ pub(crate) fn bits_of(row: FieldRow) -> u64
     }
 }
 
-/// Whether its value is of variable length.
-pub(crate) fn is_variable(row: FieldRow) -> bool
+/// Whether the values of a channel with this row are of variable length.
+pub fn is_variable(row: FieldRow) -> bool
     ensures { result ≡ is_variable row }
 {
     match row.kind {

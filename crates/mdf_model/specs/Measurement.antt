@@ -5,6 +5,7 @@ use Rattle.mdf_block.specs.declared.note.Note.{Note}
 use Rattle.mdf_num.specs.declared.halt.Halt.{Halt}
 use Rattle.mdf_block.specs.Refusal.{Halts, Read, Refusal, ◌>>=◌}
 use Rattle.mdf_head.specs.declared.entry.Head.{Head}
+use Rattle.mdf_head.specs.declared.identity.Ident.{Ident}
 use Rattle.mdf_head.specs.declared.entry.History.{History}
 use Rattle.mdf_group.specs.declared.row.GroupRow.{GroupRow}
 use Rattle.mdf_group.specs.declared.row.DataRow.{DataRow}
@@ -73,9 +74,11 @@ pub record Measured : Type 0 where
   pub strict : Bool
 
 -- no flag of an unfinalized file is set, and each data group is as the standard has it
+abbrev pub are_strict : {A : Type 0} → (A → Bool) → Ident → List A → Bool
+are_strict strict ident items = nat_eq ident.std_flags 0 && (nat_eq ident.custom_flags 0 && list_all strict items)
+
 abbrev pub is_strict : Whole → Bool
-is_strict all =
-    nat_eq all.ident.std_flags 0 && (nat_eq all.ident.custom_flags 0 && list_all (λ (found : DataContents). found.strict) all.contents)
+is_strict all = are_strict (λ (found : DataContents). found.strict) all.ident all.contents
 
 abbrev pub measured : Whole → Measured
 measured all = record {

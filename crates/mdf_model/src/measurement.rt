@@ -1,6 +1,5 @@
 ghost use Rattle.std.specs.Prelude.{◌≡◌, ◌^◌, ◌<◌, ◌∷◌, [], Some, length, map, reverse, slice_index_or, Ok, IfOk, IfErr, IfNone};
-ghost use Rattle.std.specs.List.{AllByRecursion, list_all};
-ghost use Rattle.mdf_content.specs.declared.contents.DataContents.{DataContents};
+ghost use Rattle.std.specs.List.{AllByRecursion};
 ghost use Rattle.mdf_block.specs.Refusal.{GivesOf};
 ghost use Rattle.mdf_head.specs.declared.identity.Ident.{Ident};
 ghost use Rattle.mdf_layout.specs.Layout.{record_size};
@@ -10,10 +9,11 @@ ghost use Rattle.mdf_content.specs.Found.{IsFoundInside, data_fetched};
 ghost use Rattle.mdf_content.specs.Samples.{AreSamples, record_at};
 ghost use Rattle.mdf_model.specs.declared.part.Measure.{Measure};
 ghost use Rattle.mdf_model.specs.Found.{whole, whole_found};
-ghost use Rattle.mdf_model.specs.Measurement.{HasSamples, is_strict, measured, measurement, sample_of, with_records};
+ghost use Rattle.mdf_model.specs.Measurement.{HasSamples, measured, measurement, sample_of, with_records};
 ghost use Rattle.mdf_model.specs.Tree.{finalized};
 
 use crate::part::{GroupPart, Measure, measures_of};
+use crate::strict::are_strict;
 use crate::whole::{Whole, WholeFound, add_fetched_in, whole_found_in, whole_in};
 use mdf_content::{DataContents, DataFound, ReadFault, Room, fetch_from};
 use mdf_head::{Head, History};
@@ -50,33 +50,12 @@ impl Model for Measurement {
     ghost invariant = { λ m. (length m.groups.items < 2 ^ 32) × AllByRecursion HasSamples m.groups.items };
 }
 
-/// Whether each data group is as the standard has it.
-fn are_strict(contents: &[DataContents]) -> bool
-    ensures { result ≡ list_all (λ (found : DataContents). found.strict) contents.now }
-{
-    let mut strict = true;
-    for found in contents {
-        if !found.strict {
-            strict = false;
-        }
-    }
-    strict
-}
-
-/// Whether no flag of an unfinalized file is set, and each data group is as the standard has it.
-fn is_strict(all: &Whole) -> bool
-    ensures { result ≡ is_strict all.now }
-{
-    let ident = all.ident;
-    ident.std_flags == 0 && ident.custom_flags == 0 && are_strict(all.contents.as_slice())
-}
-
 /// The measurement of what is read of a file. 2^32 groups and more count as want of memory.
 fn measured_of(alloc: Global, all: Whole) -> Result<Measurement, Memory>
     requires samples { AllByRecursion AllHaveSamples all.contents }
     ensures { IfOk result (λ m. m ≡ measured all) }
 {
-    let strict = is_strict(&all);
+    let strict = are_strict(all.ident, all.contents.as_slice());
     let Whole { tree, contents, .. } = all;
     let groups = measures_of(alloc, tree.rows, contents)?;
     if groups.len() > u32::MAX as usize {

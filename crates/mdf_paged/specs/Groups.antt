@@ -1,6 +1,6 @@
 -- The groups of a file whose records are found, and their samples.
-use Rattle.std.specs.Prelude.{ℕ, Bool, ◌&&◌, nat_eq, List, map, slice_get, Option}
-use Rattle.std.specs.List.{flat_map, list_all, zip}
+use Rattle.std.specs.Prelude.{ℕ, Bool, List, map, slice_get, Option}
+use Rattle.std.specs.List.{flat_map, zip}
 use Rattle.std.specs.Option.{option_and_then, option_map, option_to_list}
 use Rattle.mdf_group.specs.declared.row.DataRow.{DataRow}
 use Rattle.mdf_group.specs.declared.row.GroupRow.{GroupRow}
@@ -11,6 +11,7 @@ use Rattle.mdf_content.specs.declared.found.Found.{Found}
 use Rattle.mdf_content.specs.Found.{fetched}
 use Rattle.mdf_content.specs.Samples.{sample_at}
 use Rattle.mdf_model.specs.declared.whole.WholeFound.{WholeFound}
+use Rattle.mdf_model.specs.Measurement.{are_strict}
 use Rattle.mdf_paged.specs.declared.index.GroupNumber.{GroupNumber}
 
 -- a group with the data group that it is one of
@@ -42,10 +43,9 @@ group_rows all = flat_map rows_in (zip all.tree.rows all.found)
 abbrev pub shown_groups : WholeFound → List (GroupRow × ℕ)
 shown_groups all = zip (group_rows all) (map (λ (place : Located). place.group.count) (groups_of all))
 
--- no flag of an unfinalized file is set, and each data group is as the standard has it
+-- the file is as the standard has it, as `is_strict` of mdf_model says of it with its bytes
 abbrev pub is_strict : WholeFound → Bool
-is_strict all =
-    nat_eq all.ident.std_flags 0 && (nat_eq all.ident.custom_flags 0 && list_all (λ (one : DataFound). one.strict) all.found)
+is_strict all = are_strict (λ (one : DataFound). one.strict) all.ident all.found
 
 -- the group with these numbers
 abbrev pub group_at : List DataFound → GroupNumber → Option Located

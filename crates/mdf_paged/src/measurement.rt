@@ -1,11 +1,10 @@
 ghost use Rattle.std.specs.Prelude.{◌≡◌, ◌<◌, ℕ, List, Some, Ok, true, length, slice_get, slice_index_or, IfOk};
-ghost use Rattle.std.specs.List.{AllByRecursion, list_all};
+ghost use Rattle.std.specs.List.{AllByRecursion};
 ghost use Rattle.mdf_num.specs.Halt.{StopCause};
 ghost use Rattle.mdf_block.specs.Reads.{Reads};
 ghost use Rattle.mdf_content.specs.Fault.{read_refusal};
 ghost use Rattle.mdf_content.specs.Found.{IsFoundInside, IsGroupInside};
 ghost use Rattle.mdf_stream.specs.Parts.{ArePartsInside};
-ghost use Rattle.mdf_content.specs.declared.found.DataFound.{DataFound};
 ghost use Rattle.mdf_model.specs.declared.part.Measure.{Measure};
 ghost use Rattle.mdf_content.specs.declared.wanted.Wanted.TheVariants as wants;
 ghost use Rattle.mdf_model.specs.Found.{whole_found};
@@ -19,7 +18,7 @@ use mdf_content::{DataFound, Found, ReadFault, Wanted};
 use mdf_group::{DataRow, GroupRow};
 use mdf_head::Ident;
 use mdf_layout::Entries;
-use mdf_model::{WholeFound, whole_for_in, whole_found_in, whole_kept_in};
+use mdf_model::{WholeFound, are_strict, whole_for_in, whole_found_in, whole_kept_in};
 use mdf_num::{Halt, Memory, Rows, Span, Stop};
 use std::alloc::Global;
 use std::marker::Model;
@@ -54,27 +53,6 @@ fn item<T>(items: &[T], k: usize) -> &T
     ensures { slice_get items.now k ≡ Some result.now }
 {
     &items[k]
-}
-
-/// Whether each data group is as the standard has it.
-fn are_strict(found: &[DataFound]) -> bool
-    ensures { result ≡ list_all (λ (one : DataFound). one.strict) found.now }
-{
-    let mut strict = true;
-    for one in found {
-        if !one.strict {
-            strict = false;
-        }
-    }
-    strict
-}
-
-/// Whether no flag of an unfinalized file is set, and each data group is as the standard has it.
-fn is_strict(all: &WholeFound) -> bool
-    ensures { result ≡ is_strict all.now }
-{
-    let ident = all.ident;
-    ident.std_flags == 0 && ident.custom_flags == 0 && are_strict(all.found.as_slice())
 }
 
 impl PagedMeasurement {
@@ -170,7 +148,7 @@ impl PagedMeasurement {
         ensures strict { result ≡ is_strict self.now }
         ensures measured { (f : List ℕ) → result ≡ (measured_from f self.now).strict }
     {
-        is_strict(&self.all)
+        are_strict(self.all.ident, self.all.found.as_slice())
     }
 
     /// How many groups have samples.

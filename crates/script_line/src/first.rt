@@ -7,9 +7,9 @@ ghost use Rattle.script_line.specs.Value.{IsReadable, entry_with, entry_of};
 use crate::float::Width;
 use crate::front::leading_number;
 use crate::text::cut;
-use crate::value::{entry_of, is_held, negative_in, positive_in};
+use crate::value::{entry_of, negative_in, positive_in};
 use mdf_layout::{Entry, FieldKind, FieldRow, Value};
-use mdf_num::Memory;
+use mdf_num::{Memory, has_bits};
 use std::alloc::Global;
 
 /// The entry that the first word of a text is, and what stands behind the blank after it, if there is one.
@@ -36,7 +36,7 @@ fn unsigned_entry<'a>(row: FieldRow, text: &'a [u8]) -> Option<FirstEntry<'a>>
     ensures { IfSome result (λ first. Begins (entry_of None row) text.now first.entry (words_left first.behind)) }
 {
     let found = leading_number(text)?;
-    if !is_held(found.number, row.bits) {
+    if !has_bits(found.number, row.bits) {
         return None;
     }
     Some(valid_entry(Value::Unsigned(found.number), found.behind))

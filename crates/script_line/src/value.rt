@@ -7,21 +7,14 @@ use crate::number::number_of;
 use crate::text::{begins_with, has_capital, is_marked};
 use hex::FromHexError;
 use mdf_layout::{Entry, FieldKind, FieldRow, Value};
-use mdf_num::{Bytes, Memory};
+use mdf_num::{Bytes, Memory, has_bits};
 use std::alloc::Global;
-
-/// Whether so many bits hold the number.
-pub(crate) fn is_held(number: u64, bits: u32) -> bool
-    ensures { IsTrue result ↔ (number < 2 ^ bits) }
-{
-    bits >= 64 || number < 1 << bits
-}
 
 /// This number, if so many bits hold it.
 fn held_in(bits: u32, number: u64) -> Option<Value>
     ensures { result ≡ held_in bits number }
 {
-    if !is_held(number, bits) {
+    if !has_bits(number, bits) {
         return None;
     }
     Some(Value::Unsigned(number))
@@ -42,7 +35,7 @@ pub(crate) fn negative_in(bits: u32, number: u64) -> Option<Value>
     requires few { bits ≤ 64 }
     ensures { result ≡ negative_in bits number }
 {
-    if number < 1 || !is_held(number - 1, bits - 1) {
+    if number < 1 || !has_bits(number - 1, bits - 1) {
         return None;
     }
     Some(Value::Signed(-1 - (number - 1) as i64))
@@ -54,7 +47,7 @@ pub(crate) fn positive_in(bits: u32, number: u64) -> Option<Value>
     requires few { bits ≤ 64 }
     ensures { result ≡ positive_in bits number }
 {
-    if !is_held(number, bits - 1) {
+    if !has_bits(number, bits - 1) {
         return None;
     }
     Some(Value::Signed(number as i64))

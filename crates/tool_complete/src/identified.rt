@@ -1,24 +1,11 @@
 ghost use Rattle.std.specs.Prelude.{◌≡◌, ◌≤◌, length, IfOk, IfErr, IsSome};
 ghost use Rattle.mdf_block.specs.Refusal.{GivesOf};
-ghost use Rattle.mdf_head.specs.Ident.{identify};
 ghost use Rattle.mdf_content.specs.Fault.{read_refusal};
 ghost use Rattle.tool_complete.specs.Flags.{is_mendable, unfinished};
 
 use mdf_content::ReadFault;
-use mdf_head::{Ident, IdentFault, ident};
-
-/// What the first 64 bytes say, with the faults of reading.
-fn identified(bytes: &[u8]) -> Result<Ident, ReadFault>
-    ensures exact { GivesOf read_refusal result (identify bytes.now) }
-    ensures plain { IfErr result (λ fault. IsSome (read_refusal fault)) }
-    ensures long { IfOk result (λ _. 64 ≤ length bytes.now) }
-{
-    match ident(bytes) {
-        Ok(id) => Ok(id),
-        Err(IdentFault::NotMdf) => Err(ReadFault::NotMdf),
-        Err(IdentFault::Version { ver }) => Err(ReadFault::Version { ver }),
-    }
-}
+use mdf_head::Ident;
+use mdf_model::identity_of;
 
 /// Whether a word of standard flags says that cycle counts are to be updated, or the length of the last DTBLOCK, or both, and
 /// nothing else.
@@ -31,7 +18,7 @@ fn is_mendable(word: u16) -> bool
 /// The identification of a file that another tool left unfinished, and that can be mended.
 ///
 /// # Errors
-/// `NotMdf`, then `Version`, as `ident`; then `NotRecording` exactly where the file is finalized, its custom word is not 0, or its
+/// `NotMdf`, then `Version`, as `identity_of`; then `NotRecording` exactly where the file is finalized, its custom word is not 0, or its
 /// standard word is none of 1, 4 and 5.
 #[tactic(auto, unfolding(crate::specs::Flags::unfinished))]
 pub fn unfinished_of(bytes: &[u8]) -> Result<Ident, ReadFault>
@@ -39,7 +26,7 @@ pub fn unfinished_of(bytes: &[u8]) -> Result<Ident, ReadFault>
     ensures plain { IfErr result (λ fault. IsSome (read_refusal fault)) }
     ensures long { IfOk result (λ _. 64 ≤ length bytes.now) }
 {
-    let id = identified(bytes)?;
+    let id = identity_of(bytes)?;
     if id.finalized || id.custom_flags != 0 || !is_mendable(id.std_flags) {
         return Err(ReadFault::NotRecording {
             std: id.std_flags,

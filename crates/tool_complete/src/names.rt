@@ -6,10 +6,8 @@ ghost use Rattle.tool_complete.specs.Named.{data_names, listed_from};
 
 use mdf_block::{BlockAt, Kind, block_at, link_of};
 use mdf_num::{Memory, Rows};
+use mdf_stream::MOST_BLOCKS;
 use std::alloc::Global;
-
-/// How many blocks a data link may lead to, the DLBLOCKs counted.
-const MOST_BLOCKS: u64 = 1_048_576;
 
 /// Adds what the links of a DLBLOCK after the first name, at most so many.
 fn add_links(names: &mut Rows<u64>, bytes: &[u8], list: &BlockAt, most: u64) -> Result<(), Memory>

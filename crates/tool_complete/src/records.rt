@@ -3,38 +3,15 @@ ghost use Rattle.mdf_stream.specs.Parts.{ArePartsInside, stream_of, stream_size}
 ghost use Rattle.mdf_data.specs.Record.{IsIdSize, IsPieceAt, piece_at};
 ghost use Rattle.mdf_data.specs.Splitting.{advanced};
 ghost use Rattle.mdf_content.specs.Layouts.{has_id_size};
-ghost use Rattle.mdf_content.specs.Records.{known_of, record_size};
+ghost use Rattle.mdf_content.specs.Records.{record_size};
 ghost use Rattle.tool_complete.specs.Records.{IsTally, count_alone, if_whole, whole_alone, whole_records, whole_with_ids};
 
 use crate::tally::Tally;
-use mdf_content::record_size;
-use mdf_data::{DataView, Known, Piece, Size, Splitter};
+use mdf_content::{known_groups, record_size};
+use mdf_data::{DataView, Piece, Splitter};
 use mdf_group::{DataRow, GroupRow};
 use mdf_num::{Memory, Rows};
 use std::alloc::Global;
-
-/// What a splitter knows of a group.
-fn known_of(group: &GroupRow) -> Known
-    ensures { result ≡ known_of group.now }
-{
-    let size = if group.is_variable() {
-        Size::Variable
-    } else {
-        Size::Fixed(record_size(group))
-    };
-    Known { id: group.id, size }
-}
-
-/// What a splitter knows of groups.
-fn known_groups(alloc: Global, groups: &[GroupRow]) -> Result<Rows<Known>, Memory>
-    ensures { IfOk result (λ known. known ≡ map known_of groups.now) }
-{
-    let mut known = Rows::empty(alloc);
-    for group in groups {
-        known.push(known_of(group))?;
-    }
-    Ok(known)
-}
 
 /// The next whole record of a stream; none where it ends or none begins.
 fn next_whole(splitter: &mut Splitter, bytes: &[u8], view: &DataView) -> Option<Piece>

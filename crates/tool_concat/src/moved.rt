@@ -7,9 +7,9 @@ ghost use Rattle.mdf_layout.specs.declared.field.FieldKind.TheVariants as kinds;
 ghost use Rattle.tool_concat.specs.Moved.{AreMoved, AreOffsetsMoved, HasNoOffsets, IsMoved, offset_in};
 ghost use Rattle.tool_concat.specs.Placed.{AreAllHeld, AreHeld, AreOffsetsPlaced};
 
-use crate::record::{is_variable, offset_field, record_in, row_at, stream_length};
+use crate::record::{offset_field, record_in, row_at, stream_length};
 use mdf_bits::{get, put};
-use mdf_layout::{FieldRow, Shape};
+use mdf_layout::{FieldRow, Shape, is_variable};
 use mdf_num::{Bytes, Memory};
 use mdf_vlsd::ValueStream;
 use std::alloc::Global;

@@ -4,11 +4,11 @@ ghost use Rattle.mdf_bits.specs.Field as bits;
 ghost use Rattle.mdf_content.specs.Samples.{record_at};
 ghost use Rattle.mdf_format.specs.Row.{IsNumberPlaced};
 ghost use Rattle.mdf_layout.specs.Layout.{record_size};
-ghost use Rattle.mdf_layout.specs.Rule.{is_variable, spot_in};
+ghost use Rattle.mdf_layout.specs.Rule.{spot_in};
 ghost use Rattle.mdf_layout.specs.declared.field.FieldKind.TheVariants as kinds;
 
 use mdf_bits::Field;
-use mdf_layout::{FieldKind, FieldRow, Shape};
+use mdf_layout::{FieldRow, Shape};
 use mdf_vlsd::ValueStream;
 
 /// Channel `k` of these.
@@ -17,16 +17,6 @@ pub(crate) fn row_at(rows: &[FieldRow], k: usize) -> FieldRow
     ensures { slice_get rows.now k ≡ Some result }
 {
     rows[k]
-}
-
-/// Whether its values are of variable length.
-pub(crate) fn is_variable(row: FieldRow) -> bool
-    ensures { result ≡ is_variable row }
-{
-    match row.kind {
-        FieldKind::Variable => true,
-        FieldKind::Unsigned | FieldKind::Signed | FieldKind::Fixed | FieldKind::Virtual => false,
-    }
 }
 
 /// The field of the offsets of a channel of variable length.

@@ -9,9 +9,9 @@ ghost use Rattle.mdf_model.specs.Measurement.{HasSamples};
 ghost use Rattle.tool_concat.specs.Moved.{offset_in};
 ghost use Rattle.tool_concat.specs.Wide.{HasPast, IsFirstWide, IsFirstWideAt, IsFirstWideIn, IsNoneWide, IsWide, NoneWideTo};
 
-use crate::record::{is_variable, offset_field, record_in, row_at, stream_length};
+use crate::record::{offset_field, record_in, row_at, stream_length};
 use mdf_bits::get;
-use mdf_layout::{FieldRow, Shape};
+use mdf_layout::{FieldRow, Shape, is_variable};
 use mdf_model::Measurement;
 use mdf_vlsd::ValueStream;
 

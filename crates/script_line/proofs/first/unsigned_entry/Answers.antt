@@ -7,5 +7,5 @@ pub returns : goal.returns
 returns c =
     let found = c.in_ok-found.found in
     rw (c.valid_entry.ensures.entry, c.valid_entry.ensures.behind) (
-    begins_entry c.args.row c.args.text.now found.number (words_left found.behind) c.requires (c.if-not-is_held.ensures.0 refl) c.in_ok-found.ensures
+    begins_entry c.args.row c.args.text.now found.number (words_left found.behind) c.requires (c.if-not-has_bits.ensures.0 refl) c.in_ok-found.ensures
     )
