@@ -3,7 +3,10 @@ use mdf_block::{Draft, Kind, block_at, kind_at, note_at, note_in};
 use mdf_num::{Bytes, Memory, Span, Stop};
 use std::alloc::Global;
 use std::test::Fail;
-use test_rig::{Piece, Stopped, Told, all_are_told, both_shown, file_of, is_told, put, put_number, shown, stops_are_told, three_shown};
+use test_rig::{
+    Piece, Stopped, Told, all_are_told, both_shown, file_of, is_told, put, put_number, shown,
+    stops_are_told, three_shown,
+};
 
 // A file that ends behind a block at 64: its name, the size and the number of links that it says, and how many bytes
 // follow its header. All of these are 0 but one, whose place and value stand here.

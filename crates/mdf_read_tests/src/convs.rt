@@ -3,7 +3,10 @@ use mdf_conv::{Budget, read_conv, read_conv_in, read_source, read_source_in};
 use mdf_num::{Span, Stop};
 use std::alloc::Global;
 use std::test::Fail;
-use test_rig::{Piece, Stopped, Told, all_are_told, both_shown, file_of, is_told, put, put_number, stops_are_told, three_shown};
+use test_rig::{
+    Piece, Stopped, Told, all_are_told, both_shown, file_of, is_told, put, put_number,
+    stops_are_told, three_shown,
+};
 
 // The body of a conversion without numbers, and one with two.
 const PLAIN: [u8; 24] = [

@@ -9,7 +9,10 @@ use mdf_data::{
 use mdf_num::{Memory, Rows, SliceSpan, Span, Stop};
 use std::alloc::Global;
 use std::test::Fail;
-use test_rig::{Piece, Stopped, Told, all_are_told, both_shown, file_of, is_told, put_number, set_link, shown, stops_are_told, three_shown};
+use test_rig::{
+    Piece, Stopped, Told, all_are_told, both_shown, file_of, is_told, put_number, set_link, shown,
+    stops_are_told, three_shown,
+};
 
 const EIGHT: Known = Known {
     id: 1,
@@ -579,11 +582,7 @@ fn answers_told(
 struct Answered(u8, &'static [Known], &'static [u8], &'static [u8]);
 
 // The file of these two blocks.
-fn two_blocks(
-    alloc: Global,
-    first: &'static [u8],
-    second: &'static [u8],
-) -> Result<Vec<u8>, Fail> {
+fn two_blocks(alloc: Global, first: &'static [u8], second: &'static [u8]) -> Result<Vec<u8>, Fail> {
     file_of(
         alloc,
         256,

@@ -4,7 +4,10 @@ use mdf_group::{read_groups, read_groups_in};
 use mdf_num::{Span, Stop};
 use std::alloc::Global;
 use std::test::Fail;
-use test_rig::{Piece, Stopped, Told, all_are_told, both_shown, file_of, put_number, put_numbers, shown, stops_are_told};
+use test_rig::{
+    Piece, Stopped, Told, all_are_told, both_shown, file_of, put_number, put_numbers, shown,
+    stops_are_told,
+};
 
 // How many bytes a file has, and its blocks.
 type Blocks = (usize, &'static [Piece]);

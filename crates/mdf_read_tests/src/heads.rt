@@ -3,7 +3,9 @@ use mdf_head::{ident, read_head, read_head_in};
 use mdf_num::{Span, Stop};
 use std::alloc::Global;
 use std::test::Fail;
-use test_rig::{Piece, Stopped, Told, all_are_told, both_shown, file_of, shown, stops_are_told, three_shown};
+use test_rig::{
+    Piece, Stopped, Told, all_are_told, both_shown, file_of, shown, stops_are_told, three_shown,
+};
 
 // The body of a header, and that of an entry of the history.
 const HEADER: [u8; 32] = [

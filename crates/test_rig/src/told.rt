@@ -46,11 +46,7 @@ fn text_is<R: Abort>(rt: &R, told: &str, want: &str) {
 }
 
 /// Asserts that this is told.
-pub fn is_told<R: Abort>(
-    rt: &R,
-    told: Result<String, Fail>,
-    want: &str,
-) -> Result<(), Fail> {
+pub fn is_told<R: Abort>(rt: &R, told: Result<String, Fail>, want: &str) -> Result<(), Fail> {
     let told = told?;
     text_is(rt, told.as_str(), want);
     Ok(())
