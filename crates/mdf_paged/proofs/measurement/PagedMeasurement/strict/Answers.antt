@@ -7,5 +7,5 @@ use Rattle.mdf_paged.proofs.measurement.PagedMeasurement.strict.Goals as goal
 pub returns-clause-measured : goal.returns-clause-measured
 returns-clause-measured c = λ f.
     let all = c.args.self.now in
-    c.is_strict.ensures ∙ ap is_strict c.self.view_is
+    c.are_strict.ensures ∙ ap is_strict c.self.view_is
     ∙ ap (λ (b : Bool). nat_eq all.ident.std_flags 0 && (nat_eq all.ident.custom_flags 0 && b)) (strict_fetched f all.found)
