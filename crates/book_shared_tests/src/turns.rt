@@ -63,7 +63,6 @@ fn a_full_block_needs_a_flush(rt: HostRuntime) -> Result<(), Fail> {
         Task::Flush,
     ];
     is_told(
-        &rt,
         alone(&rt, &tasks),
         "Accepted { place: 0 }\nflush 9 9 9\nflush 9 9 9\nDone { through: 1, shown: 1, note: () }\n\
          Accepted { place: 1 }\nAccepted { place: 2 }\nDone { through: 3, shown: 3, note: () }\n\
@@ -281,7 +280,6 @@ where
 #[test]
 fn a_seat_goes_on_while_the_flush_of_another_is_in_a_sync(rt: HostRuntime) -> Result<(), Fail> {
     is_told(
-        &rt,
         together(&rt, Step::Sync, false, LOOKS),
         "Accepted { place: 0 }Done { through: 1, shown: 1, note: () }\nAccepted { place: 1 }\nflush 9 9 9accepted 2 marks 0 1 in vain false",
     )
@@ -291,7 +289,6 @@ fn a_seat_goes_on_while_the_flush_of_another_is_in_a_sync(rt: HostRuntime) -> Re
 #[test]
 fn a_seat_is_busy_while_the_flush_of_another_publishes(rt: HostRuntime) -> Result<(), Fail> {
     is_told(
-        &rt,
         together(&rt, Step::Publish, false, LOOKS),
         "Accepted { place: 0 }Done { through: 1, shown: 1, note: () }\nbusy odd true\nAccepted { place: 1 }accepted 2 marks 0 1 in vain false",
     )
@@ -302,7 +299,6 @@ fn a_seat_is_busy_while_the_flush_of_another_publishes(rt: HostRuntime) -> Resul
 #[test]
 fn a_flush_waits_while_the_flush_of_another_is_in_a_sync(rt: HostRuntime) -> Result<(), Fail> {
     is_told(
-        &rt,
         together(&rt, Step::Sync, true, 20_000),
         "Accepted { place: 0 }Done { through: 1, shown: 1, note: () }\nAccepted { place: 1 }\nAccepted { place: 2 }accepted 3 marks 0 1 2 in vain true",
     )

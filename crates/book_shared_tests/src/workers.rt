@@ -271,7 +271,6 @@ where
 #[test]
 fn two_workers_at_once(rt: HostRuntime) -> Result<(), Fail> {
     is_told(
-        &rt,
         met(&rt, &[Some(1), None, Some(3)], &[Some(2), None]),
         "Driven { accepted: 2, ended: Done }\nDriven { accepted: 1, ended: Done }\n1 0 0 in vain false",
     )

@@ -3,7 +3,6 @@
 use mdf_model::{Measurement, ReadFault, take_file};
 use mdf_num::{Bytes, Memory};
 use std::alloc::Global;
-use std::process::Abort;
 use std::test::Fail;
 use test_rig::{Piece, Told, all_are_told, is_told, marked_file, put, put_numbers, shown};
 use tool_complete::{Whole, completed_of, unfinished_of};
@@ -465,20 +464,17 @@ fn loops_are_refused(rt: HostRuntime) -> Result<(), Fail> {
 }
 
 /// Asserts what comes of the file of one block that is cut behind so many bytes of its records: each 8 bytes are one.
-fn cut_is_told<R>(rt: &R, kept: u8) -> Result<(), Fail>
-where
-    R: AllocGlobal + Abort,
-{
+fn cut_is_told(alloc: Global, kept: u8) -> Result<(), Fail> {
     let (count, rest) = (kept / 8, kept % 8);
-    let told = Unfinished(5, ONE, 544, &[(504, 24)], 520 + usize::from(kept)).told(rt.alloc());
-    let want = format!(in rt.alloc(); "1 {count} {count} {rest}")?;
-    is_told(rt, told, want.as_str())
+    let want = format!(in alloc; "1 {count} {count} {rest}")?;
+    let told = Unfinished(5, ONE, 544, &[(504, 24)], 520 + usize::from(kept)).told(alloc);
+    is_told(told, want.as_str())
 }
 
 #[test]
 fn a_block_is_cut_anywhere(rt: HostRuntime) -> Result<(), Fail> {
     for kept in 0..25u8 {
-        cut_is_told(&rt, kept)?;
+        cut_is_told(rt.alloc(), kept)?;
     }
     Ok(())
 }

@@ -111,7 +111,7 @@ fn span_told(alloc: Global, table: &Table) -> Result<String, Fail> {
 #[test]
 fn tables_are_given_from_the_file(rt: HostRuntime) -> Result<(), Fail> {
     for (table, want) in TABLES {
-        is_told(&rt, span_told(rt.alloc(), table), *want)?;
+        is_told(span_told(rt.alloc(), table), *want)?;
     }
     Ok(())
 }

@@ -132,7 +132,7 @@ fn recordable(alloc: Global) -> Result<Rows<GroupRow>, Fail>
 // The head of their recording.
 fn head(alloc: Global) -> Result<Bytes, Fail> {
     let rows = recordable(alloc)?;
-    recording_head(alloc, 0x0807_0605_0403_0201, &rows, Form::Bare)
+    Ok(recording_head(alloc, 0x0807_0605_0403_0201, &rows, Form::Bare)?)
 }
 
 // Whether the head is the one of the tables of the blocks.

@@ -100,7 +100,7 @@ fn spelled(alloc: Global, measurement: Measurement, done: Done) -> Result<Bytes,
         Done::Sort => spell_sorted(alloc, measurement, "sort", now),
         Done::Concat => spell_sorted(alloc, measurement, "concat", now),
     }?;
-    pieces.joined()
+    Ok(pieces.joined()?)
 }
 
 // Whether the sorted file of it is the one of these blocks.

@@ -165,7 +165,6 @@ fn a_block_stands_on_a_multiple_of_8(rt: HostRuntime) -> Result<(), Fail> {
     bytes[12] = 24;
     assert!(rt; kind_at(&bytes, 4) == Some(Kind::Dt));
     is_told(
-        &rt,
         shown(rt.alloc(), &block_at(&bytes, 4, Kind::Dt)),
         "Err(Bad { at: 4, want: Dt })",
     )
@@ -238,7 +237,6 @@ impl Stopped for TextReader {
 fn a_span_that_stops_stops_the_reader(rt: HostRuntime) -> Result<(), Fail> {
     stops_are_told(&rt, &TextReader, 6, "Err(Failed) 10 1", "Err(Memory) 10 0")?;
     is_told(
-        &rt,
         TextReader.told(rt.alloc(), 6, Stop::Failed),
         "Ok(Plain(Bytes { items: [97, 98] })) 8 0",
     )
@@ -259,7 +257,7 @@ fn drafted(alloc: Global) -> Result<Bytes, Fail> {
     let second = draft.place(Kind::Fh, 2, entry)?;
     draft.link(second, 1, first);
     draft.link_end(second, 0);
-    draft.bytes(&[0; 64])
+    Ok(draft.bytes(&[0; 64])?)
 }
 
 #[test]

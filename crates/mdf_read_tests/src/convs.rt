@@ -374,7 +374,6 @@ fn unlinked_told(alloc: Global, links: u32) -> Result<String, Fail> {
 #[test]
 fn a_million_empty_references_are_read(rt: HostRuntime) -> Result<(), Fail> {
     is_told(
-        &rt,
         unlinked_told(rt.alloc(), 1_000_004),
         "1000000 Some(Nothing) 1048575",
     )

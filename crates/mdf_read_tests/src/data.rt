@@ -273,7 +273,6 @@ impl Stopped for ViewReader {
 fn a_span_that_stops_stops_the_reader(rt: HostRuntime) -> Result<(), Fail> {
     stops_are_told(&rt, &ViewReader, 8, "Err(Failed)", "Err(Memory)")?;
     is_told(
-        &rt,
         ViewReader.told(rt.alloc(), 100, Stop::Failed),
         "Ok(DataView { items: [Stretch { part: Part { at: 128, len: 4 }, end: 4 }], end: 4 })",
     )
@@ -636,7 +635,6 @@ impl Stopped for PlaceReader {
 fn a_span_that_stops_stops_the_places(rt: HostRuntime) -> Result<(), Fail> {
     stops_are_told(&rt, &PlaceReader, 2, "Err(Failed)", "Err(Memory)")?;
     is_told(
-        &rt,
         PlaceReader.told(rt.alloc(), 2, Stop::Failed),
         "Ok(Rows { items: [Places { even: 0, step: 0, listed: Listed { short: [4], long: Rows { items: [] } } }, Places { even: 0, step: 0, listed: Listed { short: [1], long: Rows { items: [] } } }] })",
     )
@@ -733,7 +731,6 @@ fn far_told(alloc: Global) -> Result<String, Fail> {
 #[test]
 fn places_past_four_bytes_are_kept(rt: HostRuntime) -> Result<(), Fail> {
     is_told(
-        &rt,
         far_told(rt.alloc()),
         "3 (Some(4294967295), Some(4294967296), Some(5), None) (None, Some(0), Some(9))",
     )

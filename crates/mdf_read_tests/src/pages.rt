@@ -164,10 +164,13 @@ fn full_told(
     again: &[(u64, u8)],
 ) -> Result<String, Fail> {
     let mut pages = pages;
-    let first = pages_told(alloc, &mut pages, reads, &[]);
-    let told = disk_told(alloc, pages, again, &[0, 1, 2, 256]);
-    let _ = first?;
-    told
+    match pages_told(alloc, &mut pages, reads, &[]) {
+        Ok(_) => disk_told(alloc, pages, again, &[0, 1, 2, 256]),
+        Err(fail) => {
+            let _ = pages.into_disk();
+            Err(fail)
+        }
+    }
 }
 
 impl Told for Full {

@@ -83,7 +83,7 @@ fn written(alloc: Global, row: &DataRow) -> Result<Bytes, Fail> {
     let body = Bytes::from_slice(alloc, &[row.id_size, 0, 0, 0, 0, 0, 0, 0])?;
     draft.place_linked(Kind::Dg, links, body)?;
     place_groups(alloc, &mut draft, row.groups.as_slice())?;
-    draft.bytes(&[0; 64])
+    Ok(draft.bytes(&[0; 64])?)
 }
 
 // Whether a row is written as it stands in the file.

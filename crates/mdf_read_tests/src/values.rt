@@ -44,7 +44,6 @@ fn offsets_told(alloc: Global, stream: &ValueStream, offsets: [u64; 3]) -> Resul
 #[test]
 fn offsets_and_stream_of_variable_values(rt: HostRuntime) -> Result<(), Fail> {
     is_told(
-        &rt,
         three_told(rt.alloc()),
         "[0, 4, 10] [0, 0, 0, 0, 2, 0, 0, 0, 97, 98, 1, 0, 0, 0, 99] [Some([]), Some([97, 98]), Some([99])] Some(15)",
     )

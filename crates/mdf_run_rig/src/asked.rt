@@ -5,11 +5,11 @@ use crate::files::{File, bytes_of};
 use crate::left::told;
 use crate::parts::{Part, changed};
 use crate::runs::{asking, disk_with};
-use crate::table::is_told;
 use mdf_disk::{Disk, MemoryDisk};
 use std::sync::Wait;
 use std::test::Fail;
 use std::thread::Threads;
+use test_rig::is_told;
 
 /// The words of a command; a file, and the parts that are put into it; and which calls of its disk and of the sink fail.
 pub struct Asked(

@@ -22,4 +22,5 @@ pub use left::{
 };
 pub use parts::{Part, all_stand, changed, listed_recording, put, recording, stands};
 pub use runs::{Ended, Given, asking, disk_with, failing_disk, ran, record};
-pub use table::{is_status, is_told};
+pub use table::is_status;
+pub use test_rig::is_told;

@@ -496,7 +496,7 @@ const TOLD: &[(Recording, &str)] = &[
 #[test]
 fn recordings_are_told(rt: HostRuntime) -> Result<(), Fail> {
     for (recording, want) in TOLD {
-        is_told(&rt, recording.told(&rt), *want)?;
+        is_told(recording.told(&rt), *want)?;
     }
     Ok(())
 }
@@ -528,7 +528,7 @@ fn left_of(alloc: Global, disk: &MemoryDisk) -> Result<String, Fail> {
 fn crash_in_each_call(rt: HostRuntime) -> Result<(), Fail> {
     for recording in &[TWO_BLOCKS, TWO_LISTED] {
         let ended = record(&rt, recording, NoView::new())?;
-        is_told(&rt, left_of(rt.alloc(), &ended.left.disk), LEFT)?;
+        is_told(left_of(rt.alloc(), &ended.left.disk), LEFT)?;
     }
     Ok(())
 }
@@ -572,7 +572,6 @@ fn a_sample_is_put_where_it_has_room(rt: HostRuntime) -> Result<(), Fail> {
     let answers = put_two(&rt, &shape, &mut book);
     let ended = closed(answers, book)?;
     is_told(
-        &rt,
         line(ended),
         "Some(Accepted { place: 0 }) None 7:0 shown 0 pending 9 calls 8 bytes 233 blocks 0",
     )
@@ -612,7 +611,7 @@ const SHOWN_LATER: &[(Recording, &str)] = &[
 fn refused_publish_is_made_up_later(rt: HostRuntime) -> Result<(), Fail> {
     for (recording, want) in SHOWN_LATER {
         let ended = record(&rt, recording, WantsOnce::new())?;
-        is_told(&rt, line(ended), *want)?;
+        is_told(line(ended), *want)?;
     }
     Ok(())
 }

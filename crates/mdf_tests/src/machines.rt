@@ -50,5 +50,5 @@ fn a_failed_disk_stops_the_book(rt: HostRuntime) -> Result<(), Fail> {
     let mut state = begun(rt.alloc())?;
     step(&mut state, Event::Accept(sample));
     run_events(&mut state, events);
-    is_told(&rt, told(rt.alloc(), &state), "(1, 1, 1, true)")
+    is_told(told(rt.alloc(), &state), "(1, 1, 1, true)")
 }

@@ -387,7 +387,7 @@ fn rows_told(alloc: Global, text: &str) -> Result<String, Fail> {
 
 #[test]
 fn rows_of_all_types_are_told(rt: HostRuntime) -> Result<(), Fail> {
-    is_told(&rt, rows_told(rt.alloc(), ALL_TYPES), ALL_ROWS)
+    is_told(rows_told(rt.alloc(), ALL_TYPES), ALL_ROWS)
 }
 
 // A script of so many groups of so many channels of a type, and no sample.
@@ -481,7 +481,7 @@ fn generated_told(alloc: Global, samples: u64) -> Result<String, Fail> {
 #[test]
 fn the_generated_script_is_told(rt: HostRuntime) -> Result<(), Fail> {
     for (samples, want) in GENERATED {
-        is_told(&rt, generated_told(rt.alloc(), *samples), *want)?;
+        is_told(generated_told(rt.alloc(), *samples), *want)?;
     }
     Ok(())
 }

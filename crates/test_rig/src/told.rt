@@ -3,7 +3,6 @@
 use mdf_num::Stop;
 use std::alloc::Global;
 use std::fmt::Debug;
-use std::process::Abort;
 use std::test::Fail;
 
 /// A row of a table, which tells as text what comes of it.
@@ -41,48 +40,45 @@ pub fn three_shown<A: Debug, B: Debug, C: Debug>(
     Ok(format!(in alloc; "{first:?} {second:?} {third:?}")?)
 }
 
-fn text_is<R: Abort>(rt: &R, told: &str, want: &str) {
-    assert_eq!(rt; told, want);
-}
-
-/// Asserts that this is told.
-pub fn is_told<R: Abort>(rt: &R, told: Result<String, Fail>, want: &str) -> Result<(), Fail> {
+/// Fails if another text is told.
+pub fn is_told(told: Result<String, Fail>, want: &str) -> Result<(), Fail> {
     let told = told?;
-    text_is(rt, told.as_str(), want);
-    Ok(())
+    if told.as_str() == want {
+        Ok(())
+    } else {
+        Err(Fail::new(told))
+    }
 }
 
-// Asserts that a row tells this text.
-fn row_is_told<R: Abort>(rt: &R, i: usize, told: &str, want: &str) {
-    assert_eq!(rt; told, want, "row {i}");
+// Fails, with the number of the row, if it tells another text.
+fn row_is_told(alloc: Global, i: usize, told: &str, want: &str) -> Result<(), Fail> {
+    if told == want {
+        Ok(())
+    } else {
+        Err(Fail::new(format!(in alloc; "row {i}: {told}")?))
+    }
 }
 
-/// Asserts of each row that it tells the text beside it.
-pub fn all_are_told<R, T: Told>(rt: &R, rows: &[(T, &str)]) -> Result<(), Fail>
-where
-    R: AllocGlobal + Abort,
-{
+/// Fails if one of the rows tells another text than the one beside it.
+pub fn all_are_told<R: AllocGlobal, T: Told>(rt: &R, rows: &[(T, &str)]) -> Result<(), Fail> {
     for (i, (row, want)) in rows.iter().enumerate() {
         let told = row.told(rt.alloc())?;
-        row_is_told(rt, i, told.as_str(), *want);
+        row_is_told(rt.alloc(), i, told.as_str(), *want)?;
     }
     Ok(())
 }
 
-/// Asserts what is told where a span fails, and where it wants memory, after each number of calls below this.
-pub fn stops_are_told<R, T: Stopped>(
+/// Fails if a row tells something else where its span fails, or wants memory, after each number of calls below this.
+pub fn stops_are_told<R: AllocGlobal, T: Stopped>(
     rt: &R,
     row: &T,
     calls: u64,
     failed: &str,
     memory: &str,
-) -> Result<(), Fail>
-where
-    R: AllocGlobal + Abort,
-{
+) -> Result<(), Fail> {
     for call in 0..calls {
-        is_told(rt, row.told(rt.alloc(), call, Stop::Failed), failed)?;
-        is_told(rt, row.told(rt.alloc(), call, Stop::Memory), memory)?;
+        is_told(row.told(rt.alloc(), call, Stop::Failed), failed)?;
+        is_told(row.told(rt.alloc(), call, Stop::Memory), memory)?;
     }
     Ok(())
 }
