@@ -1,5 +1,5 @@
 // The values of a sample.
-ghost use Rattle.std.specs.Prelude.{◌≡◌, ◌<◌, ◌≤◌, ◌^◌, ◌↔◌, IsTrue, IfOk, Some, None};
+ghost use Rattle.std.specs.Prelude.{◌≡◌, ◌≤◌, IfOk};
 ghost use Rattle.script_line.specs.Value.{held_in, unsigned_value, negative_in, positive_in, signed_value, pairs_of, bytes_of, fixed_value, long_value, value_of, number_value, float_value, value_in, entry_of, IsReadable};
 
 use crate::float::{Width, float_bits};
