@@ -18,8 +18,8 @@ fn is_mendable(word: u16) -> bool
 /// The identification of a file that another tool left unfinished, and that can be mended.
 ///
 /// # Errors
-/// `NotMdf`, then `Version`, as `identity_of`; then `NotRecording` exactly where the file is finalized, its custom word is not 0, or its
-/// standard word is none of 1, 4 and 5.
+/// `NotMdf`, then `Version`, as `identity_of`; then `NotRecording` exactly where the file is finalized, its custom word is
+/// not 0, or its standard word is none of 1, 4 and 5.
 #[tactic(auto, unfolding(crate::specs::Flags::unfinished))]
 pub fn unfinished_of(bytes: &[u8]) -> Result<Ident, ReadFault>
     ensures exact { GivesOf read_refusal result (unfinished bytes.now) }

@@ -1,4 +1,4 @@
-ghost use Rattle.std.specs.Prelude.{◌≡◌, ◌*◌, ◌-◌, ◌<◌, ◌≤◌, Some, length, map, IsTrue, IfOk, IfSome};
+ghost use Rattle.std.specs.Prelude.{◌≡◌, ◌*◌, ◌-◌, ◌<◌, ◌≤◌, Some, length, IsTrue, IfOk, IfSome};
 ghost use Rattle.mdf_stream.specs.Parts.{ArePartsInside, stream_of, stream_size};
 ghost use Rattle.mdf_data.specs.Record.{IsIdSize, IsPieceAt, piece_at};
 ghost use Rattle.mdf_data.specs.Splitting.{advanced};
