@@ -1,5 +1,5 @@
 -- The seat at the table of a shared book: what a call asks of it, and what it leaves.
-use Rattle.std.specs.Prelude.{◌≡◌, ◌+◌, ◌<◌, [], length, Option as Opt}
+use Rattle.std.specs.Prelude.{ℕ, ◌≡◌, ◌+◌, ◌<◌, [], length, Option as Opt}
 use Rattle.atomic_table.specs.Seated.{TableId}
 use Rattle.atomic_table.specs.declared.shared.Seat.{Seat}
 use Rattle.mdf_gate.specs.Gated.{Gated}
@@ -29,6 +29,11 @@ pub record MayTakeTurn {D V : Type 0} (table : TableId) (seat : Chair D V) (told
   pub table_is : seat.table_id ≡ table
   pub some_source : 0 < length seat.me.0.mine
   pub tells : TellsBy seat.me.0 told
+
+-- the seat is at this table, and this is the turn word that it met last
+pub record HasTurn {D V : Type 0} (table : TableId) (seat : Chair D V) (word : ℕ) : Type 0 where
+  pub table_is : seat.table_id ≡ table
+  pub word_is : word ≡ seat.me.0.met
 
 -- the seat gave back each slot that it had out, and is at the same table
 pub record GivesBack {D V : Type 0} (old new : Chair D V) : Type 0 where

@@ -1,6 +1,6 @@
 //! An append of a shared book over the seat at the table, round by round.
 ghost use Rattle.std.specs.Prelude.{◌≡◌, ◌+◌, ◌<◌, ◌≤◌, slice_index};
-ghost use Rattle.book_shared.specs.Chairs.{GivesBack, HoldsNothing, TakesNoTurn, TakesOneTurn};
+ghost use Rattle.book_shared.specs.Chairs.{GivesBack, HasTurn, HoldsNothing, TakesNoTurn, TakesOneTurn};
 ghost use Rattle.book_shared.specs.Place.{IsSingle, MayAppend};
 ghost use Rattle.book_shared.specs.Rounds.{HasBoth, HasFull, HasTried, IsOneRound, round_answer, WasFull};
 ghost use Rattle.book_shared.specs.Told.{Announces, Appends, AppendsFront, IsOneTurn};
@@ -42,12 +42,13 @@ impl<D: Disk, V: Shown> SharedBook<D, V> {
         written: Written,
         sample: Sample,
     ) -> Try
-        requires table { seat.old.table_id ≡ self.now.table }
-        requires word { word ≡ seat.old.me.0.met }
+        requires turn { HasTurn self.now.table seat.old word }
         requires both { (y : View) × HasBoth D.Disk y seat.old.me written × MayAppend y sample × WasFull y sample }
         ensures seat { GivesBack seat.old seat.new }
         ensures counts { TakesNoTurn seat.old.me.0 seat.new.me.0 }
-        ensures tried { (y : View) → HasBoth D.Disk y seat.old.me written → IsSingle y (slice_index y.basis.owners sample.group) → HasTried D.Disk V.Shown y seat.new.me.0 sample result }
+        ensures tried { (y : View) → HasBoth D.Disk y seat.old.me written
+            → IsSingle y (slice_index y.basis.owners sample.group)
+            → HasTried D.Disk V.Shown y seat.new.me.0 sample result }
     {
         let told = answer_of(&written);
         drop(self.finish_out(rt, seat, written));
@@ -64,12 +65,13 @@ impl<D: Disk, V: Shown> SharedBook<D, V> {
         word: u64,
         sample: Sample,
     ) -> Try
-        requires table { seat.old.table_id ≡ self.now.table }
-        requires word { word ≡ seat.old.me.0.met }
+        requires turn { HasTurn self.now.table seat.old word }
         requires full { (v : View) × HasFull v seat.old.me sample × MayAppend v sample }
         ensures seat { GivesBack seat.old seat.new }
         ensures counts { TakesOneTurn seat.old.me.0 seat.new.me.0 }
-        ensures tried { (v : View) → HasFull v seat.old.me sample → IsSingle v (slice_index v.basis.owners sample.group) → HasTried D.Disk V.Shown v seat.new.me.0 sample result }
+        ensures tried { (v : View) → HasFull v seat.old.me sample
+            → IsSingle v (slice_index v.basis.owners sample.group)
+            → HasTried D.Disk V.Shown v seat.new.me.0 sample result }
     {
         match self.hand_out(seat) {
             Handed::Given { through, block } => {

@@ -13,7 +13,7 @@ ghost use Rattle.book_shared.specs.Basis.{free, resting, handed, written, last_w
 ghost use Rattle.book_shared.specs.Plays.{looked, at_device, given, settled_by, Holds, Takes, BringsOut};
 ghost use Rattle.book_shared.specs.Rounds.{wanted, TakesFor};
 ghost use Rattle.book_shared.specs.Rule.{KeepsAll, IsWrittenBy};
-ghost use Rattle.book_shared.specs.Chairs.{MayTakeDevice, MayTakeTurn, TakesNoTurn, WorksOn, WritesOn};
+ghost use Rattle.book_shared.specs.Chairs.{HasTurn, MayTakeDevice, MayTakeTurn, TakesNoTurn, WorksOn, WritesOn};
 ghost use Rattle.book_shared.specs.Turns.{Took, IsBusy, MayTake, WritesOut, said_of, told_by};
 ghost use Rattle.book_shared.specs.Told.{Puts, FlushesNow};
 ghost use Rattle.book_shared.specs.declared.half.Answer.{Answer};
@@ -163,9 +163,11 @@ impl<D: Disk, V: Shown> SharedBook<D, V> {
         requires may { MayTakeTurn self.now.table seat.old told }
         ensures table { seat.new.table_id ≡ seat.old.table_id }
         ensures took { IfOk result (λ word. (word ≡ seat.new.me.0.met)
-            × ((front : FrontAccount V) × (seat.new.me.1 ≡ (0, TheFront front) ∷ seat.old.me.1) × Took seat.old.me.0 seat.new.me.0 (told_by seat.old.me.0.device told) front)) }
+            × ((front : FrontAccount V) × (seat.new.me.1 ≡ (0, TheFront front) ∷ seat.old.me.1)
+            × Took seat.old.me.0 seat.new.me.0 (told_by seat.old.me.0.device told) front)) }
         ensures steps { IfOk result (λ _. seat.new.me.0.steps ≡ seat.old.me.0.steps + 2) }
-        ensures busy { IfErr result (λ word. (seat.new.me.1 ≡ seat.old.me.1) × IsBusy seat.old.me.0 seat.new.me.0 word) }
+        ensures busy { IfErr result (λ word. (seat.new.me.1 ≡ seat.old.me.1)
+            × IsBusy seat.old.me.0 seat.new.me.0 word) }
     {
         let word = self.look(seat);
         if word % 2 == 1 || word == LAST {
@@ -199,7 +201,8 @@ impl<D: Disk, V: Shown> SharedBook<D, V> {
         requires may { MayTakeTurn self.now.table seat.old told }
         ensures table { seat.new.table_id ≡ seat.old.table_id }
         ensures word { result ≡ seat.new.me.0.met }
-        ensures took { (front : FrontAccount V) × (seat.new.me.1 ≡ (0, TheFront front) ∷ seat.old.me.1) × Took seat.old.me.0 seat.new.me.0 (told_by seat.old.me.0.device told) front }
+        ensures took { (front : FrontAccount V) × (seat.new.me.1 ≡ (0, TheFront front) ∷ seat.old.me.1)
+            × Took seat.old.me.0 seat.new.me.0 (told_by seat.old.me.0.device told) front }
     {
         for _ in rt.forever() {
             match self.try_take(seat, told) {
@@ -213,12 +216,13 @@ impl<D: Disk, V: Shown> SharedBook<D, V> {
 
     /// Gives the front that is out with the seat back. Where a mark was made in the turn, it was asked for or not.
     pub(crate) fn give(&self, seat: &mut Chair<D, V>, word: u64, asked: bool)
-        requires table { seat.old.table_id ≡ self.now.table }
-        requires word { word ≡ seat.old.me.0.met }
+        requires turn { HasTurn self.now.table seat.old word }
         requires low { word < last_word }
-        requires returns { (front : FrontAccount V) × (seat.old.me.1 ≡ (0, TheFront front) ∷ []) × Holds asked seat.old.me.0 front }
+        requires returns { (front : FrontAccount V) × (seat.old.me.1 ≡ (0, TheFront front) ∷ [])
+            × Holds asked seat.old.me.0 front }
         ensures table { seat.new.table_id ≡ seat.old.table_id }
-        ensures given { (front : FrontAccount V) → seat.old.me.1 ≡ (0, TheFront front) ∷ [] → seat.new.me ≡ (given asked seat.old.me.0 (word + 1) front, []) }
+        ensures given { (front : FrontAccount V) → seat.old.me.1 ≡ (0, TheFront front) ∷ []
+            → seat.new.me ≡ (given asked seat.old.me.0 (word + 1) front, []) }
     {
         if asked {
             self.table.shared.store::<GiveAsked>(seat, 0, word + 1);
@@ -259,7 +263,8 @@ impl<D: Disk, V: Shown> SharedBook<D, V> {
     fn take_device(&self, seat: &mut Chair<D, V>, due: Option<&Sample>) -> bool
         requires may { MayTakeDevice self.now.table seat.old }
         ensures table { seat.new.table_id ≡ seat.old.table_id }
-        ensures took { result ≡ true → seat.new.me ≡ (at_device (wanted seat.old.me.0 (option_copied due.entry)) resting, seat.old.me.1) }
+        ensures took { result ≡ true
+            → seat.new.me ≡ (at_device (wanted seat.old.me.0 (option_copied due.entry)) resting, seat.old.me.1) }
         ensures kept { result ≡ false → seat.new.me ≡ seat.old.me }
     {
         match due {
@@ -346,7 +351,8 @@ impl<D: Disk, V: Shown> SharedBook<D, V> {
             × (back_terms D.Disk back ≡ back_part seat.old.me.0.basis.terms) }
         ensures table { seat.new.table_id ≡ seat.old.table_id }
         ensures counts { TakesNoTurn seat.old.me.0 seat.new.me.0 }
-        ensures back_in { (back : Gated D) (front : FrontAccount V) → seat.old.me.1 ≡ (0, TheFront front) ∷ (1, TheBack back) ∷ []
+        ensures back_in { (back : Gated D) (front : FrontAccount V)
+            → seat.old.me.1 ≡ (0, TheFront front) ∷ (1, TheBack back) ∷ []
             → seat.new.me ≡ (at_device seat.old.me.0 (settled_by seat.old.me.0.device), (0, TheFront front) ∷ []) }
     {
         seat.turn();
@@ -357,7 +363,8 @@ impl<D: Disk, V: Shown> SharedBook<D, V> {
     #[inline(always)]
     pub(crate) fn try_out(&self, seat: &mut Chair<D, V>, sample: Sample) -> Try
         requires table { seat.old.table_id ≡ self.now.table }
-        requires front { (front : FrontAccount V) × (seat.old.me.1 ≡ (0, TheFront front) ∷ rest seat.old.me.1) × MayTake front sample }
+        requires front { (front : FrontAccount V) × (seat.old.me.1 ≡ (0, TheFront front) ∷ rest seat.old.me.1)
+            × MayTake front sample }
         ensures works { WorksOn seat.old seat.new (λ old new. Puts old new sample result) }
     {
         let Half::TheFront(front) = seat.slot_mut(&self.table.shared, 0) else {
@@ -386,7 +393,8 @@ impl<D: Disk, V: Shown> SharedBook<D, V> {
     /// Hands the pending records of the front out that is out with the seat.
     pub(crate) fn hand_out(&self, seat: &mut Chair<D, V>) -> Handed
         requires table { seat.old.table_id ≡ self.now.table }
-        requires front { (front : FrontAccount V) × (seat.old.me.1 ≡ (0, TheFront front) ∷ rest seat.old.me.1) × (front.spare ≡ true) }
+        requires front { (front : FrontAccount V) × (seat.old.me.1 ≡ (0, TheFront front) ∷ rest seat.old.me.1)
+            × (front.spare ≡ true) }
         ensures works { WorksOn seat.old seat.new (λ old new. HandTells old new result) }
     {
         let Half::TheFront(front) = seat.slot_mut(&self.table.shared, 0) else {
@@ -403,8 +411,10 @@ impl<D: Disk, V: Shown> SharedBook<D, V> {
         written: Written,
     ) -> Flush<V::Note>
         requires table { seat.old.table_id ≡ self.now.table }
-        requires front { (front : FrontAccount V) × (seat.old.me.1 ≡ (0, TheFront front) ∷ rest seat.old.me.1) × IsAwaited front written }
-        ensures works { WorksOn seat.old seat.new (λ old new. FinishTells V.Shown old new written result × AreThroughs new.marks) }
+        requires front { (front : FrontAccount V) × (seat.old.me.1 ≡ (0, TheFront front) ∷ rest seat.old.me.1)
+            × IsAwaited front written }
+        ensures works { WorksOn seat.old seat.new (λ old new. FinishTells V.Shown old new written result
+            × AreThroughs new.marks) }
     {
         let Half::TheFront(front) = seat.slot_mut(&self.table.shared, 0) else {
             unreachable!()
@@ -415,7 +425,8 @@ impl<D: Disk, V: Shown> SharedBook<D, V> {
     /// Writes a block by the back that is out with the seat.
     pub(crate) fn write_out(&self, seat: &mut Chair<D, V>, through: u64, block: Block) -> Written
         requires table { seat.old.table_id ≡ self.now.table }
-        requires back { (back : Gated D) × (seat.old.me.1 ≡ (1, TheBack back) ∷ rest seat.old.me.1) × (back.failed ≡ false)
+        requires back { (back : Gated D) × (seat.old.me.1 ≡ (1, TheBack back) ∷ rest seat.old.me.1)
+            × (back.failed ≡ false)
             × (1 ≤ length block.bytes) × (back.place + length block.bytes + 88 < 4611686018427387904) }
         ensures writes { WritesOn seat.old seat.new (λ old new. WritesOut D.Disk old new through block result) }
     {

@@ -4,7 +4,7 @@ ghost use Rattle.std.specs.Option.{option_copied};
 ghost use Rattle.book_owned.specs.FrontHalf.{FrontAccount};
 ghost use Rattle.book_owned.specs.declared.handed.Handed.TheVariants as given_out;
 ghost use Rattle.book_shared.specs.Basis.{idle, free, resting, last_word};
-ghost use Rattle.book_shared.specs.Chairs.{GivesBack, HoldsNothing, MayTakeDevice, TakesNoTurn, TakesOneTurn};
+ghost use Rattle.book_shared.specs.Chairs.{GivesBack, HasTurn, HoldsNothing, MayTakeDevice, TakesNoTurn, TakesOneTurn};
 ghost use Rattle.book_shared.specs.Place.{IsSingle, MayAppend};
 ghost use Rattle.book_shared.specs.Plays.{at_device, given, given_device, Holds};
 ghost use Rattle.book_shared.specs.Rounds.{wanted, HasTaken, HasSeized, HasPending, HasHanded, HasWritten, HasBoth, HasSeen, HasFlushed, IsTried, Lacks, answered};
@@ -46,15 +46,15 @@ pub(crate) fn answer_of(written: &Written) -> Option<Answer>
 impl<D: Disk, V: Shown> SharedBook<D, V> {
     /// Tries to put a sample in the turn that was taken, and gives the turn back.
     pub(crate) fn try_turn(&self, seat: &mut Chair<D, V>, word: u64, sample: Sample) -> Try
-        requires table { seat.old.table_id ≡ self.now.table }
-        requires word { word ≡ seat.old.me.0.met }
+        requires turn { HasTurn self.now.table seat.old word }
         requires taken { (v : View) × HasTaken v seat.old.me × MayAppend v sample }
         ensures seat { GivesBack seat.old seat.new }
         ensures had { HadTurn result }
         ensures steps { seat.new.me.0.steps ≡ seat.old.me.0.steps }
         ensures counts { TakesNoTurn seat.old.me.0 seat.new.me.0 }
         ensures rounds { seat.new.me.0.rounds ≡ seat.old.me.0.rounds }
-        ensures tried { (v : View) → HasTaken v seat.old.me → IsSingle v (slice_index v.basis.owners sample.group) → IsTried V v seat.new.me.0 sample result }
+        ensures tried { (v : View) → HasTaken v seat.old.me → IsSingle v (slice_index v.basis.owners sample.group)
+            → IsTried V v seat.new.me.0 sample result }
     {
         let answer = self.try_out(seat, sample);
         self.give(seat, word, false);
@@ -84,10 +84,10 @@ impl<D: Disk, V: Shown> SharedBook<D, V> {
 
     /// Gives the turn back, and then the device. Where a mark was made in the turn, it was asked for or not.
     pub(crate) fn end_round(&self, seat: &mut Chair<D, V>, word: u64, asked: bool)
-        requires table { seat.old.table_id ≡ self.now.table }
-        requires word { word ≡ seat.old.me.0.met }
+        requires turn { HasTurn self.now.table seat.old word }
         requires low { word < last_word }
-        requires returns { (front : FrontAccount V) × (seat.old.me.1 ≡ (0, TheFront front) ∷ []) × Holds asked seat.old.me.0 front
+        requires returns { (front : FrontAccount V) × (seat.old.me.1 ≡ (0, TheFront front) ∷ [])
+            × Holds asked seat.old.me.0 front
             × (given_device seat.old.me.0.device front.spare ≡ resting) }
         ensures table { seat.new.table_id ≡ seat.old.table_id }
         ensures counts { TakesNoTurn seat.old.me.0 seat.new.me.0 }
@@ -125,13 +125,13 @@ impl<D: Disk, V: Shown> SharedBook<D, V> {
         through: u64,
         block: Block,
     ) -> (u64, Written)
-        requires table { seat.old.table_id ≡ self.now.table }
-        requires word { word ≡ seat.old.me.0.met }
+        requires turn { HasTurn self.now.table seat.old word }
         requires low { word < last_word }
         requires some_source { 0 < length seat.old.me.0.mine }
         requires handed { HasHanded seat.old.me (given_out.Given through block) }
         ensures table { seat.new.table_id ≡ seat.old.table_id }
-        ensures written { (new : FrontAccount V) → seat.old.me.1 ≡ (0, TheFront new) ∷ [] → HasWritten D.Disk seat.old.me word new seat.new.me result.0 result.1 }
+        ensures written { (new : FrontAccount V) → seat.old.me.1 ≡ (0, TheFront new) ∷ []
+            → HasWritten D.Disk seat.old.me word new seat.new.me result.0 result.1 }
     {
         self.give(seat, word, false);
         self.bring_out(seat);
@@ -149,13 +149,14 @@ impl<D: Disk, V: Shown> SharedBook<D, V> {
         word: u64,
         written: Written,
     ) -> Flush<V::Note>
-        requires table { seat.old.table_id ≡ self.now.table }
-        requires word { word ≡ seat.old.me.0.met }
+        requires turn { HasTurn self.now.table seat.old word }
         requires both { (y : View) × HasBoth D.Disk y seat.old.me written }
         ensures seat { GivesBack seat.old seat.new }
         ensures counts { TakesNoTurn seat.old.me.0 seat.new.me.0 }
-        ensures flushed { (y : View) → HasBoth D.Disk y seat.old.me written → (number : ℕ) → IsSingle y number → HasFlushed D.Disk V.Shown y seat.new.me.0 result }
-        ensures wrote { (y : View) → HasBoth D.Disk y seat.old.me written → (count : ℕ) → Lacks y.seen y.kept count → FlushesFor count seat.new.me.0 result }
+        ensures flushed { (y : View) → HasBoth D.Disk y seat.old.me written → (number : ℕ) → IsSingle y number
+            → HasFlushed D.Disk V.Shown y seat.new.me.0 result }
+        ensures wrote { (y : View) → HasBoth D.Disk y seat.old.me written → (count : ℕ) → Lacks y.seen y.kept count
+            → FlushesFor count seat.new.me.0 result }
     {
         let answer = self.finish_out(rt, seat, written);
         self.bring_in(seat);
@@ -170,13 +171,14 @@ impl<D: Disk, V: Shown> SharedBook<D, V> {
         seat: &mut Chair<D, V>,
         word: u64,
     ) -> Flush<V::Note>
-        requires table { seat.old.table_id ≡ self.now.table }
-        requires word { word ≡ seat.old.me.0.met }
+        requires turn { HasTurn self.now.table seat.old word }
         requires pending { (v : View) × HasPending v seat.old.me × (0 < length v.mine) }
         ensures seat { GivesBack seat.old seat.new }
         ensures counts { TakesOneTurn seat.old.me.0 seat.new.me.0 }
-        ensures flushed { (v : View) → HasPending v seat.old.me → (number : ℕ) → IsSingle v number → HasFlushed D.Disk V.Shown v seat.new.me.0 result }
-        ensures wrote { (front : FrontAccount V) → seat.old.me.1 ≡ (0, TheFront front) ∷ [] → (count : ℕ) → Lacks front.history front.marks count
+        ensures flushed { (v : View) → HasPending v seat.old.me → (number : ℕ) → IsSingle v number
+            → HasFlushed D.Disk V.Shown v seat.new.me.0 result }
+        ensures wrote { (front : FrontAccount V) → seat.old.me.1 ≡ (0, TheFront front) ∷ [] → (count : ℕ)
+            → Lacks front.history front.marks count
             → FlushesFor count seat.new.me.0 result }
     {
         match self.hand_out(seat) {

@@ -12,8 +12,12 @@ use Rattle.book_shared.proofs.shared.SharedBook.append_full.Goals as goal
 pub hand_out-requires-clause-front : goal.hand_out-requires-clause-front
 hand_out-requires-clause-front g c = may_hand c.requires.full.0 c.args.seat.now.me c.requires.full.1.seized
 
-pub write_block-word-requires-clause-word : goal.write_block-word-requires-clause-word
-write_block-word-requires-clause-word g c = c.requires.word ∙ ap (λ (y : View). y.met) (sym c.hand_out.ensures.works.view_is)
+pub write_block-word-requires-clause-turn : goal.write_block-word-requires-clause-turn
+write_block-word-requires-clause-turn g c = record {
+  table_is = c.hand_out.ensures.works.table_is ∙ c.requires.turn.table_is;
+  word_is =
+      c.requires.turn.word_is ∙ ap (λ (y : View). y.met) (sym c.hand_out.ensures.works.view_is);
+}
 
 pub write_block-word-requires-clause-low : goal.write_block-word-requires-clause-low
 write_block-word-requires-clause-low g c =
@@ -22,7 +26,7 @@ write_block-word-requires-clause-low g c =
     let turned = turned_full c.requires.full.0 c.args.seat.now.me c.hand_out.new.seat.me c.args.sample c.requires.full.1
     c.in-Given.through c.in-Given.block c.hand_out.ensures.works.view_is works in
     turned_word c.requires.full.0 c.hand_out.new.seat.me (handed.Given c.in-Given.through c.in-Given.block) c.args.word
-    turned (c.requires.word ∙ ap (λ (y : View). y.met) (sym c.hand_out.ensures.works.view_is))
+    turned (c.requires.turn.word_is ∙ ap (λ (y : View). y.met) (sym c.hand_out.ensures.works.view_is))
 
 pub write_block-word-requires-clause-some_source : goal.write_block-word-requires-clause-some_source
 write_block-word-requires-clause-some_source g c =
@@ -41,13 +45,16 @@ write_block-word-requires-clause-handed g c =
     c.in-Given.through c.in-Given.block c.hand_out.ensures.works.view_is works in
     hand_of c.requires.full.0 c.hand_out.new.seat.me (handed.Given c.in-Given.through c.in-Given.block) turned
 
-pub append_written-requires-clause-word : goal.append_written-requires-clause-word
-append_written-requires-clause-word g c =
-    let works = subst (λ what. Works c.args.seat.now.me c.hand_out.new.seat.me (λ old new. HandTells old new what))
-    c.in-Given.is c.hand_out.ensures.works.does in
-    let turned = turned_full c.requires.full.0 c.args.seat.now.me c.hand_out.new.seat.me c.args.sample c.requires.full.1
-    c.in-Given.through c.in-Given.block c.hand_out.ensures.works.view_is works in
-    λ κs outlives. (c.write_block-word.ensures.written turned.new turned.out).met
+pub append_written-requires-clause-turn : goal.append_written-requires-clause-turn
+append_written-requires-clause-turn g c = λ κs outlives. record {
+  table_is = c.write_block-word.ensures.table ∙ c.hand_out.ensures.works.table_is ∙ c.requires.turn.table_is;
+  word_is =
+      let works = subst (λ what. Works c.args.seat.now.me c.hand_out.new.seat.me (λ old new. HandTells old new what))
+      c.in-Given.is c.hand_out.ensures.works.does in
+      let turned = turned_full c.requires.full.0 c.args.seat.now.me c.hand_out.new.seat.me c.args.sample c.requires.full.1
+      c.in-Given.through c.in-Given.block c.hand_out.ensures.works.view_is works in
+      (c.write_block-word.ensures.written turned.new turned.out).met;
+}
 
 pub append_written-requires-clause-both : goal.append_written-requires-clause-both
 append_written-requires-clause-both g c =

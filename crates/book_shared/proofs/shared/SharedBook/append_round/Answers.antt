@@ -19,9 +19,12 @@ try_out-requires-clause-front g c =
     resting c.device_turn-word.new.seat.me seized.front [] c.args.sample seized.out seized.took c.requires.may.fits
     c.requires.may.size
 
-pub append_full-requires-clause-word : goal.append_full-requires-clause-word
-append_full-requires-clause-word g c =
-    λ κs outlives. c.device_turn-word.ensures.word ∙ ap (λ (y : View). y.met) (sym c.try_out.ensures.works.view_is)
+pub append_full-requires-clause-turn : goal.append_full-requires-clause-turn
+append_full-requires-clause-turn g c = λ κs outlives. record {
+  table_is = c.try_out.ensures.works.table_is ∙ c.device_turn-word.ensures.table ∙ c.requires.seat.table_is;
+  word_is =
+      c.device_turn-word.ensures.word ∙ ap (λ (y : View). y.met) (sym c.try_out.ensures.works.view_is);
+}
 
 pub append_full-requires-clause-full : goal.append_full-requires-clause-full
 append_full-requires-clause-full g c =
@@ -50,8 +53,12 @@ returns-in-NeedsFlush-clause-tried g c =
     (tried_later v w c.append_full.new.seat.me.0 (follows_due v (Some c.args.sample)) g.D.Disk g.V.Shown
     c.in-NeedsFlush.sample c.append_full.result (c.append_full.ensures.tried w may.1 may.2.owns))
 
-pub end_round-requires-clause-word : goal.end_round-requires-clause-word
-end_round-requires-clause-word g c = c.device_turn-word.ensures.word ∙ ap (λ (y : View). y.met) (sym c.try_out.ensures.works.view_is)
+pub end_round-requires-clause-turn : goal.end_round-requires-clause-turn
+end_round-requires-clause-turn g c = record {
+  table_is = c.try_out.ensures.works.table_is ∙ c.device_turn-word.ensures.table ∙ c.requires.seat.table_is;
+  word_is =
+      c.device_turn-word.ensures.word ∙ ap (λ (y : View). y.met) (sym c.try_out.ensures.works.view_is);
+}
 
 pub end_round-requires-clause-low : goal.end_round-requires-clause-low
 end_round-requires-clause-low g c = omega (arith, c.device_turn-word.ensures.word, c.device_turn-word.ensures.seized.took.low)

@@ -13,8 +13,12 @@ pub flush_out-requires-clause-front : goal.flush_out-requires-clause-front
 flush_out-requires-clause-front g c =
     let seized = c.device_turn-word.ensures.seized in λ κs outlives. (seized.front, carries _ _ _ seized.out)
 
-pub end_round-requires-clause-word : goal.end_round-requires-clause-word
-end_round-requires-clause-word g c = c.device_turn-word.ensures.word ∙ ap (λ (y : View). y.met) (sym c.flush_out.ensures.works.view_is)
+pub end_round-requires-clause-turn : goal.end_round-requires-clause-turn
+end_round-requires-clause-turn g c = record {
+  table_is = c.flush_out.ensures.works.table_is ∙ c.device_turn-word.ensures.table ∙ c.requires.seat.table_is;
+  word_is =
+      c.device_turn-word.ensures.word ∙ ap (λ (y : View). y.met) (sym c.flush_out.ensures.works.view_is);
+}
 
 pub end_round-requires-clause-low : goal.end_round-requires-clause-low
 end_round-requires-clause-low g c = omega (arith, c.device_turn-word.ensures.word, c.device_turn-word.ensures.seized.took.low)
@@ -61,9 +65,12 @@ returns-in-Ok-clause-due g c =
     c.end_round.ensures.counts.due_is ∙ ap (λ (y : View). y.due) c.flush_out.ensures.works.view_is ∙ ap
     (λ (y : View). y.due) c.device_turn-word.ensures.seized.took.rest
 
-pub flush_pending-requires-clause-word : goal.flush_pending-requires-clause-word
-flush_pending-requires-clause-word g c =
-    λ κs outlives. c.device_turn-word.ensures.word ∙ ap (λ (y : View). y.met) (sym c.flush_out.ensures.works.view_is)
+pub flush_pending-requires-clause-turn : goal.flush_pending-requires-clause-turn
+flush_pending-requires-clause-turn g c = λ κs outlives. record {
+  table_is = c.flush_out.ensures.works.table_is ∙ c.device_turn-word.ensures.table ∙ c.requires.seat.table_is;
+  word_is =
+      c.device_turn-word.ensures.word ∙ ap (λ (y : View). y.met) (sym c.flush_out.ensures.works.view_is);
+}
 
 pub flush_pending-requires-clause-pending : goal.flush_pending-requires-clause-pending
 flush_pending-requires-clause-pending g c =

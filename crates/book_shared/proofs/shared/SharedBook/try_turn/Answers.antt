@@ -13,7 +13,7 @@ try_out-answer-requires-clause-front g c =
     taken.took c.requires.taken.2.fits c.requires.taken.2.size
 
 pub give-requires-clause-low : goal.give-requires-clause-low
-give-requires-clause-low g c = omega (arith, c.requires.word, c.requires.taken.1.took.low)
+give-requires-clause-low g c = omega (arith, c.requires.turn.word_is, c.requires.taken.1.took.low)
 
 pub give-requires-clause-returns : goal.give-requires-clause-returns
 give-requires-clause-returns g c =
