@@ -51,7 +51,8 @@ append_written-requires-clause-turn g c = λ κs outlives. record {
   word_is =
       let works = subst (λ what. Works c.args.seat.now.me c.hand_out.new.seat.me (λ old new. HandTells old new what))
       c.in-Given.is c.hand_out.ensures.works.does in
-      let turned = turned_full c.requires.full.0 c.args.seat.now.me c.hand_out.new.seat.me c.args.sample c.requires.full.1
+      let turned = turned_full c.requires.full.0 c.args.seat.now.me c.hand_out.new.seat.me c.args.sample
+      c.requires.full.1
       c.in-Given.through c.in-Given.block c.hand_out.ensures.works.view_is works in
       (c.write_block-word.ensures.written turned.new turned.out).met;
 }

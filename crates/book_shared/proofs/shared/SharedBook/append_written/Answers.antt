@@ -27,13 +27,15 @@ bring_in-requires-clause-back g c =
 
 pub end_round-requires-clause-turn : goal.end_round-requires-clause-turn
 end_round-requires-clause-turn g c = record {
-  table_is = c.bring_in.ensures.table ∙ c.try_out-answer.ensures.works.table_is ∙ c.finish_out.ensures.works.table_is ∙ c.requires.turn.table_is;
+  table_is = c.bring_in.ensures.table ∙ c.try_out-answer.ensures.works.table_is
+      ∙ c.finish_out.ensures.works.table_is ∙ c.requires.turn.table_is;
   word_is =
       (word_then g.D.Disk g.V.Shown c.requires.both.0 c.args.seat.now.me c.finish_out.new.seat.me
       c.try_out-answer.new.seat.me c.args.written c.finish_out.result c.args.sample c.try_out-answer.result
       c.requires.both.1
       c.finish_out.ensures.works.view_is c.finish_out.ensures.works.does c.try_out-answer.ensures.works.view_is
-      c.try_out-answer.ensures.works.does c.bring_in.new.seat.me c.bring_in.ensures.back_in c.args.word c.requires.turn.word_is).0;
+      c.try_out-answer.ensures.works.does c.bring_in.new.seat.me c.bring_in.ensures.back_in c.args.word
+      c.requires.turn.word_is).0;
 }
 
 pub end_round-requires-clause-low : goal.end_round-requires-clause-low
@@ -42,7 +44,8 @@ end_round-requires-clause-low g c =
     c.try_out-answer.new.seat.me c.args.written c.finish_out.result c.args.sample c.try_out-answer.result
     c.requires.both.1
     c.finish_out.ensures.works.view_is c.finish_out.ensures.works.does c.try_out-answer.ensures.works.view_is
-    c.try_out-answer.ensures.works.does c.bring_in.new.seat.me c.bring_in.ensures.back_in c.args.word c.requires.turn.word_is).1
+    c.try_out-answer.ensures.works.does c.bring_in.new.seat.me c.bring_in.ensures.back_in c.args.word
+    c.requires.turn.word_is).1
 
 pub end_round-requires-clause-returns : goal.end_round-requires-clause-returns
 end_round-requires-clause-returns g c =

@@ -9,7 +9,8 @@ store-requires g c =
     let held = c.requires.returns in (
       search rules,
       search rules,
-      stores_front g.D.Disk (basis_of g.D.Disk c.self.inside.table.shared.key) _ _ true _ c.args.word held.0 held.1 c.requires.turn.word_is c.requires.low
+      stores_front g.D.Disk (basis_of g.D.Disk c.self.inside.table.shared.key) _ _ true _ c.args.word held.0
+          held.1 c.requires.turn.word_is c.requires.low
           (subst (λ asked. Holds asked c.args.seat.now.me.0 held.0) c.if-asked.true held.2),
     )
 
@@ -18,6 +19,7 @@ store-requires-else-asked g c =
     let held = c.requires.returns in (
       search rules,
       search rules,
-      stores_front g.D.Disk (basis_of g.D.Disk c.self.inside.table.shared.key) _ _ false _ c.args.word held.0 held.1 c.requires.turn.word_is c.requires.low
+      stores_front g.D.Disk (basis_of g.D.Disk c.self.inside.table.shared.key) _ _ false _ c.args.word held.0
+          held.1 c.requires.turn.word_is c.requires.low
           (subst (λ asked. Holds asked c.args.seat.now.me.0 held.0) c.if-asked.false held.2),
     )

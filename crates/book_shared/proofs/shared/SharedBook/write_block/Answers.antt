@@ -39,7 +39,8 @@ seize-word-requires g c =
     let out = c.requires.handed in
     record {
       may = record {
-        table_is = c.write_out-written.ensures.writes.table_is ∙ c.bring_out.ensures.table ∙ c.give.ensures.table ∙ c.requires.turn.table_is;
+        table_is = c.write_out-written.ensures.writes.table_is ∙ c.bring_out.ensures.table
+            ∙ c.give.ensures.table ∙ c.requires.turn.table_is;
         some_source = sources_now c.args.seat.now.me c.args.through c.args.block out g.D.Disk c.args.word
             c.give.new.seat.me (c.give.ensures.given out.new out.out) (step 2 1 0 0 none) c.bring_out.ensures.out.0
             c.bring_out.new.seat.me c.bring_out.ensures.out.1 c.write_out-written.new.seat.me
