@@ -172,7 +172,7 @@ impl<D: Disk, V: Shown> Book<D, V> {
         ensures refused { IfSome result (λ answer. AppendAnswers D.Disk V.Shown self.now self.now sample.now answer × (accepted_by answer sample.now ≡ [])) }
         ensures before_memory { IfSome result IsRefusal }
     {
-        self.front.refusal(sample)
+        self.front.refusal(sample, self.front.size_of(sample))
     }
 
     /// Whether the pending records and those of the sample pass the block limit, so that an append of it hands over first.

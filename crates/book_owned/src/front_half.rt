@@ -88,16 +88,16 @@ impl<V: Shown> Front<V> {
         finish(&mut self.memory, rt, written)
     }
 
-    /// Why a sample would not be accepted, before room for it is looked for: the front is stopped, or the sample's cost has
-    /// no room in the session.
-    pub fn refusal(&self, sample: &Sample) -> Option<Append>
+    /// Why a sample whose record has this size, in bytes, would not be accepted, before room for it is looked for: the front
+    /// is stopped, or the sample's cost has no room in the session.
+    pub fn refusal(&self, sample: &Sample, size: u64) -> Option<Append>
         requires fits { SampleFits self.now.terms.layouts sample.now }
+        requires size_is { size ≡ encoded_size self.now.terms.layouts sample.now }
         requires size { encoded_size self.now.terms.layouts sample.now ≤ self.now.terms.block_limit }
         ensures none { IfNone result ((self.now.stopped ≡ false) × FrontRoom self.now sample.now) }
         ensures refused { IfSome result (λ answer. PutTells self.now self.now sample.now answer × (accepted_by answer sample.now ≡ [])) }
         ensures before_memory { IfSome result IsRefusal }
     {
-        let size = self.memory.shapes.encoded_size(sample);
         refusal(&self.memory, sample, size)
     }
 

@@ -66,7 +66,7 @@ fn put_in<V: Shown>(front: &mut Front<V>, sample: Sample) -> Try
     if !front.passes_with(size) {
         return Try::Answered(front.put_sized(sample, size));
     }
-    if let Some(answer) = front.refusal(&sample) {
+    if let Some(answer) = front.refusal(&sample, size) {
         return Try::Answered(answer);
     }
     Try::NeedsFlush {
