@@ -1,6 +1,7 @@
 # What a bench of the program begins with: `top` is the repository, `work` a folder of the bench's own under out/, `runs` how often a
 # program is timed (the bench's first word, or what it set before), `program` the built program, or the one that the variable PROGRAM names,
-# `setting` that of the C library that mdf4rec makes for the bench's `command`, or for most commands if it named none, and `tuned` that program with it.
+# `setting` that of the C library that mdf4rec makes for the bench's `command`, or for most commands if it named none,
+# and `tuned` that program with it.
 
 top="$(cd "$here/../.." && pwd)"
 runs="${1:-${runs:-5}}"
